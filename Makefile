@@ -1,0 +1,51 @@
+# The front door. rt proves and builds; this file says where things lie.
+#
+#   make           prove what the program needs, and leave it at bin/trirast
+#   make demo      draw every list of examples/ to out/*.ppm, and to out/*.png where pnmtopng is installed
+#   make test      the merge gate: every proof from nothing, the must-fail edits, all tests
+#   make compare   draw generated lists, and compare each byte with the reference renderer
+#   make schema    try the JSON Schema of the draw list
+#   make bench     time the program on generated scenes
+#   make clean     remove what this file made; what rt keeps in crates/*/out/ stays
+
+RT ?= rt
+PYTHON ?= python3
+
+PROGRAM := bin/trirast
+SOURCES := crates.txt $(shell find crates -name out -prune -o -type f \( -name '*.rt' -o -name '*.antt' \) -print)
+LISTS := $(wildcard examples/*.json)
+PICTURES := $(LISTS:examples/%.json=out/%.ppm)
+
+.PHONY: all demo test compare schema bench clean
+.DELETE_ON_ERROR:
+
+all: $(PROGRAM)
+
+$(PROGRAM): $(SOURCES)
+	cd crates/trirast_cli && $(RT) run < "$(CURDIR)/examples/triangle.json" > /dev/null
+	install -D -m 755 crates/trirast_cli/out/trirast_cli $@
+
+out/%.ppm: examples/%.json $(PROGRAM)
+	@mkdir -p out
+	$(PROGRAM) < $< > $@
+
+demo: $(PICTURES)
+	@if command -v pnmtopng > /dev/null; then \
+	    for name in $(PICTURES:.ppm=); do pnmtopng $$name.ppm 2> /dev/null > $$name.png || exit 1; done; \
+	else echo "pnmtopng is not installed, so there are PPM pictures only"; fi
+
+test:
+	$(RT) ci
+
+compare: $(PROGRAM)
+	$(PYTHON) scripts/test_reference.py
+	$(PYTHON) scripts/compare.py
+
+schema:
+	$(PYTHON) scripts/check_schema.py
+
+bench: $(PROGRAM)
+	$(PYTHON) bench/run.py
+
+clean:
+	rm -rf bin out bench/out

@@ -1,0 +1,196 @@
+#!/usr/bin/env python3
+"""Times the program on the scenes of bench/scenes.py and prints one table.
+
+    bench/run.py [--program bin/trirast] [--runs 3] [--scenes tiny mesh ..]
+
+For each scene and tile side it gives the wall time with 1, 2 and 4 workers, the ratio to the time with one worker, the
+processor time, and the peak memory, all from this one call; times are the best of a few runs with the output thrown
+away. Where g++ is there, bench/plain.cpp is built and its time stands beside, and each picture of the program is
+compared with its picture, byte for byte. Exit status 1 where a run fails or a picture differs.
+
+Python 3.8 or later on Linux, standard library alone.
+"""
+
+import argparse
+import filecmp
+import os
+import shutil
+import subprocess
+import sys
+import time
+
+BENCH = os.path.dirname(os.path.abspath(__file__))
+TOP = os.path.dirname(BENCH)
+OUT = os.path.join(BENCH, "out")
+SCENES = ("tiny", "empty", "smooth", "small", "mesh", "slivers", "blended", "long_list")
+TILES = (8, 16, 32, 64)
+WORKERS = (1, 2, 4)
+ENOUGH_SECONDS = 6.0
+
+
+class Run:
+    """One run of a command: wall and processor time in seconds, peak memory in bytes, exit status."""
+
+    def __init__(self, words, source, target):
+        reading = os.open(source, os.O_RDONLY)
+        writing = os.open(target, os.O_WRONLY | os.O_CREAT | os.O_TRUNC, 0o644)
+        begin = time.perf_counter()
+        child = os.posix_spawn(
+            words[0], words, os.environ,
+            file_actions=[(os.POSIX_SPAWN_DUP2, reading, 0), (os.POSIX_SPAWN_DUP2, writing, 1)],
+        )
+        _, status, usage = os.wait4(child, 0)
+        self.wall = time.perf_counter() - begin
+        os.close(reading)
+        os.close(writing)
+        self.processor = usage.ru_utime + usage.ru_stime
+        self.memory = usage.ru_maxrss * 1024
+        self.status = status
+
+
+def best(words, source, runs):
+    """The run of the least wall time, of as many as asked for or as fit into some seconds."""
+    found, spent = [], 0.0
+    while len(found) < runs and (not found or spent < ENOUGH_SECONDS):
+        found.append(Run(words, source, os.devnull))
+        spent += found[-1].wall
+    return min(found, key=lambda run: run.wall)
+
+
+def peak_memory(words, source, target):
+    """A run under GNU time where it is there, which sees smaller peaks than a python process can of its children."""
+    timer, told = shutil.which("time"), os.path.join(OUT, "memory.txt")
+    if timer is None:
+        return Run(words, source, target)
+    run = Run([timer, "-q", "-f", "%M", "-o", told, *words], source, target)
+    with open(told, encoding="ascii") as file:
+        run.memory = 1024 * int(file.read())
+    os.remove(told)
+    return run
+
+
+def build_plain():
+    """The plain program, or None where there is no compiler."""
+    compiler = shutil.which("g++")
+    if compiler is None:
+        return None
+    program = os.path.join(OUT, "plain")
+    subprocess.run([compiler, "-O2", "-std=c++17", "-o", program, os.path.join(BENCH, "plain.cpp")], check=True)
+    return program
+
+
+def processor_name():
+    try:
+        with open("/proc/cpuinfo", encoding="utf-8") as file:
+            for line in file:
+                if line.startswith("model name"):
+                    return line.split(":", 1)[1].strip()
+    except OSError:
+        pass
+    return "a processor that does not tell its name"
+
+
+def load():
+    return " ".join(f"{part:.1f}" for part in os.getloadavg())
+
+
+def milliseconds(seconds):
+    return f"{1000 * seconds:.1f}" if seconds < 0.1 else f"{1000 * seconds:.0f}"
+
+
+def megabytes(number):
+    return f"{number / 1e6:.1f}"
+
+
+class Table:
+    """The rows of one scene, and what went wrong in any."""
+
+    def __init__(self, program, plain, runs):
+        self.program, self.plain, self.runs = program, plain, runs
+        self.wrong = []
+
+    def head(self):
+        columns = ["scene", "tile", "1 worker, ms", "2 workers, ms", "4 workers, ms"]
+        columns += ["processor ms, 1 and 4", "peak MB, 1, 2 and 4", "plain, ms"]
+        print(f"| {' | '.join(columns)} |")
+        print("|---" * len(columns) + "|")
+
+    def scene(self, name):
+        source = os.path.join(OUT, f"{name}.json")
+        wanted, plain_time = None, "-"
+        if self.plain:
+            wanted = os.path.join(OUT, f"{name}.plain.ppm")
+            self.must_end(Run([self.plain], source, wanted), f"{name}, plain")
+            found = best([self.plain], source, self.runs)
+            plain_time = milliseconds(found.wall)
+        for tile in TILES:
+            self.row(name, tile, source, wanted, plain_time)
+        for path in (wanted, os.path.join(OUT, "picture.ppm")):
+            if path and os.path.exists(path):
+                os.remove(path)
+
+    def row(self, name, tile, source, wanted, plain_time):
+        picture = os.path.join(OUT, "picture.ppm")
+        found, peaks = [], []
+        for workers in WORKERS:
+            words = [self.program, "--tile", str(tile), "--workers", str(workers)]
+            title = f"{name}, tile {tile}, {workers} workers"
+            first = peak_memory(words, source, picture)
+            self.must_end(first, title)
+            peaks.append(megabytes(first.memory))
+            if wanted and not filecmp.cmp(wanted, picture, shallow=False):
+                self.wrong.append(f"{title}: other bytes than the plain program's")
+            found.append(best(words, source, self.runs))
+            self.must_end(found[-1], title)
+        times = [milliseconds(found[0].wall)]
+        times += [f"{milliseconds(run.wall)} ({found[0].wall / run.wall:.2f}x)" for run in found[1:]]
+        processor = f"{milliseconds(found[0].processor)}, {milliseconds(found[-1].processor)}"
+        cells = [name, str(tile), *times, processor, ", ".join(peaks), plain_time]
+        print(f"| {' | '.join(cells)} |", flush=True)
+
+    def must_end(self, run, title):
+        if run.status != 0:
+            self.wrong.append(f"{title}: ended with wait status {run.status}")
+
+
+def main():
+    parser = argparse.ArgumentParser(description="Times the program on generated scenes.")
+    parser.add_argument("--program", default=os.path.join(TOP, "bin", "trirast"), help="default bin/trirast")
+    parser.add_argument("--runs", type=int, default=3, help="runs of which the best counts (default 3)")
+    parser.add_argument("--scenes", nargs="+", choices=SCENES, default=SCENES, metavar="NAME", help=", ".join(SCENES))
+    words = parser.parse_args()
+    if not os.access(words.program, os.X_OK):
+        print(f"run.py: no program at {words.program}; run make first", file=sys.stderr)
+        return 2
+    os.makedirs(OUT, exist_ok=True)
+    subprocess.run([sys.executable, os.path.join(BENCH, "scenes.py"), *words.scenes], check=True)
+    plain = build_plain()
+    nothing = [shutil.which("true")]
+    floor, least = Run(nothing, os.devnull, os.devnull), peak_memory(nothing, os.devnull, os.devnull)
+
+    print(f"Machine: {processor_name()}, {os.cpu_count()} processors; load before the run {load()}.")
+    print(f"Best of {words.runs} runs, output thrown away. The ratio is the time with one worker by this one.")
+    print("Shared machines are noisy: two calls of this script can differ by a third and more, so compare only what")
+    print("stands in one table.")
+    costs = f"{milliseconds(floor.wall)} ms and a peak of {megabytes(least.memory)} MB"
+    print(f"A process that does nothing takes {costs} here.")
+    if plain:
+        print("plain: bench/plain.cpp by g++ -O2, one thread, the picture with all samples in memory.")
+    else:
+        print("There is no g++, so the plain program was not run and no picture was compared.")
+    print()
+    table = Table(os.path.abspath(words.program), plain, words.runs)
+    table.head()
+    for name in words.scenes:
+        table.scene(name)
+    print()
+    print(f"Load after the run {load()}.")
+    for line in table.wrong:
+        print(line)
+    if plain and not table.wrong:
+        print("Every picture had the bytes of the plain program's.")
+    return 1 if table.wrong else 0
+
+
+if __name__ == "__main__":
+    sys.exit(main())

@@ -1,0 +1,51 @@
+ghost use Rattle.std.specs.Prelude.{◌≡◌, ◌↔◌, IsTrue};
+
+/// A rectangle of pixels: columns `x0` to before `x1`, rows `y0` to before `y1`. It is empty where `x0` is not under `x1`, or
+/// `y0` not under `y1`.
+#[derive(Clone, Copy, Debug, PartialEq, Eq)]
+pub struct PixelBox {
+    pub x0: i32,
+    pub y0: i32,
+    pub x1: i32,
+    pub y1: i32,
+}
+
+impl PixelBox {
+    ghost use Rattle.grid.specs.Pixels.{IsInBox};
+
+    /// Whether the pixel in column `px` and row `py` is in the rectangle.
+    pub fn has(&self, px: u32, py: u32) -> bool
+        ensures { IsTrue result ↔ IsInBox self.now px py }
+    {
+        let (x, y) = (i64::from(px), i64::from(py));
+        i64::from(self.x0) <= x
+            && x < i64::from(self.x1)
+            && i64::from(self.y0) <= y
+            && y < i64::from(self.y1)
+    }
+}
+
+/// The side of a square tile: 8, 16, 32 or 64 pixels.
+#[derive(Clone, Copy, Debug, PartialEq, Eq)]
+pub enum TileSide {
+    T8,
+    T16,
+    T32,
+    T64,
+}
+
+impl TileSide {
+    ghost use Rattle.grid.specs.Pixels.{side_of};
+
+    /// The side in pixels.
+    pub fn pixels(self) -> u32
+        ensures { result ≡ side_of self }
+    {
+        match self {
+            TileSide::T8 => 8,
+            TileSide::T16 => 16,
+            TileSide::T32 => 32,
+            TileSide::T64 => 64,
+        }
+    }
+}

@@ -1,0 +1,11 @@
+pub mod Decided
+pub mod Drawn
+pub mod Endings
+pub mod Numbering
+pub mod Unique
+pub mod Parts
+pub mod Spans
+pub mod Starting
+pub mod Begun
+pub mod Exists
+pub mod Colours

@@ -1,0 +1,9 @@
+pub mod Placed
+pub mod Ending
+pub mod Listing
+pub mod Scene
+pub mod Rows
+pub mod Starts
+pub mod Picture
+pub mod View
+pub mod Begun

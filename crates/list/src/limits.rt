@@ -1,0 +1,40 @@
+ghost use Rattle.std.specs.Prelude.{◌↔◌, ◌≤◌, IsTrue, map};
+ghost use Rattle.list.specs.Listing.{draw_listing, AreWithinLimits};
+
+use crate::draw::Draw;
+
+/// The greatest width and height of a picture, in pixels.
+const MOST_PIXELS: u32 = 4096;
+
+/// The most draws of a draw list.
+const MOST_DRAWS: usize = 1024;
+
+/// The most triangles of all draws together, and so of one.
+const MOST_TRIANGLES: usize = 65_536;
+
+/// Whether so many pixels are within the limits of a side of a picture.
+pub(crate) fn is_side(pixels: u32) -> bool
+    ensures { IsTrue result ↔ ((1 ≤ pixels) × (pixels ≤ 4096)) }
+{
+    1 <= pixels && pixels <= MOST_PIXELS
+}
+
+/// Whether so many draws, each of them, and all their triangles are within the limits.
+pub(crate) fn are_within_limits(draws: &[Draw]) -> bool
+    ensures { IsTrue result ↔ AreWithinLimits (map draw_listing draws.now) }
+{
+    if draws.len() > MOST_DRAWS {
+        return false;
+    }
+    let mut total = 0;
+    for draw in draws {
+        if !draw.is_within_limits() {
+            return false;
+        }
+        if draw.triangles.len() > MOST_TRIANGLES - total {
+            return false;
+        }
+        total += draw.triangles.len();
+    }
+    true
+}

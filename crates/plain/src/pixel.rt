@@ -1,0 +1,58 @@
+ghost use Rattle.std.specs.Prelude.{◌≡◌, ◌<◌};
+ghost use Rattle.grid.specs.Samples.{count_of};
+ghost use Rattle.shade.specs.declared.sample.Sample.{Sample};
+ghost use Rattle.list.specs.Picture.{IsEnd, IsColour};
+
+use crate::drawing::draw;
+use grid::SampleCount;
+use list::DrawList;
+use shade::{Sample, mean_of_four};
+
+/// The colour of a pixel.
+#[derive(Clone, Copy, Debug, PartialEq, Eq)]
+pub struct Colour {
+    pub r: u8,
+    pub g: u8,
+    pub b: u8,
+}
+
+/// Sample `s` of the pixel in column `px` and row `py` after all triangles.
+pub fn end_at(list: &DrawList, px: u32, py: u32, s: u32) -> Sample
+    requires column { px < 4096 }
+    requires row { py < 4096 }
+    requires sample { s < count_of list.now.count }
+    ensures end { IsEnd list.now px py s result }
+    ensures only { (other : Sample) → IsEnd list.now px py s other → other ≡ result }
+{
+    let mut sample = list.clear();
+    for number in 0..list.triangles() {
+        sample = draw(&list.triangle(number), list.count(), px, py, s, sample);
+    }
+    sample
+}
+
+/// The colour of the pixel in column `px` and row `py`.
+pub fn colour_at(list: &DrawList, px: u32, py: u32) -> Colour
+    requires column { px < 4096 }
+    requires row { py < 4096 }
+    ensures { IsColour list.now px py result.r result.g result.b }
+{
+    let first = end_at(list, px, py, 0);
+    match list.count() {
+        SampleCount::One => Colour {
+            r: first.r,
+            g: first.g,
+            b: first.b,
+        },
+        SampleCount::Four => {
+            let second = end_at(list, px, py, 1);
+            let third = end_at(list, px, py, 2);
+            let fourth = end_at(list, px, py, 3);
+            Colour {
+                r: mean_of_four(first.r, second.r, third.r, fourth.r),
+                g: mean_of_four(first.g, second.g, third.g, fourth.g),
+                b: mean_of_four(first.b, second.b, third.b, fourth.b),
+            }
+        }
+    }
+}

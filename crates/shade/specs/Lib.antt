@@ -1,0 +1,7 @@
+pub mod Quotient
+pub mod Depth
+pub mod Value
+pub mod Weights
+pub mod Blend
+pub mod Merging
+pub mod Resolve

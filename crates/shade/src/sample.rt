@@ -1,0 +1,35 @@
+ghost use Rattle.std.specs.Prelude.{◌≡◌};
+
+use crate::depth::DepthTest;
+
+/// A stored sample: its colour, 0 to 255 a channel, and its depth, 0 to 65535.
+#[derive(Clone, Copy, Debug, PartialEq, Eq)]
+pub struct Sample {
+    pub r: u8,
+    pub g: u8,
+    pub b: u8,
+    pub z: u16,
+}
+
+/// The colour, alpha and depth of a triangle at one point, with the ranges of a stored sample.
+#[derive(Clone, Copy, Debug, PartialEq, Eq)]
+pub struct Shaded {
+    pub r: u8,
+    pub g: u8,
+    pub b: u8,
+    pub a: u8,
+    pub z: u16,
+}
+
+/// How a triangle's samples are merged with the stored ones (Direct3D 11, output-merger stage).
+#[derive(Clone, Copy, Debug, PartialEq, Eq)]
+pub struct Merge {
+    /// The test that a new depth has to pass.
+    pub test: DepthTest,
+    /// Whether the depth is stored where the test passes.
+    pub depth_write: bool,
+    /// Which of red, green and blue are written.
+    pub write: [bool; 3],
+    /// Whether the new colour is laid over the stored one by its alpha, and does not replace it.
+    pub over: bool,
+}

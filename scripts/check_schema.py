@@ -1,0 +1,198 @@
+#!/usr/bin/env python3
+"""Tries docs/draw-list.schema.json on the examples, on refused lists, and on what a schema cannot refuse.
+
+    scripts/check_schema.py
+
+It needs python's package jsonschema with draft 2020-12 (4.0 or later). Exit status 0 where everything is as said, 1
+where something is not, 2 where the package is missing. What the reader tells of each list is checked against
+scripts/reference.py, so that the tables below stay true of the rules.
+"""
+
+import glob
+import json
+import os
+import sys
+
+sys.path.insert(0, os.path.dirname(os.path.abspath(__file__)))
+
+import reference
+
+TOP = os.path.dirname(os.path.dirname(os.path.abspath(__file__)))
+
+VERTEX = [0, 0, 0, 255, 255, 255, 255]
+
+
+def scene(**changes):
+    """A list that is accepted, with changes. A change to None takes the key away."""
+    return without({"width": 2, "height": 2, "draws": [], **changes})
+
+
+def draw(**changes):
+    """A list with one draw that is accepted, with changes in the draw."""
+    return scene(draws=[without({"vertices": [VERTEX] * 3, "triangles": [[0, 1, 2]], **changes})])
+
+
+def without(value):
+    return {key: element for key, element in value.items() if element is not None}
+
+
+def vertex(place, number):
+    """A list with one vertex in which one number is changed."""
+    changed = list(VERTEX)
+    changed[place] = number
+    return draw(vertices=[changed, VERTEX, VERTEX])
+
+
+# Lists that are accepted at the ends of their ranges.
+ACCEPTED = [
+    ("no draws", scene()),
+    ("the largest picture", scene(width=4096, height=4096)),
+    ("four samples", scene(samples=4)),
+    ("a clear colour and depth", scene(clear=[0, 128, 255], clear_depth=0)),
+    ("the most draws", scene(draws=[{"vertices": [], "triangles": []}] * 1024)),
+    ("the most vertices", draw(vertices=[VERTEX] * 65536)),
+    ("the most triangles", draw(triangles=[[0, 1, 2]] * 65536)),
+    ("vertices that no triangle names", draw(triangles=[])),
+    ("an index that repeats", draw(triangles=[[0, 0, 0]])),
+    ("the ends of the guard band", draw(vertices=[[-8388608, 8388607, 65535, 0, 0, 0, 0]] * 3)),
+    ("every key of a draw", draw(cull="back", depth_test="less_equal", depth_write=True, blend="over",
+                                 write=[True, False, True], sample_mask=0, scissor=[0, 0, 4096, 4096])),
+    ("an empty scissor", draw(scissor=[3, 0, 0, 3])),
+]
+
+# Lists that reader and schema refuse: why, the list, and what the reader tells.
+REFUSED = [
+    ("no object", [], "4 WrongKind"),
+    ("no object", None, "4 WrongKind"),
+    ("an unknown key", scene(fog=1), "2 UnknownKey"),
+    ("a key in other case", scene(Width=2), "2 UnknownKey"),
+    ("width missing", scene(width=None), "3 MissingKey"),
+    ("height missing", scene(height=None), "3 MissingKey"),
+    ("draws missing", scene(draws=None), "3 MissingKey"),
+    ("width no number", scene(width="2"), "4 WrongKind"),
+    ("width a truth value", scene(width=True), "4 WrongKind"),
+    ("width not whole", scene(width=1.5), "4 WrongKind"),
+    ("width 0", scene(width=0), "5 OutOfRange"),
+    ("width 4097", scene(width=4097), "5 OutOfRange"),
+    ("height 0", scene(height=0), "5 OutOfRange"),
+    ("height 4097", scene(height=4097), "5 OutOfRange"),
+    ("two samples", scene(samples=2), "5 OutOfRange"),
+    ("samples a text", scene(samples="4"), "4 WrongKind"),
+    ("a clear colour of two channels", scene(clear=[0, 0]), "4 WrongKind"),
+    ("a clear colour of four channels", scene(clear=[0, 0, 0, 0]), "4 WrongKind"),
+    ("a clear channel of 256", scene(clear=[0, 0, 256]), "5 OutOfRange"),
+    ("a clear channel under 0", scene(clear=[-1, 0, 0]), "5 OutOfRange"),
+    ("a clear channel that is a text", scene(clear=[0, "0", 0]), "4 WrongKind"),
+    ("a clear depth of 65536", scene(clear_depth=65536), "5 OutOfRange"),
+    ("a clear depth under 0", scene(clear_depth=-1), "5 OutOfRange"),
+    ("draws no array", scene(draws={}), "4 WrongKind"),
+    ("1025 draws", scene(draws=[{"vertices": [], "triangles": []}] * 1025), "7 TooMany"),
+    ("a draw that is no object", scene(draws=[[]]), "4 WrongKind in draw 0"),
+    ("an unknown key of a draw", draw(strip=[0, 1, 2]), "2 UnknownKey in draw 0"),
+    ("vertices missing", draw(vertices=None), "3 MissingKey in draw 0"),
+    ("triangles missing", draw(triangles=None), "3 MissingKey in draw 0"),
+    ("cull in other case", draw(cull="Back"), "5 OutOfRange in draw 0"),
+    ("cull a number", draw(cull=0), "4 WrongKind in draw 0"),
+    ("no such depth test", draw(depth_test="lequal"), "5 OutOfRange in draw 0"),
+    ("depth write a number", draw(depth_write=1), "4 WrongKind in draw 0"),
+    ("no such blending", draw(blend="add"), "5 OutOfRange in draw 0"),
+    ("a write mask of four", draw(write=[True] * 4), "4 WrongKind in draw 0"),
+    ("a write mask of numbers", draw(write=[1, 1, 1]), "4 WrongKind in draw 0"),
+    ("a sample mask of 16", draw(sample_mask=16), "5 OutOfRange in draw 0"),
+    ("a sample mask under 0", draw(sample_mask=-1), "5 OutOfRange in draw 0"),
+    ("a scissor of three", draw(scissor=[0, 0, 2]), "4 WrongKind in draw 0"),
+    ("a scissor to 4097", draw(scissor=[0, 0, 4097, 2]), "5 OutOfRange in draw 0"),
+    ("a scissor from -1", draw(scissor=[-1, 0, 2, 2]), "5 OutOfRange in draw 0"),
+    ("vertices no array", draw(vertices="abc"), "4 WrongKind in draw 0"),
+    ("a vertex of six numbers", draw(vertices=[VERTEX[:6]]), "4 WrongKind in draw 0"),
+    ("a vertex of eight numbers", draw(vertices=[VERTEX + [0]]), "4 WrongKind in draw 0"),
+    ("x past the guard band", vertex(0, 8388608), "5 OutOfRange in draw 0"),
+    ("y before the guard band", vertex(1, -8388609), "5 OutOfRange in draw 0"),
+    ("a depth of 65536", vertex(2, 65536), "5 OutOfRange in draw 0"),
+    ("red of 256", vertex(3, 256), "5 OutOfRange in draw 0"),
+    ("alpha under 0", vertex(6, -1), "5 OutOfRange in draw 0"),
+    ("a coordinate that is not whole", vertex(0, 0.5), "4 WrongKind in draw 0"),
+    ("65537 vertices", draw(vertices=[VERTEX] * 65537), "7 TooMany in draw 0"),
+    ("65537 triangles", draw(triangles=[[0, 1, 2]] * 65537), "7 TooMany in draw 0"),
+    ("a triangle of two", draw(triangles=[[0, 1]]), "4 WrongKind in draw 0"),
+    ("a triangle of four", draw(triangles=[[0, 1, 2, 0]]), "4 WrongKind in draw 0"),
+    ("an index under 0", draw(triangles=[[0, 1, -1]]), "6 BadIndex in draw 0"),
+    ("an index that is a text", draw(triangles=[[0, 1, "2"]]), "4 WrongKind in draw 0"),
+    ("an index of 65536", draw(triangles=[[0, 1, 65536]]), "6 BadIndex in draw 0"),
+]
+
+# null is refused at each key that may be left out, and at each that may not.
+REFUSED += [(f"{key} null", {**scene(), key: None}, "4 WrongKind") for key in reference.TOP_KEYS]
+REFUSED += [
+    (f"{key} null", scene(draws=[{"vertices": [], "triangles": [], key: None}]), "4 WrongKind in draw 0")
+    for key in reference.DRAW_KEYS
+]
+
+# Lists that the reader refuses and a schema accepts: why a schema cannot refuse them, the text, what the reader tells.
+BEYOND_A_SCHEMA = [
+    ("1.0 is an integer of JSON Schema", '{"width":1.0,"height":1,"draws":[]}', "4 WrongKind"),
+    ("1e0 is an integer of JSON Schema", '{"width":1e0,"height":1,"draws":[]}', "4 WrongKind"),
+    ("an index is compared with a length", json.dumps(draw(triangles=[[0, 1, 3]])), "6 BadIndex in draw 0"),
+    ("an index into no vertices", json.dumps(draw(vertices=[], triangles=[[0, 0, 0]])), "6 BadIndex in draw 0"),
+    (
+        "triangles are summed over draws",
+        json.dumps(scene(draws=[{"vertices": [VERTEX] * 3, "triangles": [[0, 1, 2]] * n} for n in (40000, 25537)])),
+        "7 TooMany in draw 1",
+    ),
+]
+
+
+def told(text):
+    """What the reader tells of a text, or None where it accepts it."""
+    try:
+        reference.read(text.encode())
+    except reference.ListFault as fault:
+        return str(fault).replace("trirast: list fault ", "")
+    return None
+
+
+def main():
+    try:
+        from jsonschema import Draft202012Validator
+    except ImportError:
+        missing = "needs python's package jsonschema, 4.0 or later (pip install jsonschema)"
+        print(f"check_schema.py: {missing}", file=sys.stderr)
+        return 2
+    with open(os.path.join(TOP, "docs", "draw-list.schema.json"), encoding="utf-8") as file:
+        schema = json.load(file)
+    Draft202012Validator.check_schema(schema)
+    validator = Draft202012Validator(schema)
+    wrong = []
+
+    def expect(name, holds, why):
+        if not holds:
+            wrong.append(f"{name}: {why}")
+
+    examples = sorted(glob.glob(os.path.join(TOP, "examples", "*.json")))
+    expect("examples", examples, "there are none")
+    for path in examples:
+        with open(path, encoding="utf-8") as file:
+            text = file.read()
+        name = os.path.relpath(path, TOP)
+        expect(name, validator.is_valid(json.loads(text)), "the schema refuses it")
+        expect(name, told(text) is None, f"the reader tells {told(text)}")
+    for name, value in ACCEPTED:
+        expect(name, validator.is_valid(value), "the schema refuses it")
+        expect(name, told(json.dumps(value)) is None, f"the reader tells {told(json.dumps(value))}")
+    for name, value, fault in REFUSED:
+        expect(name, not validator.is_valid(value), "the schema accepts it")
+        expect(name, told(json.dumps(value)) == fault, f"the reader tells {told(json.dumps(value))}, not {fault}")
+    for name, text, fault in BEYOND_A_SCHEMA:
+        expect(name, validator.is_valid(json.loads(text)), "the schema refuses it, so it is none of these")
+        expect(name, told(text) == fault, f"the reader tells {told(text)}, not {fault}")
+    for line in wrong:
+        print(line)
+    print(
+        f"{len(examples)} examples and {len(ACCEPTED)} lists accepted, {len(REFUSED)} refused, "
+        f"{len(BEYOND_A_SCHEMA)} that a schema cannot refuse; {len(wrong)} wrong"
+    )
+    return 1 if wrong else 0
+
+
+if __name__ == "__main__":
+    sys.exit(main())

@@ -1,0 +1,290 @@
+#!/usr/bin/env python3
+"""Compares the program with the slow reference renderer on generated draw lists.
+
+    scripts/compare.py [--lists 300] [--refused 300] [--seed 1] [--program bin/trirast]
+
+Each list is drawn with every tile side and several numbers of workers, and every byte is compared with the reference.
+The lists are small and look for trouble: triangles without area, edges and corners on sample positions, shared edges,
+ends of the guard band, every state, both sample counts, scissors past the picture. Lists that are broken in one or more
+places follow: there the line on standard error, the status and the empty output are compared. The same seed gives the
+same lists. Exit status 1 on any difference; the list is then left in out/compare/. Python 3.8 or later, standard
+library alone.
+"""
+
+import argparse
+import copy
+import json
+import os
+import random
+import subprocess
+import sys
+
+sys.path.insert(0, os.path.dirname(os.path.abspath(__file__)))
+
+import reference
+
+TOP = os.path.dirname(os.path.dirname(os.path.abspath(__file__)))
+TILES = (8, 16, 32, 64)
+WORKERS = (1, 2, 7, 16)
+LOW, HIGH = reference.BAND
+MOST_PIXELS = 4500
+MOST_SECONDS = 60
+
+
+# ---- Lists that are accepted ---------------------------------------------------------------------------------------
+
+
+def a_size(pick):
+    """A width and a height: often a few pixels, sometimes past a tile's side, never many pixels together."""
+    while True:
+        width, height = (pick.choice((pick.randint(1, 12), pick.randint(13, 34), pick.randint(62, 131))) for _ in "wh")
+        if width * height <= MOST_PIXELS:
+            return width, height
+
+
+def a_coordinate(pick, pixels, samples, axis):
+    kind = pick.random()
+    if kind < 0.40:  # at the height or place of a sample
+        return 256 * pick.randint(-1, pixels) + pick.choice(reference.SAMPLES[samples])[axis]
+    if kind < 0.55:  # on the border of a pixel
+        return 256 * pick.randint(-1, pixels + 1)
+    if kind < 0.85:
+        return pick.randint(-300, 256 * pixels + 300)
+    if kind < 0.94:
+        return pick.choice((LOW, LOW + 1, HIGH - 1, HIGH))
+    return pick.randint(LOW, HIGH)
+
+
+def some_values(pick, depths):
+    """Depth, colour and alpha of a vertex."""
+    return [pick.choice(depths)] + [pick.choice((0, 1, 127, 128, 254, 255, pick.randint(0, 255))) for _ in range(4)]
+
+
+def some_depths(pick):
+    """The depths of a list's vertices: often few, so that the tests for equal depths have something to find."""
+    if pick.random() < 0.5:
+        return [pick.choice((0, 1, 40000, 65535)) for _ in range(pick.randint(1, 2))]
+    return [0, 1, 2, 3, 65534, 65535] + [pick.randint(0, 65535) for _ in range(3)]
+
+
+def corners_of_the_band(pick, depths):
+    """Vertices at or near the corners of the guard band, whose triangles reach over the whole picture."""
+    vertices = []
+    for x in (LOW, HIGH):
+        for y in (LOW, HIGH):
+            inwards = pick.choice((0, 0, pick.randint(0, 5000)))
+            place = [x + inwards if x == LOW else x - inwards, y]
+            vertices.append(place + some_values(pick, depths))
+    pick.shuffle(vertices)
+    return vertices
+
+
+def some_vertices(pick, width, height, samples, depths):
+    if pick.random() < 0.12:
+        return corners_of_the_band(pick, depths)
+    vertices = []
+    for _ in range(pick.randint(3, 8)):
+        x = a_coordinate(pick, width, samples, 0)
+        y = a_coordinate(pick, height, samples, 1)
+        kind = pick.random()
+        if vertices and kind < 0.10:  # the same place again
+            x, y = vertices[-1][:2]
+        elif vertices and kind < 0.30:  # a horizontal or an upright edge
+            x, y = (x, vertices[-1][1]) if kind < 0.20 else (vertices[-1][0], y)
+        elif len(vertices) > 1 and kind < 0.40:  # on one line with two others
+            (ax, ay), (bx, by) = vertices[-2][:2], vertices[-1][:2]
+            line = (2 * bx - ax, 2 * by - ay)
+            x, y = line if all(LOW <= z <= HIGH for z in line) else (x, y)
+        vertices.append([x, y] + some_values(pick, depths))
+    return vertices
+
+
+def some_triangles(pick, vertices):
+    last = len(vertices) - 1
+    triangles = [[pick.randint(0, last) for _ in range(3)] for _ in range(pick.randint(0, 3))]
+    if pick.random() < 0.7:  # neighbours that share an edge
+        triangles += [[k, k + 1, k + 2] for k in range(len(vertices) - 2)]
+    if triangles and pick.random() < 0.5:  # one of them again, at once or later
+        again = pick.randrange(len(triangles))
+        triangles.insert(pick.choice((again, len(triangles))), list(triangles[again]))
+    return triangles
+
+
+def a_state(pick, width, height):
+    state = {}
+    if pick.random() < 0.4:
+        state["cull"] = pick.choice(("none", "front", "back"))
+    if pick.random() < 0.7:
+        state["depth_test"] = pick.choice(list(reference.DEPTH_TESTS))
+    if pick.random() < 0.6:
+        state["depth_write"] = pick.random() < 0.8
+    if pick.random() < 0.6:
+        state["blend"] = pick.choice(("none", "over", "over"))
+    if pick.random() < 0.3:
+        state["write"] = [pick.random() < 0.6 for _ in range(3)]
+    if pick.random() < 0.4:
+        state["sample_mask"] = pick.randint(0, 15)
+    if pick.random() < 0.4:
+        columns = [pick.choice((0, width, 4096) + (pick.randint(0, width),) * 4) for _ in range(2)]
+        rows = [pick.choice((0, height, 4096) + (pick.randint(0, height),) * 4) for _ in range(2)]
+        if pick.random() < 0.85:
+            columns.sort()
+            rows.sort()
+        state["scissor"] = [columns[0], rows[0], columns[1], rows[1]]
+    return state
+
+
+def a_list(pick):
+    width, height = a_size(pick)
+    samples = pick.choice((1, 4))
+    depths = some_depths(pick)
+    scene = {"width": width, "height": height}
+    if samples == 4 or pick.random() < 0.5:
+        scene["samples"] = samples
+    if pick.random() < 0.6:
+        scene["clear"] = [pick.randint(0, 255) for _ in range(3)]
+    if pick.random() < 0.4:
+        scene["clear_depth"] = pick.choice((0, 1, 2, 65535, pick.randint(0, 65535), *depths))
+    scene["draws"] = []
+    for _ in range(pick.randint(1, 5) if pick.random() < 0.97 else 0):
+        vertices = some_vertices(pick, width, height, samples, depths)
+        triangles = some_triangles(pick, vertices)
+        scene["draws"].append({**a_state(pick, width, height), "vertices": vertices, "triangles": triangles})
+    return scene
+
+
+# ---- Lists that are broken -----------------------------------------------------------------------------------------
+
+WRONG = (None, True, 1.0, 0.5, "x", "none", [], {}, -1, 3, 17, 256, 4097, 65536)
+WRONG += (LOW - 1, HIGH + 1, 2**63, -(2**63), 1e300)
+
+
+def places(value, path=()):
+    """All places of a list's value, as paths of keys and numbers."""
+    yield path
+    inside = value.items() if isinstance(value, dict) else enumerate(value) if isinstance(value, list) else ()
+    for key, element in inside:
+        yield from places(element, path + (key,))
+
+
+def broken(pick, scene):
+    """The value with one place changed."""
+    scene = copy.deepcopy(scene)
+    path = pick.choice(list(places(scene)))
+    if not path:
+        return pick.choice(WRONG)
+    holder = scene
+    for key in path[:-1]:
+        holder = holder[key]
+    kind = pick.random()
+    if kind < 0.15:
+        del holder[path[-1]]
+    elif kind < 0.25 and isinstance(holder, dict):
+        holder[pick.choice(("fog", "Width", "strips", "", "draws ", "clear_depht"))] = 1
+    elif kind < 0.35 and isinstance(holder, list):
+        holder.append(pick.choice(WRONG))
+    else:
+        holder[path[-1]] = pick.choice(WRONG)
+    return scene
+
+
+def a_broken_text(pick):
+    value = a_list(pick)
+    for _ in range(pick.choice((1, 1, 2, 3))):
+        value = broken(pick, value) if isinstance(value, (dict, list)) else value
+    text = json.dumps(value).encode()
+    kind = pick.random()
+    if kind < 0.05:
+        return text[: pick.randint(0, len(text) - 1)]
+    if kind < 0.10:
+        place = pick.randint(0, len(text) - 1)
+        return text[:place] + bytes([pick.choice((0, 0x2C, 0x5B, 0x7D, 0x80, 0xFF))]) + text[place + 1 :]
+    return text
+
+
+# ---- Runs ----------------------------------------------------------------------------------------------------------
+
+
+def wanted(text):
+    """Output, line on standard error and status that the rules name."""
+    try:
+        return reference.render(reference.read(text)), b"", 0
+    except reference.ListFault as fault:
+        return b"", str(fault).encode() + b"\n", 1
+
+
+class Comparison:
+    def __init__(self, program):
+        self.program = program
+        self.runs = 0
+        self.pixels = 0
+        self.drawn = 0
+        self.refused = 0
+        self.differences = 0
+
+    def run(self, text, tile, workers):
+        words = [self.program, "--tile", str(tile), "--workers", str(workers)]
+        self.runs += 1
+        try:
+            done = subprocess.run(words, input=text, capture_output=True, timeout=MOST_SECONDS)
+        except subprocess.TimeoutExpired:
+            return b"", b"no answer in time", None
+        return done.stdout, done.stderr, done.returncode
+
+    def compare(self, text, name, choices):
+        expected = wanted(text)
+        for tile, workers in choices:
+            found = self.run(text, tile, workers)
+            if found != expected:
+                self.tell(text, name, tile, workers, expected, found)
+                return
+        if expected[2] == 0:
+            width, height, pixels = reference.split_file(expected[0])
+            self.pixels += width * height
+            self.drawn += sum(pixels[k : k + 3] != pixels[-3:] for k in range(0, len(pixels), 3))
+        else:
+            self.refused += 1
+
+    def tell(self, text, name, tile, workers, expected, found):
+        self.differences += 1
+        folder = os.path.join(TOP, "out", "compare")
+        os.makedirs(folder, exist_ok=True)
+        path = os.path.join(folder, f"{name}.json")
+        with open(path, "wb") as file:
+            file.write(text)
+        print(f"{os.path.relpath(path, TOP)}: --tile {tile} --workers {workers}")
+        print(f"    wanted status {expected[2]} {expected[1].decode().strip()}")
+        print(f"    found  status {found[2]} {found[1].decode(errors='replace').strip()}")
+        if expected[2] == 0 and found[2] == 0:
+            print(f"    {reference.difference(expected[0], found[0])}")
+
+
+def main():
+    parser = argparse.ArgumentParser(description="Compares the program with the reference renderer.")
+    parser.add_argument("--lists", type=int, default=300, help="how many accepted lists (default 300)")
+    parser.add_argument("--refused", type=int, default=300, help="how many broken lists (default 300)")
+    parser.add_argument("--seed", type=int, default=1, help="where the lists begin (default 1)")
+    parser.add_argument("--program", default=os.path.join(TOP, "bin", "trirast"), help="default bin/trirast")
+    words = parser.parse_args()
+    if not os.access(words.program, os.X_OK):
+        print(f"compare.py: no program at {words.program}; run make first", file=sys.stderr)
+        return 2
+    comparison = Comparison(os.path.abspath(words.program))
+    every = [(tile, workers) for tile in TILES for workers in WORKERS]
+    for k in range(words.lists):
+        text = json.dumps(a_list(random.Random(f"list {words.seed} {k}"))).encode()
+        comparison.compare(text, f"list-{words.seed}-{k}", every)
+    for k in range(words.refused):
+        pick = random.Random(f"broken {words.seed} {k}")
+        text, one = a_broken_text(pick), (pick.choice(TILES), pick.choice(WORKERS))
+        comparison.compare(text, f"broken-{words.seed}-{k}", [one])
+    print(
+        f"{words.lists} lists and {words.refused} broken ones, {comparison.runs} runs; {comparison.pixels} pixels, "
+        f"{comparison.drawn} of them unlike the last pixel; {comparison.refused} refused with the right line; "
+        f"{comparison.differences} differences"
+    )
+    return 1 if comparison.differences else 0
+
+
+if __name__ == "__main__":
+    sys.exit(main())

@@ -1,0 +1,373 @@
+#!/usr/bin/env python3
+"""A small, slow reference renderer for trirast draw lists.
+
+It reads a draw list on standard input and writes the binary PPM picture on standard output, straight from the rules of
+docs/rules.md and docs/draw-list.md: exact integers, every sample by itself, all triangles in draw order. It shares no
+code with the program, and is there to compare the program with.
+
+    scripts/reference.py < list.json > picture.ppm
+    scripts/reference.py --compare one.ppm other.ppm
+
+A list that is refused gives the program's line on standard error and status 1. Python 3.8 or later, standard library
+alone.
+"""
+
+import argparse
+import json
+import sys
+from dataclasses import dataclass
+
+INPUT_LIMIT = 67_108_864
+BAND = (-8_388_608, 8_388_607)
+
+NOT_JSON = (1, "NotJson")
+UNKNOWN_KEY = (2, "UnknownKey")
+MISSING_KEY = (3, "MissingKey")
+WRONG_KIND = (4, "WrongKind")
+OUT_OF_RANGE = (5, "OutOfRange")
+BAD_INDEX = (6, "BadIndex")
+TOO_MANY = (7, "TooMany")
+
+TOP_KEYS = ("width", "height", "samples", "clear", "clear_depth", "draws")
+DRAW_KEYS = ("cull", "depth_test", "depth_write", "blend", "write", "sample_mask", "scissor", "vertices", "triangles")
+
+DEPTH_TESTS = {
+    "never": lambda new, old: False,
+    "less": lambda new, old: new < old,
+    "equal": lambda new, old: new == old,
+    "less_equal": lambda new, old: new <= old,
+    "greater": lambda new, old: new > old,
+    "not_equal": lambda new, old: new != old,
+    "greater_equal": lambda new, old: new >= old,
+    "always": lambda new, old: True,
+}
+
+# Offsets of the samples from a pixel's upper left corner in 1/256 pixel.
+SAMPLES = {1: ((128, 128),), 4: ((96, 32), (224, 96), (32, 160), (160, 224))}
+
+
+class ListFault(Exception):
+    """The first check that fails, with the draw in which it stands, if it stands in one."""
+
+    def __init__(self, kind, draw=None):
+        number, name = kind
+        place = "" if draw is None else f" in draw {draw}"
+        super().__init__(f"trirast: list fault {number} {name}{place}")
+
+
+class InputTooLong(Exception):
+    """The input has more bytes than a draw list may have."""
+
+    def __init__(self):
+        super().__init__("trirast: input too long")
+
+
+@dataclass(frozen=True)
+class State:
+    cull: str
+    depth_test: str
+    depth_write: bool
+    blend: str
+    write: tuple
+    sample_mask: int
+    scissor: tuple
+
+
+@dataclass(frozen=True)
+class Triangle:
+    """A triangle with its three vertices (x, y, z, r, g, b, a) and the state of its draw."""
+
+    vertices: tuple
+    state: State
+
+
+@dataclass(frozen=True)
+class Scene:
+    width: int
+    height: int
+    samples: int
+    clear: tuple
+    triangles: tuple
+
+
+# ---- Reading -------------------------------------------------------------------------------------------------------
+
+
+def parse(data):
+    """The JSON value of the bytes. A number is an int only where it is whole and fits 64 bits."""
+
+    def whole(text):
+        if text == "-0" or len(text) > 20:
+            return float(text)
+        number = int(text)
+        return number if -(2**63) <= number < 2**64 else float(text)
+
+    def refuse(_constant):
+        raise ValueError("no JSON number")
+
+    try:
+        return json.loads(data.decode("utf-8"), parse_int=whole, parse_constant=refuse)
+    except (ValueError, RecursionError):
+        raise ListFault(NOT_JSON) from None
+
+
+def check_whole(value, low, high, draw, outside=OUT_OF_RANGE):
+    if type(value) is not int:
+        raise ListFault(WRONG_KIND, draw)
+    if not low <= value <= high:
+        raise ListFault(outside, draw)
+    return value
+
+
+def check_array(value, length, draw):
+    if type(value) is not list or len(value) != length:
+        raise ListFault(WRONG_KIND, draw)
+    return value
+
+
+def check_wholes(value, length, low, high, draw):
+    return tuple(check_whole(element, low, high, draw) for element in check_array(value, length, draw))
+
+
+def check_truth(value, draw):
+    if type(value) is not bool:
+        raise ListFault(WRONG_KIND, draw)
+    return value
+
+
+def check_word(value, words, draw):
+    if type(value) is not str:
+        raise ListFault(WRONG_KIND, draw)
+    if value not in words:
+        raise ListFault(OUT_OF_RANGE, draw)
+    return value
+
+
+def check_list(value, most, draw):
+    if type(value) is not list:
+        raise ListFault(WRONG_KIND, draw)
+    if len(value) > most:
+        raise ListFault(TOO_MANY, draw)
+    return value
+
+
+def check_keys(value, known, required, draw):
+    if type(value) is not dict:
+        raise ListFault(WRONG_KIND, draw)
+    if any(key not in known for key in value):
+        raise ListFault(UNKNOWN_KEY, draw)
+    if any(key not in value for key in required):
+        raise ListFault(MISSING_KEY, draw)
+
+
+def read_vertex(value, draw):
+    x, y, z, r, g, b, a = check_array(value, 7, draw)
+    position = (check_whole(x, *BAND, draw), check_whole(y, *BAND, draw))
+    depth = check_whole(z, 0, 65535, draw)
+    return position + (depth,) + tuple(check_whole(channel, 0, 255, draw) for channel in (r, g, b, a))
+
+
+def read_draw(value, draw, width, height, triangles_before):
+    check_keys(value, DRAW_KEYS, ("vertices", "triangles"), draw)
+    state = State(
+        cull=check_word(value.get("cull", "none"), ("none", "front", "back"), draw),
+        depth_test=check_word(value.get("depth_test", "always"), DEPTH_TESTS, draw),
+        depth_write=check_truth(value.get("depth_write", False), draw),
+        blend=check_word(value.get("blend", "none"), ("none", "over"), draw),
+        write=tuple(check_truth(c, draw) for c in check_array(value.get("write", [True] * 3), 3, draw)),
+        sample_mask=check_whole(value.get("sample_mask", 15), 0, 15, draw),
+        scissor=check_wholes(value.get("scissor", [0, 0, width, height]), 4, 0, 4096, draw),
+    )
+    vertices = [read_vertex(vertex, draw) for vertex in check_list(value["vertices"], 65536, draw)]
+    listed = check_list(value["triangles"], 65536, draw)
+    if triangles_before + len(listed) > 65536:
+        raise ListFault(TOO_MANY, draw)
+    triangles = []
+    for triangle in listed:
+        corners = []
+        for index in check_array(triangle, 3, draw):
+            corners.append(vertices[check_whole(index, 0, len(vertices) - 1, draw, BAD_INDEX)])
+        triangles.append(Triangle(tuple(corners), state))
+    return triangles
+
+
+def read(data):
+    """The scene that the bytes denote; ListFault at the first check that fails."""
+    if len(data) > INPUT_LIMIT:
+        raise InputTooLong
+    value = parse(data)
+    check_keys(value, TOP_KEYS, ("width", "height", "draws"), None)
+    width = check_whole(value["width"], 1, 4096, None)
+    height = check_whole(value["height"], 1, 4096, None)
+    samples = check_whole(value.get("samples", 1), -(2**63), 2**64, None)
+    if samples not in SAMPLES:
+        raise ListFault(OUT_OF_RANGE)
+    clear = check_wholes(value.get("clear", [0, 0, 0]), 3, 0, 255, None)
+    clear += (check_whole(value.get("clear_depth", 65535), 0, 65535, None),)
+    triangles = []
+    for draw, description in enumerate(check_list(value["draws"], 1024, None)):
+        triangles += read_draw(description, draw, width, height, len(triangles))
+    return Scene(width, height, samples, clear, tuple(triangles))
+
+
+# ---- Drawing -------------------------------------------------------------------------------------------------------
+
+
+def side(a, b, p):
+    """The edge function of the line ab at p."""
+    return (b[0] - a[0]) * (p[1] - a[1]) - (b[1] - a[1]) * (p[0] - a[0])
+
+
+class Edge:
+    """The edge ab of a triangle with third vertex c."""
+
+    def __init__(self, a, b, c):
+        self.a, self.b = a, b
+        self.third = side(a, b, c)
+        top = a[1] == b[1] and c[1] > a[1]
+        rise = b[1] - a[1]
+        left = rise != 0 and rise * (rise * (c[0] - a[0]) - (b[0] - a[0]) * (c[1] - a[1])) > 0
+        self.owns_its_points = top or left
+
+    def at(self, p):
+        return side(self.a, self.b, p)
+
+    def passes(self, value):
+        """The top-left rule at one edge, for a point at which the edge function has this value."""
+        return value * self.third > 0 or (value == 0 and self.owns_its_points)
+
+
+def is_culled(cull, area):
+    return (cull == "front" and area > 0) or (cull == "back" and area < 0)
+
+
+def over(source, alpha, stored):
+    return (source * alpha + stored * (255 - alpha) + 127) // 255
+
+
+def shade(triangle, weights, size, old):
+    """What a covered sample, not masked away, takes from a triangle."""
+    state = triangle.state
+
+    def value(place):
+        return sum(weight * vertex[place] for weight, vertex in zip(weights, triangle.vertices)) // size
+
+    depth = value(2)
+    if not DEPTH_TESTS[state.depth_test](depth, old[3]):
+        return old
+    new = list(old)
+    for channel in range(3):
+        if state.write[channel]:
+            source = value(3 + channel)
+            new[channel] = over(source, value(6), old[channel]) if state.blend == "over" else source
+    if state.depth_write:
+        new[3] = depth
+    return tuple(new)
+
+
+def pixels_of(triangle, scene):
+    """The columns and rows in which the triangle can cover a sample: its bounding box in scissor and picture."""
+    left, top, right, bottom = triangle.state.scissor
+    xs = [vertex[0] // 256 for vertex in triangle.vertices]
+    ys = [vertex[1] // 256 for vertex in triangle.vertices]
+    columns = range(max(0, left, min(xs)), min(scene.width, right, max(xs) + 1))
+    rows = range(max(0, top, min(ys)), min(scene.height, bottom, max(ys) + 1))
+    return columns, rows
+
+
+def draw(triangle, scene, samples):
+    a, b, c = triangle.vertices
+    area = side(a, b, c)
+    if area == 0 or is_culled(triangle.state.cull, area):
+        return
+    opposite_a, opposite_b, opposite_c = Edge(b, c, a), Edge(c, a, b), Edge(a, b, c)
+    offsets = [(s, o) for s, o in enumerate(SAMPLES[scene.samples]) if triangle.state.sample_mask >> s & 1]
+    columns, rows = pixels_of(triangle, scene)
+    for j in rows:
+        for i in columns:
+            for s, (ox, oy) in offsets:
+                p = (256 * i + ox, 256 * j + oy)
+                at_a = opposite_a.at(p)
+                if not opposite_a.passes(at_a):
+                    continue
+                at_b = opposite_b.at(p)
+                if not opposite_b.passes(at_b):
+                    continue
+                at_c = opposite_c.at(p)
+                if not opposite_c.passes(at_c):
+                    continue
+                place = (j * scene.width + i) * scene.samples + s
+                weights = (abs(at_a), abs(at_b), abs(at_c))
+                samples[place] = shade(triangle, weights, abs(area), samples[place])
+
+
+def resolve(samples, count):
+    """The bytes of the picture from its samples."""
+    if count == 1:
+        return bytes(channel for sample in samples for channel in sample[:3])
+    out = bytearray()
+    for first in range(0, len(samples), 4):
+        four = samples[first : first + 4]
+        for channel in range(3):
+            out.append((sum(sample[channel] for sample in four) + 2) // 4)
+    return bytes(out)
+
+
+def render(scene):
+    """The picture's file."""
+    samples = [scene.clear] * (scene.width * scene.height * scene.samples)
+    for triangle in scene.triangles:
+        draw(triangle, scene, samples)
+    return b"P6\n%d %d\n255\n" % (scene.width, scene.height) + resolve(samples, scene.samples)
+
+
+# ---- Comparing -----------------------------------------------------------------------------------------------------
+
+
+def split_file(data):
+    """Width, height and pixel bytes of a file in the one spelling that the program writes."""
+    magic, size, depth, pixels = data.split(b"\n", 3)
+    width, height = (int(number) for number in size.split(b" "))
+    if magic != b"P6" or depth != b"255" or len(pixels) != 3 * width * height:
+        raise ValueError("no P6 file of this spelling")
+    return width, height, pixels
+
+
+def difference(one, other):
+    """None where two files have the same bytes, else a line that says where they first differ."""
+    if one == other:
+        return None
+    try:
+        width, height, pixels = split_file(one)
+        other_width, other_height, other_pixels = split_file(other)
+    except ValueError:
+        place = next((k for k, pair in enumerate(zip(one, other)) if pair[0] != pair[1]), min(len(one), len(other)))
+        return f"the files have {len(one)} and {len(other)} bytes and differ from byte {place}"
+    if (width, height) != (other_width, other_height):
+        return f"the pictures are {width} by {height} and {other_width} by {other_height}"
+    places = [k for k in range(0, len(pixels), 3) if pixels[k : k + 3] != other_pixels[k : k + 3]]
+    j, i = divmod(places[0] // 3, width)
+    ours, theirs = pixels[places[0] : places[0] + 3].hex(" "), other_pixels[places[0] : places[0] + 3].hex(" ")
+    return f"{len(places)} pixels differ, first ({i}, {j}): {ours} and {theirs}"
+
+
+def main():
+    parser = argparse.ArgumentParser(description="Renders a draw list by the rules, slowly; or compares two pictures.")
+    parser.add_argument("--compare", nargs=2, metavar="FILE", help="compare two picture files in place of rendering")
+    words = parser.parse_args()
+    if words.compare:
+        with open(words.compare[0], "rb") as one, open(words.compare[1], "rb") as other:
+            told = difference(one.read(), other.read())
+        print("the same bytes" if told is None else told)
+        return 0 if told is None else 1
+    try:
+        picture = render(read(sys.stdin.buffer.read(INPUT_LIMIT + 1)))
+    except (ListFault, InputTooLong) as fault:
+        print(fault, file=sys.stderr)
+        return 1
+    sys.stdout.buffer.write(picture)
+    return 0
+
+
+if __name__ == "__main__":
+    sys.exit(main())
