@@ -73,9 +73,9 @@ module _ (l : Scene) (x y width height : ℕ) (bytes : List ℕ) (h : IsPart l x
       let place : start ≡ 3 * (j * width) = at ∙ rw wide (omega arith) in record {
         size = omega (arith, length-take (start + across - start) (drop start bytes), length-drop start bytes);
         pixels = λ m below.
-        same_colour l (x + m) (y + j) (x + m) (y + j) _ _ _ _ _ _ refl refl
-        (ap (slice_index bytes) (let e : 3 * (j * width + m) ≡ start + 3 * m = omega arith in e) ∙ in_row (3 * m) (omega arith))
-        (ap (slice_index bytes) (let e : 3 * (j * width + m) + 1 ≡ start + (3 * m + 1) = omega arith in e) ∙ in_row (3 * m + 1) (omega arith))
-        (ap (slice_index bytes) (let e : 3 * (j * width + m) + 2 ≡ start + (3 * m + 2) = omega arith in e) ∙ in_row (3 * m + 2) (omega arith))
-        (h.pixels m j below high);
+            same_colour l (x + m) (y + j) (x + m) (y + j) _ _ _ _ _ _ refl refl
+            (ap (slice_index bytes) (let e : 3 * (j * width + m) ≡ start + 3 * m = omega arith in e) ∙ in_row (3 * m) (omega arith))
+            (ap (slice_index bytes) (let e : 3 * (j * width + m) + 1 ≡ start + (3 * m + 1) = omega arith in e) ∙ in_row (3 * m + 1) (omega arith))
+            (ap (slice_index bytes) (let e : 3 * (j * width + m) + 2 ≡ start + (3 * m + 2) = omega arith in e) ∙ in_row (3 * m + 2) (omega arith))
+            (h.pixels m j below high);
       }

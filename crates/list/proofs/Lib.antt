@@ -9,3 +9,15 @@ pub mod Starting
 pub mod Begun
 pub mod Exists
 pub mod Colours
+pub mod Faults
+pub mod Elements
+pub mod KnownKeys
+pub mod Counts
+pub mod Draws
+pub mod Passes
+pub mod Bytes
+pub mod Finish
+pub mod Reached
+pub mod Accepted
+pub mod Words
+pub mod Merged

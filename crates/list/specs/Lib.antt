@@ -7,3 +7,10 @@ pub mod Starts
 pub mod Picture
 pub mod View
 pub mod Begun
+pub mod Json
+pub mod Keys
+pub mod Fault
+pub mod Place
+pub mod Checks
+pub mod Denotes
+pub mod Header

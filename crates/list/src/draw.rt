@@ -2,12 +2,10 @@ ghost use Rattle.std.specs.Prelude.{◌≡◌, ◌↔◌, IsTrue, ◌<◌, lengt
 ghost use Rattle.std.specs.List.{All};
 ghost use Rattle.list.specs.Listing.{draw_listing, placed, IsDrawWithinLimits};
 
+use crate::limits::MOST_VERTICES;
 use crate::placed::Placed;
 use grid::{Cull, PixelBox, Point, Tri};
 use shade::Merge;
-
-/// The most vertices of a draw.
-const MOST_VERTICES: usize = 65_536;
 
 /// A vertex of a draw.
 #[derive(Clone, Copy, Debug, PartialEq, Eq)]

@@ -3,14 +3,18 @@
 
 mod draw;
 mod draw_list;
+mod fault;
 mod limits;
 mod placed;
+mod reader;
 mod rows;
 mod starts;
 
 pub use draw::{Draw, State, Vertex};
 pub use draw_list::{DrawList, ListFault};
+pub use fault::{ReadFault, ReadKind};
 pub use placed::Placed;
+pub use reader::{MOST_BYTES, read};
 pub use rows::RowSpan;
 
 #[cfg(test)]

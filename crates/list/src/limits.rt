@@ -7,10 +7,13 @@ use crate::draw::Draw;
 const MOST_PIXELS: u32 = 4096;
 
 /// The most draws of a draw list.
-const MOST_DRAWS: usize = 1024;
+pub(crate) const MOST_DRAWS: usize = 1024;
+
+/// The most vertices of a draw.
+pub(crate) const MOST_VERTICES: usize = 65_536;
 
 /// The most triangles of all draws together, and so of one.
-const MOST_TRIANGLES: usize = 65_536;
+pub(crate) const MOST_TRIANGLES: usize = 65_536;
 
 /// Whether so many pixels are within the limits of a side of a picture.
 pub(crate) fn is_side(pixels: u32) -> bool

@@ -1,0 +1,18 @@
+//! Worked pictures, refusals and hostile runs of the whole program, through `trirast::run_with` and `trirast::command`. Each
+//! expected byte was reckoned by hand from the rules.
+#![tactic(auto)]
+
+#[cfg(test)]
+mod devices;
+#[cfg(test)]
+mod faults;
+#[cfg(test)]
+mod lines;
+#[cfg(test)]
+mod pictures;
+#[cfg(test)]
+mod support;
+#[cfg(test)]
+mod workers;
+#[cfg(test)]
+mod writers;

@@ -1,0 +1,91 @@
+//! The writer of picture files, the counted devices and the options, called by themselves.
+use crate::devices::{End, Sink, Source};
+use grid::TileSide;
+use std::test::Fail;
+use trirast::{Counted, LineFault, Options, WriteFault, options, ppm_header, ppm_rows, write_ppm};
+
+#[test]
+fn writes_a_file(rt: HostRuntime) -> Result<(), Fail> {
+    let mut out = Counted::new(Vec::new(rt.alloc()));
+    assert_eq!(rt; write_ppm(1, 1, &[1, 2, 3], &mut out), Ok(()));
+    assert_eq!(rt; out.failures(), 0);
+    let written: Vec<u8> = out.into_inner();
+    assert_eq!(rt;
+        written.as_slice(),
+        b"P6\n1 1\n255\n\x01\x02\x03".as_slice()
+    );
+    Ok(())
+}
+
+#[test]
+fn writes_header_and_rows(rt: HostRuntime) -> Result<(), Fail> {
+    let mut out = Counted::new(Vec::new(rt.alloc()));
+    assert_eq!(rt; ppm_header(4096, 65, &mut out), Ok(15));
+    assert_eq!(rt; ppm_rows(&[7, 8], 15, &mut out), Ok(17));
+    let written: Vec<u8> = out.into_inner();
+    assert_eq!(rt;
+        written.as_slice(),
+        b"P6\n4096 65\n255\n\x07\x08".as_slice()
+    );
+    Ok(())
+}
+
+#[test]
+fn counts_failures(rt: HostRuntime) -> Result<(), Fail> {
+    for (end, can_flush, failures) in [
+        (End::Fails, true, 1),
+        (End::Fails, false, 2),
+        (End::TakesNothing, false, 2),
+    ] {
+        let mut out = Counted::new(Sink {
+            taken: Vec::new(rt.alloc()),
+            room: 2,
+            a_call: 1,
+            end,
+            can_flush,
+        });
+        assert_eq!(rt;
+            ppm_rows(&[1, 2, 3], 10, &mut out),
+            Err(WriteFault { written: 12 })
+        );
+        assert_eq!(rt; out.flush().is_ok(), can_flush);
+        assert_eq!(rt; out.failures(), failures);
+        assert_eq!(rt; out.into_inner().taken.as_slice(), [1, 2].as_slice());
+    }
+    let mut input = Counted::new(Source {
+        text: b"ab",
+        spaces: 0,
+        a_call: 1,
+        calls_left: 1,
+    });
+    let mut buffer = [0; 4];
+    assert_eq!(rt; input.read(&mut buffer).ok(), Some(1));
+    assert_eq!(rt; input.failures(), 0);
+    assert!(rt; input.read(&mut buffer).is_err());
+    assert_eq!(rt; input.failures(), 1);
+    Ok(())
+}
+
+#[test]
+fn reads_options(rt: HostRuntime) -> Result<(), Fail> {
+    let plain = Options {
+        tile: TileSide::T32,
+        workers: 4,
+    };
+    assert_eq!(rt; options(rt.alloc(), &["trirast"]), Ok(plain));
+    let both = ["trirast", "--workers", "16", "--tile", "8"];
+    let named = Options {
+        tile: TileSide::T8,
+        workers: 16,
+    };
+    assert_eq!(rt; options(rt.alloc(), &both), Ok(named));
+    assert_eq!(rt;
+        options(rt.alloc(), &["trirast", "-h"]),
+        Err(LineFault::Help)
+    );
+    assert_eq!(rt;
+        options(rt.alloc(), &["trirast", "x"]),
+        Err(LineFault::Refused)
+    );
+    Ok(())
+}

@@ -1,0 +1,6 @@
+pub mod Grid
+pub mod Bin
+pub mod Parts
+pub mod Reach
+pub mod Runs
+pub mod Sorting

@@ -1,0 +1,14 @@
+//! The tiles of a picture, and which triangles are drawn in each.
+#![tactic(auto)]
+
+mod bins;
+mod reach;
+mod run;
+mod sorting;
+mod tiling;
+
+pub use bins::Bins;
+pub use tiling::Tiling;
+
+#[cfg(test)]
+mod tests;

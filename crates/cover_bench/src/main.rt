@@ -1,0 +1,215 @@
+//! The masks of the blocks on the borders of generated triangles, by `Setup::masks` and by the plain cover test at each
+//! sample. It prints a checksum of each, and with the word `--time` how long a block took.
+#![tactic(auto)]
+
+ghost use Rattle.std.specs.Prelude.{◌<◌};
+
+use cover::{Class, Masks, Setup};
+use grid::{Cull, Point, SampleCount, TileSide, Tri, sample_at};
+use std::alloc::{AllocError, Global};
+use std::time::Instant;
+use std::{env, io};
+
+/// How many triangles are generated, with corners on a screen of 1024 by 1024 pixels.
+const TRIANGLES: u32 = 64;
+
+/// How many blocks that screen has in a row.
+const COLUMNS: u32 = 128;
+
+/// How often all blocks are gone through where time is taken; the quickest time counts.
+const ROUNDS: u32 = 50;
+
+/// A triangle, and the numbers of the blocks that it neither covers nor leaves out.
+#[derive(Drop)]
+struct Scene {
+    triangle: Tri,
+    setup: Setup,
+    border: Vec<u32>,
+}
+
+/// A linear congruential generator (Knuth's MMIX).
+#[derive(Drop)]
+struct Random(u64);
+
+impl Random {
+    /// A coordinate on the screen, in 1/256 pixel.
+    fn coordinate(&mut self) -> i32 {
+        self.0 = self
+            .0
+            .wrapping_mul(6364136223846793005)
+            .wrapping_add(1442695040888963407);
+        ((self.0 >> 33) % 262_144) as i32
+    }
+
+    fn point(&mut self) -> Option<Point> {
+        let x = self.coordinate();
+        Point::new(x, self.coordinate())
+    }
+
+    fn triangle(&mut self) -> Option<Tri> {
+        Some(Tri::new(self.point()?, self.point()?, self.point()?))
+    }
+}
+
+/// The column and the row of a block.
+fn place(block: u32) -> (u32, u32)
+    ensures column { result.0 < 512 }
+    ensures row { result.1 < 512 }
+{
+    (block % COLUMNS, block / COLUMNS % COLUMNS)
+}
+
+fn border(alloc: Global, setup: &Setup) -> Result<Vec<u32>, AllocError> {
+    let mut blocks = Vec::new(alloc);
+    for block in 0..COLUMNS * COLUMNS {
+        let (bx, by) = place(block);
+        let class = setup.classify(bx, by, TileSide::T8, SampleCount::Four);
+        if class == Class::Mixed {
+            blocks.push(block)?;
+        }
+    }
+    Ok(blocks)
+}
+
+fn scenes(alloc: Global) -> Result<Vec<Scene>, AllocError> {
+    let mut all = Vec::new(alloc);
+    let mut random = Random(1);
+    for _ in 0..TRIANGLES {
+        if let Some(triangle) = random.triangle()
+            && let Some(setup) = Setup::new(&triangle, Cull::None)
+        {
+            let border = border(alloc, &setup)?;
+            all.push(Scene {
+                triangle,
+                setup,
+                border,
+            })?;
+        }
+    }
+    Ok(all)
+}
+
+/// One plane of a block's masks, by the plain test at each sample.
+fn plain_plane(triangle: &Tri, block: u32, s: u32, count: SampleCount) -> u64 {
+    let (bx, by) = place(block);
+    let mut plane = 0u64;
+    if s < count.count() {
+        for row in 0..8u32 {
+            for column in 0..8u32 {
+                let sample = sample_at(8 * bx + column, 8 * by + row, s, count);
+                if triangle.covers(sample) {
+                    plane |= 1 << (8 * row + column);
+                }
+            }
+        }
+    }
+    plane
+}
+
+fn plain_masks(scene: &Scene, block: u32, count: SampleCount) -> Masks {
+    let t = &scene.triangle;
+    Masks {
+        plane: [
+            plain_plane(t, block, 0, count),
+            plain_plane(t, block, 1, count),
+            plain_plane(t, block, 2, count),
+            plain_plane(t, block, 3, count),
+        ],
+    }
+}
+
+fn lane_masks(scene: &Scene, block: u32, count: SampleCount) -> Masks {
+    let (bx, by) = place(block);
+    scene.setup.masks(bx, by, count)
+}
+
+fn joined(sum: u64, masks: &Masks) -> u64 {
+    let [a, b, c, d] = masks.plane;
+    sum.rotate_left(1) ^ a ^ b.rotate_left(16) ^ c.rotate_left(32) ^ d.rotate_left(48)
+}
+
+/// How masks are made.
+#[derive(Clone, Copy)]
+enum Way {
+    Lanes,
+    Plain,
+}
+
+fn checksum(all: &[Scene], way: Way, count: SampleCount, start: u64) -> u64 {
+    let mut sum = start;
+    for scene in all {
+        for block in &scene.border {
+            let masks = match way {
+                Way::Lanes => lane_masks(scene, *block, count),
+                Way::Plain => plain_masks(scene, *block, count),
+            };
+            sum = joined(sum, &masks);
+        }
+    }
+    sum
+}
+
+/// How many of the blocks are of class Mixed, by cutting squares of 64 pixels into quarters.
+fn mixed_by_quarters(all: &[Scene], count: SampleCount) -> u64 {
+    let mut mixed = 0u64;
+    for scene in all {
+        for block in 0..256u32 {
+            let whole = scene
+                .setup
+                .square(8 * (block % 16), 8 * (block / 16), TileSide::T64, count);
+            for q in 0..4u32 {
+                if whole.quarter(q).class() == Class::Mixed {
+                    mixed = mixed.wrapping_add(1);
+                }
+            }
+        }
+    }
+    mixed
+}
+
+fn blocks(all: &[Scene]) -> u64 {
+    let mut sum = 0u64;
+    for scene in all {
+        sum = sum.wrapping_add(scene.border.len() as u64);
+    }
+    sum
+}
+
+/// Tenths of a nanosecond for each of so many blocks.
+fn tenths(nanos: u128, blocks: u64) -> u64 {
+    let whole = u64::try_from(nanos).unwrap_or(0).wrapping_mul(10);
+    if blocks == 0 { 0 } else { whole / blocks }
+}
+
+fn main(rt: HostRuntime) -> io::Result<()> {
+    let mut timed = false;
+    for word in env::args(&rt)? {
+        timed |= word.as_str() == "--time";
+    }
+    let all = scenes(rt.alloc())?;
+    let blocks = blocks(&all);
+    println!(rt; "{blocks} blocks")?;
+    for (samples, count) in [
+        ("one sample", SampleCount::One),
+        ("four samples", SampleCount::Four),
+    ] {
+        println!(rt;
+            "{samples}, mixed quarters: {}",
+            mixed_by_quarters(&all, count)
+        )?;
+        for (name, way) in [("lanes", Way::Lanes), ("plain test", Way::Plain)] {
+            println!(rt; "{samples}, {name}: {:016x}", checksum(&all, way, count, 0))?;
+            if timed {
+                let (mut least, mut sum) = (u64::MAX, 0u64);
+                for _ in 0..ROUNDS {
+                    let start = Instant::now(&rt)?;
+                    sum = checksum(&all, way, count, sum);
+                    least = least.min(tenths(start.elapsed(&rt)?.as_nanos(), blocks));
+                }
+                let (whole, tenth) = (least / 10, least % 10);
+                println!(rt; "{samples}, {name}: {whole}.{tenth} ns a block ({sum:x})")?;
+            }
+        }
+    }
+    Ok(())
+}

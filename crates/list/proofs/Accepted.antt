@@ -1,0 +1,67 @@
+-- What denotes a draw list is within the limits of a draw list.
+use Rattle.std.proofs.Common.{◌≡◌, ℕ, ◌<◌, ◌≤◌, List, [], ◌∷◌, length, sum_by, slice_index, arith}
+use Rattle.std.proofs.lemmas.Int.{ints}
+use Rattle.std.specs.List.{All}
+use Rattle.std.proofs.lemmas.List.Elements.{All-nil, All-cons}
+use Rattle.serde_json.specs.Data.{Data, Items, no_items, item}
+use Rattle.grid.specs.declared.pixels.PixelBox.{PixelBox}
+use Rattle.list.specs.Listing.{DrawListing, Listing, IsDrawWithinLimits, IsWithinLimits}
+use Rattle.serde_json.specs.View.{items_view}
+use Rattle.list.specs.declared.reader.header.Header.{Header}
+use Rattle.list.specs.Header.{IsHeader}
+use Rattle.list.specs.Denotes.{Each, picture_box, IsTriangle, IsDraw, IsListing}
+use Rattle.list.proofs.Counts.{items_len_view, items_len_each}
+
+each_all : {X : Type 0} (Is : Data → X → Type 0) (P : X → Type 0) → ((d : Data) (x : X) → Is d x → P x) → (ds : Items) (xs : List X) → Each Is ds xs → All P xs
+each_all Is P each no_items [] h = All-nil P
+each_all Is P each no_items (x ∷ xs) h = absurd h
+each_all Is P each (item d ds) [] h = absurd h
+each_all Is P each (item d ds) (x ∷ xs) h = All-cons P x xs (each d x h.0) (each_all Is P each ds xs h.1)
+
+three : (P : ℕ → Type 0) (xs : List ℕ) → length xs ≡ 3 → P (slice_index xs 0) → P (slice_index xs 1) → P (slice_index xs 2) → All P xs
+three P [] e p q r = absurd (omega arith)
+three P (a ∷ []) e p q r = absurd (omega arith)
+three P (a ∷ b ∷ []) e p q r = absurd (omega arith)
+three P (a ∷ b ∷ c ∷ []) e p q r = All-cons P a (b ∷ c ∷ []) p (All-cons P b (c ∷ []) q (All-cons P c [] r (All-nil P)))
+three P (a ∷ b ∷ c ∷ d ∷ xs) e p q r = absurd (omega arith)
+
+triangle_within : (n : ℕ) (d : Data) (t : List ℕ) → IsTriangle n d t → All (λ k. k < n) t
+triangle_within n d t is = three (λ k. k < n) t is.indices is.first.1 is.second.1 is.third.1
+
+draw_within : (picture : PixelBox) (d : Data) (draw : DrawListing) → IsDraw picture d draw → IsDrawWithinLimits draw
+draw_within picture d draw is = record {
+  vertices = is.vertices.at_most;
+  indices = each_all (IsTriangle (length draw.vertices)) (λ t. All (λ k. k < length draw.vertices) t) (triangle_within (length draw.vertices)) _ draw.triangles is.triangles.parts;
+}
+
+pub listing_within : (d : Data) (l : Listing) → IsListing d l → IsWithinLimits l
+listing_within d l is = record {
+  wide = omega (arith, ints, is.width.1);
+  width = omega (arith, ints, is.width.2);
+  high = omega (arith, ints, is.height.1);
+  height = omega (arith, ints, is.height.2);
+  draws = record {
+    number = is.draws.at_most;
+    each = each_all _ IsDrawWithinLimits (draw_within _) _ l.draws is.draws.parts;
+    triangles = is.triangles;
+  };
+}
+
+-- a top object with its draws is a draw list
+pub headed : (d : Data) (h : Header) (draws : List DrawListing) → IsHeader d h → Each (IsDraw (picture_box h.width h.height)) (items_view h.draws.now) draws
+    → sum_by (λ d. length d.triangles) draws ≤ 65536
+    → IsListing d (record { width = h.width; height = h.height; count = h.count; clear = h.clear; draws = draws })
+headed d h draws is parts few =
+    let many = items_len_each _ _ _ parts in
+    let all = items_len_view h.draws.now in
+    record {
+      object = is.object;
+      keys = is.keys;
+      width = is.width;
+      height = is.height;
+      samples = is.beginning.samples;
+      clear = is.beginning.colour;
+      clear_depth = is.beginning.depth;
+      draws = record { array = is.array; parts = rw is.draws at parts; at_most = omega (arith, many, all, is.at_most) };
+      triangles = few;
+    }

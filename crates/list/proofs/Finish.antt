@@ -1,0 +1,59 @@
+-- From the first fault of a value to the clauses of the reader.
+use Rattle.std.proofs.Common.{◌≡◌, ◌≢◌, ◌≤◌, ℕ, List, [], ◌∷◌, length, Bool, true, false, cond, Option, Some, None, Result, Ok, Err, IfOk, IfErr, refl, ap, ◌∙◌}
+use Rattle.serde_json.specs.Data.{Data}
+use Rattle.list.specs.declared.fault.ReadKind.{ReadKind}
+use Rattle.list.specs.declared.fault.ReadKind.TheVariants.{NotJson, UnknownKey, MissingKey, WrongKind, OutOfRange, BadIndex, TooMany, OutOfMemory}
+use Rattle.list.specs.declared.fault.ReadFault.{ReadFault}
+use Rattle.list.specs.Json.{json_of}
+use Rattle.list.specs.Scene.{Scene}
+use Rattle.list.specs.Place.{Place, first_fault, IsFirstFault, ReadsAll}
+use Rattle.list.specs.Checks.{places, value_places}
+use Rattle.list.specs.Denotes.{IsDrawList, Denotes}
+use Rattle.list.proofs.Passes.{listing_passes}
+
+is_first-cons : {T : Type 0} (p : Place T) (ps : List (Place T)) (fault : T) (b : Bool) → p.fails ≡ b → (first_fault ps ≡ Some fault → IsFirstFault ps fault)
+    → cond b (Some p.told) (first_fault ps) ≡ Some fault → IsFirstFault (p ∷ ps) fault
+is_first-cons p ps fault true fails later is = record { before = []; here = p; after = ps; order = refl; passed = tt; fails = fails; told = cc }
+is_first-cons p ps fault false fails later is =
+    let rest = later is in
+    record { before = p ∷ rest.before; here = rest.here; after = rest.after; order = ap (λ qs. p ∷ qs) rest.order; passed = (fails, rest.passed); fails = rest.fails; told = rest.told }
+
+pub is_first : {T : Type 0} (ps : List (Place T)) (fault : T) → first_fault ps ≡ Some fault → IsFirstFault ps fault
+is_first [] fault is = absurd (cc)
+is_first (p ∷ ps) fault is = is_first-cons p ps fault p.fails refl (is_first ps fault) is
+
+no_other : (kind : ReadKind) → (kind ≢ OutOfMemory → ⊥) → kind ≡ OutOfMemory
+no_other NotJson h = absurd (h (λ e. cc))
+no_other UnknownKey h = absurd (h (λ e. cc))
+no_other MissingKey h = absurd (h (λ e. cc))
+no_other WrongKind h = absurd (h (λ e. cc))
+no_other OutOfRange h = absurd (h (λ e. cc))
+no_other BadIndex h = absurd (h (λ e. cc))
+no_other TooMany h = absurd (h (λ e. cc))
+no_other OutOfMemory h = refl
+
+some_none : {A : Type 0} (o : Option A) (a : A) → o ≡ Some a → o ≡ None → ⊥
+some_none None a e f = cc
+some_none (Some b) a e f = cc
+
+same_value : (o : Option Data) (d e : Data) → o ≡ Some d → o ≡ Some e → d ≡ e
+same_value o d e p q = cc
+
+module _ (bytes : List ℕ) (d : Data) (json : json_of bytes ≡ Some d) where
+  pub read_ok : (r : Result Scene ReadFault) → length bytes ≤ 67108864 → ReadsAll (value_places d) (IsDrawList d) r → IfOk r (Denotes bytes)
+  read_ok (Ok l) short h = record { size = short; value = d; json = json; is = h.1 }
+  read_ok (Err e) short h = tt
+
+  pub read_only : (r : Result Scene ReadFault) → ReadsAll (value_places d) (IsDrawList d) r → (l : Scene) → Denotes bytes l → IfErr r (λ e. e.kind ≡ OutOfMemory)
+  read_only (Ok found) h l denotes = tt
+  read_only (Err e) h l denotes =
+      let same : d ≡ denotes.value = same_value (json_of bytes) d denotes.value json denotes.json in
+      let none : first_fault (value_places d) ≡ None = ap (λ v. first_fault (value_places v)) same ∙ listing_passes denotes.value denotes.is.listing denotes.is.is in
+      no_other e.kind (λ other. some_none (first_fault (value_places d)) e (h other) none)
+
+  pub read_first : (r : Result Scene ReadFault) → ReadsAll (value_places d) (IsDrawList d) r → IfErr r (λ e. e.kind ≢ OutOfMemory → IsFirstFault (places (json_of bytes)) e)
+  read_first (Ok found) h = tt
+  read_first (Err e) h = λ other. is_first (places (json_of bytes)) e (ap (λ v. first_fault (places v)) json ∙ h other)
+
+pub not_denoted : (bytes : List ℕ) → json_of bytes ≡ None → (l : Scene) → Denotes bytes l → ⊥
+not_denoted bytes none l denotes = some_none (json_of bytes) denotes.value denotes.json none

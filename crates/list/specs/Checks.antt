@@ -1,0 +1,201 @@
+-- The checks of a draw list, in their order.
+use Rattle.std.specs.Prelude.{◌≡◌, ℕ, ◌+◌, ◌||◌, ◌&&◌, ◌==◌, ℤ, pos, negsuc, int_le, ◌-ℤ◌, List, [], ◌∷◌, ◌++◌, Bool, true, false, not, nat_lt, ◌<◌, IfSome, Option, Some, None, is_none, codes}
+use Rattle.std.specs.Option.{option_map_or}
+use Rattle.std.specs.Ordering.{int_eq}
+use Rattle.serde_json.specs.Data.{Data, Items, no_items, item}
+use Rattle.serde_json.specs.Find.{get, at, as_object}
+use Rattle.list.specs.declared.fault.ReadKind.{ReadKind}
+use Rattle.list.specs.declared.fault.ReadKind.TheVariants.{NotJson, UnknownKey, MissingKey, WrongKind, OutOfRange, BadIndex, TooMany}
+use Rattle.list.specs.declared.fault.ReadFault.{ReadFault}
+use Rattle.list.specs.Json.{whole, text, truth, array_of, element, elements, count, length_of, is_among, has_other_key}
+use Rattle.list.specs.Keys.{top_keys, draw_keys, cull_words, depth_test_words, blend_words}
+use Rattle.list.specs.Place.{Place, PassesBefore, place, told_as}
+
+abbrev pub Checks : Type 0
+Checks = List (Place ReadKind)
+
+-- ---- numbers, words and truth values
+
+abbrev pub is_from_to : ℤ → ℤ → ℤ → Bool
+is_from_to low high z = int_le low z && int_le z high
+
+-- a whole number, and in its range, else `outside` is told
+abbrev pub number_checks : (ℤ → Bool) → ReadKind → Option Data → Checks
+number_checks is_inside outside value =
+    place (is_none (whole value)) WrongKind
+    ∷ place (option_map_or (λ z. not (is_inside z)) (whole value) false) outside
+    ∷ []
+
+-- a coordinate of the guard band
+abbrev pub coordinate_checks : Option Data → Checks
+coordinate_checks value = number_checks (is_from_to (negsuc 8388607) (pos 8388607)) OutOfRange value
+
+abbrev pub depth_checks : Option Data → Checks
+depth_checks value = number_checks (is_from_to (pos 0) (pos 65535)) OutOfRange value
+
+abbrev pub channel_checks : Option Data → Checks
+channel_checks value = number_checks (is_from_to (pos 0) (pos 255)) OutOfRange value
+
+abbrev pub size_checks : Option Data → Checks
+size_checks value = number_checks (is_from_to (pos 1) (pos 4096)) OutOfRange value
+
+abbrev pub is_sample_count : ℤ → Bool
+is_sample_count z = int_eq z (pos 1) || int_eq z (pos 4)
+
+abbrev pub sample_count_checks : Option Data → Checks
+sample_count_checks value = number_checks is_sample_count OutOfRange value
+
+abbrev pub sample_mask_checks : Option Data → Checks
+sample_mask_checks value = number_checks (is_from_to (pos 0) (pos 15)) OutOfRange value
+
+abbrev pub scissor_side_checks : Option Data → Checks
+scissor_side_checks value = number_checks (is_from_to (pos 0) (pos 4096)) OutOfRange value
+
+-- a number of a vertex, where there are n
+abbrev pub index_checks : ℕ → Option Data → Checks
+index_checks n value = number_checks (is_from_to (pos 0) (pos n -ℤ pos 1)) BadIndex value
+
+-- a text, and one of the words
+abbrev pub word_checks : List (List ℕ) → Option Data → Checks
+word_checks words value =
+    place (is_none (text value)) WrongKind
+    ∷ place (option_map_or (λ t. not (is_among words t)) (text value) false) OutOfRange
+    ∷ []
+
+abbrev pub truth_checks : Option Data → Checks
+truth_checks value = place (is_none (truth value)) WrongKind ∷ []
+
+-- the checks of a key that may be absent
+abbrev pub where_there : (Option Data → Checks) → Option Data → Checks
+where_there checks None = []
+where_there checks (Some value) = checks (Some value)
+
+abbrev pub is_absent : List ℕ → Data → Bool
+is_absent name value = is_none (get name value)
+
+-- ---- arrays
+
+-- an array of just so many elements
+abbrev pub has_length : ℕ → Option Data → Bool
+has_length n value = option_map_or (λ m. m == n) (length_of value) false
+
+abbrev pub length_check : ℕ → Option Data → Place ReadKind
+length_check n value = place (not (has_length n value)) WrongKind
+
+-- an array of at most so many elements
+abbrev pub array_checks : ℕ → Option Data → Checks
+array_checks most value = place (is_none (array_of value)) WrongKind ∷ place (nat_lt most (count value)) TooMany ∷ []
+
+-- the checks of each element in turn
+abbrev pub each : (Data → Checks) → Items → Checks
+each checks no_items = []
+each checks (item value rest) = checks value ++ each checks rest
+
+abbrev pub vertex_checks : Data → Checks
+vertex_checks value =
+    length_check 7 (Some value)
+    ∷ (coordinate_checks (at 0 value) ++ (coordinate_checks (at 1 value) ++ (depth_checks (at 2 value)
+    ++ (channel_checks (at 3 value) ++ (channel_checks (at 4 value) ++ (channel_checks (at 5 value) ++ channel_checks (at 6 value)))))))
+
+abbrev pub triangle_checks : ℕ → Data → Checks
+triangle_checks n value =
+    length_check 3 (Some value) ∷ (index_checks n (at 0 value) ++ (index_checks n (at 1 value) ++ index_checks n (at 2 value)))
+
+abbrev pub colour_checks : Option Data → Checks
+colour_checks value =
+    length_check 3 value ∷ (channel_checks (element 0 value) ++ (channel_checks (element 1 value) ++ channel_checks (element 2 value)))
+
+abbrev pub write_mask_checks : Option Data → Checks
+write_mask_checks value =
+    length_check 3 value ∷ (truth_checks (element 0 value) ++ (truth_checks (element 1 value) ++ truth_checks (element 2 value)))
+
+abbrev pub scissor_checks : Option Data → Checks
+scissor_checks value =
+    length_check 4 value
+    ∷ (scissor_side_checks (element 0 value) ++ (scissor_side_checks (element 1 value)
+    ++ (scissor_side_checks (element 2 value) ++ scissor_side_checks (element 3 value))))
+
+-- ---- a draw
+
+unfoldable pub merge_checks : Data → Checks
+merge_checks value =
+    where_there (word_checks depth_test_words) (get (codes "depth_test") value)
+    ++ (where_there truth_checks (get (codes "depth_write") value)
+    ++ (where_there (word_checks blend_words) (get (codes "blend") value)
+    ++ where_there write_mask_checks (get (codes "write") value)))
+
+unfoldable pub state_checks : Data → Checks
+state_checks value =
+    where_there (word_checks cull_words) (get (codes "cull") value)
+    ++ (merge_checks value
+    ++ (where_there sample_mask_checks (get (codes "sample_mask") value)
+    ++ where_there scissor_checks (get (codes "scissor") value)))
+
+unfoldable pub vertices_checks : Data → Checks
+vertices_checks value = array_checks 65536 (Some value) ++ each vertex_checks (elements (Some value))
+
+-- the triangles of a draw of n vertices, before which the draws have so many triangles
+unfoldable pub triangles_checks : ℕ → ℕ → Data → Checks
+triangles_checks earlier n value =
+    array_checks 65536 (Some value)
+    ++ place (nat_lt 65536 (earlier + count (Some value))) TooMany
+    ∷ each (triangle_checks n) (elements (Some value))
+
+abbrev pub part_checks : ℕ → Option Data → Option Data → Checks
+part_checks earlier None triangles = []
+part_checks earlier (Some vertices) None = []
+part_checks earlier (Some vertices) (Some triangles) = vertices_checks vertices ++ triangles_checks earlier (count (Some vertices)) triangles
+
+-- the checks of a draw before which the draws have so many triangles
+abbrev pub draw_checks : ℕ → Data → Checks
+draw_checks earlier value =
+    place (is_none (as_object value)) WrongKind
+    ∷ place (has_other_key draw_keys (as_object value)) UnknownKey
+    ∷ place (is_absent (codes "vertices") value || is_absent (codes "triangles") value) MissingKey
+    ∷ (state_checks value ++ part_checks earlier (get (codes "vertices") value) (get (codes "triangles") value))
+
+-- ---- the whole list
+
+-- the checks of the top object's keys that may be absent
+unfoldable pub clear_checks : Data → Checks
+clear_checks value =
+    where_there sample_count_checks (get (codes "samples") value)
+    ++ (where_there colour_checks (get (codes "clear") value)
+    ++ where_there depth_checks (get (codes "clear_depth") value))
+
+-- the checks of the top object, without those of the draws themselves
+unfoldable pub top_checks : Data → Checks
+top_checks value =
+    place (is_none (as_object value)) WrongKind
+    ∷ place (has_other_key top_keys (as_object value)) UnknownKey
+    ∷ place (is_absent (codes "width") value || is_absent (codes "height") value || is_absent (codes "draws") value) MissingKey
+    ∷ (size_checks (get (codes "width") value)
+    ++ (size_checks (get (codes "height") value)
+    ++ (clear_checks value
+    ++ array_checks 1024 (get (codes "draws") value))))
+
+abbrev pub outside : ReadKind → ReadFault
+outside kind = record { kind = kind; draw = None }
+
+abbrev pub in_draw : ℕ → ReadKind → ReadFault
+in_draw number kind = record { kind = kind; draw = Some number }
+
+-- The places of the draws from this number on, before which the draws have so many triangles.
+abbrev pub draw_places : ℕ → ℕ → Items → List (Place ReadFault)
+draw_places number earlier no_items = []
+draw_places number earlier (item value rest) =
+    told_as (in_draw number) (draw_checks earlier value)
+    ++ draw_places (number + 1) (earlier + count (get (codes "triangles") value)) rest
+
+abbrev pub value_places : Data → List (Place ReadFault)
+value_places value = told_as outside (top_checks value) ++ draw_places 0 0 (elements (get (codes "draws") value))
+
+-- All places of an input, in their order: first that its bytes are no JSON.
+abbrev pub places : Option Data → List (Place ReadFault)
+places None = place true (outside NotJson) ∷ []
+places (Some value) = place false (outside NotJson) ∷ value_places value
+
+-- A draw that is told is one of the list's, and no place before it fails.
+abbrev pub Reaches : Option Data → ReadFault → Type 0
+Reaches None fault = fault.draw ≡ None
+Reaches (Some value) fault = IfSome fault.draw (λ n. (n < count (get (codes "draws") value)) × PassesBefore n (places (Some value)))

@@ -1,0 +1,131 @@
+ghost use Rattle.std.specs.Prelude.{◌≡◌, ◌≢◌, ◌≤◌, ◌<◌, ◌⊎◌, pos, ◌≤ℤ◌, length, map, sum_by, Some, IfSome, IfOk, IfErr};
+ghost use Rattle.serde_json.specs.View.{view, items_view};
+ghost use Rattle.list.specs.declared.fault.ReadKind.TheVariants.{NotJson, OutOfMemory};
+ghost use Rattle.serde_json.specs.Errors.{IsMemory};
+ghost use Rattle.list.specs.Json.{json_of};
+ghost use Rattle.list.specs.Place.{ReadsAll, IsFirstFault, PassesBefore};
+ghost use Rattle.list.specs.Listing.{draw_listing};
+ghost use Rattle.list.specs.Scene.{Scene};
+ghost use Rattle.list.specs.Checks.{draw_places, value_places, places, Reaches};
+ghost use Rattle.list.specs.Denotes.{Each, picture_box, IsDraw, IsDrawList, Denotes};
+
+mod array;
+mod draw;
+mod header;
+mod keys;
+mod number;
+mod state;
+#[cfg(test)]
+mod tests;
+mod triangles;
+mod vertices;
+mod word;
+
+use crate::draw::Draw;
+use crate::draw_list::DrawList;
+use crate::fault::{ReadFault, ReadKind};
+use crate::limits::MOST_TRIANGLES;
+use draw::read_draw;
+use grid::PixelBox;
+use header::Header;
+use serde_json::{Error, Value};
+use std::alloc::Global;
+
+/// The most bytes that are read: 64 MiB.
+pub const MOST_BYTES: usize = 67_108_864;
+
+/// The draws on a picture of these pixels.
+fn draws_of(alloc: Global, list: &[Value], picture: PixelBox) -> Result<Vec<Draw>, ReadFault>
+    requires { length list.now ≤ 1024 }
+    ensures told { let items = items_view list.now in ReadsAll (draw_places 0 0 items)
+        (λ found. let draws = map draw_listing found.items in
+        Each (IsDraw picture) items draws × (sum_by (λ d. length d.triangles) draws ≤ MOST_TRIANGLES)) result }
+    ensures reached { IfErr result (λ fault. IfSome fault.draw
+        (λ n. (n < length list.now) × PassesBefore n (draw_places 0 0 (items_view list.now)))) }
+{
+    let Ok(mut found) = Vec::with_capacity(alloc, list.len()) else {
+        return Err(ReadFault::outside(ReadKind::OutOfMemory));
+    };
+    let mut earlier = 0;
+    for (number, value) in list.iter().enumerate() {
+        let next = match read_draw(alloc, value, picture, earlier) {
+            Ok(next) => next,
+            Err(kind) => return Err(ReadFault::in_draw(kind, number as u32)),
+        };
+        earlier += next.triangles.len();
+        found.push_reserved(next);
+    }
+    Ok(found)
+}
+
+/// All pixels of a picture of this size.
+fn picture_of(width: u32, height: u32) -> PixelBox
+    requires width { pos width ≤ℤ pos 4096 }
+    requires height { pos height ≤ℤ pos 4096 }
+    ensures { result ≡ picture_box width height }
+{
+    PixelBox {
+        x0: 0,
+        y0: 0,
+        x1: width as i32,
+        y1: height as i32,
+    }
+}
+
+/// The draw list that a value denotes, or the first fault of it.
+#[tactic(auto, using(crate::proofs::Faults::first_fault_of_both, crate::proofs::Faults::first_fault_told_as))]
+fn read_value(alloc: Global, value: &Value) -> Result<DrawList, ReadFault>
+    ensures told { ReadsAll (value_places (view value.now)) (IsDrawList (view value.now)) result }
+    ensures reached { IfErr result (Reaches (Some (view value.now))) }
+{
+    let header = match Header::read(value) {
+        Ok(header) => header,
+        Err(kind) => return Err(ReadFault::outside(kind)),
+    };
+    let (width, height) = (header.width, header.height);
+    let draws = draws_of(alloc, header.draws, picture_of(width, height))?;
+    match DrawList::within_limits(alloc, width, height, header.count, header.clear, draws) {
+        Ok(list) => Ok(list),
+        Err(_) => Err(ReadFault::outside(ReadKind::OutOfMemory)),
+    }
+}
+
+/// What is told where `serde_json` gives no value.
+fn kind_of(error: &Error) -> ReadKind
+    ensures { (IsMemory error.now × (result ≡ OutOfMemory)) ⊎ ((¬ IsMemory error.now) × (result ≡ NotJson)) }
+{
+    if error.is_memory() {
+        ReadKind::OutOfMemory
+    } else {
+        ReadKind::NotJson
+    }
+}
+
+/// Reads a draw list from JSON (RFC 8259, as `serde_json` reads it; the keys, ranges and defaults are this project's format).
+///
+/// What is told is the first check that fails, in this order. Whether the bytes are JSON. The top object: its kind, a key that
+/// it should not have, a key that it lacks, then `width`, `height`, `samples`, `clear`, `clear_depth` and `draws`. Each draw in
+/// turn: its kind, a key that it should not have, a key that it lacks, then `cull`, `depth_test`, `depth_write`, `blend`,
+/// `write`, `sample_mask`, `scissor`, `vertices` and `triangles`. The kind of a value comes before its range, the number of
+/// elements before the elements. A fault of a draw tells the draw's number.
+///
+/// `OutOfMemory` is told where a growth of memory was refused, in place of whatever would have come later: with the number of
+/// the draw that was being read, and without one before the first draw and after the last. Nothing of the bytes is kept.
+pub fn read(alloc: Global, bytes: &[u8]) -> Result<DrawList, ReadFault>
+    requires { length bytes.now ≤ MOST_BYTES }
+    // What is read is denoted.
+    ensures ok { IfOk result (Denotes bytes.now) }
+    // What denotes a list is read, unless memory runs out.
+    ensures only { (list : Scene) → Denotes bytes.now list → IfErr result (λ fault. fault.kind ≡ OutOfMemory) }
+    // A fault is the first one, unless memory ran out.
+    ensures first { IfErr result (λ fault. fault.kind ≢ OutOfMemory
+        → IsFirstFault (places (json_of bytes.now)) fault) }
+    // Want of memory too names a draw only where all before that draw is right.
+    ensures reached { IfErr result (Reaches (json_of bytes.now)) }
+{
+    let value = match Value::from_slice(alloc, bytes) {
+        Ok(value) => value,
+        Err(error) => return Err(ReadFault::outside(kind_of(&error))),
+    };
+    read_value(alloc, &value)
+}

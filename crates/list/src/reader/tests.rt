@@ -1,0 +1,584 @@
+use crate::ReadKind::{
+    BadIndex, MissingKey, NotJson, OutOfMemory, OutOfRange, TooMany, UnknownKey, WrongKind,
+};
+use crate::{DrawList, MOST_BYTES, ReadFault, ReadKind, State, read};
+use grid::{Cull, PixelBox, Point, SampleCount, Tri};
+use shade::{DepthTest, Merge, Sample};
+use std::alloc::AllocGlobal;
+use std::process::Abort;
+
+fn answer(rt: &(impl Abort + AllocGlobal), text: &str) -> Result<DrawList, ReadFault> {
+    let bytes = text.as_bytes();
+    assert!(rt; bytes.len() <= MOST_BYTES);
+    read(rt.alloc(), bytes)
+}
+
+/// The fault that is told, or none where the text denotes a list.
+fn fault(rt: &(impl Abort + AllocGlobal), text: &str) -> Option<ReadFault> {
+    answer(rt, text).err()
+}
+
+fn outside(kind: ReadKind) -> Option<ReadFault> {
+    Some(ReadFault { kind, draw: None })
+}
+
+fn in_draw(kind: ReadKind, number: u32) -> Option<ReadFault> {
+    Some(ReadFault {
+        kind,
+        draw: Some(number),
+    })
+}
+
+/// The fault of a list with these members beside one pixel and no draws.
+fn top_fault(rt: &(impl Abort + AllocGlobal), members: &str) -> Option<ReadFault> {
+    let text = format!(in rt.alloc(); r#"{{"width":1,"height":1,"draws":[]{members}}}"#).expect(
+        rt, "memory",
+    );
+    fault(rt, text.as_str())
+}
+
+/// The fault of a list of one draw with these members.
+fn draw_fault(rt: &(impl Abort + AllocGlobal), members: &str) -> Option<ReadFault> {
+    let text = format!(in rt.alloc(); r#"{{"width":1,"height":1,"draws":[{{{members}}}]}}"#).expect(
+        rt, "memory",
+    );
+    fault(rt, text.as_str())
+}
+
+/// The fault of a list of one draw without triangles, which has this member beside.
+fn state_fault(rt: &(impl Abort + AllocGlobal), member: &str) -> Option<ReadFault> {
+    let members = format!(in rt.alloc(); r#"{member},"vertices":[],"triangles":[]"#).expect(
+        rt, "memory",
+    );
+    draw_fault(rt, members.as_str())
+}
+
+/// The fault of a list of one draw with this one vertex.
+fn vertex_fault(rt: &(impl Abort + AllocGlobal), vertex: &str) -> Option<ReadFault> {
+    let members = format!(in rt.alloc(); r#""vertices":[{vertex}],"triangles":[]"#).expect(
+        rt, "memory",
+    );
+    draw_fault(rt, members.as_str())
+}
+
+/// The fault of a list of one draw of three vertices with this one triangle.
+fn triangle_fault(rt: &(impl Abort + AllocGlobal), triangle: &str) -> Option<ReadFault> {
+    let vertex = "[0,0,0,0,0,0,0]";
+    let members = format!(in rt.alloc();
+        r#""vertices":[{vertex},{vertex},{vertex}],"triangles":[{triangle}]"#
+    ).expect(rt, "memory");
+    draw_fault(rt, members.as_str())
+}
+
+#[test]
+fn numbers_and_names_its_faults(rt: HostRuntime) {
+    for (kind, number, name) in [
+        (NotJson, 1, "NotJson"),
+        (UnknownKey, 2, "UnknownKey"),
+        (MissingKey, 3, "MissingKey"),
+        (WrongKind, 4, "WrongKind"),
+        (OutOfRange, 5, "OutOfRange"),
+        (BadIndex, 6, "BadIndex"),
+        (TooMany, 7, "TooMany"),
+        (OutOfMemory, 8, "OutOfMemory"),
+    ] {
+        assert_eq!(rt; kind.number(), number);
+        assert!(rt; kind.name() == name, "{name}");
+    }
+}
+
+#[test]
+fn refuses_what_is_no_json(rt: HostRuntime) {
+    for text in ["", r#"{"width":1"#, "{} {}", "[1,]", "'1'"] {
+        assert_eq!(rt; fault(&rt, text), outside(NotJson), "{text}");
+    }
+    let no_utf8 = read(rt.alloc(), &[34, 255, 34]);
+    assert_eq!(rt; no_utf8.err(), outside(NotJson));
+}
+
+#[test]
+fn tells_the_first_fault(rt: HostRuntime) {
+    for (text, told) in [
+        (r#"{"width":0,"fog":1,"draws":[]}"#, outside(UnknownKey)),
+        (r#"{"width":0,"draws":[]}"#, outside(MissingKey)),
+        (
+            r#"{"width":0,"height":"x","draws":[]}"#,
+            outside(OutOfRange),
+        ),
+        (r#"{"width":1,"height":"x","draws":7}"#, outside(WrongKind)),
+        (
+            r#"{"width":1,"height":1,"clear":[0,0],"draws":[]}"#,
+            outside(WrongKind),
+        ),
+        (
+            r#"{"width":1,"height":1,"draws":[{"vertices":[],"triangles":[]},{"vertices":[],"triangles":[[0,0,0]]}]}"#,
+            in_draw(BadIndex, 1),
+        ),
+        (
+            r#"{"width":1,"height":1,"draws":[{"vertices":[[0,0,0,0,0,0]],"triangles":[]}]}"#,
+            in_draw(WrongKind, 0),
+        ),
+        (
+            r#"{"width":1,"height":1,"draws":[{"vertices":[],"triangles":[],"cull":"Back"}]}"#,
+            in_draw(OutOfRange, 0),
+        ),
+        (
+            r#"{"width":1,"height":1,"draws":[{"vertices":[[0,0,65536,0,0,0,0]],"triangles":[[0,0,1]]}]}"#,
+            in_draw(OutOfRange, 0),
+        ),
+    ] {
+        assert_eq!(rt; fault(&rt, text), told, "{text}");
+    }
+}
+
+#[test]
+fn needs_an_object_with_its_keys(rt: HostRuntime) {
+    for (text, told) in [
+        ("[]", outside(WrongKind)),
+        ("null", outside(WrongKind)),
+        (r#"{"height":1,"draws":[]}"#, outside(MissingKey)),
+        (r#"{"width":1,"draws":[]}"#, outside(MissingKey)),
+        (r#"{"width":1,"height":1}"#, outside(MissingKey)),
+        (
+            r#"{"width":1,"height":1,"draws":[[]]}"#,
+            in_draw(WrongKind, 0),
+        ),
+        (
+            r#"{"width":1,"height":1,"draws":[{"triangles":[]}]}"#,
+            in_draw(MissingKey, 0),
+        ),
+        (
+            r#"{"width":1,"height":1,"draws":[{"vertices":[]}]}"#,
+            in_draw(MissingKey, 0),
+        ),
+    ] {
+        assert_eq!(rt; fault(&rt, text), told, "{text}");
+    }
+}
+
+#[test]
+fn checks_a_size(rt: HostRuntime) {
+    for (size, told) in [
+        ("1", None),
+        ("4096", None),
+        ("0", outside(OutOfRange)),
+        ("4097", outside(OutOfRange)),
+        ("-1", outside(OutOfRange)),
+        ("18446744073709551615", outside(OutOfRange)),
+        ("1.0", outside(WrongKind)),
+        ("1e0", outside(WrongKind)),
+        ("null", outside(WrongKind)),
+        (r#""1""#, outside(WrongKind)),
+    ] {
+        let wide = format!(in rt.alloc(); r#"{{"width":{size},"height":1,"draws":[]}}"#).expect(
+            &rt, "memory",
+        );
+        assert_eq!(rt; fault(&rt, wide.as_str()), told, "width {size}");
+        let high = format!(in rt.alloc(); r#"{{"width":1,"height":{size},"draws":[]}}"#).expect(
+            &rt, "memory",
+        );
+        assert_eq!(rt; fault(&rt, high.as_str()), told, "height {size}");
+    }
+}
+
+#[test]
+fn checks_the_top_object(rt: HostRuntime) {
+    for (members, told) in [
+        ("", None),
+        (r#","samples":1"#, None),
+        (r#","samples":4"#, None),
+        (r#","samples":0"#, outside(OutOfRange)),
+        (r#","samples":2"#, outside(OutOfRange)),
+        (r#","samples":5"#, outside(OutOfRange)),
+        (r#","samples":null"#, outside(WrongKind)),
+        (r#","samples":4.0"#, outside(WrongKind)),
+        (r#","clear":[0,255,0]"#, None),
+        (r#","clear":[256,0,0]"#, outside(OutOfRange)),
+        (r#","clear":[0,-1,0]"#, outside(OutOfRange)),
+        (r#","clear":[0,0,256]"#, outside(OutOfRange)),
+        (r#","clear":[0,0,0,0]"#, outside(WrongKind)),
+        (r#","clear":[0,0,null]"#, outside(WrongKind)),
+        (r#","clear":0"#, outside(WrongKind)),
+        (r#","clear_depth":0"#, None),
+        (r#","clear_depth":65535"#, None),
+        (r#","clear_depth":65536"#, outside(OutOfRange)),
+        (r#","clear_depth":-1"#, outside(OutOfRange)),
+        (r#","clear_depth":null"#, outside(WrongKind)),
+        (r#","fog":1"#, outside(UnknownKey)),
+        (r#","Samples":1"#, outside(UnknownKey)),
+    ] {
+        assert_eq!(rt; top_fault(&rt, members), told, "{members}");
+    }
+}
+
+#[test]
+fn checks_words(rt: HostRuntime) {
+    for (member, told) in [
+        (r#""cull":"none""#, None),
+        (r#""cull":"front""#, None),
+        (r#""cull":"back""#, None),
+        (r#""cull":"""#, in_draw(OutOfRange, 0)),
+        (r#""cull":"over""#, in_draw(OutOfRange, 0)),
+        (r#""cull":null"#, in_draw(WrongKind, 0)),
+        (r#""depth_test":"never""#, None),
+        (r#""depth_test":"not_equal""#, None),
+        (r#""depth_test":"Less""#, in_draw(OutOfRange, 0)),
+        (r#""depth_test":"lessequal""#, in_draw(OutOfRange, 0)),
+        (r#""depth_test":true"#, in_draw(WrongKind, 0)),
+        (r#""blend":"none""#, None),
+        (r#""blend":"over""#, None),
+        (r#""blend":"add""#, in_draw(OutOfRange, 0)),
+        (r#""blend":false"#, in_draw(WrongKind, 0)),
+        (r#""fog":1"#, in_draw(UnknownKey, 0)),
+        (r#""width":1"#, in_draw(UnknownKey, 0)),
+    ] {
+        assert_eq!(rt; state_fault(&rt, member), told, "{member}");
+    }
+}
+
+#[test]
+fn checks_masks_and_scissors(rt: HostRuntime) {
+    for (member, told) in [
+        (r#""depth_write":false"#, None),
+        (r#""depth_write":0"#, in_draw(WrongKind, 0)),
+        (r#""depth_write":"true""#, in_draw(WrongKind, 0)),
+        (r#""write":[true,false,true]"#, None),
+        (r#""write":[true,true]"#, in_draw(WrongKind, 0)),
+        (r#""write":[true,true,true,true]"#, in_draw(WrongKind, 0)),
+        (r#""write":[true,true,1]"#, in_draw(WrongKind, 0)),
+        (r#""sample_mask":0"#, None),
+        (r#""sample_mask":15"#, None),
+        (r#""sample_mask":16"#, in_draw(OutOfRange, 0)),
+        (r#""sample_mask":-1"#, in_draw(OutOfRange, 0)),
+        (r#""sample_mask":null"#, in_draw(WrongKind, 0)),
+        (r#""scissor":[0,0,4096,4096]"#, None),
+        (r#""scissor":[4096,4096,0,0]"#, None),
+        (r#""scissor":[4097,0,1,1]"#, in_draw(OutOfRange, 0)),
+        (r#""scissor":[0,-1,1,1]"#, in_draw(OutOfRange, 0)),
+        (r#""scissor":[0,0,4097,1]"#, in_draw(OutOfRange, 0)),
+        (r#""scissor":[0,0,1,-1]"#, in_draw(OutOfRange, 0)),
+        (r#""scissor":[0,0,1]"#, in_draw(WrongKind, 0)),
+        (r#""scissor":[0,0,1,1,1]"#, in_draw(WrongKind, 0)),
+        (r#""scissor":[0,0,1,"1"]"#, in_draw(WrongKind, 0)),
+    ] {
+        assert_eq!(rt; state_fault(&rt, member), told, "{member}");
+    }
+}
+
+#[test]
+fn checks_vertices(rt: HostRuntime) {
+    for (vertex, told) in [
+        ("[8388607,-8388608,65535,255,255,255,255]", None),
+        ("[-8388608,8388607,0,0,0,0,0]", None),
+        ("[8388608,0,0,0,0,0,0]", in_draw(OutOfRange, 0)),
+        ("[-8388609,0,0,0,0,0,0]", in_draw(OutOfRange, 0)),
+        ("[0,8388608,0,0,0,0,0]", in_draw(OutOfRange, 0)),
+        ("[0,-8388609,0,0,0,0,0]", in_draw(OutOfRange, 0)),
+        ("[4294967296,0,0,0,0,0,0]", in_draw(OutOfRange, 0)),
+        ("[0,0,65536,0,0,0,0]", in_draw(OutOfRange, 0)),
+        ("[0,0,-1,0,0,0,0]", in_draw(OutOfRange, 0)),
+        ("[0,0,0,256,0,0,0]", in_draw(OutOfRange, 0)),
+        ("[0,0,0,0,-1,0,0]", in_draw(OutOfRange, 0)),
+        ("[0,0,0,0,0,256,0]", in_draw(OutOfRange, 0)),
+        ("[0,0,0,0,0,0,256]", in_draw(OutOfRange, 0)),
+        ("[0,0,0,0,0,0]", in_draw(WrongKind, 0)),
+        ("[0,0,0,0,0,0,0,0]", in_draw(WrongKind, 0)),
+        ("[0.5,0,0,0,0,0,0]", in_draw(WrongKind, 0)),
+        ("[0,0,0,0,0,0,null]", in_draw(WrongKind, 0)),
+        (r#"{"x":0}"#, in_draw(WrongKind, 0)),
+    ] {
+        assert_eq!(rt; vertex_fault(&rt, vertex), told, "{vertex}");
+    }
+}
+
+#[test]
+fn checks_triangles(rt: HostRuntime) {
+    for (triangle, told) in [
+        ("[0,1,2]", None),
+        ("[2,2,2]", None),
+        ("[0,1,3]", in_draw(BadIndex, 0)),
+        ("[0,3,1]", in_draw(BadIndex, 0)),
+        ("[3,0,1]", in_draw(BadIndex, 0)),
+        ("[-1,0,1]", in_draw(BadIndex, 0)),
+        ("[0,18446744073709551615,1]", in_draw(BadIndex, 0)),
+        ("[0,1,2.0]", in_draw(WrongKind, 0)),
+        ("[0,1]", in_draw(WrongKind, 0)),
+        ("[0,1,2,0]", in_draw(WrongKind, 0)),
+        ("7", in_draw(WrongKind, 0)),
+    ] {
+        assert_eq!(rt; triangle_fault(&rt, triangle), told, "{triangle}");
+    }
+}
+
+#[test]
+fn tells_the_first_of_two_faults_of_the_top_object(rt: HostRuntime) {
+    for (text, told) in [
+        (r#"{"width":"x","draws":[]}"#, outside(MissingKey)),
+        (r#"{"width":"x","height":0,"draws":[]}"#, outside(WrongKind)),
+        (
+            r#"{"width":1,"height":0,"samples":"x","draws":[]}"#,
+            outside(OutOfRange),
+        ),
+        (
+            r#"{"width":1,"height":1,"samples":2,"clear":7,"draws":[]}"#,
+            outside(OutOfRange),
+        ),
+        (
+            r#"{"width":1,"height":1,"clear":[256,null,0],"draws":[]}"#,
+            outside(OutOfRange),
+        ),
+        (
+            r#"{"width":1,"height":1,"clear":[0,null,256],"draws":[]}"#,
+            outside(WrongKind),
+        ),
+        (
+            r#"{"width":1,"height":1,"clear":[0,0],"clear_depth":-1,"draws":[]}"#,
+            outside(WrongKind),
+        ),
+        (
+            r#"{"width":1,"height":1,"clear_depth":-1,"draws":{}}"#,
+            outside(OutOfRange),
+        ),
+        (
+            r#"{"width":1,"height":1,"clear_depth":-1,"draws":[7]}"#,
+            outside(OutOfRange),
+        ),
+        (
+            r#"{"width":1,"height":1,"draws":[{"vertices":[],"triangles":[[0,0,0]]},7]}"#,
+            in_draw(BadIndex, 0),
+        ),
+    ] {
+        assert_eq!(rt; fault(&rt, text), told, "{text}");
+    }
+}
+
+#[test]
+fn tells_the_first_of_two_faults_of_a_draw(rt: HostRuntime) {
+    for (members, told) in [
+        (r#""fog":1"#, UnknownKey),
+        (r#""cull":1,"vertices":[]"#, MissingKey),
+        (
+            r#""cull":1,"depth_test":"x","vertices":[],"triangles":[]"#,
+            WrongKind,
+        ),
+        (
+            r#""depth_test":"x","depth_write":1,"vertices":[],"triangles":[]"#,
+            OutOfRange,
+        ),
+        (
+            r#""depth_write":1,"blend":"x","vertices":[],"triangles":[]"#,
+            WrongKind,
+        ),
+        (
+            r#""blend":"x","write":1,"vertices":[],"triangles":[]"#,
+            OutOfRange,
+        ),
+        (
+            r#""write":1,"sample_mask":16,"vertices":[],"triangles":[]"#,
+            WrongKind,
+        ),
+        (
+            r#""sample_mask":16,"scissor":1,"vertices":[],"triangles":[]"#,
+            OutOfRange,
+        ),
+        (
+            r#""scissor":[-1,0,1,null],"vertices":[],"triangles":[]"#,
+            OutOfRange,
+        ),
+        (
+            r#""scissor":[0,0,1,-1],"vertices":7,"triangles":[]"#,
+            OutOfRange,
+        ),
+        (
+            r#""vertices":[[8388608,null,0,0,0,0,0]],"triangles":[]"#,
+            OutOfRange,
+        ),
+        (
+            r#""vertices":[[null,8388608,0,0,0,0,0]],"triangles":[]"#,
+            WrongKind,
+        ),
+        (
+            r#""vertices":[[0,0,0,0,0,0,256],7],"triangles":7"#,
+            OutOfRange,
+        ),
+        (r#""vertices":[],"triangles":[[0,null,0],7]"#, BadIndex),
+        (r#""vertices":[],"triangles":[[null,0,0],7]"#, WrongKind),
+    ] {
+        assert_eq!(rt; draw_fault(&rt, members), in_draw(told, 0), "{members}");
+    }
+}
+
+/// So many copies of a part, between commas.
+fn repeated(rt: &(impl Abort + AllocGlobal), part: &str, count: u32) -> String {
+    let mut text = String::new(rt.alloc());
+    for number in 0..count {
+        if number > 0 {
+            text.push_str(",").expect(rt, "memory");
+        }
+        text.push_str(part).expect(rt, "memory");
+    }
+    text
+}
+
+#[test]
+fn counts_draws(rt: HostRuntime) {
+    for (part, count, told) in [
+        (r#"{"vertices":[],"triangles":[]}"#, 1024, None),
+        (r#"{"vertices":[],"triangles":[]}"#, 1025, outside(TooMany)),
+        ("7", 1025, outside(TooMany)),
+        ("7", 1024, in_draw(WrongKind, 0)),
+    ] {
+        let draws = repeated(&rt, part, count);
+        let text = format!(in rt.alloc(); r#"{{"width":1,"height":1,"draws":[{draws}]}}"#).expect(
+            &rt, "memory",
+        );
+        assert_eq!(rt; fault(&rt, text.as_str()), told, "{count} of {part}");
+    }
+}
+
+#[test]
+fn counts_vertices(rt: HostRuntime) {
+    for (part, count, told) in [
+        ("[0,0,0,0,0,0,0]", 65_536, None),
+        ("[0,0,0,0,0,0,0]", 65_537, in_draw(TooMany, 0)),
+        ("7", 65_537, in_draw(TooMany, 0)),
+    ] {
+        let vertices = repeated(&rt, part, count);
+        let members = format!(in rt.alloc(); r#""vertices":[{vertices}],"triangles":[]"#).expect(
+            &rt, "memory",
+        );
+        assert_eq!(rt;
+            draw_fault(&rt, members.as_str()),
+            told,
+            "{count} of {part}"
+        );
+    }
+}
+
+#[test]
+fn counts_triangles(rt: HostRuntime) {
+    for (first, part, second, told) in [
+        (65_535, "[0,0,0]", 1, None),
+        (0, "[0,0,0]", 65_536, None),
+        (65_536, "[0,0,0]", 1, in_draw(TooMany, 1)),
+        (65_536, "7", 1, in_draw(TooMany, 1)),
+        (1, "[0,0,0]", 65_537, in_draw(TooMany, 1)),
+        (65_537, "[0,0,0]", 0, in_draw(TooMany, 0)),
+    ] {
+        let first = repeated(&rt, "[0,0,0]", first);
+        let second = repeated(&rt, part, second);
+        let vertices = r#""vertices":[[0,0,0,0,0,0,0]]"#;
+        let text = format!(in rt.alloc();
+            r#"{{"width":1,"height":1,"draws":[{{{vertices},"triangles":[{first}]}},{{{vertices},"triangles":[{second}]}}]}}"#
+        ).expect(&rt, "memory");
+        assert_eq!(rt; fault(&rt, text.as_str()), told);
+    }
+}
+
+fn point(rt: &impl Abort, x: i32, y: i32) -> Point {
+    Point::new(x, y).expect(rt, "inside of the guard band")
+}
+
+#[test]
+fn takes_what_is_absent_by_default(rt: HostRuntime) {
+    let text =
+        r#"{"width":3,"height":2,"draws":[{"vertices":[[128,129,7,1,2,3,4],[640,130,8,5,6,7,8],[131,640,9,9,10,11,12]],"triangles":[[2,0,1]]}]}"#;
+    let list = answer(&rt, text).expect(&rt, "a draw list");
+    assert_eq!(rt; (list.width(), list.height()), (3, 2));
+    assert_eq!(rt; list.count(), SampleCount::One);
+    let clear = Sample {
+        r: 0,
+        g: 0,
+        b: 0,
+        z: 65_535,
+    };
+    assert_eq!(rt; list.clear(), clear);
+    assert!(rt; list.triangles() == 1);
+    let placed = list.triangle(0);
+    let state = State {
+        merge: Merge {
+            test: DepthTest::Always,
+            depth_write: false,
+            write: [true, true, true],
+            over: false,
+        },
+        cull: Cull::None,
+        sample_mask: 15,
+        scissor: PixelBox {
+            x0: 0,
+            y0: 0,
+            x1: 3,
+            y1: 2,
+        },
+    };
+    assert_eq!(rt; placed.state, state);
+    let tri = Tri::new(
+        point(&rt, 131, 640),
+        point(&rt, 128, 129),
+        point(&rt, 640, 130),
+    );
+    assert_eq!(rt; placed.tri, tri);
+    assert_eq!(rt; placed.z, [9, 7, 8]);
+    assert_eq!(rt; placed.rgba, [[9, 10, 11, 12], [1, 2, 3, 4], [5, 6, 7, 8]]);
+}
+
+#[test]
+fn takes_what_each_key_says(rt: HostRuntime) {
+    let text = r#"{"width":4096,"height":1,"samples":4,"clear":[1,2,3],"clear_depth":4,"draws":[
+        {"vertices":[[0,0,0,0,0,0,0]],"triangles":[[0,0,0],[0,0,0]]},
+        {"cull":"back","depth_test":"less_equal","depth_write":true,"blend":"over","write":[false,true,false],"sample_mask":5,
+         "scissor":[9,8,7,6],"vertices":[[-8388608,8388607,65535,255,0,0,0]],"triangles":[[0,0,0]]}]}"#;
+    let list = answer(&rt, text).expect(&rt, "a draw list");
+    assert_eq!(rt; (list.width(), list.height()), (4096, 1));
+    assert_eq!(rt; list.count(), SampleCount::Four);
+    let clear = Sample {
+        r: 1,
+        g: 2,
+        b: 3,
+        z: 4,
+    };
+    assert_eq!(rt; list.clear(), clear);
+    assert!(rt; list.triangles() == 3);
+    let placed = list.triangle(2);
+    let state = State {
+        merge: Merge {
+            test: DepthTest::LessEqual,
+            depth_write: true,
+            write: [false, true, false],
+            over: true,
+        },
+        cull: Cull::Back,
+        sample_mask: 5,
+        scissor: PixelBox {
+            x0: 9,
+            y0: 8,
+            x1: 7,
+            y1: 6,
+        },
+    };
+    assert_eq!(rt; placed.state, state);
+    let corner = point(&rt, -8_388_608, 8_388_607);
+    assert_eq!(rt; placed.tri, Tri::new(corner, corner, corner));
+    assert_eq!(rt; placed.z, [65_535, 65_535, 65_535]);
+}
+
+#[test]
+fn knows_each_depth_test(rt: HostRuntime) {
+    for (word, test) in [
+        ("never", DepthTest::Never),
+        ("less", DepthTest::Less),
+        ("equal", DepthTest::Equal),
+        ("less_equal", DepthTest::LessEqual),
+        ("greater", DepthTest::Greater),
+        ("not_equal", DepthTest::NotEqual),
+        ("greater_equal", DepthTest::GreaterEqual),
+        ("always", DepthTest::Always),
+    ] {
+        let text = format!(in rt.alloc();
+            r#"{{"width":1,"height":1,"draws":[{{"depth_test":"{word}","vertices":[[0,0,0,0,0,0,0]],"triangles":[[0,0,0]]}}]}}"#
+        ).expect(&rt, "memory");
+        let list = answer(&rt, text.as_str()).expect(&rt, "a draw list");
+        assert!(rt; list.triangles() == 1);
+        assert_eq!(rt; list.triangle(0).state.merge.test, test, "{word}");
+    }
+}

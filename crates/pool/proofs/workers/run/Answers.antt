@@ -1,0 +1,26 @@
+use Rattle.std.proofs.Common.{arith, ◌∙◌, ◌≡◌, [], ap, length, false}
+use Rattle.std.specs.List.{range_with_len}
+use Rattle.std.proofs.lemmas.List.{length-map}
+use Rattle.std.proofs.lemmas.List.Elements.{All-weaker}
+use Rattle.std.proofs.lemmas.List.FromFn.{length-range_with_len}
+use Rattle.pool.proofs.workers.run.Goals as goal
+
+pub work_seats-requires-clause-seats : goal.work_seats-requires-clause-seats
+work_seats-requires-clause-seats g c κs within =
+    let deal = c.in_ok-dealer.ensures in
+    let seats = c.in_ok-dealer.seats.items in
+    let many : c.args.workers ≡ length seats = omega (arith, ap length deal.seats, length-map seats g.D.Dealer.number, length-range_with_len 0 c.args.workers) in record {
+      fresh = All-weaker
+          (λ s. g.D.Dealer.fits c.in_ok-dealer.dealer s × (g.D.Dealer.given s ≡ []) × (g.D.Dealer.ended s ≡ false))
+          (λ s. g.D.Dealer.fits c.in_ok-dealer.dealer s × (g.D.Dealer.given s ≡ []))
+          (λ s h. (h.0, h.1)) seats deal.fresh;
+      numbers = deal.seats ∙ ap (range_with_len 0) many;
+      few = omega (arith, c.requires.workers);
+    }
+
+pub gather-requires-clause-brought : goal.gather-requires-clause-brought
+gather-requires-clause-brought g c κs within =
+    let deal = c.in_ok-dealer.ensures in
+    let seats = c.in_ok-dealer.seats in
+    let brought = c.in_ok-brought.ensures in
+    (brought.0, omega (arith, brought.1, seats.ok, deal.dealer.1, ap length deal.seats, length-map seats.items g.D.Dealer.number, length-range_with_len 0 c.args.workers))

@@ -1,0 +1,61 @@
+-- What the workers of a run bring back, and where their answers are put.
+use Rattle.std.specs.Prelude.{◌≡◌, ℕ, ◌+◌, ◌<◌, ◌≤◌, true, List, [], ◌∷◌, length, map, slice_get, slice_index_or, Option, Some, None, is_some, IsTrue, All, Result, IfOk}
+use Rattle.std.specs.List.{range_with_len}
+use Rattle.std.specs.declared.thread.PromisedHandle.{PromisedHandle}
+use Rattle.grid.specs.declared.OutOfMemory.{OutOfMemory}
+use Rattle.pool.specs.declared.dealer.Dealer as Dealer
+use Rattle.pool.specs.declared.job.Job as Job
+use Rattle.pool.specs.declared.worker.Harvest.{Harvest}
+use Rattle.pool.specs.declared.worker.WorksThrough.{WorksThrough}
+
+-- the answer at each place is right for the number of the place
+abbrev pub RightInOrder : {Out : Type 0} → (ℕ → Out → Type 0) → List Out → Type 0
+RightInOrder {Out} right answers = (k : ℕ) (answer : Out) → slice_get answers k ≡ Some answer → right k answer
+
+-- a number below n, with an answer that is right for it
+abbrev pub IsRight : {Out : Type 0} → (ℕ → Out → Type 0) → ℕ → ℕ × Out → Type 0
+IsRight right n pair = (pair.0 < n) × right pair.0 pair.1
+
+-- the fact holds of each element and its number, counted from a first number
+abbrev pub EachFrom : {X : Type 0} → (ℕ → X → Type 0) → ℕ → List X → Type 0
+EachFrom fact first [] = Unit {0}
+EachFrom fact first (x ∷ xs) = fact first x × EachFrom fact (first + 1) xs
+
+-- Seats as they are dealt: of this dealer, in their order, given nothing, and not more than there may be
+pub record AreDealt {D Seat : Type 0} (d : Dealer.Ghosts D Seat) (dealer : D) (seats : List Seat) : Type 0 where
+  pub fresh : All (λ s. d.fits dealer s × (d.given s ≡ [])) seats
+  pub numbers : map d.number seats ≡ range_with_len 0 (length seats)
+  pub few : length seats ≤ 16
+
+module _ {D Seat : Type 0} (d : Dealer.Ghosts D Seat) {J Out Scratch : Type 0} (j : Job.Ghosts J Out Scratch) where
+  -- What a worker brings back: its seat has been told that none is left, and just the numbers that it was given have an answer, in their order
+  pub record IsHarvest (dealer : D) (job : J) (worker : ℕ) (harvest : Harvest Seat Out) : Type 0 where
+    pub fits : d.fits dealer harvest.seat
+    pub number : d.number harvest.seat ≡ worker
+    pub ended : d.ended harvest.seat ≡ true
+    pub numbers : map (λ pair. pair.0) harvest.pairs.items ≡ d.given harvest.seat
+    pub right : All (IsRight (j.right job) (d.count dealer)) harvest.pairs.items
+
+  -- the same, if the worker was not refused memory
+  abbrev pub IsBrought : D → J → ℕ → Result (Harvest Seat Out) OutOfMemory → Type 0
+  IsBrought dealer job worker brought = IfOk brought (IsHarvest dealer job worker)
+
+  -- what the workers brought, in the order of their numbers
+  abbrev pub AreBrought : D → J → ℕ → List (Result (Harvest Seat Out) OutOfMemory) → Type 0
+  AreBrought dealer job workers brought = EachFrom (IsBrought dealer job) 0 brought × (length brought ≡ workers)
+
+  -- the job can be done for each number that is dealt
+  abbrev pub CanWork : D → J → Type 0
+  CanWork dealer job = (k : ℕ) → k < d.count dealer → j.can_work job k
+
+-- the worker of this number has promised to work for this dealer and this job
+abbrev pub IsPromised : {D J T : Type 0} → D → J → ℕ → PromisedHandle T (WorksThrough D J) → Type 0
+IsPromised dealer job number worker = (worker.promise.dealer.value ≡ dealer) × (worker.promise.job.value ≡ job) × (worker.promise.number ≡ number)
+
+-- each answer is right for the number of its place
+abbrev pub AreRight : {Out : Type 0} → (ℕ → Out → Type 0) → List (Option Out) → Type 0
+AreRight {Out} right places = (k : ℕ) (answer : Out) → slice_index_or places k None ≡ Some answer → right k answer
+
+-- there is an answer at place k
+abbrev pub HasAnswer : {Out : Type 0} → List (Option Out) → ℕ → Type 0
+HasAnswer places k = IsTrue (is_some (slice_index_or places k None))

@@ -1,0 +1,4 @@
+mod dealing;
+mod deques;
+mod running;
+mod threads;

@@ -1,0 +1,149 @@
+//! Dealing by one line.
+ghost use Rattle.std.specs.Prelude.{◌≡◌, ◌+◌, ◌≤◌, ◌<◌, [], ◌∷◌, ◌++◌, length, true, false, All, map, IfOk, IfSome, IfNone};
+ghost use Rattle.std.specs.List.{range_with_len};
+ghost use Rattle.std.specs.Vec.{vec_len, vec_capacity};
+ghost use Rattle.pool.specs.Lines.{both};
+ghost use Rattle.pool.specs.Places.{count_of, seats_of, known_of, IsIn};
+ghost use Rattle.pool.specs.Dealing.{list_of, lists_of, NoneTwice, DealtOnce, SomeEnded, Ascends};
+ghost use Rattle.pool.specs.Tickets.{tickets_count, tickets_seats, IsSeatOf, seat_list, seat_number, seat_given, seat_ended};
+
+use super::{TicketSeat, Tickets};
+use crate::dealer::Dealer;
+use crate::line::{Line, Place};
+use crate::settled::Settled;
+use grid::OutOfMemory;
+use std::alloc::Global;
+
+impl TicketSeat {
+    /// A seat that was given nothing, with room for `n` numbers.
+    fn new(alloc: Global, number: u32, n: u32, place: Place) -> Result<TicketSeat, OutOfMemory>
+        requires { ((known_of place).seats ≡ 1) × ((known_of place).numbers ≡ []) × ((known_of place).marks ≡ 0) × ((known_of place).count ≡ n) }
+        ensures { IfOk result (λ s. (s.number ≡ number) × (s.place ≡ place) × (s.numbers.items ≡ []) × (s.ended ≡ false)) }
+    {
+        let numbers = Vec::with_capacity(alloc, n as usize)?;
+        Ok(TicketSeat {
+            number,
+            place,
+            numbers,
+            ended: false,
+        })
+    }
+}
+
+// Joins the seat's place to the others, and keeps its list.
+fn gather(line: &Line, whole: &mut Place, lists: &mut Vec<(Vec<u32>, bool)>, seat: TicketSeat)
+    requires whole { IsIn line.now whole.old }
+    requires seat { IsIn line.now seat.place }
+    requires room { vec_len lists.old < vec_capacity lists.old }
+    ensures whole { IsIn line.now whole.new × (known_of whole.new ≡ both (known_of whole.old) (known_of seat.place)) }
+    ensures lists { map list_of lists.new.items ≡ map list_of lists.old.items ++ (seat.numbers.items, seat.ended) ∷ [] }
+    ensures room { (vec_len lists.new ≡ vec_len lists.old + 1) × (vec_capacity lists.new ≡ vec_capacity lists.old) }
+{
+    let TicketSeat {
+        number: _,
+        place,
+        numbers,
+        ended,
+    } = seat;
+    line.join(whole, place);
+    lists.push_reserved((numbers, ended));
+}
+
+impl Tickets {
+    fn gather_all(self, mut seats: Vec<TicketSeat>) -> Settled
+        requires seats { vec_len seats ≡ seats_of self.line }
+        requires some { 0 < vec_len seats }
+        requires fits { All (λ s. IsIn self.line s.place) seats.items }
+        ensures lists { lists_of result ≡ map seat_list seats.items }
+        ensures twice { NoneTwice (count_of self.line) (lists_of result) }
+        ensures once { SomeEnded (lists_of result) → DealtOnce (count_of self.line) (lists_of result) }
+    {
+        let Tickets {
+            line,
+            count: _,
+            mut lists,
+        } = self;
+        let TicketSeat {
+            number: _,
+            place: mut whole,
+            numbers,
+            ended,
+        } = seats.remove(0);
+        lists.push_reserved((numbers, ended));
+        for seat in seats {
+            gather(&line, &mut whole, &mut lists, seat);
+        }
+        line.close(whole);
+        Settled { lists }
+    }
+}
+
+impl Dealer for Tickets {
+    type Seat = TicketSeat;
+
+    ghost count = { tickets_count };
+
+    ghost seat_count = { tickets_seats };
+
+    ghost fits = { IsSeatOf };
+
+    ghost number = { seat_number };
+
+    ghost given = { seat_given };
+
+    ghost ended = { seat_ended };
+
+    ghost in_order = { λ _ _ given. Ascends given };
+
+    fn deal(alloc: Global, n: u32, seats: u32) -> Result<(Tickets, Vec<TicketSeat>), OutOfMemory> {
+        let lists = Vec::with_capacity(alloc, seats as usize)?;
+        let mut row = Vec::with_capacity(alloc, seats as usize)?;
+        let (line, mut rest) = Line::new(alloc, u64::from(n), u64::from(seats))?;
+        for number in 0..seats - 1 {
+            let place = line.cut(&mut rest);
+            row.push_reserved(TicketSeat::new(alloc, number, n, place)?);
+        }
+        row.push_reserved(TicketSeat::new(alloc, seats - 1, n, rest)?);
+        let dealer = Tickets {
+            line,
+            count: n,
+            lists,
+        };
+        Ok((dealer, row))
+    }
+
+    /// The next number: the least that no seat has been given.
+    fn next(&self, seat: &mut TicketSeat) -> Option<u32>
+        requires { IsSeatOf self.now seat.old }
+        ensures fits { IsSeatOf self.now seat.new × (seat_number seat.new ≡ seat_number seat.old) }
+        ensures some { IfSome result (λ k. (k < tickets_count self.now) × (seat_given seat.new ≡ seat_given seat.old ++ k ∷ []) × (seat_ended seat.old ≡ false) × (seat_ended seat.new ≡ false)) }
+        ensures none { IfNone result ((seat_given seat.new ≡ seat_given seat.old) × (seat_ended seat.new ≡ true)) }
+        ensures short { length (seat_given seat.new) ≤ tickets_count self.now }
+        ensures order { Ascends (seat_given seat.new) }
+    {
+        if seat.ended {
+            return None;
+        }
+        match self.line.draw(&mut seat.place) {
+            Some(k) => {
+                let number = k as u32;
+                seat.numbers.push_reserved(number);
+                Some(number)
+            }
+            None => {
+                seat.ended = true;
+                None
+            }
+        }
+    }
+
+    fn settle(self, seats: Vec<TicketSeat>) -> Settled
+        requires seats { map seat_number seats.items ≡ range_with_len 0 (tickets_seats self) }
+        requires fits { All (λ s. IsSeatOf self s) seats.items }
+        ensures lists { lists_of result ≡ map (λ s. (seat_given s, seat_ended s)) seats.items }
+        ensures twice { NoneTwice (tickets_count self) (lists_of result) }
+        ensures once { SomeEnded (lists_of result) → DealtOnce (tickets_count self) (lists_of result) }
+    {
+        self.gather_all(seats)
+    }
+}

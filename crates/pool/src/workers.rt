@@ -1,0 +1,150 @@
+//! A run: the workers are started, each in a thread of its own, and joined.
+ghost use Rattle.std.specs.Prelude.{◌≡◌, ◌<◌, ◌≤◌, ℕ, true, [], IfOk, vec_len, vec_capacity};
+ghost use Rattle.pool.specs.Work.{EachFrom, IsHarvest, IsPromised, AreDealt, AreBrought, CanWork, RightInOrder};
+
+use crate::answers::gather;
+use crate::dealer::Dealer;
+use crate::fault::PoolFault;
+use crate::gate::Gate;
+use crate::job::Job;
+use crate::worker::{Brought, WorksThrough, work_through};
+use std::alloc::Global;
+use std::snapshot::Snapshot;
+use std::sync::Wait;
+use std::thread;
+use std::thread::{PromisedHandle, Scope, Threads};
+
+/// A worker that was started.
+type Worker<D, J> = PromisedHandle<Brought<D, J>, WorksThrough<D, J>>;
+
+/// Starts a worker for each seat, in a thread of its own. The answer is whether all were started.
+fn start_all<'s, E, D: Dealer, J: Job, G: Gate>(
+    alloc: Global,
+    scope: &'s Scope<'s, E>,
+    dealer: &'s D,
+    job: &'s J,
+    gate: &'s G,
+    seats: Vec<D::Seat>,
+    workers: &mut Vec<Worker<D, J>>,
+) -> bool
+    requires can_work { CanWork D.Dealer J.Job dealer.now job.now }
+    requires seats { AreDealt D.Dealer dealer.now seats.items }
+    requires room { (vec_len workers.old ≡ 0) × (vec_len seats ≤ vec_capacity workers.old) }
+    ensures promised { EachFrom (IsPromised dealer.now job.now) 0 workers.new.items }
+    ensures started { result ≡ true → vec_len workers.new ≡ vec_len seats }
+    ensures few { vec_len workers.new ≤ vec_len seats }
+{
+    for seat in seats {
+        let number = workers.len() as u32;
+        let promise = WorksThrough {
+            dealer: Snapshot::of(dealer),
+            job: Snapshot::of(job),
+            number,
+        };
+        let started = scope.spawn_with(
+            promise,
+            move || -> Brought<D, J>
+                requires { D.fits dealer.now seat × (D.number seat ≡ number) × (D.given seat ≡ []) × CanWork D.Dealer J.Job dealer.now job.now }
+                ensures { IfOk result (IsHarvest D.Dealer J.Job dealer.entry.now job.entry.now number) }
+            { work_through(alloc, dealer, job, gate, number, seat) },
+        );
+        match started {
+            Ok(worker) => workers.push_reserved(worker),
+            Err(_) => return false,
+        }
+    }
+    true
+}
+
+/// Joins each worker, and keeps what it brought. The contract alone speaks of the dealer and the job.
+fn join_all<R: Threads, D: Dealer, J: Job>(
+    rt: &R,
+    workers: Vec<Worker<D, J>>,
+    brought: &mut Vec<Brought<D, J>>,
+    _dealer: &D,
+    _job: &J,
+)
+    requires promised { EachFrom (IsPromised _dealer.now _job.now) 0 workers.items }
+    requires room { (vec_len brought.old ≡ 0) × (vec_len workers ≤ vec_capacity brought.old) }
+    ensures { AreBrought D.Dealer J.Job _dealer.now _job.now (vec_len workers) brought.new.items }
+{
+    for worker in workers {
+        brought.push_reserved(worker.join(rt));
+    }
+}
+
+/// Starts a worker for each seat, and joins all that were started. There is room for all of them
+/// before the first one starts, so that none is left behind for want of memory.
+fn work_all<'s, E, R: Threads, D: Dealer, J: Job, G: Gate>(
+    rt: &R,
+    alloc: Global,
+    scope: &'s Scope<'s, E>,
+    dealer: &'s D,
+    job: &'s J,
+    gate: &'s G,
+    seats: Vec<D::Seat>,
+) -> Result<Vec<Brought<D, J>>, PoolFault>
+    requires can_work { CanWork D.Dealer J.Job dealer.now job.now }
+    requires seats { AreDealt D.Dealer dealer.now seats.items }
+    ensures { IfOk result (λ brought. AreBrought D.Dealer J.Job dealer.now job.now (vec_len seats) brought.items) }
+{
+    let mut workers = Vec::with_capacity(alloc, seats.len()).map_err(|_| PoolFault::OutOfMemory)?;
+    let mut brought = Vec::with_capacity(alloc, seats.len()).map_err(|_| PoolFault::OutOfMemory)?;
+    let all_started = start_all(alloc, scope, dealer, job, gate, seats, &mut workers);
+    join_all(rt, workers, &mut brought, dealer, job);
+    if all_started {
+        Ok(brought)
+    } else {
+        Err(PoolFault::NoWorker)
+    }
+}
+
+/// Has the numbers that these seats are given worked on, by a worker for each seat, and waits for them all.
+fn work_seats<'a, R: Threads + Wait + Sync, D: Dealer, J: Job, G: Gate>(
+    rt: &'a R,
+    alloc: Global,
+    dealer: &'a D,
+    job: &'a J,
+    gate: &'a G,
+    seats: Vec<D::Seat>,
+) -> Result<Vec<Brought<D, J>>, PoolFault>
+    requires can_work { CanWork D.Dealer J.Job dealer.now job.now }
+    requires seats { AreDealt D.Dealer dealer.now seats.items }
+    ensures { IfOk result (λ brought. AreBrought D.Dealer J.Job dealer.now job.now (vec_len seats) brought.items) }
+{
+    thread::scope(
+        thread::scope_env(),
+        rt,
+        move |scope| -> Result<Vec<Brought<D, J>>, PoolFault>
+            requires { CanWork D.Dealer J.Job dealer.now job.now × AreDealt D.Dealer dealer.now seats.items }
+            ensures { IfOk result (λ brought. AreBrought D.Dealer J.Job dealer.entry.now job.entry.now (vec_len seats) brought.items) }
+        { work_all(rt, alloc, scope, dealer, job, gate, seats) },
+    )
+}
+
+/// The answers of the job for the numbers below `n`, in their order.
+///
+/// `workers` workers do it, each in a thread of its own with a seat and a scratch of its own. The
+/// calling thread does none of it and waits for them all, also where the answer is a fault.
+///
+/// A fault comes only where a growth of memory was refused (`PoolFault::OutOfMemory`) or a thread
+/// was not started (`PoolFault::NoWorker`): dealing gives each number once, so there is no number
+/// without an answer and none with two.
+pub fn run<R: Threads + Wait + Sync, D: Dealer, J: Job, G: Gate>(
+    rt: &R,
+    alloc: Global,
+    n: u32,
+    workers: u32,
+    job: &J,
+    gate: &G,
+) -> Result<Vec<J::Out>, PoolFault>
+    requires n { n ≤ 262144 }
+    requires workers { (1 ≤ workers) × (workers ≤ 16) }
+    requires can_work { (k : ℕ) → k < n → J.can_work job.now k }
+    ensures len { IfOk result (λ answers. vec_len answers ≡ n) }
+    ensures right { IfOk result (λ answers. RightInOrder (J.right job.now) answers.items) }
+{
+    let (dealer, seats) = D::deal(alloc, n, workers)?;
+    let brought = work_seats(rt, alloc, &dealer, job, gate, seats)?;
+    Ok(gather(alloc, dealer, job, n, brought)?)
+}

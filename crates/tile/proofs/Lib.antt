@@ -1,0 +1,9 @@
+pub mod Places
+pub mod Parts
+pub mod Bits
+pub mod Planes
+pub mod Blocks
+pub mod Waiting
+pub mod Ends
+pub mod Rows
+pub mod Shown

@@ -1,0 +1,87 @@
+-- The part of a tile that is in the picture.
+use Rattle.std.proofs.Common.{◌≡◌, inl, inr, ap, subst, ℕ, ◌+◌, ◌-◌, ◌*◌, ◌/◌, ◌%◌, ◌<◌, min, pos, List, arith}
+use Rattle.std.proofs.Math.Nat.{mod-lt, div-lt_iff_lt-mul, mul_comm, zero-mul}
+use Rattle.std.proofs.lemmas.Bool.{cases_lt}
+use Rattle.std.proofs.lemmas.Nat.{mul-add-lt}
+use Rattle.std.proofs.lemmas.Int.{ints}
+use Rattle.grid.specs.Pixels.{side_of, IsInBox}
+use Rattle.shade.specs.declared.sample.Sample.{Sample}
+use Rattle.shade.specs.Resolve.{IsResolved}
+use Rattle.list.specs.Scene.{Scene}
+use Rattle.list.specs.Picture.{IsColour}
+use Rattle.bins.specs.Grid.{TileGrid, columns_of, rows_of, tiles_of, rect_of}
+use Rattle.bins.specs.Bin.{IsBinOf}
+use Rattle.bins.proofs.Tiles.{starts_within, in_rect}
+use Rattle.bins.proofs.Drawn.{bin_at_sample}
+use Rattle.tile.specs.declared.tile.Tile.{Tile}
+use Rattle.tile.specs.Samples.{stored, place_of}
+use Rattle.tile.specs.Picture.{IsTileAt, IsPictureIn, IsShown, IsTileBin, AreEnds, IsColourAt, ArePixels}
+
+-- tile k stands in one of the columns and rows
+module _ (g : TileGrid) (k : ℕ) (h : k < tiles_of g) where
+  some_column : 0 < columns_of g
+  some_column =
+      elim (cases_lt 0 (columns_of g)) [
+        | inl some ↦ some
+        | inr none ↦ let nothing : tiles_of g ≡ 0 * rows_of g = ap (λ n. n * rows_of g) (let zero : columns_of g ≡ 0 = omega arith in zero) in absurd (omega (arith, h, zero-mul (rows_of g)))
+      ]
+
+  pub column_within : k % columns_of g < columns_of g
+  column_within = mod-lt k some_column
+
+  pub row_within : k / columns_of g < rows_of g
+  row_within = (div-lt_iff_lt-mul some_column).1 (omega (arith, h, mul_comm (rows_of g) (columns_of g)))
+
+module _ (g : TileGrid) (k : ℕ) (h : k < tiles_of g) (tile : Tile) (at : IsTileAt g k tile) where
+  pub begins_in_width : 8 * tile.bx < g.width
+  begins_in_width = omega (arith, at.left, starts_within g.side g.width (k % columns_of g) (column_within g k h))
+
+  pub begins_in_height : 8 * tile.by < g.height
+  begins_in_height = omega (arith, at.top, starts_within g.side g.height (k / columns_of g) (row_within g k h))
+
+  module _ (l : Scene) (wide : g.width ≡ l.width) (high : g.height ≡ l.height) where
+    in_tile : (row column s : ℕ) → IsShown l tile row column s → IsInBox (rect_of g k) (8 * tile.bx + column) (8 * tile.by + row)
+    in_tile row column s shown =
+        let right : column < side_of g.side = rw at.side at shown.sample.wide in
+        let bottom : row < side_of g.side = rw at.side at shown.sample.high in
+        let in_width = shown.in_width in
+        let in_height = shown.in_height in
+        in_rect g (k % columns_of g) (k / columns_of g) (8 * tile.bx + column) (8 * tile.by + row)
+        (record { from = omega (arith, at.left); below = omega (arith, at.left); within = omega arith })
+        (record { from = omega (arith, at.top); below = omega (arith, at.top); within = omega arith })
+
+    pub tile_bin : tile.count ≡ l.count → (bin : List ℕ) → IsBinOf l g k bin → IsTileBin l tile bin
+    tile_bin count bin has row column s shown =
+        bin_at_sample l (rect_of g k) (8 * tile.bx + column) (8 * tile.by + row) s bin (in_tile row column s shown) (rw count at shown.sample.is_sample) has
+
+    module _ (samples : List Sample) (ends : AreEnds l tile samples) (count : tile.count ≡ l.count) (width height : ℕ)
+        (across : width ≡ min (g.width - 8 * tile.bx) (side_of tile.side)) (along : height ≡ min (g.height - 8 * tile.by) (side_of tile.side))
+        (bytes : List ℕ) (pixels : ArePixels tile samples width (height * width) bytes) where
+      colour : (i j r b' b : ℕ) → i < width → j < height → IsColourAt tile samples j i r b' b → IsColour l (8 * tile.bx + i) (8 * tile.by + j) r b' b
+      colour i j r b' b wide' high' c = record {
+        end = λ s. stored samples (place_of tile j i s);
+        ends = λ s below. ends j i s (record {
+          sample = record { high = omega arith; wide = omega arith; is_sample = rw count below };
+          in_width = let begins = begins_in_width in omega arith;
+          in_height = let begins = begins_in_height in omega arith;
+        });
+        red = subst (λ n. IsResolved n (λ s. (stored samples (place_of tile j i s)).r) r) count c.red;
+        green = subst (λ n. IsResolved n (λ s. (stored samples (place_of tile j i s)).g) b') count c.green;
+        blue = subst (λ n. IsResolved n (λ s. (stored samples (place_of tile j i s)).b) b) count c.blue;
+      }
+
+      pub picture_in : IsPictureIn l (rect_of g k) bytes
+      picture_in = record {
+        x = 8 * tile.bx;
+        y = 8 * tile.by;
+        width = width;
+        height = height;
+        left = omega (arith, ints, at.left);
+        top = omega (arith, ints, at.top);
+        right = ap pos (let begins = begins_in_width in let side : side_of tile.side ≡ side_of g.side = ap side_of at.side in omega (arith, at.left));
+        bottom = ap pos (let begins = begins_in_height in let side : side_of tile.side ≡ side_of g.side = ap side_of at.side in omega (arith, at.top));
+        part = record {
+          size = pixels.size;
+          pixels = λ i j wide' high'. colour i j _ _ _ wide' high' (pixels.pixels i j wide' (omega (arith, mul-add-lt j width i height high' wide', mul_comm width height)));
+        };
+      }

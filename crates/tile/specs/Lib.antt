@@ -1,0 +1,4 @@
+pub mod Samples
+pub mod Drawing
+pub mod Store
+pub mod Picture

@@ -1,0 +1,15 @@
+//! One tile of the picture, drawn from its bin.
+#![tactic(auto)]
+
+mod block;
+mod drawing;
+mod pixels;
+mod squares;
+mod store;
+mod tile;
+
+pub use drawing::{TilePixels, render};
+pub use store::Store;
+
+#[cfg(test)]
+mod tests;

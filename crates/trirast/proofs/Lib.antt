@@ -1,0 +1,5 @@
+pub mod Beginnings
+pub mod Files
+pub mod Strips
+pub mod Columns
+pub mod Written

@@ -1,0 +1,6 @@
+pub mod Device
+pub mod Counted
+pub mod File
+pub mod Runs
+pub mod Words
+pub mod Band

@@ -1,0 +1,113 @@
+-- What a run from an input to an output does.
+use Rattle.std.specs.Prelude.{◌≡◌, ℕ, ◌+◌, ◌*◌, ◌<◌, ◌≤◌, ◌⊎◌, List, ◌++◌, length, take, Option}
+use Rattle.std.specs.Io.KnownBytes.{Keeps, Appends, Consumes, IsAtEnd}
+use Rattle.grid.specs.Pixels.{side_of}
+use Rattle.grid.specs.declared.pixels.TileSide.{TileSide}
+use Rattle.list.specs.Scene.{Scene}
+use Rattle.pool.specs.declared.fault.PoolFault.TheVariants.{NoWorker}
+use Rattle.list.specs.declared.fault.ReadFault.{ReadFault}
+use Rattle.trirast.specs.declared.fault.Fault.{Fault}
+use Rattle.trirast.specs.declared.fault.Fault.TheVariants.{List as BadList, Pool, InputFailed, InputTooLong, WriteFailed, OutOfMemory}
+use Rattle.list.specs.Checks.{places}
+use Rattle.list.specs.Denotes.{Denotes}
+use Rattle.list.specs.Json.{json_of}
+use Rattle.list.specs.Place.{IsFirstFault}
+use Rattle.trirast.specs.File.{ppm_header, IsPictureFile}
+
+-- a reader that had `left` gave these bytes, and then was at its end
+pub record GivesAll (left left_after : Option (List ℕ)) (bytes : List ℕ) : Type 0 where
+  pub given : Consumes left left_after bytes
+  pub ended : IsAtEnd left_after
+
+-- what the reader gave stands behind the old bytes
+pub record TakesOver (left left_after : Option (List ℕ)) (old new : List ℕ) : Type 0 where
+  pub more : List ℕ
+  pub given : Consumes left left_after more
+  pub behind : new ≡ old ++ more
+
+-- What was written is the file of the draw list's picture.
+pub record WritesFile (list : Scene) (held held_after : Option (List ℕ)) : Type 0 where
+  pub file : List ℕ
+  pub picture : IsPictureFile list file
+  pub written : Appends held held_after file
+
+-- What was written is the first `count` bytes of that file.
+pub record WritesFileUpTo (list : Scene) (count : ℕ) (held held_after : Option (List ℕ)) : Type 0 where
+  pub file : List ℕ
+  pub picture : IsPictureFile list file
+  pub within : count ≤ length file
+  pub written : Appends held held_after (take count file)
+
+-- What was written is that file, which has so many bytes.
+pub record WritesAll (list : Scene) (count : ℕ) (held held_after : Option (List ℕ)) : Type 0 where
+  pub file : List ℕ
+  pub picture : IsPictureFile list file
+  pub many : count ≡ length file
+  pub written : Appends held held_after file
+
+-- How many bytes of the file come before the band of this number, where each band has so many rows of pixels.
+abbrev pub bytes_before : Scene → TileSide → ℕ → ℕ
+bytes_before list side band = length (ppm_header list.width list.height) + 3 * (side_of side * band * list.width)
+
+-- What was written is the header of that file and all bands before one of the picture's, each whole.
+pub record WritesBands (list : Scene) (side : TileSide) (held held_after : Option (List ℕ)) : Type 0 where
+  pub file : List ℕ
+  pub picture : IsPictureFile list file
+  pub band : ℕ
+  pub within : side_of side * band < list.height
+  pub written : Appends held held_after (take (bytes_before list side band) file)
+
+-- The input's bytes, up to its end, denote a draw list, and what was written is the file of its picture.
+pub record WritesPicture (left left_after held held_after : Option (List ℕ)) : Type 0 where
+  pub bytes : List ℕ
+  pub list : Scene
+  pub input : GivesAll left left_after bytes
+  pub denoted : Denotes bytes list
+  pub output : WritesFile list held held_after
+
+-- The same, cut short after `count` bytes.
+pub record WritesBeginning (left left_after held held_after : Option (List ℕ)) (count : ℕ) : Type 0 where
+  pub bytes : List ℕ
+  pub list : Scene
+  pub input : GivesAll left left_after bytes
+  pub denoted : Denotes bytes list
+  pub output : WritesFileUpTo list count held held_after
+
+-- The same, cut short before a band.
+pub record WritesWholeBands (side : TileSide) (left left_after held held_after : Option (List ℕ)) : Type 0 where
+  pub bytes : List ℕ
+  pub list : Scene
+  pub input : GivesAll left left_after bytes
+  pub denoted : Denotes bytes list
+  pub output : WritesBands list side held held_after
+
+-- The input's bytes, up to its end, have this first fault.
+pub record HasFault (left left_after : Option (List ℕ)) (fault : ReadFault) : Type 0 where
+  pub bytes : List ℕ
+  pub input : GivesAll left left_after bytes
+  pub first : IsFirstFault (places (json_of bytes)) fault
+
+-- As many bytes came.
+pub record Gives (left left_after : Option (List ℕ)) (count : ℕ) : Type 0 where
+  pub bytes : List ℕ
+  pub given : Consumes left left_after bytes
+  pub many : length bytes ≡ count
+
+-- What each fault says of the input's and the output's bytes, where the tiles have this side. After want of memory, or a worker
+-- that was not started, either nothing went out, or the header and whole bands.
+abbrev pub Explains : TileSide → Fault → Option (List ℕ) → Option (List ℕ) → Option (List ℕ) → Option (List ℕ) → Type 0
+Explains side (BadList fault) left left_after held held_after = HasFault left left_after fault × Keeps held held_after
+Explains side (Pool fault) left left_after held held_after = (fault ≡ NoWorker) × WritesWholeBands side left left_after held held_after
+Explains side InputFailed left left_after held held_after = Keeps held held_after
+Explains side InputTooLong left left_after held held_after = Gives left left_after 67_108_865 × Keeps held held_after
+Explains side (WriteFailed count) left left_after held held_after = WritesBeginning left left_after held held_after count
+Explains side OutOfMemory left left_after held held_after = Keeps held held_after ⊎ WritesWholeBands side left left_after held held_after
+
+-- What a fault in drawing and writing says of the output's bytes.
+abbrev pub ExplainsOutput : Scene → TileSide → Fault → Option (List ℕ) → Option (List ℕ) → Type 0
+ExplainsOutput list side (BadList fault) held held_after = ⊥
+ExplainsOutput list side (Pool fault) held held_after = (fault ≡ NoWorker) × WritesBands list side held held_after
+ExplainsOutput list side InputFailed held held_after = ⊥
+ExplainsOutput list side InputTooLong held held_after = ⊥
+ExplainsOutput list side (WriteFailed count) held held_after = WritesFileUpTo list count held held_after
+ExplainsOutput list side OutOfMemory held held_after = Keeps held held_after ⊎ WritesBands list side held held_after

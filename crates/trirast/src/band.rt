@@ -1,0 +1,183 @@
+//! One row of tiles, drawn by several workers and put together.
+ghost use Rattle.std.specs.Prelude.{◌≡◌, ◌+◌, ◌*◌, ◌<◌, ◌≤◌, IfOk, OnOk, IfErr, ◌⊎◌};
+ghost use Rattle.grid.specs.Pixels.{side_of};
+ghost use Rattle.list.specs.Begun.{IsBegun};
+ghost use Rattle.bins.specs.Grid.{columns_of, rows_of};
+ghost use Rattle.trirast.specs.declared.fault.Fault.TheVariants as fault;
+
+use crate::fault::Fault;
+use bins::{Bins, Tiling};
+use grid::OutOfMemory;
+use list::DrawList;
+use pool::{Desks, Gate, Job, PoolFault, run};
+use std::alloc::Global;
+use std::sync::Wait;
+use std::thread::Threads;
+use tile::{Store, TilePixels, render};
+
+/// A band: the tiles of one row of tiles, and the rows of pixels in them.
+#[derive(Drop)]
+pub(crate) struct Band<'a> {
+    list: &'a DrawList,
+    tiling: &'a Tiling,
+    row: u32,
+    ghost width: { tiling.now.width ≡ list.now.width },
+    ghost height: { tiling.now.height ≡ list.now.height },
+    ghost within: { row < rows_of tiling.now },
+    ghost few: { row < 512 },
+}
+
+/// The tiles of a band as numbered work: number n is the tile in column n.
+#[derive(Drop)]
+struct BandJob<'a> {
+    band: &'a Band<'a>,
+    bins: &'a Bins,
+}
+
+impl Job for BandJob<'_> {
+    type Out = TilePixels;
+
+    type Scratch = Store;
+
+    ghost use Rattle.bins.specs.Bin.{AreBins};
+    ghost use Rattle.bins.specs.Grid.{columns_of};
+    ghost use Rattle.trirast.specs.Band.{IsColumn};
+
+    ghost right = { λ job column pixels. IsColumn job.band.now.list.now job.band.now.tiling.now job.band.now.row column pixels };
+
+    ghost fits = { λ job store. store ≡ record { side = job.band.now.tiling.now.side; count = job.band.now.list.now.count } };
+
+    ghost can_work = { λ job column. (column < columns_of job.band.now.tiling.now) × AreBins job.band.now.list.now job.band.now.tiling.now job.band.now.row 1 job.bins.now };
+
+    fn scratch(&self, alloc: Global) -> Result<Store, OutOfMemory> {
+        Store::new(alloc, self.band.tiling.side(), self.band.list.count())
+    }
+
+    fn work(
+        &self,
+        alloc: Global,
+        column: u32,
+        store: &mut Store,
+    ) -> Result<TilePixels, OutOfMemory> {
+        let band = self.band;
+        let k = band.row * band.tiling.columns() + column;
+        render(alloc, band.list, band.tiling, self.bins, k, store)
+    }
+}
+
+impl<'a> Band<'a> {
+    ghost use Rattle.list.specs.Begun.{IsRun};
+    ghost use Rattle.trirast.specs.Band.{band_top, band_height, column_left, column_width as width_of_column, IsColumn, AreColumns, IsBand};
+
+    /// The band of this number, counted from the top.
+    pub(crate) fn new(list: &'a DrawList, tiling: &'a Tiling, row: u32) -> Band<'a>
+        requires width { tiling.now.width ≡ list.now.width }
+        requires height { tiling.now.height ≡ list.now.height }
+        requires within { row < rows_of tiling.now }
+        requires few { row < 512 }
+        ensures { (result.list.now ≡ list.now) × (result.tiling.now ≡ tiling.now) × (result.row ≡ row) }
+    {
+        Band { list, tiling, row }
+    }
+
+    /// How many rows of pixels the band has.
+    fn height(&self) -> u32
+        ensures { result ≡ band_height self.now.tiling.now self.now.row }
+    {
+        let height = self.tiling.height();
+        let side = self.tiling.side().pixels();
+        let top = side * self.row;
+        height.min(top + side) - top
+    }
+
+    /// How many pixels wide the tile in this column is.
+    fn column_width(&self, column: u32) -> u32
+        requires { column < columns_of self.now.tiling.now }
+        ensures { result ≡ width_of_column self.now.tiling.now column }
+    {
+        let width = self.tiling.width();
+        let side = self.tiling.side().pixels();
+        let left = side * column;
+        width.min(left + side) - left
+    }
+
+    /// Row `j` of the tile in this column.
+    fn row_of<'t>(&self, tile: &'t TilePixels, column: u32, j: u32) -> &'t [u8]
+        requires column { column < columns_of self.now.tiling.now }
+        requires tile { IsColumn self.now.list.now self.now.tiling.now self.now.row column tile.now }
+        requires row { j < band_height self.now.tiling.now self.now.row }
+        ensures { IsRun self.now.list.now (column_left self.now.tiling.now column) (band_top self.now.tiling.now self.now.row + j)
+            (width_of_column self.now.tiling.now column) result.now }
+    {
+        let across = 3 * self.column_width(column) as usize;
+        let start = j as usize * across;
+        &tile.bytes[start..start + across]
+    }
+
+    /// Appends row `j` of the band, tile by tile.
+    fn push_row(&self, tiles: &[TilePixels], j: u32, bytes: &mut Vec<u8>) -> Result<(), OutOfMemory>
+        requires tiles { AreColumns self.now.list.now self.now.tiling.now self.now.row tiles.now }
+        requires row { j < band_height self.now.tiling.now self.now.row }
+        requires above { IsBegun self.now.list.now 0 (band_top self.now.tiling.now self.now.row) self.now.list.now.width (j * self.now.list.now.width) bytes.old.items }
+        ensures { OnOk result (IsBegun self.now.list.now 0 (band_top self.now.tiling.now self.now.row) self.now.list.now.width ((j + 1) * self.now.list.now.width) bytes.new.items) }
+    {
+        for column in 0..self.tiling.columns() {
+            bytes.extend_from_slice(self.row_of(&tiles[column as usize], column, j))?;
+        }
+        Ok(())
+    }
+
+    /// Puts the tiles together, row by row.
+    fn join(&self, tiles: &[TilePixels], bytes: &mut Vec<u8>) -> Result<(), OutOfMemory>
+        requires { AreColumns self.now.list.now self.now.tiling.now self.now.row tiles.now }
+        ensures { OnOk result (IsBand self.now.list.now self.now.tiling.now self.now.row bytes.new.items) }
+    {
+        bytes.clear();
+        for j in 0..self.height() {
+            self.push_row(tiles, j, bytes)?;
+        }
+        Ok(())
+    }
+
+    /// Draws the tiles of the band.
+    fn draw<R: Threads + Wait + Sync, G: Gate>(
+        &self,
+        rt: &R,
+        alloc: Global,
+        workers: u32,
+        gate: &G,
+    ) -> Result<Vec<TilePixels>, Fault>
+        requires { (1 ≤ workers) × (workers ≤ 16) }
+        ensures tiles { IfOk result (λ tiles. AreColumns self.now.list.now self.now.tiling.now self.now.row tiles.items) }
+        ensures fault { IfErr result (λ e. (e ≡ fault.OutOfMemory) ⊎ (e ≡ fault.Pool PoolFault.NoWorker)) }
+    {
+        let bins = Bins::build(alloc, self.list, self.tiling, self.row, 1)?;
+        let job = BandJob {
+            band: self,
+            bins: &bins,
+        };
+        match run::<_, Desks, _, _>(rt, alloc, self.tiling.columns(), workers, &job, gate) {
+            Ok(tiles) => Ok(tiles),
+            Err(PoolFault::OutOfMemory) => Err(Fault::OutOfMemory),
+            Err(PoolFault::NoWorker) => Err(Fault::Pool(PoolFault::NoWorker)),
+        }
+    }
+
+    /// Draws the band, and puts the bytes of its rows of pixels into `bytes`, in place of what was there.
+    pub(crate) fn render<R: Threads + Wait + Sync, G: Gate>(
+        &self,
+        rt: &R,
+        alloc: Global,
+        workers: u32,
+        gate: &G,
+        bytes: &mut Vec<u8>,
+    ) -> Result<(), Fault>
+        requires { (1 ≤ workers) × (workers ≤ 16) }
+        ensures band { OnOk result (IsBand self.now.list.now self.now.tiling.now self.now.row bytes.new.items) }
+        ensures fault { IfErr result (λ e. (e ≡ fault.OutOfMemory) ⊎ (e ≡ fault.Pool PoolFault.NoWorker)) }
+    {
+        let tiles = self.draw(rt, alloc, workers, gate)?;
+        self.join(&tiles, bytes)?;
+        Ok(())
+    }
+}

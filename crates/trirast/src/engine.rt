@@ -1,0 +1,139 @@
+//! From the bytes of an input to the bytes of a picture.
+ghost use Rattle.std.specs.Prelude.{◌≡◌, ◌<◌, ◌≤◌, ◌↔◌, ◌⊎◌, ℕ, ◌+◌, length, Ok, OnOk, IfOk, IfErr, IsErrOf, vec_len};
+ghost use Rattle.grid.specs.Pixels.{side_of};
+ghost use Rattle.list.specs.declared.fault.ReadFault.{ReadFault};
+ghost use Rattle.list.specs.Checks.{places};
+ghost use Rattle.list.specs.Denotes.{Denotes};
+ghost use Rattle.list.specs.Json.{json_of};
+ghost use Rattle.list.specs.Place.{IsFirstFault};
+ghost use Rattle.trirast.specs.Runs.{WritesAll, WritesFile, WritesPicture, Explains, ExplainsOutput};
+
+use crate::band::Band;
+use crate::counted::Counted;
+use crate::fault::Fault;
+use crate::input::read_input;
+use crate::line::Options;
+use crate::ppm::{ppm_header, ppm_rows};
+use bins::Tiling;
+use list::{DrawList, MOST_BYTES, ReadFault, ReadKind, read};
+use pool::{Gate, Open};
+use std::alloc::Global;
+use std::io::{Read, Write};
+use std::sync::Wait;
+use std::thread::Threads;
+
+/// Reads a draw list.
+fn read_list(alloc: Global, bytes: &[u8]) -> Result<DrawList, Fault>
+    requires { length bytes.now ≤ MOST_BYTES }
+    ensures ok { IfOk result (Denotes bytes.now) }
+    ensures fault { IfErr result (λ e. (e ≡ Fault.OutOfMemory) ⊎ ((fault : ReadFault) × (e ≡ Fault.List fault) × IsFirstFault (places (json_of bytes.now)) fault)) }
+{
+    match read(alloc, bytes) {
+        Ok(list) => Ok(list),
+        Err(
+            ReadFault {
+                kind: ReadKind::OutOfMemory,
+                draw: _,
+            },
+        ) => Err(Fault::OutOfMemory),
+        Err(fault) => Err(Fault::List(fault)),
+    }
+}
+
+/// Writes the header and then band after band, from the top, and answers how many bytes went out. Of the picture only one band
+/// stands in memory at a time.
+fn write_bands<R: Threads + Wait + Sync, W: Write, G: Gate>(
+    rt: &R,
+    alloc: Global,
+    list: &DrawList,
+    options: Options,
+    gate: &G,
+    output: &mut Counted<W>,
+) -> Result<u64, Fault>
+    requires workers { (1 ≤ options.workers) × (options.workers ≤ 16) }
+    requires failures { output.old.failures < u64.MAX }
+    ensures file { IfOk result (λ count. WritesAll list.now count (W.contents output.old.inner) (W.contents output.new.inner)) }
+    ensures fault { IfErr result (λ e. ExplainsOutput list.now options.tile e (W.contents output.old.inner) (W.contents output.new.inner)) }
+    ensures write_failed { ((count : ℕ) × IsErrOf result (Fault.WriteFailed count)) ↔ (output.old.failures < output.new.failures) }
+    ensures same_failures { OnOk result (output.new.failures ≡ output.old.failures) }
+{
+    let tiling = Tiling::new(list.width(), list.height(), options.tile);
+    let most_rows = options.tile.pixels().min(list.height());
+    let mut bytes = Vec::with_capacity(alloc, (3 * list.width() * most_rows) as usize)?;
+    let mut written = match ppm_header(list.width(), list.height(), output) {
+        Ok(length) => length,
+        Err(fault) => return Err(Fault::WriteFailed(fault.written)),
+    };
+    for row in 0..tiling.rows() {
+        Band::new(list, &tiling, row).render(rt, alloc, options.workers, gate, &mut bytes)?;
+        written = match ppm_rows(&bytes, written, output) {
+            Ok(written) => written,
+            Err(fault) => return Err(Fault::WriteFailed(fault.written)),
+        };
+    }
+    Ok(written)
+}
+
+/// Draws a picture, writes its file, and flushes the output.
+fn write_picture<R: Threads + Wait + Sync, W: Write, G: Gate>(
+    rt: &R,
+    alloc: Global,
+    list: &DrawList,
+    options: Options,
+    gate: &G,
+    output: &mut Counted<W>,
+) -> Result<(), Fault>
+    requires workers { (1 ≤ options.workers) × (options.workers ≤ 16) }
+    requires failures { output.old.failures < u64.MAX }
+    ensures file { OnOk result (WritesFile list.now (W.contents output.old.inner) (W.contents output.new.inner)) }
+    ensures fault { IfErr result (λ e. ExplainsOutput list.now options.tile e (W.contents output.old.inner) (W.contents output.new.inner)) }
+    ensures write_failed { ((count : ℕ) × IsErrOf result (Fault.WriteFailed count)) ↔ (output.old.failures < output.new.failures) }
+{
+    let length = write_bands(rt, alloc, list, options, gate, output)?;
+    match output.flush() {
+        Ok(()) => Ok(()),
+        Err(_) => Err(Fault::WriteFailed(length)),
+    }
+}
+
+/// Reads an input, draws what it denotes with these options, and writes the picture. Each worker passes through the gate before
+/// it draws a tile.
+pub fn run_with<Rt: Threads + Wait + Sync, R: Read, W: Write, G: Gate>(
+    rt: &Rt,
+    alloc: Global,
+    input: &mut Counted<R>,
+    output: &mut Counted<W>,
+    options: Options,
+    gate: &G,
+) -> Result<(), Fault>
+    requires workers { (1 ≤ options.workers) × (options.workers ≤ 16) }
+    requires input { input.old.failures < u64.MAX }
+    requires output { output.old.failures < u64.MAX }
+    ensures picture { OnOk result (WritesPicture (R.remaining input.old.inner) (R.remaining input.new.inner) (W.contents output.old.inner) (W.contents output.new.inner)) }
+    ensures fault { IfErr result (λ e. Explains options.tile e (R.remaining input.old.inner) (R.remaining input.new.inner) (W.contents output.old.inner) (W.contents output.new.inner)) }
+    ensures input_failed { IsErrOf result Fault.InputFailed ↔ (input.old.failures < input.new.failures) }
+    ensures write_failed { ((count : ℕ) × IsErrOf result (Fault.WriteFailed count)) ↔ (output.old.failures < output.new.failures) }
+{
+    let bytes = read_input(alloc, input)?;
+    let list = read_list(alloc, bytes.as_slice())?;
+    write_picture(rt, alloc, &list, options, gate, output)
+}
+
+/// Reads an input, draws what it denotes with these options, and writes the picture.
+pub fn run<Rt: Threads + Wait + Sync, R: Read, W: Write>(
+    rt: &Rt,
+    alloc: Global,
+    input: &mut Counted<R>,
+    output: &mut Counted<W>,
+    options: Options,
+) -> Result<(), Fault>
+    requires workers { (1 ≤ options.workers) × (options.workers ≤ 16) }
+    requires input { input.old.failures < u64.MAX }
+    requires output { output.old.failures < u64.MAX }
+    ensures picture { OnOk result (WritesPicture (R.remaining input.old.inner) (R.remaining input.new.inner) (W.contents output.old.inner) (W.contents output.new.inner)) }
+    ensures fault { IfErr result (λ e. Explains options.tile e (R.remaining input.old.inner) (R.remaining input.new.inner) (W.contents output.old.inner) (W.contents output.new.inner)) }
+    ensures input_failed { IsErrOf result Fault.InputFailed ↔ (input.old.failures < input.new.failures) }
+    ensures write_failed { ((count : ℕ) × IsErrOf result (Fault.WriteFailed count)) ↔ (output.old.failures < output.new.failures) }
+{
+    run_with(rt, alloc, input, output, options, &Open)
+}

@@ -1,0 +1,22 @@
+//! From the bytes of a draw list to the bytes of its picture: the engine, the writer of picture files, and the command line.
+#![tactic(auto)]
+
+mod band;
+mod counted;
+mod engine;
+mod fault;
+mod input;
+mod line;
+mod ppm;
+mod program;
+mod sending;
+mod words;
+
+pub use counted::Counted;
+pub use engine::{run, run_with};
+pub use fault::Fault;
+pub use line::{LineFault, Options};
+pub use ppm::{ppm_header, ppm_rows, write_ppm};
+pub use program::{command, refuse};
+pub use sending::WriteFault;
+pub use words::options;

@@ -1,0 +1,34 @@
+//! What the words of the command line ask for.
+ghost use Rattle.std.specs.Prelude.{◌≡◌};
+ghost use Rattle.trirast.specs.declared.line.LineFault.TheVariants.{OutOfMemory};
+
+use grid::TileSide;
+use std::alloc::AllocError;
+
+/// How a picture is drawn. No option changes a byte of it.
+#[derive(Clone, Copy, Debug, PartialEq, Eq)]
+pub struct Options {
+    /// The side of a tile, in pixels.
+    pub tile: TileSide,
+    /// How many threads draw tiles, from 1 to 16.
+    pub workers: u32,
+}
+
+/// Why the words of a command line give no options.
+#[derive(Clone, Copy, Debug, PartialEq, Eq)]
+pub enum LineFault {
+    /// The words are none of this program's.
+    Refused,
+    /// They ask for the usage line.
+    Help,
+    /// Memory ran out before they were read.
+    OutOfMemory,
+}
+
+impl From<AllocError> for LineFault {
+    ghost from_gives = { λ _ fault. fault ≡ OutOfMemory };
+
+    fn from(_refused: AllocError) -> LineFault {
+        LineFault::OutOfMemory
+    }
+}
