@@ -5,6 +5,7 @@
 #   make test      the merge gate: every proof from nothing, the must-fail edits, all tests
 #   make compare   draw generated lists, and compare each byte with the reference renderer
 #   make schema    try the JSON Schema of the draw list
+#   make memory    refuse the program each growth of memory in turn
 #   make bench     time the program on generated scenes
 #   make clean     remove what this file made; what rt keeps in crates/*/out/ stays
 
@@ -16,7 +17,7 @@ SOURCES := crates.txt $(shell find crates -name out -prune -o -type f \( -name '
 LISTS := $(wildcard examples/*.json)
 PICTURES := $(LISTS:examples/%.json=out/%.ppm)
 
-.PHONY: all demo test compare schema bench clean
+.PHONY: all demo test compare schema memory bench clean
 .DELETE_ON_ERROR:
 
 all: $(PROGRAM)
@@ -43,6 +44,9 @@ compare: $(PROGRAM)
 
 schema:
 	$(PYTHON) scripts/check_schema.py
+
+memory: $(PROGRAM)
+	$(PYTHON) scripts/refuse_memory.py
 
 bench: $(PROGRAM)
 	$(PYTHON) bench/run.py

@@ -49,7 +49,7 @@ fn draws_the_same_bytes(rt: HostRuntime) -> Result<(), Fail> {
     Ok(())
 }
 
-/// Runs with one worker and tiles of 32 pixels over a writer that takes so many bytes.
+/// Runs with so many workers and tiles of 32 pixels over this writer, and gives it back.
 fn cut_short<R: Threads + Wait + Sync>(
     rt: &R,
     alloc: Global,

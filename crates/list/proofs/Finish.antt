@@ -1,5 +1,5 @@
 -- From the first fault of a value to the clauses of the reader.
-use Rattle.std.proofs.Common.{◌≡◌, ◌≢◌, ◌≤◌, ℕ, List, [], ◌∷◌, length, Bool, true, false, cond, Option, Some, None, Result, Ok, Err, IfOk, IfErr, refl, ap, ◌∙◌}
+use Rattle.std.proofs.Common.{◌≡◌, ◌≢◌, ◌≤◌, ℕ, List, [], ◌∷◌, length, Bool, true, false, cond, Option, Some, None, Result, Ok, Err, IfOk, IfErr, MatchResult, refl, ap, ◌∙◌}
 use Rattle.serde_json.specs.Data.{Data}
 use Rattle.list.specs.declared.fault.ReadKind.{ReadKind}
 use Rattle.list.specs.declared.fault.ReadKind.TheVariants.{NotJson, UnknownKey, MissingKey, WrongKind, OutOfRange, BadIndex, TooMany, OutOfMemory}
@@ -10,6 +10,8 @@ use Rattle.list.specs.Place.{Place, first_fault, IsFirstFault, ReadsAll}
 use Rattle.list.specs.Checks.{places, value_places}
 use Rattle.list.specs.Denotes.{IsDrawList, Denotes}
 use Rattle.list.proofs.Passes.{listing_passes}
+use Rattle.list.proofs.OneValue.{same_some}
+use Rattle.list.proofs.OneList.{denotes-unique}
 
 is_first-cons : {T : Type 0} (p : Place T) (ps : List (Place T)) (fault : T) (b : Bool) → p.fails ≡ b → (first_fault ps ≡ Some fault → IsFirstFault ps fault)
     → cond b (Some p.told) (first_fault ps) ≡ Some fault → IsFirstFault (p ∷ ps) fault
@@ -36,18 +38,15 @@ some_none : {A : Type 0} (o : Option A) (a : A) → o ≡ Some a → o ≡ None 
 some_none None a e f = cc
 some_none (Some b) a e f = cc
 
-same_value : (o : Option Data) (d e : Data) → o ≡ Some d → o ≡ Some e → d ≡ e
-same_value o d e p q = cc
-
 module _ (bytes : List ℕ) (d : Data) (json : json_of bytes ≡ Some d) where
   pub read_ok : (r : Result Scene ReadFault) → length bytes ≤ 67108864 → ReadsAll (value_places d) (IsDrawList d) r → IfOk r (Denotes bytes)
   read_ok (Ok l) short h = record { size = short; value = d; json = json; is = h.1 }
   read_ok (Err e) short h = tt
 
-  pub read_only : (r : Result Scene ReadFault) → ReadsAll (value_places d) (IsDrawList d) r → (l : Scene) → Denotes bytes l → IfErr r (λ e. e.kind ≡ OutOfMemory)
-  read_only (Ok found) h l denotes = tt
+  pub read_only : (r : Result Scene ReadFault) → ReadsAll (value_places d) (IsDrawList d) r → (l : Scene) → Denotes bytes l → MatchResult r (λ found. found ≡ l) (λ e. e.kind ≡ OutOfMemory)
+  read_only (Ok found) h l denotes = denotes-unique bytes found l (read_ok (Ok found) denotes.size h) denotes
   read_only (Err e) h l denotes =
-      let same : d ≡ denotes.value = same_value (json_of bytes) d denotes.value json denotes.json in
+      let same : d ≡ denotes.value = same_some (json_of bytes) d denotes.value json denotes.json in
       let none : first_fault (value_places d) ≡ None = ap (λ v. first_fault (value_places v)) same ∙ listing_passes denotes.value denotes.is.listing denotes.is.is in
       no_other e.kind (λ other. some_none (first_fault (value_places d)) e (h other) none)
 

@@ -21,3 +21,7 @@ pub mod Reached
 pub mod Accepted
 pub mod Words
 pub mod Merged
+pub mod OneValue
+pub mod OneState
+pub mod OneDraw
+pub mod OneList

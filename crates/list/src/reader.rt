@@ -1,4 +1,4 @@
-ghost use Rattle.std.specs.Prelude.{◌≡◌, ◌≢◌, ◌≤◌, ◌<◌, ◌⊎◌, pos, ◌≤ℤ◌, length, map, sum_by, Some, IfSome, IfOk, IfErr};
+ghost use Rattle.std.specs.Prelude.{◌≡◌, ◌≢◌, ◌≤◌, ◌<◌, ◌⊎◌, pos, ◌≤ℤ◌, length, map, sum_by, Some, IfSome, IfOk, IfErr, MatchResult};
 ghost use Rattle.serde_json.specs.View.{view, items_view};
 ghost use Rattle.list.specs.declared.fault.ReadKind.TheVariants.{NotJson, OutOfMemory};
 ghost use Rattle.serde_json.specs.Errors.{IsMemory};
@@ -115,8 +115,9 @@ pub fn read(alloc: Global, bytes: &[u8]) -> Result<DrawList, ReadFault>
     requires { length bytes.now ≤ MOST_BYTES }
     // What is read is denoted.
     ensures ok { IfOk result (Denotes bytes.now) }
-    // What denotes a list is read, unless memory runs out.
-    ensures only { (list : Scene) → Denotes bytes.now list → IfErr result (λ fault. fault.kind ≡ OutOfMemory) }
+    // Where the bytes denote a list, that very list is read, or memory ran out.
+    ensures only { (list : Scene) → Denotes bytes.now list
+        → MatchResult result (λ found. found ≡ list) (λ fault. fault.kind ≡ OutOfMemory) }
     // A fault is the first one, unless memory ran out.
     ensures first { IfErr result (λ fault. fault.kind ≢ OutOfMemory
         → IsFirstFault (places (json_of bytes.now)) fault) }

@@ -79,7 +79,9 @@ pub(crate) fn draw_block(
     requires covered { ArePlanesOf triangle.now.tri bx by tile.now.count planes.now }
     ensures { DrawsPart triangle.now tile.now (IsInSquare tile.now bx by 8) samples.old samples.new }
 {
+    // Copies, which a store into the samples cannot change, so that the loops below keep them at hand.
+    let (triangle, tile) = (*triangle, *tile);
     for s in 0..tile.count.count() {
-        draw_plane(triangle, tile, bx, by, s, planes[s as usize], samples);
+        draw_plane(&triangle, &tile, bx, by, s, planes[s as usize], samples);
     }
 }

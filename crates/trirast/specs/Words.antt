@@ -39,3 +39,9 @@ line_fault _ = fault.Refused
 -- clap answers the words with its help
 abbrev pub AsksForHelp : List Text → Type 0
 AsksForHelp words = IsAmong kind.DisplayHelp (fault_of trirast_app words)
+
+-- the program's status for words that give no options
+abbrev pub status_of : LineFault → ℕ
+status_of fault.Refused = 2
+status_of fault.Help = 0
+status_of fault.OutOfMemory = 1

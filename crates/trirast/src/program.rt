@@ -1,7 +1,7 @@
 //! The program, over words and streams.
 ghost use Rattle.std.specs.Prelude.{◌≡◌, ◌<◌, ◌⊎◌, map};
 ghost use Rattle.trirast.specs.Runs.{WritesPicture};
-ghost use Rattle.trirast.specs.Words.{AsksForHelp};
+ghost use Rattle.trirast.specs.Words.{AsksForHelp, status_of};
 
 use crate::counted::Counted;
 use crate::engine::run;
@@ -18,7 +18,7 @@ use std::io::{Read, Write};
 use std::sync::Wait;
 use std::thread::Threads;
 
-/// The longest line of a fault, with room.
+/// Room for the line of a fault, in bytes.
 const LINE_BYTES: usize = 96;
 
 type Line = ArrayString<LINE_BYTES>;
@@ -29,7 +29,8 @@ const USAGE: &[u8] =
 
 /// Reads the words as a command line, the program's name first, and a draw list from the input, and writes its picture. The
 /// answer is the program's status: 0 where the picture was written or the usage line was asked for, 1 where the run came to
-/// a fault, which a line on `errors` tells, and 2 where the words are refused. A line that cannot be written is passed over.
+/// a fault or memory ran out while the words were read, which a line on `errors` tells, and 2 where the words are refused.
+/// A line that cannot be written is passed over.
 pub fn command<'a, Rt: Threads + Wait + Sync, R: Read, W: Write, E: Write>(
     rt: &Rt,
     alloc: Global,
@@ -69,7 +70,7 @@ pub fn refuse<W: Write, E: Write>(
     requires errors { errors.old.failures < u64.MAX }
     ensures help { result ≡ 0 → fault ≡ LineFault.Help }
     ensures refused { result ≡ 2 → output.new ≡ output.old }
-    ensures status { (result ≡ 0) ⊎ (result ≡ 1) ⊎ (result ≡ 2) }
+    ensures status { result ≡ status_of fault }
 {
     match fault {
         LineFault::Help => {

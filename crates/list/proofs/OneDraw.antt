@@ -1,0 +1,63 @@
+-- A JSON value denotes at most one draw.
+use Rattle.std.proofs.Common.{◌≡◌, sym, subst, ℕ, ℤ, List, length, codes}
+use Rattle.serde_json.specs.Find.{get}
+use Rattle.grid.specs.Position.{Position}
+use Rattle.grid.specs.declared.pixels.PixelBox.{PixelBox}
+use Rattle.list.specs.declared.draw.State.{State}
+use Rattle.list.specs.declared.draw.Vertex.{Vertex}
+use Rattle.list.specs.Listing.{DrawListing}
+use Rattle.list.specs.Denotes.{IsArrayOf, IsVertex, IsTriangle, IsDraw}
+use Rattle.list.proofs.OneValue.{IsUnique, same_some, same_number, array-unique, same_three, same_four}
+use Rattle.list.proofs.OneState.{state-unique}
+
+-- ---- vertices and triangles
+
+position : ℤ → ℤ → Position
+position x y = record { x = x; y = y }
+
+made_same_position : (x y x' y' : ℤ) → x ≡ x' → y ≡ y' → position x y ≡ position x' y'
+made_same_position x y x' y' e f = cc
+
+same_position : (p q : Position) → p.x ≡ q.x → p.y ≡ q.y → p ≡ q
+unfolding position
+same_position p q e f = made_same_position p.x p.y q.x q.y e f
+
+vertex : Position → ℕ → List ℕ → Vertex
+vertex at z rgba = record { at = at; z = z; rgba = rgba }
+
+made_same_vertex : (p q : Position) (z z' : ℕ) (rgba rgba' : List ℕ) → p ≡ q → z ≡ z' → rgba ≡ rgba' → vertex p z rgba ≡ vertex q z' rgba'
+made_same_vertex p q z z' rgba rgba' e f g = cc
+
+same_vertex : (v w : Vertex) → v.at ≡ w.at → v.z ≡ w.z → v.rgba ≡ w.rgba → v ≡ w
+unfolding vertex
+same_vertex v w e f g = made_same_vertex v.at w.at v.z w.z v.rgba w.rgba e f g
+
+vertex-unique : IsUnique IsVertex
+vertex-unique value v w h k =
+    let at = same_position v.at w.at (same_some _ _ _ h.x.0 k.x.0) (same_some _ _ _ h.y.0 k.y.0) in
+    let rgba =
+    same_four v.rgba w.rgba h.channels k.channels (same_number _ _ _ h.red.0 k.red.0) (same_number _ _ _ h.green.0 k.green.0) (same_number _ _ _ h.blue.0 k.blue.0) (same_number _ _ _ h.alpha.0 k.alpha.0) in
+    same_vertex v w at (same_number _ _ _ h.z.0 k.z.0) rgba
+
+triangle-unique : (n : ℕ) → IsUnique (IsTriangle n)
+triangle-unique n value t u h k =
+    same_three t u 0 h.indices k.indices (same_number _ _ _ h.first.0 k.first.0) (same_number _ _ _ h.second.0 k.second.0) (same_number _ _ _ h.third.0 k.third.0)
+
+-- ---- the draw
+
+draw : State → List Vertex → List (List ℕ) → DrawListing
+draw state vertices triangles = record { state = state; vertices = vertices; triangles = triangles }
+
+made_same_draw : (s s' : State) (v v' : List Vertex) (t t' : List (List ℕ)) → s ≡ s' → v ≡ v' → t ≡ t' → draw s v t ≡ draw s' v' t'
+made_same_draw s s' v v' t t' e f g = cc
+
+same_draw : (x y : DrawListing) → x.state ≡ y.state → x.vertices ≡ y.vertices → x.triangles ≡ y.triangles → x ≡ y
+unfolding draw
+same_draw x y e f g = made_same_draw x.state y.state x.vertices y.vertices x.triangles y.triangles e f g
+
+pub draw-unique : (picture : PixelBox) → IsUnique (IsDraw picture)
+draw-unique picture value x y h k =
+    let vertices = array-unique 65536 IsVertex vertex-unique (get (codes "vertices") value) x.vertices y.vertices h.vertices k.vertices in
+    let named = subst (λ vs. IsArrayOf 65536 (IsTriangle (length vs)) (get (codes "triangles") value) y.triangles) (sym vertices) k.triangles in
+    same_draw x y (state-unique picture value _ _ h.state k.state) vertices
+    (array-unique 65536 (IsTriangle (length x.vertices)) (triangle-unique (length x.vertices)) (get (codes "triangles") value) x.triangles y.triangles h.triangles named)
