@@ -53,6 +53,13 @@ def run(shim, number, workers):
     return subprocess.run(words, input=LIST, capture_output=True, env=environment, timeout=60)
 
 
+def check_first_band(number, done):
+    """The first growth of one worker that is refused after more than the header went out: it is one of the second band."""
+    if len(done.stdout) != ENDS[2] or done.stderr != LINES[0]:
+        sys.exit(f"growth {number}, the first of the second band: {len(done.stdout)} bytes, {done.stderr!r}")
+    print(f"growth {number} is the first of the second band: out of memory after {ENDS[2]} bytes")
+
+
 def check(shim, workers):
     """How many runs ended after so many bytes, by their number."""
     ended = {}
@@ -68,6 +75,8 @@ def check(shim, workers):
             sys.exit(f"growth {number}, {workers} workers: status {done.returncode}, {length} bytes, {done.stderr!r}")
         whole_in_a_row = whole_in_a_row + 1 if whole else 0
         if cut:
+            if workers == 1 and length > len(HEADER) and max(ended, default=0) <= len(HEADER):
+                check_first_band(number, done)
             ended[length] = ended.get(length, 0) + 1
     if workers == 1 and sorted(ended) != ENDS:
         sys.exit(f"one worker: the runs ended after {sorted(ended)} bytes, and not after {ENDS}")
