@@ -1,9 +1,9 @@
 -- The polynomial identities of the edge function.
-use Rattle.std.proofs.Common.{◌≡◌, refl, ℕ, ◌+◌, ◌*◌, List, [], ◌∷◌, ℤ, ◌+ℤ◌, ◌-ℤ◌, ◌*ℤ◌, neg_ℤ}
-use Rattle.grid.specs.Position.{Position}
+use Rattle.std.proofs.Common.{◌≡◌, refl, ℕ, ◌+◌, ◌*◌, List, [], ◌∷◌, ℤ, pos, ◌+ℤ◌, ◌-ℤ◌, ◌*ℤ◌, neg_ℤ}
+use Rattle.grid.specs.Position.{Position, right_of}
 use Rattle.grid.specs.Edge.{side, left_excess}
 use Rattle.grid.specs.Seam.{between_product}
-use Rattle.grid.proofs.Ring.{Term, var, plus, neg, times, ring}
+use Rattle.grid.proofs.Ring.{Term, var, lit, plus, neg, times, ring}
 
 -- ---- the definitions as terms; point number n has the variables 2n and 2n + 1
 record PointTerm : Type 0 where
@@ -55,6 +55,15 @@ unfolding side
 side-reversed a b p =
     let A = point 0 in let B = point 1 in let P = point 2 in
     ring (coordinates (a ∷ b ∷ p ∷ [])) (side_term B A P) (neg (side_term A B P)) refl
+
+-- how the edge function changes from a point to the one a pixel to the right
+pub side-right : (a b p : Position) → side a b (right_of p) ≡ side a b p +ℤ pos 256 *ℤ (a.y -ℤ b.y)
+unfolding side
+side-right a b p =
+    let A = point 0 in let B = point 1 in let P = point 2 in
+    ring (coordinates (a ∷ b ∷ p ∷ []))
+    (side_term A B (record { x = P.x ⊕ lit (pos 256); y = P.y }))
+    (side_term A B P ⊕ lit (pos 256) · (A.y ⊖ B.y)) refl
 
 -- the sides are the weights of the vertices at p
 pub side-weighted-x : (a b c p : Position) → side a b c *ℤ p.x ≡ side b c p *ℤ a.x +ℤ side c a p *ℤ b.x +ℤ side a b p *ℤ c.x

@@ -6,3 +6,4 @@ pub mod Rule
 pub mod Seam
 pub mod Diagonals
 pub mod Area
+pub mod Between

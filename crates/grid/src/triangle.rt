@@ -1,7 +1,9 @@
-ghost use Rattle.std.specs.Prelude.{◌≡◌, ◌↔◌, ◌⊎◌, ◌^◌, IsTrue, pos};
+ghost use Rattle.std.specs.Prelude.{◌≡◌, ◌↔◌, ◌⊎◌, ◌^◌, IsTrue, pos, ◌+ℤ◌, ◌≤ℤ◌};
 ghost use Rattle.grid.specs.Bounds.{IsWithin};
 ghost use Rattle.grid.specs.Edge.{IsTopEdge, IsLeftEdge, PassesEdge};
 ghost use Rattle.grid.specs.Seam.{IsSeam, IsOnOpenEdge};
+ghost use Rattle.std.specs.Int.{int_max};
+ghost use Rattle.grid.specs.Position.{IsInBand, right_of};
 ghost use Rattle.grid.specs.Triangle.{doubled_area, Covers};
 
 use crate::point::{Point, side};
@@ -47,6 +49,38 @@ impl Tri {
             && passes_edge(self.b, self.c, self.a, p)
             && passes_edge(self.c, self.a, self.b, p)
     }
+
+    /// The point one pixel to the right of `p`, asked where the triangle covers it. So it is not right of all vertices, and is
+    /// inside of the guard band as they are.
+    pub fn right_of(&self, p: Point) -> Point
+        requires { Covers self.now.a self.now.b self.now.c (right_of p) }
+        ensures { result ≡ right_of p }
+    {
+        let rightmost = greatest(self.a.x(), self.b.x(), self.c.x());
+        Point::new(next_x(p.x(), rightmost), p.y()).unwrap()
+    }
+}
+
+/// The greatest of three coordinates of the guard band.
+fn greatest(a: i32, b: i32, c: i32) -> i32
+    requires a { IsInBand a }
+    requires b { IsInBand b }
+    requires c { IsInBand c }
+    ensures value { result ≡ int_max (int_max a b) c }
+    ensures in_band { IsInBand result }
+{
+    a.max(b).max(c)
+}
+
+/// The x one pixel to the right, which is at most `limit`.
+fn next_x(x: i32, limit: i32) -> i32
+    requires x { IsInBand x }
+    requires limit { IsInBand limit }
+    requires within { (x +ℤ pos 256) ≤ℤ limit }
+    ensures value { result ≡ x +ℤ pos 256 }
+    ensures in_band { IsInBand result }
+{
+    (x + 256).min(limit)
 }
 
 /// Whether ab is a top or a left edge of a triangle with this third vertex.

@@ -1,4 +1,5 @@
 pub mod Placed
+pub mod Interpolants
 pub mod Ending
 pub mod Listing
 pub mod Scene

@@ -24,7 +24,7 @@ impl Placed {
     ghost use Rattle.list.specs.Placed.{channel as channel_of, colour_of, AreWeightsOf, IsFragmentAt, IsDrawnAt};
 
     /// What the vertices have as red, green, blue or alpha, which are the channels 0 to 3.
-    fn channel(&self, number: usize) -> [u8; 3]
+    pub(crate) fn channel(&self, number: usize) -> [u8; 3]
         requires { number < 4 }
         ensures { result ≡ channel_of self.now number }
     {

@@ -1,20 +1,25 @@
 -- Values at a covered point, where the sizes of the three sides add up to the size of the doubled area.
-use Rattle.std.proofs.Common.{◌≡◌, ◌⊎◌, inl, inr, ℕ, ap, ◌+◌, ◌*◌, ◌/◌, ◌<◌, ◌≤◌, arith, ℤ, pos, ◌*ℤ◌, ◌<ℤ◌, ◌≤ℤ◌}
+use Rattle.std.proofs.Common.{◌≡◌, ℕ, ap, ◌+◌, ◌*◌, ◌/◌, ◌%◌, ◌<◌, ◌≤◌, arith}
 use Rattle.std.proofs.Math.Nat.{mul-le-mul_right, lt_of_mul-lt-mul_right}
 use Rattle.std.proofs.lemmas.Int.{ints}
 use Rattle.std.specs.Int.RustNames.{unsigned_abs}
 use Rattle.grid.specs.Position.{Position}
 use Rattle.grid.specs.Edge.{side}
-use Rattle.grid.specs.Triangle.{Covers}
-use Rattle.grid.proofs.Sign.{negative, null, positive, sign, same_signs}
-use Rattle.grid.proofs.Identities.{sides-sum, side-turn}
+use Rattle.grid.specs.Triangle.{doubled_area, Covers}
+use Rattle.grid.proofs.Between.{over, under, sides_of_sign}
+use Rattle.grid.proofs.Sign.{negative, null, positive, sign}
+use Rattle.grid.proofs.Identities.{sides-sum}
 use Rattle.shade.specs.Quotient.{IsQuotient}
 use Rattle.shade.specs.Value.{weighted_sum, IsValueAt}
 use Rattle.shade.specs.Weights.{AreWeights}
+use Rattle.shade.specs.Row.{IsDivided}
 
 -- ---- quotients
 pub quotient : (n d : ℕ) → 0 < d → IsQuotient n d (n / d)
 quotient n d h = omega arith
+
+division : (n d : ℕ) → 0 < d → IsDivided n d (n / d) (n % d)
+division n d h = record { sum = omega arith; less = omega (arith, h) }
 
 pub quotient-bound : (n d m : ℕ) → 0 < d → n ≤ m * d → n / d ≤ m
 quotient-bound n d m h k = grind arith
@@ -30,33 +35,10 @@ pub quotient-unique : (n d q r : ℕ) → IsQuotient n d q → IsQuotient n d r 
 quotient-unique n d q r h k = omega (arith, quotient-le n d q r h k, quotient-le n d r q k h)
 
 -- ---- the weights of a covered point
--- a passed edge has the point on the side of the third vertex or on its line
-at_least : (x s : ℤ) {R : Type 0} → (pos 0 <ℤ (x *ℤ s)) ⊎ ((x ≡ pos 0) × R) → pos 0 <ℤ s → pos 0 ≤ℤ x
-at_least x s (inl h) k = omega (arith, ints, k, same_signs x s h)
-at_least x s (inr h) k = omega (arith, ints, h.0)
-
-at_most : (x s : ℤ) {R : Type 0} → (pos 0 <ℤ (x *ℤ s)) ⊎ ((x ≡ pos 0) × R) → s <ℤ pos 0 → x ≤ℤ pos 0
-at_most x s (inl h) k = omega (arith, ints, k, same_signs x s h)
-at_most x s (inr h) k = omega (arith, ints, h.0)
-
 pub weights-sum : (a b c p : Position) → Covers a b c p → unsigned_abs (side b c p) + unsigned_abs (side c a p) + unsigned_abs (side a b p) ≡ unsigned_abs (side a b c)
 weights-sum a b c p h =
     let sum = sides-sum a b c p in
-    let bca = side-turn a b c in
-    let cab = side-turn c a b in
-    elim (sign (side a b c)) [
-      | negative k ↦
-          let u = at_most (side a b p) (side a b c) h.edge_ab k in
-          let v = at_most (side b c p) (side b c a) h.edge_bc (omega (arith, ints)) in
-          let w = at_most (side c a p) (side c a b) h.edge_ca (omega (arith, ints)) in
-          omega (arith, ints)
-      | null k ↦ absurd (h.area k)
-      | positive k ↦
-          let u = at_least (side a b p) (side a b c) h.edge_ab k in
-          let v = at_least (side b c p) (side b c a) h.edge_bc (omega (arith, ints)) in
-          let w = at_least (side c a p) (side c a b) h.edge_ca (omega (arith, ints)) in
-          omega (arith, ints)
-    ]
+    elim (sides_of_sign a b c p h) [ over s x y z ↦ omega (arith, ints) | under s x y z ↦ omega (arith, ints) ]
 
 -- a triangle that covers a point has an area
 pub area_positive : (a b c p : Position) → Covers a b c p → 0 < unsigned_abs (side a b c)
@@ -95,21 +77,26 @@ products-sum : (a b c p : Position) (x y z s u v w : ℕ) → AreWeights a b c p
 unfolding weighted_sum
 products-sum a b c p x y z s u v w h = rw (h.of_a, h.of_b, h.of_c)
 
-value_of : (a b c p : Position) (x y z s u v w q : ℕ) → AreWeights a b c p x y z s → IsQuotient (u * x + v * y + w * z) s q → IsValueAt a b c p u v w q
-value_of a b c p x y z s u v w q h k = rw (products-sum a b c p x y z s u v w h, h.of_all) at k
+divided_of : (a b c p : Position) (x y z s u v w q r : ℕ) → AreWeights a b c p x y z s → IsDivided (u * x + v * y + w * z) s q r → IsDivided (weighted_sum a b c p u v w) (unsigned_abs (doubled_area a b c)) q r
+divided_of a b c p x y z s u v w q r h k = rw (products-sum a b c p x y z s u v w h, h.of_all) at k
 
--- the value that division gives, and its bound
-pub divided : (a b c p : Position) (x y z s u v w : ℕ) → AreWeights a b c p x y z s → IsValueAt a b c p u v w ((u * x + v * y + w * z) / s)
+-- what division gives, and its bound
+pub divided : (a b c p : Position) (x y z s u v w : ℕ) → AreWeights a b c p x y z s
+    → IsDivided (weighted_sum a b c p u v w) (unsigned_abs (doubled_area a b c)) ((u * x + v * y + w * z) / s) ((u * x + v * y + w * z) % s)
 divided a b c p x y z s u v w h =
-    value_of a b c p x y z s u v w _ h (quotient _ s (weights_positive a b c p x y z s h))
+    divided_of a b c p x y z s u v w _ _ h (division _ s (weights_positive a b c p x y z s h))
 
 pub divided-bound : (a b c p : Position) (x y z s u v w m : ℕ) → AreWeights a b c p x y z s → u ≤ m → v ≤ m → w ≤ m → (u * x + v * y + w * z) / s ≤ m
 divided-bound a b c p x y z s u v w m h i j k =
     quotient-bound _ s m (weights_positive a b c p x y z s h) (products-bound a b c p x y z s u v w m h i j k)
 
 -- three equal values give that value
-pub equal : (a b c p : Position) (x y z s u : ℕ) → AreWeights a b c p x y z s → IsValueAt a b c p u u u u
+pub equal : (a b c p : Position) (x y z s u : ℕ) → AreWeights a b c p x y z s → IsDivided (weighted_sum a b c p u u u) (unsigned_abs (doubled_area a b c)) u 0
 equal a b c p x y z s u h =
     let all = ap (λ n. u * n) (weights_total a b c p x y z s h) in
     let some = weights_positive a b c p x y z s h in
-    value_of a b c p x y z s u u u u h (record { low = omega arith; high = omega arith })
+    divided_of a b c p x y z s u u u u 0 h (record { sum = omega arith; less = some })
+
+-- the quotient of a division is the value
+pub value_of : (n d q r : ℕ) → IsDivided n d q r → IsQuotient n d q
+value_of n d q r h = record { low = omega (arith, h.sum); high = omega (arith, h.sum, h.less) }

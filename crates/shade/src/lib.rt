@@ -3,16 +3,21 @@
 
 mod blend;
 mod depth;
+mod gradient;
 mod merging;
 mod resolve;
+mod row;
 mod sample;
+mod step;
 mod value;
 mod weights;
 
 pub use blend::over;
 pub use depth::DepthTest;
+pub use gradient::Gradient;
 pub use merging::{apply, passes};
 pub use resolve::mean_of_four;
+pub use row::Row;
 pub use sample::{Merge, Sample, Shaded};
 pub use value::floor_at;
 pub use weights::Weights;

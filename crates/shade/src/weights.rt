@@ -1,8 +1,9 @@
 ghost use Rattle.std.specs.Prelude.{◌≡◌, ◌≤◌, ◌^◌, ℕ, slice_index};
 ghost use Rattle.std.specs.Int.RustNames.{unsigned_abs};
 ghost use Rattle.grid.specs.Edge as edge;
-ghost use Rattle.grid.specs.Triangle.{Covers};
-ghost use Rattle.shade.specs.Value.{IsValueAt};
+ghost use Rattle.grid.specs.Triangle.{doubled_area, Covers};
+ghost use Rattle.shade.specs.Row.{IsDivided};
+ghost use Rattle.shade.specs.Value.{weighted_sum, IsValueAt};
 
 use grid::{Point, Tri, side};
 use std::marker::Model;
@@ -53,21 +54,38 @@ impl Weights {
         }
     }
 
+    /// The point.
+    pub(crate) fn point(&self) -> Point
+        ensures covered { Covers self.now.a self.now.b self.now.c result }
+        ensures value { result ≡ self.now.p }
+    {
+        self.point
+    }
+
+    /// The weighted sum of `v` at the point by the size of the doubled area, and what is left of it.
+    pub(crate) fn divided(&self, v: [u16; 3]) -> (u16, u64)
+        ensures divided { IsDivided (weighted_sum self.now.a self.now.b self.now.c self.now.p (slice_index v 0) (slice_index v 1) (slice_index v 2)) (unsigned_abs (doubled_area self.now.a self.now.b self.now.c)) result.0 result.1 }
+        ensures at_most { (most : ℕ) → slice_index v 0 ≤ most → slice_index v 1 ≤ most → slice_index v 2 ≤ most → result.0 ≤ most }
+    {
+        let area = self.area;
+        // The weights add up to the area, so the mean of equal values is exact and needs no division.
+        if v[0] == v[1] && v[1] == v[2] {
+            return (v[0], 0);
+        }
+        let sum = u64::from(v[0]) * self.first
+            + u64::from(v[1]) * self.second
+            + u64::from(v[2]) * self.third;
+        ((sum / area) as u16, sum % area)
+    }
+
     /// The value at the point of what is `v` at the vertices: the mean of `v` by the weights, rounded down (the rounding is this
     /// project's rule). It is at most the greatest of `v`.
     pub fn value(&self, v: [u16; 3]) -> u16
         ensures value { IsValueAt self.now.a self.now.b self.now.c self.now.p (slice_index v 0) (slice_index v 1) (slice_index v 2) result }
         ensures at_most { (most : ℕ) → slice_index v 0 ≤ most → slice_index v 1 ≤ most → slice_index v 2 ≤ most → result ≤ most }
     {
-        let area = self.area;
-        // The weights add up to the area, so the mean of equal values is exact and needs no division.
-        if v[0] == v[1] && v[1] == v[2] {
-            return v[0];
-        }
-        let sum = u64::from(v[0]) * self.first
-            + u64::from(v[1]) * self.second
-            + u64::from(v[2]) * self.third;
-        (sum / area) as u16
+        let (value, _) = self.divided(v);
+        value
     }
 
     /// The value at the point of what is `v` at the vertices, as `value` gives it.

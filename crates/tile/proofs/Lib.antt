@@ -1,9 +1,11 @@
 pub mod Places
 pub mod Parts
 pub mod Bits
+pub mod Runs
 pub mod Planes
-pub mod Blocks
+pub mod Whole
 pub mod Waiting
 pub mod Ends
 pub mod Rows
 pub mod Shown
+pub mod Stepped

@@ -6,8 +6,8 @@ use Rattle.list.specs.declared.placed.Placed.{Placed}
 use Rattle.list.specs.Placed.{Meets, Draws}
 use Rattle.tile.specs.declared.tile.Tile.{Tile}
 use Rattle.tile.specs.Samples.{IsSampleOf, place_of, samples_of, stored}
-use Rattle.tile.specs.Drawing.{DrawsPart, DrawsTile, DrawsAt, KeepsAt, IsAt}
-use Rattle.tile.proofs.Places.{within, at_place}
+use Rattle.tile.specs.Drawing.{DrawsPart, DrawsTile, DrawsAt, KeepsAt}
+use Rattle.tile.proofs.Places.{IsAt, within, at_place}
 
 -- a triangle that does not meet a sample leaves it
 pub draws_missed : (t : Placed) (tile : Tile) (row column s : ℕ) (x : Sample) → ¬ Meets t tile.count (8 * tile.bx + column) (8 * tile.by + row) s → Draws t tile.count (8 * tile.bx + column) (8 * tile.by + row) s x x

@@ -6,7 +6,12 @@ use Rattle.grid.specs.Pixels.{side_of}
 use Rattle.grid.specs.Samples.{count_of}
 use Rattle.tile.specs.declared.tile.Tile.{Tile}
 use Rattle.tile.specs.Samples.{IsSampleOf, place_of, samples_of}
-use Rattle.tile.specs.Drawing.{IsAt}
+
+-- one sample of the tile
+pub record IsAt (row column s : ℕ) (row' column' s' : ℕ) : Type 0 where
+  pub same_row : row' ≡ row
+  pub same_column : column' ≡ column
+  pub same_sample : s' ≡ s
 
 module _ (tile : Tile) (row column s : ℕ) (h : IsSampleOf tile row column s) where
   pub within : place_of tile row column s < samples_of tile.side tile.count

@@ -1,43 +1,74 @@
 //! The samples of blocks of 8 by 8 pixels.
-ghost use Rattle.std.specs.Prelude.{◌≡◌, ◌+◌, ◌*◌, ◌/◌, ◌%◌, ◌^◌, ◌<◌, length, slice_index, ℕ};
-ghost use Rattle.grid.specs.Samples.{count_of, sample_position};
-ghost use Rattle.grid.specs.Triangle.{Covers};
+ghost use Rattle.std.specs.Prelude.{◌≡◌, ◌+◌, ◌*◌, ◌/◌, ◌%◌, ◌^◌, ◌<◌, ◌≤◌, ℕ, length, IsBitSet};
+ghost use Rattle.grid.specs.Pixels.{side_of};
+ghost use Rattle.grid.specs.Samples.{count_of};
 ghost use Rattle.cover.specs.Drawn.{IsDrawn};
 ghost use Rattle.cover.specs.Masks.{IsPlaneOf};
-ghost use Rattle.tile.specs.Samples.{IsSampleOf, samples_of};
-ghost use Rattle.tile.specs.Drawing.{DrawsPart, IsAt, IsInPlane, IsInSquare, LiesIn, ArePlanesOf};
+ghost use Rattle.tile.specs.Samples.{samples_of};
+ghost use Rattle.tile.specs.Drawing.{DrawsPart, IsInPlane, IsInRun, IsInSquare, LiesIn, AreBitsOf, ArePlanesOf};
 
+use crate::run::{Run, draw_run, is_in_mask};
 use crate::tile::Tile;
-use grid::sample_at;
-use list::Placed;
+use list::Interpolants;
 use shade::Sample;
 
-/// Draws the triangle at a sample that it covers, where the scissor has the sample's pixel.
-fn draw_sample(
-    triangle: &Placed,
+/// The lowest bits that are set next to each other.
+#[inline]
+fn lowest_run(bits: u64) -> Run
+    requires some { 0 < bits }
+    requires few { bits < 256 }
+    ensures some { result.first < result.end }
+    ensures few { result.end ≤ 8 }
+    ensures none { (i : ℕ) → i < result.first → ¬ IsBitSet bits i }
+    ensures set { (i : ℕ) → result.first ≤ i → i < result.end → IsBitSet bits i }
+{
+    let first = bits.trailing_zeros();
+    let end = first + (bits >> first).trailing_ones();
+    Run { first, end }
+}
+
+/// Draws the triangle at samples `s` of eight pixels in a row of the tile, from column `first` on; the bits tell which of them
+/// it covers.
+fn draw_eight(
+    triangle: &Interpolants,
     tile: &Tile,
     row: u32,
-    column: u32,
+    first: u32,
     s: u32,
+    bits: u64,
     samples: &mut [Sample],
 )
     requires samples { length samples.old ≡ samples_of tile.now.side tile.now.count }
-    requires sample { IsSampleOf tile.now row column s }
+    requires row { row < side_of tile.now.side }
+    requires columns { first + 8 ≤ side_of tile.now.side }
+    requires sample { s < count_of tile.now.count }
     requires drawn { IsDrawn triangle.now.tri triangle.now.state.cull }
     requires in_mask { triangle.now.state.sample_mask / 2 ^ s % 2 ≡ 1 }
-    requires covered { Covers triangle.now.tri.a triangle.now.tri.b triangle.now.tri.c (sample_position (8 * tile.now.bx + column) (8 * tile.now.by + row) s tile.now.count) }
-    ensures { DrawsPart triangle.now tile.now (IsAt row column s) samples.old samples.new }
+    requires bits { bits < 256 }
+    requires covered { AreBitsOf triangle.now tile.now row first s bits }
+    ensures { DrawsPart triangle.now tile.now (IsInRun row first (first + 8) s) samples.old samples.new }
 {
-    let (px, py) = (8 * tile.bx + column, 8 * tile.by + row);
-    if triangle.state.scissor.has(px, py) {
-        let place = tile.place(row, column, s);
-        samples[place] = triangle.drawn_at(sample_at(px, py, s, tile.count), samples[place]);
+    let (mut column, mut left) = (0, bits);
+    while left != 0 {
+        let run = lowest_run(left);
+        let begin = first + column;
+        draw_run(
+            triangle,
+            tile,
+            row,
+            begin + run.first,
+            begin + run.end,
+            s,
+            samples,
+        );
+        left >>= run.end;
+        column += run.end;
     }
 }
 
 /// Draws the triangle at the samples `s` of block (bx, by); the bits of `plane` tell which of them it covers.
 fn draw_plane(
-    triangle: &Placed,
+    triangle: &Interpolants,
     tile: &Tile,
     bx: u32,
     by: u32,
@@ -52,21 +83,19 @@ fn draw_plane(
     requires covered { IsPlaneOf triangle.now.tri bx by tile.now.count s plane }
     ensures { DrawsPart triangle.now tile.now (IsInPlane tile.now bx by s) samples.old samples.new }
 {
-    if (triangle.state.sample_mask >> s) % 2 == 0 {
+    if !is_in_mask(triangle, s) {
         return;
     }
-    let (row, column) = (8 * (by - tile.by), 8 * (bx - tile.bx));
-    let mut left = plane;
-    while left != 0 {
-        let bit = left.trailing_zeros();
-        draw_sample(triangle, tile, row + bit / 8, column + bit % 8, s, samples);
-        left &= !(1 << bit);
+    let (top, first) = (8 * (by - tile.by), 8 * (bx - tile.bx));
+    for row in 0..8 {
+        let bits = (plane >> (8 * row)) & 255;
+        draw_eight(triangle, tile, top + row, first, s, bits, samples);
     }
 }
 
 /// Draws the triangle at the samples of block (bx, by); the bits of `planes` tell which of them it covers.
 pub(crate) fn draw_block(
-    triangle: &Placed,
+    triangle: &Interpolants,
     tile: &Tile,
     bx: u32,
     by: u32,
@@ -79,9 +108,9 @@ pub(crate) fn draw_block(
     requires covered { ArePlanesOf triangle.now.tri bx by tile.now.count planes.now }
     ensures { DrawsPart triangle.now tile.now (IsInSquare tile.now bx by 8) samples.old samples.new }
 {
-    // Copies, which a store into the samples cannot change, so that the loops below keep them at hand.
-    let (triangle, tile) = (*triangle, *tile);
+    // A copy, which a store into the samples cannot change, so that the loops below keep it at hand.
+    let tile = *tile;
     for s in 0..tile.count.count() {
-        draw_plane(&triangle, &tile, bx, by, s, planes[s as usize], samples);
+        draw_plane(triangle, &tile, bx, by, s, planes[s as usize], samples);
     }
 }

@@ -4,6 +4,7 @@
 mod block;
 mod drawing;
 mod pixels;
+mod run;
 mod squares;
 mod store;
 mod tile;

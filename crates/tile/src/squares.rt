@@ -2,56 +2,63 @@
 ghost use Rattle.std.specs.Prelude.{◌≡◌, ◌+◌, ◌*◌, ◌<◌, ◌≤◌, ℕ, length, [], ◌∷◌, ◌++◌, Some, IsTrue, false};
 ghost use Rattle.arrayvec.specs.ArrayVec.{array_vec_len};
 ghost use Rattle.grid.specs.Pixels.{side_of};
+ghost use Rattle.grid.specs.Samples.{count_of};
 ghost use Rattle.cover.specs.Drawn.{IsDrawn};
 ghost use Rattle.cover.specs.Square.{CoversAll, quarter_of};
 ghost use Rattle.tile.specs.Samples.{samples_of};
-ghost use Rattle.tile.specs.Drawing.{DrawsPart, DrawsTile, IsInBlocks, IsIn, IsSquareIn, LiesIn, CoversBlock};
+ghost use Rattle.tile.specs.Drawing.{CoversRun, DrawsPart, DrawsTile, IsInRectangle, IsIn, IsSquareIn};
 
 use crate::block::draw_block;
+use crate::run::{draw_run, is_in_mask};
 use crate::tile::Tile;
 use arrayvec::ArrayVec;
 use cover::{Class, Setup, Square};
 use grid::TileSide;
-use list::Placed;
+use list::{Interpolants, Placed};
 use shade::Sample;
 
 /// The squares that wait to be visited. Ten places are enough: a tile of 64 pixels is cut three times on the way to a block, and
 /// each time three quarters wait while the fourth is visited. A place that is not used holds none.
 type Waiting<'a> = ArrayVec<Option<Square<'a>>, 10>;
 
-/// Draws the triangle at all samples of a row of blocks, each of which it covers.
-fn draw_blocks(
-    triangle: &Placed,
+/// Draws the triangle at all samples of the pixels in a row of the tile, from column `first` to before `end`, each of which it
+/// covers.
+fn draw_row(
+    triangle: &Interpolants,
     tile: &Tile,
+    row: u32,
     first: u32,
     end: u32,
-    by: u32,
     samples: &mut [Sample],
 )
     requires samples { length samples.old ≡ samples_of tile.now.side tile.now.count }
-    requires ordered { first ≤ end }
-    requires blocks { (bx : ℕ) → first ≤ bx → bx < end → LiesIn tile.now bx by 8 }
+    requires row { row < side_of tile.now.side }
+    requires end { end ≤ side_of tile.now.side }
     requires drawn { IsDrawn triangle.now.tri triangle.now.state.cull }
-    requires covered { (bx : ℕ) → first ≤ bx → bx < end → CoversBlock triangle.now.tri bx by tile.now.count }
-    ensures { DrawsPart triangle.now tile.now (IsInBlocks tile.now first by end (by + 1)) samples.old samples.new }
+    requires covered { (s : ℕ) → s < count_of tile.now.count → CoversRun triangle.now tile.now row first end s }
+    ensures { DrawsPart triangle.now tile.now (IsInRectangle first row end (row + 1)) samples.old samples.new }
 {
-    for bx in first..end {
-        draw_block(triangle, tile, bx, by, &[u64::MAX; 4], samples);
+    for s in 0..tile.count.count() {
+        if is_in_mask(triangle, s) {
+            draw_run(triangle, tile, row, first, end, s, samples);
+        }
     }
 }
 
 /// Draws the triangle at all samples of a square, each of which it covers.
-fn draw_whole(triangle: &Placed, tile: &Tile, square: &Square, samples: &mut [Sample])
+fn draw_whole(triangle: &Interpolants, tile: &Tile, square: &Square, samples: &mut [Sample])
     requires samples { length samples.old ≡ samples_of tile.now.side tile.now.count }
     requires square { IsSquareIn triangle.now tile.now square.now }
     requires drawn { IsDrawn triangle.now.tri triangle.now.state.cull }
     requires covered { CoversAll square.now }
     ensures { DrawsPart triangle.now tile.now (IsIn tile.now square.now) samples.old samples.new }
 {
-    let blocks = square.side().pixels() / 8;
-    let (left, top) = (square.bx(), square.by());
-    for by in top..top + blocks {
-        draw_blocks(triangle, tile, left, left + blocks, by, samples);
+    // A copy, which a store into the samples cannot change, so that the loops below keep it at hand.
+    let tile = *tile;
+    let side = square.side().pixels();
+    let (top, first) = (8 * (square.by() - tile.by), 8 * (square.bx() - tile.bx));
+    for row in top..top + side {
+        draw_row(triangle, &tile, row, first, first + side, samples);
     }
 }
 
@@ -69,7 +76,7 @@ fn push_quarters<'a>(square: &Square<'a>, waiting: &mut Waiting<'a>)
 
 /// Draws the triangle at the samples of a square, or answers false where the square's quarters have to be visited.
 fn draw_square(
-    triangle: &Placed,
+    triangle: &Interpolants,
     setup: &Setup,
     tile: &Tile,
     square: &Square,
@@ -102,7 +109,7 @@ fn draw_square(
 }
 
 /// Draws the triangle at the samples of the tile that it meets, from the tile's square down to blocks.
-fn draw_squares(triangle: &Placed, setup: &Setup, tile: &Tile, samples: &mut [Sample])
+fn draw_squares(triangle: &Interpolants, setup: &Setup, tile: &Tile, samples: &mut [Sample])
     requires samples { length samples.old ≡ samples_of tile.now.side tile.now.count }
     requires setup { setup.now ≡ triangle.now.tri }
     requires drawn { IsDrawn triangle.now.tri triangle.now.state.cull }
@@ -123,6 +130,6 @@ pub(crate) fn draw_triangle(triangle: &Placed, tile: &Tile, samples: &mut [Sampl
     ensures { DrawsTile triangle.now tile.now samples.old samples.new }
 {
     if let Some(setup) = Setup::new(&triangle.tri, triangle.state.cull) {
-        draw_squares(triangle, &setup, tile, samples);
+        draw_squares(&Interpolants::new(triangle), &setup, tile, samples);
     }
 }

@@ -1,4 +1,4 @@
-use Rattle.tile.proofs.Blocks.{planes_more}
+use Rattle.tile.proofs.Planes.{planes_more}
 use Rattle.tile.proofs.block.draw_block.Goals as goal
 
 pub loop-s-preserved : goal.loop-s-preserved

@@ -1,5 +1,5 @@
 use Rattle.tile.specs.Drawing.{DrawsPart}
-use Rattle.tile.proofs.Blocks.{IsInPlanes}
+use Rattle.tile.proofs.Planes.{IsInPlanes}
 use Rattle.tile.proofs.block.draw_block.Given as goal
 
 abbrev pub invariant-loop-s : goal.invariant-loop-s

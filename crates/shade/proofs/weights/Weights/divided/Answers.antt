@@ -1,16 +1,19 @@
-use Rattle.std.proofs.Common.{◌≡◌, ◌≤◌, ◌+◌, ◌*◌, ◌/◌, subst, slice_index, slice_index_or, arith, rules}
-use Rattle.shade.specs.Value.{IsValueAt}
+use Rattle.std.proofs.Common.{◌≡◌, ◌≤◌, ◌+◌, ◌*◌, ◌/◌, ◌%◌, subst, slice_index, slice_index_or, arith, rules}
+use Rattle.std.specs.Int.RustNames.{unsigned_abs}
+use Rattle.grid.specs.Triangle.{doubled_area}
+use Rattle.shade.specs.Value.{weighted_sum}
+use Rattle.shade.specs.Row.{IsDivided}
 use Rattle.shade.specs.Weights.{TriangleAndPoint}
 use Rattle.shade.proofs.Values.{products-bound, divided, divided-bound, equal}
-use Rattle.shade.proofs.weights.Weights.value.Goals as goal
+use Rattle.shade.proofs.weights.Weights.divided.Goals as goal
 
-pub returns-then-v-2-clause-value : goal.returns-then-v-2-clause-value
-returns-then-v-2-clause-value c =
+pub returns-then-v-2-clause-divided : goal.returns-then-v-2-clause-divided
+returns-then-v-2-clause-divided c =
     let first : slice_index_or c.args.v 0 0 ≡ slice_index c.args.v 0 = search rules in
     let second : slice_index c.args.v 1 ≡ slice_index c.args.v 0 = search rules in
     let third : slice_index c.args.v 2 ≡ slice_index c.args.v 0 = search rules in
     rw (first, second, third)
-    (subst (λ (t : TriangleAndPoint). IsValueAt t.a t.b t.c t.p (slice_index c.args.v 0) (slice_index c.args.v 0) (slice_index c.args.v 0) (slice_index c.args.v 0)) c.self.view_is (equal _ _ _ _ _ _ _ _ (slice_index c.args.v 0) c.self.invariant))
+    (subst (λ (t : TriangleAndPoint). IsDivided (weighted_sum t.a t.b t.c t.p (slice_index c.args.v 0) (slice_index c.args.v 0) (slice_index c.args.v 0)) (unsigned_abs (doubled_area t.a t.b t.c)) (slice_index c.args.v 0) 0) c.self.view_is (equal _ _ _ _ _ _ _ _ (slice_index c.args.v 0) c.self.invariant))
 
 pub overflow_mul-sum : goal.overflow_mul-sum
 overflow_mul-sum c =
@@ -47,10 +50,10 @@ overflow_cast-result c =
     let w : c.from-3.result ≤ 65535 = search rules in
     omega (arith, divided-bound _ _ _ _ _ _ _ _ c.from.result c.from-2.result c.from-3.result 65535 c.self.invariant u v w)
 
-pub returns-clause-value : goal.returns-clause-value
-returns-clause-value c =
+pub returns-clause-divided : goal.returns-clause-divided
+returns-clause-divided c =
     rw (← c.from.ensures, ← c.from-2.ensures, ← c.from-3.ensures)
-    (subst (λ (t : TriangleAndPoint). IsValueAt t.a t.b t.c t.p c.from.result c.from-2.result c.from-3.result ((c.from.result * c.self.inside.first + c.from-2.result * c.self.inside.second + c.from-3.result * c.self.inside.third) / c.self.inside.area)) c.self.view_is (divided _ _ _ _ _ _ _ _ _ _ _ c.self.invariant))
+    (subst (λ (t : TriangleAndPoint). IsDivided (weighted_sum t.a t.b t.c t.p c.from.result c.from-2.result c.from-3.result) (unsigned_abs (doubled_area t.a t.b t.c)) ((c.from.result * c.self.inside.first + c.from-2.result * c.self.inside.second + c.from-3.result * c.self.inside.third) / c.self.inside.area) ((c.from.result * c.self.inside.first + c.from-2.result * c.self.inside.second + c.from-3.result * c.self.inside.third) % c.self.inside.area)) c.self.view_is (divided _ _ _ _ _ _ _ _ _ _ _ c.self.invariant))
 
 pub returns-clause-at_most : goal.returns-clause-at_most
 returns-clause-at_most c =
