@@ -9,12 +9,12 @@ use Rattle.grid.specs.Pixels.{IsInBox}
 use Rattle.grid.specs.Samples.{count_of}
 use Rattle.grid.specs.declared.pixels.PixelBox.{PixelBox}
 use Rattle.shade.specs.declared.sample.Sample.{Sample}
-use Rattle.list.specs.declared.placed.Placed.{Placed}
-use Rattle.list.specs.Placed.{Meets, Draws}
-use Rattle.list.specs.Ending.{Ends}
+use Rattle.shade.specs.declared.placed.Placed.{Placed}
+use Rattle.shade.specs.Placed.{Meets, Draws}
+use Rattle.shade.specs.Ending.{Ends}
 use Rattle.list.specs.Scene.{Scene}
 use Rattle.list.specs.Picture.{IsEnd}
-use Rattle.list.proofs.Endings.{ends_more, ends_past}
+use Rattle.shade.proofs.Endings.{ends_more, ends_past}
 use Rattle.bins.specs.Bin.{IsBin, MeetsRect}
 
 ascends : (xs : List ℕ) (a many : ℕ) → IsStrictlyIncreasing xs → a + many < length xs → slice_index xs a + many ≤ slice_index xs (a + many)

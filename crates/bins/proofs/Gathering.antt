@@ -17,7 +17,7 @@ use Rattle.list.specs.Rows.{IsRowSpan}
 use Rattle.list.specs.declared.rows.RowSpan.{RowSpan}
 use Rattle.std.proofs.lemmas.Int.{ints, clamps}
 use Rattle.cover.specs.Drawn.{IsDrawn}
-use Rattle.list.specs.declared.placed.Placed.{Placed}
+use Rattle.shade.specs.declared.placed.Placed.{Placed}
 use Rattle.list.specs.Scene.{Scene}
 use Rattle.bins.specs.declared.reach.Columns.{Columns}
 use Rattle.bins.specs.declared.run.Run.{Run}

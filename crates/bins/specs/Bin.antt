@@ -6,8 +6,8 @@ use Rattle.grid.specs.Pixels.{IsInBox}
 use Rattle.grid.specs.Samples.{count_of}
 use Rattle.grid.specs.declared.pixels.PixelBox.{PixelBox}
 use Rattle.grid.specs.declared.sample_count.SampleCount.{SampleCount}
-use Rattle.list.specs.declared.placed.Placed.{Placed}
-use Rattle.list.specs.Placed.{Meets}
+use Rattle.shade.specs.declared.placed.Placed.{Placed}
+use Rattle.shade.specs.Placed.{Meets}
 use Rattle.list.specs.Scene.{Scene}
 use Rattle.bins.specs.Grid.{TileGrid, columns_of, rect_of}
 

@@ -10,7 +10,7 @@ use Rattle.list.specs.Begun.{IsBegun}
 use Rattle.list.specs.Scene.{Scene}
 use Rattle.list.specs.Picture.{IsEnd, IsColour, IsPart}
 use Rattle.list.proofs.Begun.{nothing_begun, run_of_one, begun_run, part_of_rows}
-use Rattle.list.proofs.Endings.{ends}
+use Rattle.shade.proofs.Endings.{ends}
 
 resolved : (count : SampleCount) (channel : ℕ → ℕ) → (q : ℕ) × IsResolved count channel q
 resolved One channel = (channel 0, refl)

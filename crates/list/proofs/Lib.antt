@@ -1,6 +1,3 @@
-pub mod Decided
-pub mod Drawn
-pub mod Endings
 pub mod Numbering
 pub mod Unique
 pub mod Parts
@@ -20,7 +17,6 @@ pub mod Finish
 pub mod Reached
 pub mod Accepted
 pub mod Words
-pub mod Merged
 pub mod OneValue
 pub mod OneState
 pub mod OneDraw

@@ -3,7 +3,7 @@ use Rattle.std.proofs.Common.{◌≡◌, sym, subst, ℕ, ℤ, List, length, cod
 use Rattle.serde_json.specs.Find.{get}
 use Rattle.grid.specs.Position.{Position}
 use Rattle.grid.specs.declared.pixels.PixelBox.{PixelBox}
-use Rattle.list.specs.declared.draw.State.{State}
+use Rattle.shade.specs.declared.state.State.{State}
 use Rattle.list.specs.declared.draw.Vertex.{Vertex}
 use Rattle.list.specs.Listing.{DrawListing}
 use Rattle.list.specs.Denotes.{IsArrayOf, IsVertex, IsTriangle, IsDraw}

@@ -10,7 +10,7 @@ use Rattle.list.specs.Json.{json_of, whole}
 use Rattle.list.specs.Listing.{DrawListing, Listing, scene_of}
 use Rattle.list.specs.Scene.{Scene}
 use Rattle.list.specs.Denotes.{OrDefault, IsArrayOf, IsDepthNumber, IsSampleCount, IsClearColour, IsDraw, IsListing, Denotes, picture_box}
-use Rattle.list.proofs.Drawn.{same_sample}
+use Rattle.shade.proofs.Drawn.{same_sample}
 use Rattle.list.proofs.OneValue.{IsUnique, same_some, same_number, default-unique, array-unique, made_same_three}
 use Rattle.list.proofs.OneDraw.{draw-unique}
 

@@ -6,7 +6,7 @@ use Rattle.grid.specs.declared.pixels.PixelBox.{PixelBox}
 use Rattle.shade.specs.declared.depth.DepthTest.{DepthTest}
 use Rattle.shade.specs.declared.depth.DepthTest.TheVariants as test
 use Rattle.shade.specs.declared.sample.Merge.{Merge}
-use Rattle.list.specs.declared.draw.State.{State}
+use Rattle.shade.specs.declared.state.State.{State}
 use Rattle.list.specs.Json.{whole, text, truth}
 use Rattle.list.specs.Keys.{cull_word, depth_test_word, blend_word}
 use Rattle.list.specs.Denotes.{IsTruth, IsCull, IsDepthTest, IsBlend, IsWriteMask, IsSampleMask, IsScissor, IsMerge, IsState}

@@ -15,7 +15,7 @@ use Rattle.grid.specs.declared.sample_count.SampleCount.TheVariants as samples
 use Rattle.shade.specs.declared.depth.DepthTest.{DepthTest}
 use Rattle.shade.specs.declared.depth.DepthTest.TheVariants as test
 use Rattle.shade.specs.declared.sample.Merge.{Merge}
-use Rattle.list.specs.declared.draw.State.{State}
+use Rattle.shade.specs.declared.state.State.{State}
 use Rattle.list.specs.declared.draw.Vertex.{Vertex}
 use Rattle.list.specs.declared.fault.ReadKind.{ReadKind}
 use Rattle.list.specs.declared.fault.ReadKind.TheVariants.{TooMany}

@@ -3,7 +3,7 @@ use Rattle.std.proofs.Common.{◌≡◌, refl, sym, ap, ◌∙◌, ℕ, zero, su
 use Rattle.std.specs.List.{flat_map}
 use Rattle.std.proofs.lemmas.List.{flat_map_more, take_more}
 use Rattle.list.specs.Listing.{DrawListing, placed_all}
-use Rattle.list.specs.declared.placed.Placed.{Placed}
+use Rattle.shade.specs.declared.placed.Placed.{Placed}
 use Rattle.list.specs.declared.rows.RowSpan.{RowSpan}
 use Rattle.list.specs.Rows.{IsRowSpan, AreRows}
 

@@ -12,7 +12,7 @@ use Rattle.shade.specs.Quotient.{IsQuotient}
 use Rattle.shade.proofs.Values.{quotient-unique}
 use Rattle.list.specs.Scene.{Scene}
 use Rattle.list.specs.Picture.{IsEnd, IsColour, IsPart}
-use Rattle.list.proofs.Endings.{ends-unique}
+use Rattle.shade.proofs.Endings.{ends-unique}
 
 pub end-unique : (l : Scene) (i j s : ℕ) (x y : Sample) → IsEnd l i j s x → IsEnd l i j s y → x ≡ y
 end-unique l i j s x y h k = ends-unique l.count i j s l.triangles l.clear x y h k

@@ -12,7 +12,7 @@ use Rattle.grid.specs.declared.sample_count.SampleCount.TheVariants as samples
 use Rattle.shade.specs.declared.depth.DepthTest.{DepthTest}
 use Rattle.shade.specs.declared.depth.DepthTest.TheVariants as test
 use Rattle.shade.specs.declared.sample.Merge.{Merge}
-use Rattle.list.specs.declared.draw.State.{State}
+use Rattle.shade.specs.declared.state.State.{State}
 use Rattle.list.specs.declared.draw.Vertex.{Vertex}
 use Rattle.list.specs.Json.{json_of, whole, text, truth, array_of, element, elements, length_of, has_other_key}
 use Rattle.list.specs.Keys.{top_keys, draw_keys, cull_word, depth_test_word, blend_word}

@@ -1,6 +1,3 @@
-pub mod Placed
-pub mod Interpolants
-pub mod Ending
 pub mod Listing
 pub mod Scene
 pub mod Rows

@@ -4,9 +4,9 @@ use Rattle.std.specs.List.{All, flat_map}
 use Rattle.grid.specs.declared.sample_count.SampleCount.{SampleCount}
 use Rattle.shade.specs.declared.sample.Sample.{Sample}
 use Rattle.list.specs.declared.draw.Vertex.{Vertex}
-use Rattle.list.specs.declared.draw.State.{State}
+use Rattle.shade.specs.declared.state.State.{State}
 use Rattle.list.specs.declared.draw.Draw.{Draw}
-use Rattle.list.specs.declared.placed.Placed.{Placed}
+use Rattle.shade.specs.declared.placed.Placed.{Placed}
 use Rattle.list.specs.Scene.{Scene}
 
 pub record DrawListing : Type 0 where

@@ -4,7 +4,7 @@ use Rattle.grid.specs.Samples.{count_of}
 use Rattle.shade.specs.declared.sample.Sample.{Sample}
 use Rattle.shade.specs.Resolve.{IsResolved}
 use Rattle.list.specs.Scene.{Scene}
-use Rattle.list.specs.Ending.{Ends}
+use Rattle.shade.specs.Ending.{Ends}
 
 -- The end of sample s of pixel (i, j): what all triangles make of the clear colour and depth.
 abbrev pub IsEnd : Scene → ℕ → ℕ → ℕ → Sample → Type 0

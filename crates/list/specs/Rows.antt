@@ -3,7 +3,7 @@ use Rattle.std.specs.Prelude.{◌≡◌, ℤ, pos, ◌+ℤ◌, List}
 use Rattle.std.specs.Int.{int_min, int_max, int_div_euclid}
 use Rattle.std.specs.List.{AllZip}
 use Rattle.grid.specs.declared.triangle.Tri.{Tri}
-use Rattle.list.specs.declared.placed.Placed.{Placed}
+use Rattle.shade.specs.declared.placed.Placed.{Placed}
 use Rattle.list.specs.declared.rows.RowSpan.{RowSpan}
 
 -- The row of pixels of a y is the y by 256, rounded down.

@@ -3,9 +3,8 @@ ghost use Rattle.std.specs.List.{All};
 ghost use Rattle.list.specs.Listing.{draw_listing, placed, IsDrawWithinLimits};
 
 use crate::limits::MOST_VERTICES;
-use crate::placed::Placed;
-use grid::{Cull, PixelBox, Point, Tri};
-use shade::Merge;
+use grid::{Point, Tri};
+use shade::{Placed, State};
 
 /// A vertex of a draw.
 #[derive(Clone, Copy, Debug, PartialEq, Eq)]
@@ -16,19 +15,6 @@ pub struct Vertex {
     pub z: u16,
     /// Red, green, blue and alpha.
     pub rgba: [u8; 4],
-}
-
-/// How the triangles of a draw are drawn.
-#[derive(Clone, Copy, Debug, PartialEq, Eq)]
-pub struct State {
-    /// The depth test, the write mask and the blending.
-    pub merge: Merge,
-    /// Which triangles are left out by the way that they run.
-    pub cull: Cull,
-    /// Bit s says whether sample s of a pixel is drawn.
-    pub sample_mask: u8,
-    /// The pixels that are drawn.
-    pub scissor: PixelBox,
 }
 
 /// Triangles over common vertices, and how they are drawn.

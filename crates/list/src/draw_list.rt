@@ -4,11 +4,10 @@ ghost use Rattle.list.specs.Rows.{IsRowSpan};
 
 use crate::draw::Draw;
 use crate::limits::{are_within_limits, is_side};
-use crate::placed::Placed;
 use crate::rows::{RowSpan, rows_of};
 use crate::starts::{draw_of, starts_of};
 use grid::{OutOfMemory, SampleCount};
-use shade::Sample;
+use shade::{Placed, Sample};
 use std::alloc::Global;
 use std::marker::Model;
 

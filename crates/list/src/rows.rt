@@ -2,7 +2,7 @@ ghost use Rattle.std.specs.Prelude.{◌≡◌, ◌≤ℤ◌, pos, negsuc, List, 
 ghost use Rattle.std.specs.Int.{int_min, int_max};
 ghost use Rattle.std.specs.List.{flat_map, All};
 ghost use Rattle.grid.specs.Position.{IsInBand};
-ghost use Rattle.list.specs.declared.placed.Placed.{Placed};
+ghost use Rattle.shade.specs.declared.placed.Placed.{Placed};
 ghost use Rattle.list.specs.Listing.{draw_listing, placed_all, IsDrawWithinLimits};
 ghost use Rattle.list.specs.Rows as rows;
 

@@ -1,10 +1,9 @@
 ghost use Rattle.std.specs.Prelude.{◌≡◌, ◌↔◌, ◌<◌, IsTrue};
 ghost use Rattle.grid.specs.Samples.{count_of};
-ghost use Rattle.list.specs.Placed.{Meets, Draws};
+ghost use Rattle.shade.specs.Placed.{Meets, Draws};
 
 use grid::{SampleCount, sample_at};
-use list::Placed;
-use shade::{Sample, apply};
+use shade::{Placed, Sample, apply};
 
 /// Whether the triangle meets sample `s` of the pixel in column `px` and row `py`, whatever depth is stored there.
 fn meets(triangle: &Placed, count: SampleCount, px: u32, py: u32, s: u32) -> bool

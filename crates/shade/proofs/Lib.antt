@@ -1,2 +1,6 @@
 pub mod Values
 pub mod Steps
+pub mod Decided
+pub mod Drawn
+pub mod Endings
+pub mod Merged

@@ -6,3 +6,6 @@ pub mod Row
 pub mod Blend
 pub mod Merging
 pub mod Resolve
+pub mod Placed
+pub mod Interpolants
+pub mod Ending

@@ -3,22 +3,32 @@
 
 mod blend;
 mod depth;
+mod depths;
+mod fragments;
 mod gradient;
+mod interpolants;
 mod merging;
+mod placed;
 mod resolve;
 mod row;
 mod sample;
+mod state;
 mod step;
 mod value;
 mod weights;
 
 pub use blend::over;
 pub use depth::DepthTest;
+pub use depths::Depths;
+pub use fragments::Fragments;
 pub use gradient::Gradient;
+pub use interpolants::Interpolants;
 pub use merging::{apply, passes};
+pub use placed::Placed;
 pub use resolve::mean_of_four;
 pub use row::Row;
 pub use sample::{Merge, Sample, Shaded};
+pub use state::State;
 pub use value::floor_at;
 pub use weights::Weights;
 

@@ -1,8 +1,8 @@
 -- What the triangles of a tile's bin make of its samples.
 use Rattle.std.proofs.Common.{◌≡◌, ℕ, ◌+◌, ◌*◌, ◌<◌, ◌≤◌, List, length, slice_get, slice_index, Some, subst, arith}
 use Rattle.shade.specs.declared.sample.Sample.{Sample}
-use Rattle.list.specs.declared.placed.Placed.{Placed}
-use Rattle.list.specs.Placed.{Draws}
+use Rattle.shade.specs.declared.placed.Placed.{Placed}
+use Rattle.shade.specs.Placed.{Draws}
 use Rattle.list.specs.Scene.{Scene}
 use Rattle.bins.proofs.Drawn.{HasDrawn, none_drawn, one_drawn, all_drawn}
 use Rattle.tile.specs.declared.tile.Tile.{Tile}

@@ -2,8 +2,8 @@
 use Rattle.std.proofs.Common.{◌≡◌, ◌⊎◌, inl, inr, refl, ◌∙◌, ℕ, ◌+◌, ◌*◌, ◌<◌, ◌≢◌, List, length, slice_set, arith}
 use Rattle.std.proofs.lemmas.List.{get_or-set_same, get_or-set_other}
 use Rattle.shade.specs.declared.sample.Sample.{Sample}
-use Rattle.list.specs.declared.placed.Placed.{Placed}
-use Rattle.list.specs.Placed.{Meets, Draws}
+use Rattle.shade.specs.declared.placed.Placed.{Placed}
+use Rattle.shade.specs.Placed.{Meets, Draws}
 use Rattle.tile.specs.declared.tile.Tile.{Tile}
 use Rattle.tile.specs.Samples.{IsSampleOf, place_of, samples_of, stored}
 use Rattle.tile.specs.Drawing.{DrawsPart, DrawsTile, DrawsAt, KeepsAt}

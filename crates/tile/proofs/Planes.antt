@@ -4,7 +4,7 @@ use Rattle.std.proofs.lemmas.Bool.{cases_lt}
 use Rattle.grid.specs.Samples.{count_of}
 use Rattle.shade.specs.declared.sample.Sample.{Sample}
 use Rattle.cover.specs.Masks.{IsPlaneOf}
-use Rattle.list.specs.declared.placed.Placed.{Placed}
+use Rattle.shade.specs.declared.placed.Placed.{Placed}
 use Rattle.tile.specs.declared.tile.Tile.{Tile}
 use Rattle.tile.specs.Samples.{IsSampleOf}
 use Rattle.tile.specs.Drawing.{DrawsPart, IsInSquare, IsInPlane, IsInRun, LiesIn, AreBitsOf}

@@ -2,8 +2,8 @@
 use Rattle.std.proofs.Common.{◌≡◌, ◌⊎◌, inl, inr, refl, ℕ, ◌+◌, ◌-◌, ◌*◌, ◌/◌, ◌^◌, ◌<◌, ◌≤◌, List, IsBitSet, div-one, arith}
 use Rattle.std.proofs.lemmas.Bool.{cases_lt}
 use Rattle.shade.specs.declared.sample.Sample.{Sample}
-use Rattle.list.specs.declared.placed.Placed.{Placed}
-use Rattle.list.specs.Placed.{Meets}
+use Rattle.shade.specs.declared.placed.Placed.{Placed}
+use Rattle.shade.specs.Placed.{Meets}
 use Rattle.tile.specs.declared.tile.Tile.{Tile}
 use Rattle.tile.specs.Samples.{IsSampleOf}
 use Rattle.tile.specs.Drawing.{DrawsPart, DrawsAt, IsInRun, CoversAt, CoversRun, AreBitsOf}

@@ -7,9 +7,9 @@ use Rattle.grid.specs.Samples.{offsets_y, sample_position}
 use Rattle.grid.specs.Triangle.{Covers}
 use Rattle.grid.specs.declared.sample_count.SampleCount.{SampleCount}
 use Rattle.shade.specs.declared.sample.Sample.{Sample}
-use Rattle.list.specs.declared.placed.Placed.{Placed}
-use Rattle.list.specs.Placed.{Meets, IsDrawnAt}
-use Rattle.list.specs.Interpolants.{PlacedAt}
+use Rattle.shade.specs.declared.placed.Placed.{Placed}
+use Rattle.shade.specs.Placed.{Meets, IsDrawnAt}
+use Rattle.shade.specs.Interpolants.{PlacedAt}
 use Rattle.tile.specs.declared.tile.Tile.{Tile}
 use Rattle.tile.specs.Samples.{IsSampleOf, place_of, samples_of, stored}
 use Rattle.tile.specs.Drawing.{DrawsPart, IsInRun, LeavesRun, CoversAt}

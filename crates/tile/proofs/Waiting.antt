@@ -11,7 +11,7 @@ use Rattle.grid.specs.declared.triangle.Tri.{Tri}
 use Rattle.grid.specs.declared.sample_count.SampleCount.{SampleCount}
 use Rattle.shade.specs.declared.sample.Sample.{Sample}
 use Rattle.cover.specs.Square.{Place, CoversNone, half_of, quarter_of}
-use Rattle.list.specs.declared.placed.Placed.{Placed}
+use Rattle.shade.specs.declared.placed.Placed.{Placed}
 use Rattle.tile.specs.declared.tile.Tile.{Tile}
 use Rattle.tile.specs.Samples.{IsSampleOf}
 use Rattle.tile.specs.Drawing.{DrawsPart, DrawsTile, IsIn, IsSquareIn, LiesIn}

@@ -5,7 +5,7 @@ use Rattle.grid.specs.Pixels.{side_of}
 use Rattle.grid.specs.Samples.{count_of}
 use Rattle.shade.specs.declared.sample.Sample.{Sample}
 use Rattle.cover.specs.Square.{Place, CoversAll}
-use Rattle.list.specs.declared.placed.Placed.{Placed}
+use Rattle.shade.specs.declared.placed.Placed.{Placed}
 use Rattle.tile.specs.declared.tile.Tile.{Tile}
 use Rattle.tile.specs.Samples.{IsSampleOf}
 use Rattle.tile.specs.Drawing.{DrawsPart, IsIn, IsInRun, IsInRectangle, IsSquareIn, CoversRun}

@@ -8,9 +8,9 @@ use Rattle.grid.specs.declared.sample_count.SampleCount.{SampleCount}
 use Rattle.shade.specs.declared.sample.Sample.{Sample}
 use Rattle.cover.specs.Square.{Place}
 use Rattle.cover.specs.Masks.{IsPlaneOf}
-use Rattle.list.specs.declared.placed.Placed.{Placed}
-use Rattle.list.specs.Placed.{Meets, Draws, IsDrawnAt}
-use Rattle.list.specs.Interpolants.{PlacedAt}
+use Rattle.shade.specs.declared.placed.Placed.{Placed}
+use Rattle.shade.specs.Placed.{Meets, Draws, IsDrawnAt}
+use Rattle.shade.specs.Interpolants.{PlacedAt}
 use Rattle.tile.specs.declared.tile.Tile.{Tile}
 use Rattle.tile.specs.Samples.{IsSampleOf, place_of, stored}
 

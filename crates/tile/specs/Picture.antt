@@ -4,7 +4,7 @@ use Rattle.grid.specs.Pixels.{side_of}
 use Rattle.grid.specs.declared.pixels.PixelBox.{PixelBox}
 use Rattle.shade.specs.declared.sample.Sample.{Sample}
 use Rattle.shade.specs.Resolve.{IsResolved}
-use Rattle.list.specs.Placed.{Meets}
+use Rattle.shade.specs.Placed.{Meets}
 use Rattle.list.specs.Scene.{Scene}
 use Rattle.list.specs.Picture.{IsEnd, IsPart}
 use Rattle.bins.specs.Grid.{TileGrid, columns_of}

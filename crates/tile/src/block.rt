@@ -9,8 +9,7 @@ ghost use Rattle.tile.specs.Drawing.{DrawsPart, IsInPlane, IsInRun, IsInSquare, 
 
 use crate::run::{Run, draw_run, is_in_mask};
 use crate::tile::Tile;
-use list::Interpolants;
-use shade::Sample;
+use shade::{Interpolants, Sample};
 
 /// The lowest bits that are set next to each other.
 #[inline]

@@ -3,14 +3,13 @@ ghost use Rattle.std.specs.Prelude.{◌≡◌, ◌↔◌, ◌+◌, ◌*◌, ◌/
 ghost use Rattle.grid.specs.Pixels.{IsInBox, side_of};
 ghost use Rattle.grid.specs.Samples.{count_of};
 ghost use Rattle.cover.specs.Drawn.{IsDrawn};
-ghost use Rattle.list.specs.Placed.{Meets};
+ghost use Rattle.shade.specs.Placed.{Meets};
 ghost use Rattle.tile.specs.Samples.{IsSampleOf, samples_of};
 ghost use Rattle.tile.specs.Drawing.{CoversRun, MeetsRun, LeavesRun, StandsAt, DrawsPart, IsInRun};
 
 use crate::tile::Tile;
 use grid::{PixelBox, sample_at};
-use list::{Depths, Fragments, Interpolants, Placed};
-use shade::Sample;
+use shade::{Depths, Fragments, Interpolants, Placed, Sample};
 
 /// Columns `first` to before `end`.
 #[derive(Clone, Copy)]

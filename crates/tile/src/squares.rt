@@ -14,8 +14,7 @@ use crate::tile::Tile;
 use arrayvec::ArrayVec;
 use cover::{Class, Setup, Square};
 use grid::TileSide;
-use list::{Interpolants, Placed};
-use shade::Sample;
+use shade::{Interpolants, Placed, Sample};
 
 /// The squares that wait to be visited. Ten places are enough: a tile of 64 pixels is cut three times on the way to a block, and
 /// each time three quarters wait while the fourth is visited. A place that is not used holds none.

@@ -4,14 +4,13 @@ ghost use Rattle.list.specs.Place.{Tells};
 ghost use Rattle.list.specs.Checks.{where_there, truth_checks, write_mask_checks, sample_mask_checks, scissor_side_checks, scissor_checks, merge_checks, state_checks};
 ghost use Rattle.list.specs.Denotes.{OrDefault, IsTruth, IsWriteMask, IsSampleMask, IsScissorSide, IsScissor, IsMerge, IsState};
 
-use crate::draw::State;
 use crate::fault::ReadKind;
 use crate::reader::array::has_length;
 use crate::reader::number::whole_number;
 use crate::reader::word::{blends_over, cull, depth_test};
 use grid::PixelBox;
 use serde_json::Value;
-use shade::Merge;
+use shade::{Merge, State};
 
 fn truth(value: Option<&Value>) -> Result<bool, ReadKind>
     ensures { let seen = option_map (λ v. view v.now) value.entry in

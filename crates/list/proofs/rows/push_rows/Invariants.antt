@@ -1,5 +1,5 @@
 use Rattle.std.proofs.Common.{◌++◌, List, take}
-use Rattle.list.specs.declared.placed.Placed.{Placed}
+use Rattle.shade.specs.declared.placed.Placed.{Placed}
 use Rattle.list.specs.Listing.{draw_listing, placed_all}
 use Rattle.list.specs.Rows.{AreRows}
 use Rattle.list.proofs.rows.push_rows.Given as goal

@@ -10,9 +10,9 @@ use Rattle.shade.specs.Merging.{IsChannelDrawn}
 use Rattle.shade.specs.Value.{IsValueAt}
 use Rattle.shade.specs.Weights.{TriangleAndPoint}
 use Rattle.shade.proofs.Values.{quotient-unique}
-use Rattle.list.specs.declared.placed.Placed.{Placed}
-use Rattle.list.specs.Placed.{channel, colour_of, AreWeightsOf, IsInterpolated, IsFragmentAt, IsDrawnAt}
-use Rattle.list.proofs.Drawn.{fragment}
+use Rattle.shade.specs.declared.placed.Placed.{Placed}
+use Rattle.shade.specs.Placed.{channel, colour_of, AreWeightsOf, IsInterpolated, IsFragmentAt, IsDrawnAt}
+use Rattle.shade.proofs.Drawn.{fragment}
 
 -- what weights give of the vertices' values is the value at their point
 interpolated : (t : Placed) (w : TriangleAndPoint) (values given : List ℕ) (v : ℕ) → AreWeightsOf t w → given ≡ values

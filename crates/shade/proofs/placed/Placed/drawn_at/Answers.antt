@@ -1,7 +1,7 @@
 use Rattle.std.proofs.Common.{refl, rules}
-use Rattle.list.specs.Placed.{IsInterpolated}
-use Rattle.list.proofs.Merged.{test_failed, test_passed}
-use Rattle.list.proofs.placed.Placed.drawn_at.Goals as goal
+use Rattle.shade.specs.Placed.{IsInterpolated}
+use Rattle.shade.proofs.Merged.{test_failed, test_passed}
+use Rattle.shade.proofs.placed.Placed.drawn_at.Goals as goal
 
 pub returns-then-not-passes : goal.returns-then-not-passes
 returns-then-not-passes c =

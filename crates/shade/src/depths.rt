@@ -1,10 +1,10 @@
 ghost use Rattle.std.specs.Prelude.{◌≡◌, false};
 ghost use Rattle.grid.specs.Position.{right_of};
 ghost use Rattle.grid.specs.Triangle.{Covers};
-ghost use Rattle.list.specs.Placed.{IsDrawnAt};
+ghost use Rattle.shade.specs.Placed.{IsDrawnAt};
 
 use crate::placed::Placed;
-use shade::{Row, Sample, passes};
+use crate::{Row, Sample, passes};
 use std::marker::Model;
 
 /// The depth of a triangle at a point that it covers, which is stepped along a row of samples. Contracts see the triangle and
@@ -17,7 +17,7 @@ pub struct Depths {
 
 impl Model for Depths {
     ghost use Rattle.std.specs.Prelude.{◌≡◌};
-    ghost use Rattle.list.specs.Interpolants.{PlacedAt, attribute_at};
+    ghost use Rattle.shade.specs.Interpolants.{PlacedAt, attribute_at};
 
     ghost Value = { PlacedAt };
 

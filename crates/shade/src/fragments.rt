@@ -1,11 +1,11 @@
 ghost use Rattle.std.specs.Prelude.{◌≡◌};
 ghost use Rattle.grid.specs.Position.{right_of};
 ghost use Rattle.grid.specs.Triangle.{Covers};
-ghost use Rattle.list.specs.Placed.{IsFragmentAt, IsDrawnAt};
+ghost use Rattle.shade.specs.Placed.{IsFragmentAt, IsDrawnAt};
 
 use crate::placed::Placed;
 use grid::Point;
-use shade::{Row, Sample, Shaded, apply};
+use crate::{Row, Sample, Shaded, apply};
 use std::marker::Model;
 
 /// The fragment of a triangle at a point that it covers, which is stepped along a row of samples. Contracts see the triangle and
@@ -22,7 +22,7 @@ pub struct Fragments {
 }
 
 impl Model for Fragments {
-    ghost use Rattle.list.specs.Interpolants.{PlacedAt, AreFragmentRows};
+    ghost use Rattle.shade.specs.Interpolants.{PlacedAt, AreFragmentRows};
 
     ghost Value = { PlacedAt };
 

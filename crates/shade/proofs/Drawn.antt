@@ -11,9 +11,9 @@ use Rattle.shade.specs.Blend.{IsDrawn}
 use Rattle.shade.specs.Depth.{Passes}
 use Rattle.shade.specs.Merging.{IsMerged, IsApplied, IsChannelDrawn}
 use Rattle.shade.proofs.Values.{quotient, quotient-unique, area_positive}
-use Rattle.list.specs.declared.placed.Placed.{Placed}
-use Rattle.list.specs.Placed.{channel, IsInterpolated, IsFragmentAt, Meets, Draws}
-use Rattle.list.proofs.Decided.{IsDecided, meets, passes}
+use Rattle.shade.specs.declared.placed.Placed.{Placed}
+use Rattle.shade.specs.Placed.{channel, IsInterpolated, IsFragmentAt, Meets, Draws}
+use Rattle.shade.proofs.Decided.{IsDecided, meets, passes}
 
 -- samples of the same parts
 sample : ℕ → ℕ → ℕ → ℕ → Sample

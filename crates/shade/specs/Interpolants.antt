@@ -2,8 +2,8 @@
 use Rattle.std.specs.Prelude.{◌≡◌, ℕ, ◌≤◌, List, slice_index}
 use Rattle.grid.specs.Position.{Position}
 use Rattle.shade.specs.Row.{Attribute, AttributeAt}
-use Rattle.list.specs.declared.placed.Placed.{Placed}
-use Rattle.list.specs.Placed.{channel}
+use Rattle.shade.specs.declared.placed.Placed.{Placed}
+use Rattle.shade.specs.Placed.{channel}
 
 -- A triangle, and a point that it covers.
 pub record PlacedAt : Type 0 where

@@ -1,13 +1,13 @@
 ghost use Rattle.std.specs.Prelude.{◌≡◌, pos, slice_index};
 ghost use Rattle.grid.specs.Triangle.{doubled_area, Covers};
 ghost use Rattle.shade.specs.Row.{Attribute};
-ghost use Rattle.list.specs.Interpolants.{AreBytes};
+ghost use Rattle.shade.specs.Interpolants.{AreBytes};
 
 use crate::depths::Depths;
 use crate::fragments::Fragments;
 use crate::placed::Placed;
 use grid::{Point, Tri};
-use shade::{Gradient, Weights};
+use crate::{Gradient, Weights};
 use std::marker::Model;
 
 /// A triangle made ready to be drawn: how its depth, its colour and its alpha change from pixel to pixel, which is found once
@@ -23,8 +23,8 @@ pub struct Interpolants {
 }
 
 impl Model for Interpolants {
-    ghost use Rattle.list.specs.declared.placed.Placed.{Placed as Triangle};
-    ghost use Rattle.list.specs.Interpolants.{AreInterpolants};
+    ghost use Rattle.shade.specs.declared.placed.Placed.{Placed as Triangle};
+    ghost use Rattle.shade.specs.Interpolants.{AreInterpolants};
 
     ghost Value = { Triangle };
 
@@ -44,8 +44,8 @@ fn channel_gradient(t: &Tri, v: [u8; 3]) -> Gradient
 }
 
 impl Interpolants {
-    ghost use Rattle.list.specs.Placed.{IsDrawnAt};
-    ghost use Rattle.list.specs.Interpolants.{PlacedAt};
+    ghost use Rattle.shade.specs.Placed.{IsDrawnAt};
+    ghost use Rattle.shade.specs.Interpolants.{PlacedAt};
 
     /// The interpolants of a triangle that has an area.
     pub fn new(placed: &Placed) -> Interpolants

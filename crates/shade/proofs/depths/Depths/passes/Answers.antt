@@ -1,9 +1,9 @@
 use Rattle.std.proofs.Common.{subst}
 use Rattle.grid.specs.Triangle.{Covers}
-use Rattle.list.specs.Placed.{IsDrawnAt, IsInterpolated}
-use Rattle.list.specs.Interpolants.{PlacedAt}
-use Rattle.list.proofs.Merged.{test_failed}
-use Rattle.list.proofs.depths.Depths.passes.Goals as goal
+use Rattle.shade.specs.Placed.{IsDrawnAt, IsInterpolated}
+use Rattle.shade.specs.Interpolants.{PlacedAt}
+use Rattle.shade.proofs.Merged.{test_failed}
+use Rattle.shade.proofs.depths.Depths.passes.Goals as goal
 
 pub returns : goal.returns
 returns c = λ fails.

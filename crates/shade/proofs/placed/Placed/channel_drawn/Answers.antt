@@ -1,5 +1,5 @@
-use Rattle.list.proofs.Merged.{source_drawn, blend_drawn}
-use Rattle.list.proofs.placed.Placed.channel_drawn.Goals as goal
+use Rattle.shade.proofs.Merged.{source_drawn, blend_drawn}
+use Rattle.shade.proofs.placed.Placed.channel_drawn.Goals as goal
 
 pub returns-then-not-merge : goal.returns-then-not-merge
 returns-then-not-merge c = λ f is.

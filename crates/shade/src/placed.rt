@@ -1,9 +1,9 @@
 ghost use Rattle.std.specs.Prelude.{◌≡◌, ◌<◌};
 ghost use Rattle.grid.specs.Triangle.{Covers};
 
-use crate::draw::State;
+use crate::state::State;
 use grid::{Point, Tri};
-use shade::{Sample, Shaded, Weights, over, passes};
+use crate::{Sample, Shaded, Weights, over, passes};
 
 /// A triangle as it is drawn: what its vertices have, in their order, and its draw's state.
 #[derive(Clone, Copy, Debug, PartialEq, Eq)]
@@ -21,7 +21,7 @@ pub struct Placed {
 impl Placed {
     ghost use Rattle.shade.specs.Merging.{IsChannelDrawn};
     ghost use Rattle.shade.specs.declared.sample.Shaded.{Shaded as Fragment};
-    ghost use Rattle.list.specs.Placed.{channel as channel_of, colour_of, AreWeightsOf, IsFragmentAt, IsDrawnAt};
+    ghost use Rattle.shade.specs.Placed.{channel as channel_of, colour_of, AreWeightsOf, IsFragmentAt, IsDrawnAt};
 
     /// What the vertices have as red, green, blue or alpha, which are the channels 0 to 3.
     pub(crate) fn channel(&self, number: usize) -> [u8; 3]
