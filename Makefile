@@ -1,7 +1,7 @@
 # The front door. rt proves and builds; this file says where things lie.
 #
 #   make           prove what the program needs, and leave it at bin/trirast
-#   make demo      draw every list of examples/ to out/*.ppm, and to out/*.png where pnmtopng is installed
+#   make demo      draw every list of examples/ to out/*.pnm, and to out/*.png where pnmtopng is installed
 #   make test      the merge gate: every proof from nothing, the must-fail edits, all tests
 #   make compare   draw generated lists, and compare each byte with the reference renderer
 #   make schema    try the JSON Schema of the draw list
@@ -15,7 +15,7 @@ PYTHON ?= python3
 PROGRAM := bin/trirast
 SOURCES := crates.txt $(shell find crates -name out -prune -o -type f \( -name '*.rt' -o -name '*.antt' \) -print)
 LISTS := $(wildcard examples/*.json)
-PICTURES := $(LISTS:examples/%.json=out/%.ppm)
+PICTURES := $(LISTS:examples/%.json=out/%.pnm)
 
 .PHONY: all demo test compare schema memory bench clean
 .DELETE_ON_ERROR:
@@ -26,14 +26,14 @@ $(PROGRAM): $(SOURCES)
 	cd crates/trirast_cli && $(RT) run < "$(CURDIR)/examples/triangle.json" > /dev/null
 	install -D -m 755 crates/trirast_cli/out/trirast_cli $@
 
-out/%.ppm: examples/%.json $(PROGRAM)
+out/%.pnm: examples/%.json $(PROGRAM)
 	@mkdir -p out
 	$(PROGRAM) < $< > $@
 
 demo: $(PICTURES)
 	@if command -v pnmtopng > /dev/null; then \
-	    for name in $(PICTURES:.ppm=); do pnmtopng $$name.ppm 2> /dev/null > $$name.png || exit 1; done; \
-	else echo "pnmtopng is not installed, so there are PPM pictures only"; fi
+	    for name in $(PICTURES:.pnm=); do pnmtopng $$name.pnm 2> /dev/null > $$name.png || exit 1; done; \
+	else echo "pnmtopng is not installed, so there are PPM and PGM pictures only"; fi
 
 test:
 	$(RT) ci

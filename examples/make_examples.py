@@ -155,6 +155,53 @@ def gradient():
     return {"width": 256, "height": 256, "samples": 4, "clear": [18, 18, 22], "draws": [draw]}
 
 
+def strip():
+    """A twisted ribbon as one strip: its front is drawn warm and its back cold, as the strip keeps its orientation."""
+    turns, steps = 3, 96
+    vertices = {"back": [], "front": []}
+    for k in range(steps + 1):
+        along = k / steps
+        x = 24 + 464 * along
+        middle = 128 + 46 * math.sin(2 * math.pi * along)
+        turn = 2 * math.pi * turns * along / 2
+        for way in (1, -1):
+            y, z = middle + way * 52 * math.cos(turn), 32768 + way * 20000 * math.sin(turn)
+            light = round(90 + 165 * abs(math.cos(turn)))
+            vertices["back"].append(vertex(x, y, (light, light * 5 // 8, light // 4), z=round(z)))
+            vertices["front"].append(vertex(x, y, (light // 4, light // 2, light), z=round(z)))
+    draws = [
+        {"cull": cull, "depth_test": "less", "depth_write": True, "vertices": corners,
+         "strip": list(range(len(corners)))}
+        for cull, corners in vertices.items()
+    ]
+    return {"width": 512, "height": 256, "samples": 4, "clear": [250, 248, 240], "draws": draws}
+
+
+def quads():
+    """Two bent grids of half transparent quads, in which no inner diagonal shows."""
+    columns, rows = 12, 8
+    draws = []
+    for shift, colour_of in ((0, lambda u, v: (40, 90, 160)), (1, lambda u, v: hue(u + v / 3))):
+        vertices = []
+        for row in range(rows + 1):
+            for column in range(columns + 1):
+                u, v = column / columns, row / rows
+                x = 26 + 330 * u + 46 * shift + 9 * math.sin(5 * v + 2 * shift)
+                y = 26 + 180 * v + 30 * shift + 9 * math.sin(6 * u + shift)
+                vertices.append(vertex(x, y, colour_of(u, v), 128))
+        corner = [row * (columns + 1) + column for row in range(rows) for column in range(columns)]
+        faces = [[k, k + 1, k + columns + 2, k + columns + 1] for k in corner]
+        draws.append({"blend": "over", "vertices": vertices, "quads": faces})
+    return {"width": 430, "height": 264, "samples": 4, "clear": [255, 255, 255], "draws": draws}
+
+
+def depth_picture():
+    """The boards of depth.json as their depths: the nearer, the darker."""
+    scene = depth()
+    draws = scene.pop("draws")
+    return {**scene, "output": "depth", "draws": draws}
+
+
 def write(name, scene):
     def line(value):
         return json.dumps(value, separators=(",", ":"))
@@ -178,6 +225,9 @@ def main():
     write("blending.json", blending())
     write("scissor_and_masks.json", scissor_and_masks())
     write("gradient.json", gradient())
+    write("strip.json", strip())
+    write("quads.json", quads())
+    write("depth_picture.json", depth_picture())
 
 
 if __name__ == "__main__":

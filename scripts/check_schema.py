@@ -43,6 +43,12 @@ def vertex(place, number):
     return draw(vertices=[changed, VERTEX, VERTEX])
 
 
+def square(**faces):
+    """A list with one draw over the corners of a square."""
+    corners = [[x, y, *VERTEX[2:]] for x, y in ((0, 0), (256, 0), (256, 256), (0, 256))]
+    return draw(vertices=corners, triangles=None, **faces)
+
+
 # Lists that are accepted at the ends of their ranges.
 ACCEPTED = [
     ("no draws", scene()),
@@ -55,6 +61,12 @@ ACCEPTED = [
     ("vertices that no triangle names", draw(triangles=[])),
     ("an index that repeats", draw(triangles=[[0, 0, 0]])),
     ("the ends of the guard band", draw(vertices=[[-8388608, 8388607, 65535, 0, 0, 0, 0]] * 3)),
+    ("a picture of depths", scene(output="depth")),
+    ("a picture of colours", scene(output="color")),
+    ("no places of a strip", draw(triangles=None, strip=[])),
+    ("the most places of a strip", draw(triangles=None, strip=[0] * 65538)),
+    ("no quads", draw(triangles=None, quads=[])),
+    ("the most quads", square(quads=[[0, 1, 2, 3]] * 32768)),
     ("every key of a draw", draw(cull="back", depth_test="less_equal", depth_write=True, blend="over",
                                  write=[True, False, True], sample_mask=0, scissor=[0, 0, 4096, 4096])),
     ("an empty scissor", draw(scissor=[3, 0, 0, 3])),
@@ -88,7 +100,20 @@ REFUSED = [
     ("draws no array", scene(draws={}), "4 WrongKind"),
     ("1025 draws", scene(draws=[{"vertices": [], "triangles": []}] * 1025), "7 TooMany"),
     ("a draw that is no object", scene(draws=[[]]), "4 WrongKind in draw 0"),
-    ("an unknown key of a draw", draw(strip=[0, 1, 2]), "2 UnknownKey in draw 0"),
+    ("an unknown key of a draw", draw(strips=[0, 1, 2]), "2 UnknownKey in draw 0"),
+    ("output a number", scene(output=0), "4 WrongKind"),
+    ("output in other case", scene(output="Depth"), "5 OutOfRange"),
+    ("triangles and a strip", draw(strip=[0, 1, 2]), "9 TwoLists in draw 0"),
+    ("triangles and quads", draw(quads=[]), "9 TwoLists in draw 0"),
+    ("a strip and quads", draw(triangles=None, strip=[], quads=[]), "9 TwoLists in draw 0"),
+    ("all three lists", draw(strip=[], quads=[]), "9 TwoLists in draw 0"),
+    ("a strip of triangles", draw(triangles=None, strip=[[0, 1, 2]]), "4 WrongKind in draw 0"),
+    ("65539 places of a strip", draw(triangles=None, strip=[0] * 65539), "7 TooMany in draw 0"),
+    ("a place of a strip under 0", draw(triangles=None, strip=[0, 1, -1]), "6 BadIndex in draw 0"),
+    ("a quad of three", square(quads=[[0, 1, 2]]), "4 WrongKind in draw 0"),
+    ("a corner that is a text", square(quads=[[0, 1, 2, "3"]]), "4 WrongKind in draw 0"),
+    ("a corner of 65536", square(quads=[[0, 1, 2, 65536]]), "6 BadIndex in draw 0"),
+    ("32769 quads", square(quads=[[0, 1, 2, 3]] * 32769), "7 TooMany in draw 0"),
     ("vertices missing", draw(vertices=None), "3 MissingKey in draw 0"),
     ("triangles missing", draw(triangles=None), "3 MissingKey in draw 0"),
     ("cull in other case", draw(cull="Back"), "5 OutOfRange in draw 0"),
@@ -125,7 +150,11 @@ REFUSED = [
 REFUSED += [(f"{key} null", {**scene(), key: None}, "4 WrongKind") for key in reference.TOP_KEYS]
 REFUSED += [
     (f"{key} null", scene(draws=[{"vertices": [], "triangles": [], key: None}]), "4 WrongKind in draw 0")
-    for key in reference.DRAW_KEYS
+    for key in reference.STATE_KEYS + ("vertices",)
+]
+REFUSED += [
+    (f"{key} null", scene(draws=[{"vertices": [], key: None}]), "4 WrongKind in draw 0")
+    for key in reference.FACE_KEYS
 ]
 
 # Lists that the reader refuses and a schema accepts: why a schema cannot refuse them, the text, what the reader tells.
@@ -134,6 +163,13 @@ BEYOND_A_SCHEMA = [
     ("1e0 is an integer of JSON Schema", '{"width":1e0,"height":1,"draws":[]}', "4 WrongKind"),
     ("an index is compared with a length", json.dumps(draw(triangles=[[0, 1, 3]])), "6 BadIndex in draw 0"),
     ("an index into no vertices", json.dumps(draw(vertices=[], triangles=[[0, 0, 0]])), "6 BadIndex in draw 0"),
+    ("an index of a strip, too", json.dumps(draw(triangles=None, strip=[0, 1, 3])), "6 BadIndex in draw 0"),
+    ("corners are compared with each other", json.dumps(square(quads=[[0, 1, 3, 2]])), "10 NotConvex in draw 0"),
+    (
+        "a strip and quads are counted by their triangles",
+        json.dumps(scene(draws=[square(strip=[0] * 65537)["draws"][0], square(quads=[[0, 1, 2, 3]])["draws"][0]])),
+        "7 TooMany in draw 1",
+    ),
     (
         "triangles are summed over draws",
         json.dumps(scene(draws=[{"vertices": [VERTEX] * 3, "triangles": [[0, 1, 2]] * n} for n in (40000, 25537)])),

@@ -110,6 +110,51 @@ def some_triangles(pick, vertices):
     return triangles
 
 
+def some_places(pick, vertices):
+    """The places of a strip: often the vertices in their order, sometimes any, and some of them twice."""
+    places = list(range(len(vertices)))
+    if pick.random() < 0.3:
+        places = [pick.randrange(len(vertices)) for _ in range(pick.randint(0, 9))]
+    if places and pick.random() < 0.4:
+        again = pick.randrange(len(places))
+        places.insert(again, places[again])
+    return places
+
+
+def add_a_quad(pick, vertices):
+    """Appends the corners of a parallelogram, whose sides begin and end where the vertices do, if it is a quad in the band."""
+    (ax, ay), (bx, by), (dx, dy) = (pick.choice(vertices)[:2] for _ in range(3))
+    corners = [(ax, ay), (bx, by), (bx + dx - ax, by + dy - ay), (dx, dy)]
+    if all(LOW <= z <= HIGH for corner in corners for z in corner) and reference.is_strictly_convex(corners):
+        vertices += [list(corner) + pick.choice(vertices)[2:] for corner in corners]
+
+
+def some_quads(pick, vertices):
+    """Strictly convex quads over the vertices, in either direction and from any corner, to which some may be added."""
+    for _ in range(pick.randint(0, 3)):
+        add_a_quad(pick, vertices)
+    last = len(vertices) - 1
+    quads = [[k, k + 1, k + 2, k + 3] for k in range(last - 2)]
+    quads += [[pick.randint(0, last) for _ in range(4)] for _ in range(30)]
+    quads = [quad for quad in quads if reference.is_strictly_convex([vertices[corner] for corner in quad])]
+    turned = []
+    for quad in quads[:5]:
+        first = pick.randrange(4)
+        quad = quad[first:] + quad[:first]
+        turned.append(quad[::-1] if pick.random() < 0.5 else quad)
+    return turned
+
+
+def some_faces(pick, vertices):
+    """What a draw draws of its vertices, by the one key of three."""
+    kind = pick.random()
+    if kind < 0.6:
+        return {"triangles": some_triangles(pick, vertices)}
+    if kind < 0.8:
+        return {"strip": some_places(pick, vertices)}
+    return {"quads": some_quads(pick, vertices)}
+
+
 def a_state(pick, width, height):
     state = {}
     if pick.random() < 0.4:
@@ -145,11 +190,13 @@ def a_list(pick):
         scene["clear"] = [pick.randint(0, 255) for _ in range(3)]
     if pick.random() < 0.4:
         scene["clear_depth"] = pick.choice((0, 1, 2, 65535, pick.randint(0, 65535), *depths))
+    if pick.random() < 0.3:
+        scene["output"] = pick.choice(("color", "depth", "depth"))
     scene["draws"] = []
     for _ in range(pick.randint(1, 5) if pick.random() < 0.97 else 0):
         vertices = some_vertices(pick, width, height, samples, depths)
-        triangles = some_triangles(pick, vertices)
-        scene["draws"].append({**a_state(pick, width, height), "vertices": vertices, "triangles": triangles})
+        faces = some_faces(pick, vertices)
+        scene["draws"].append({**a_state(pick, width, height), "vertices": vertices, **faces})
     return scene
 
 
@@ -180,7 +227,8 @@ def broken(pick, scene):
     if kind < 0.15:
         del holder[path[-1]]
     elif kind < 0.25 and isinstance(holder, dict):
-        holder[pick.choice(("fog", "Width", "strips", "", "draws ", "clear_depht"))] = 1
+        other = ("fog", "Width", "strips", "", "draws ", "clear_depht", "output", "strip", "quads", "triangles")
+        holder[pick.choice(other)] = pick.choice((1, "depth", [], [0, 1, 2], [[0, 1, 2]], [[0, 1, 2, 3]]))
     elif kind < 0.35 and isinstance(holder, list):
         holder.append(pick.choice(WRONG))
     else:
@@ -239,9 +287,9 @@ class Comparison:
                 self.tell(text, name, tile, workers, expected, found)
                 return
         if expected[2] == 0:
-            width, height, pixels = reference.split_file(expected[0])
-            self.pixels += width * height
-            self.drawn += sum(pixels[k : k + 3] != pixels[-3:] for k in range(0, len(pixels), 3))
+            pixels = reference.split_file(expected[0]).pixels()
+            self.pixels += len(pixels)
+            self.drawn += sum(pixel != pixels[-1] for pixel in pixels)
         else:
             self.refused += 1
 

@@ -1,9 +1,9 @@
 #!/usr/bin/env python3
 """A small, slow reference renderer for trirast draw lists.
 
-It reads a draw list on standard input and writes the binary PPM picture on standard output, straight from the rules of
-docs/rules.md and docs/draw-list.md: exact integers, every sample by itself, all triangles in draw order. It shares no
-code with the program, and is there to compare the program with.
+It reads a draw list on standard input and writes the binary PPM picture, or the PGM picture of the depths, on standard
+output, straight from the rules of docs/rules.md and docs/draw-list.md: exact integers, every sample by itself, all
+triangles in draw order. It shares no code with the program, and is there to compare the program with.
 
     scripts/reference.py < list.json > picture.ppm
     scripts/reference.py --compare one.ppm other.ppm
@@ -27,9 +27,14 @@ WRONG_KIND = (4, "WrongKind")
 OUT_OF_RANGE = (5, "OutOfRange")
 BAD_INDEX = (6, "BadIndex")
 TOO_MANY = (7, "TooMany")
+TWO_LISTS = (9, "TwoLists")
+NOT_CONVEX = (10, "NotConvex")
 
-TOP_KEYS = ("width", "height", "samples", "clear", "clear_depth", "draws")
-DRAW_KEYS = ("cull", "depth_test", "depth_write", "blend", "write", "sample_mask", "scissor", "vertices", "triangles")
+TOP_KEYS = ("width", "height", "samples", "clear", "clear_depth", "output", "draws")
+STATE_KEYS = ("cull", "depth_test", "depth_write", "blend", "write", "sample_mask", "scissor")
+FACE_KEYS = ("triangles", "strip", "quads")
+DRAW_KEYS = STATE_KEYS + ("vertices",) + FACE_KEYS
+MOST_TRIANGLES = 65536
 
 DEPTH_TESTS = {
     "never": lambda new, old: False,
@@ -87,6 +92,7 @@ class Scene:
     height: int
     samples: int
     clear: tuple
+    output: str
     triangles: tuple
 
 
@@ -167,9 +173,66 @@ def read_vertex(value, draw):
     return position + (depth,) + tuple(check_whole(channel, 0, 255, draw) for channel in (r, g, b, a))
 
 
-def read_draw(value, draw, width, height, triangles_before):
-    check_keys(value, DRAW_KEYS, ("vertices", "triangles"), draw)
-    state = State(
+def read_indices(value, vertices, draw):
+    return [check_whole(index, 0, len(vertices) - 1, draw, BAD_INDEX) for index in value]
+
+
+def check_count(count, before, draw):
+    """The triangles of all draws so far are not too many."""
+    if before + count > MOST_TRIANGLES:
+        raise ListFault(TOO_MANY, draw)
+
+
+def read_triangles(value, vertices, before, draw):
+    listed = check_list(value, MOST_TRIANGLES, draw)
+    check_count(len(listed), before, draw)
+    return [read_indices(check_array(triangle, 3, draw), vertices, draw) for triangle in listed]
+
+
+def read_strip(value, vertices, before, draw):
+    """Each place of a strip with the two after it; every second triangle is turned, so that all run the same way."""
+    listed = check_list(value, MOST_TRIANGLES + 2, draw)
+    check_count(max(0, len(listed) - 2), before, draw)
+    places = read_indices(listed, vertices, draw)
+    triples = zip(places, places[1:], places[2:])
+    return [[a, c, b] if number % 2 else [a, b, c] for number, (a, b, c) in enumerate(triples)]
+
+
+def is_strictly_convex(corners):
+    a, b, c, d = corners
+    areas = [side(a, b, c), side(b, c, d), side(c, d, a), side(d, a, b)]
+    return all(area > 0 for area in areas) or all(area < 0 for area in areas)
+
+
+def read_quads(value, vertices, before, draw):
+    """A quad a, b, c, d is the triangles a, b, c and c, d, a."""
+    listed = check_list(value, MOST_TRIANGLES // 2, draw)
+    check_count(2 * len(listed), before, draw)
+    triangles = []
+    for quad in listed:
+        a, b, c, d = read_indices(check_array(quad, 4, draw), vertices, draw)
+        if not is_strictly_convex([vertices[corner] for corner in (a, b, c, d)]):
+            raise ListFault(NOT_CONVEX, draw)
+        triangles += [[a, b, c], [c, d, a]]
+    return triangles
+
+
+FACES = {"triangles": read_triangles, "strip": read_strip, "quads": read_quads}
+
+
+def check_draw_keys(value, draw):
+    """The one key of a draw that says what is drawn of its vertices."""
+    check_keys(value, DRAW_KEYS, ("vertices",), draw)
+    named = [key for key in FACE_KEYS if key in value]
+    if not named:
+        raise ListFault(MISSING_KEY, draw)
+    if len(named) > 1:
+        raise ListFault(TWO_LISTS, draw)
+    return named[0]
+
+
+def read_state(value, draw, width, height):
+    return State(
         cull=check_word(value.get("cull", "none"), ("none", "front", "back"), draw),
         depth_test=check_word(value.get("depth_test", "always"), DEPTH_TESTS, draw),
         depth_write=check_truth(value.get("depth_write", False), draw),
@@ -178,17 +241,14 @@ def read_draw(value, draw, width, height, triangles_before):
         sample_mask=check_whole(value.get("sample_mask", 15), 0, 15, draw),
         scissor=check_wholes(value.get("scissor", [0, 0, width, height]), 4, 0, 4096, draw),
     )
+
+
+def read_draw(value, draw, width, height, triangles_before):
+    key = check_draw_keys(value, draw)
+    state = read_state(value, draw, width, height)
     vertices = [read_vertex(vertex, draw) for vertex in check_list(value["vertices"], 65536, draw)]
-    listed = check_list(value["triangles"], 65536, draw)
-    if triangles_before + len(listed) > 65536:
-        raise ListFault(TOO_MANY, draw)
-    triangles = []
-    for triangle in listed:
-        corners = []
-        for index in check_array(triangle, 3, draw):
-            corners.append(vertices[check_whole(index, 0, len(vertices) - 1, draw, BAD_INDEX)])
-        triangles.append(Triangle(tuple(corners), state))
-    return triangles
+    triangles = FACES[key](value[key], vertices, triangles_before, draw)
+    return [Triangle(tuple(vertices[index] for index in triangle), state) for triangle in triangles]
 
 
 def read(data):
@@ -204,10 +264,11 @@ def read(data):
         raise ListFault(OUT_OF_RANGE)
     clear = check_wholes(value.get("clear", [0, 0, 0]), 3, 0, 255, None)
     clear += (check_whole(value.get("clear_depth", 65535), 0, 65535, None),)
+    output = check_word(value.get("output", "color"), ("color", "depth"), None)
     triangles = []
     for draw, description in enumerate(check_list(value["draws"], 1024, None)):
         triangles += read_draw(description, draw, width, height, len(triangles))
-    return Scene(width, height, samples, clear, tuple(triangles))
+    return Scene(width, height, samples, clear, output, tuple(triangles))
 
 
 # ---- Drawing -------------------------------------------------------------------------------------------------------
@@ -318,19 +379,42 @@ def render(scene):
     samples = [scene.clear] * (scene.width * scene.height * scene.samples)
     for triangle in scene.triangles:
         draw(triangle, scene, samples)
+    if scene.output == "depth":
+        depths = b"".join(sample[3].to_bytes(2, "big") for sample in samples[:: scene.samples])
+        return b"P5\n%d %d\n65535\n" % (scene.width, scene.height) + depths
     return b"P6\n%d %d\n255\n" % (scene.width, scene.height) + resolve(samples, scene.samples)
 
 
 # ---- Comparing -----------------------------------------------------------------------------------------------------
 
 
+# Magic number and greatest value of the two files, with the bytes of a pixel.
+SPELLINGS = {(b"P6", b"255"): 3, (b"P5", b"65535"): 2}
+
+
+@dataclass(frozen=True)
+class PictureFile:
+    width: int
+    height: int
+    pixel_bytes: int
+    bytes: bytes
+
+    def pixels(self):
+        return [self.bytes[k : k + self.pixel_bytes] for k in range(0, len(self.bytes), self.pixel_bytes)]
+
+
 def split_file(data):
-    """Width, height and pixel bytes of a file in the one spelling that the program writes."""
-    magic, size, depth, pixels = data.split(b"\n", 3)
+    """The picture of a file in one of the two spellings that the program writes."""
+    magic, size, greatest, pixels = data.split(b"\n", 3)
     width, height = (int(number) for number in size.split(b" "))
-    if magic != b"P6" or depth != b"255" or len(pixels) != 3 * width * height:
-        raise ValueError("no P6 file of this spelling")
-    return width, height, pixels
+    pixel_bytes = SPELLINGS.get((magic, greatest))
+    if pixel_bytes is None or len(pixels) != pixel_bytes * width * height:
+        raise ValueError("no file of these spellings")
+    return PictureFile(width, height, pixel_bytes, pixels)
+
+
+def shape(picture):
+    return f"{picture.width} by {picture.height} with {picture.pixel_bytes} bytes a pixel"
 
 
 def difference(one, other):
@@ -338,17 +422,17 @@ def difference(one, other):
     if one == other:
         return None
     try:
-        width, height, pixels = split_file(one)
-        other_width, other_height, other_pixels = split_file(other)
+        ours, theirs = split_file(one), split_file(other)
     except ValueError:
         place = next((k for k, pair in enumerate(zip(one, other)) if pair[0] != pair[1]), min(len(one), len(other)))
         return f"the files have {len(one)} and {len(other)} bytes and differ from byte {place}"
-    if (width, height) != (other_width, other_height):
-        return f"the pictures are {width} by {height} and {other_width} by {other_height}"
-    places = [k for k in range(0, len(pixels), 3) if pixels[k : k + 3] != other_pixels[k : k + 3]]
-    j, i = divmod(places[0] // 3, width)
-    ours, theirs = pixels[places[0] : places[0] + 3].hex(" "), other_pixels[places[0] : places[0] + 3].hex(" ")
-    return f"{len(places)} pixels differ, first ({i}, {j}): {ours} and {theirs}"
+    if shape(ours) != shape(theirs):
+        return f"the pictures are {shape(ours)} and {shape(theirs)}"
+    pairs = enumerate(zip(ours.pixels(), theirs.pixels()))
+    unlike = [(place, pair) for place, pair in pairs if pair[0] != pair[1]]
+    place, (mine, yours) = unlike[0]
+    j, i = divmod(place, ours.width)
+    return f"{len(unlike)} pixels differ, first ({i}, {j}): {mine.hex(' ')} and {yours.hex(' ')}"
 
 
 def main():

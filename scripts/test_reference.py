@@ -46,13 +46,9 @@ def file_of(value):
 
 def pixels(value):
     """The pixels that are not black, as a dictionary from column and row to hexadecimal bytes."""
-    width, _, data = reference.split_file(file_of(value))
-    found = {}
-    for k in range(0, len(data), 3):
-        j, i = divmod(k // 3, width)
-        if any(data[k : k + 3]):
-            found[i, j] = data[k : k + 3].hex(" ")
-    return found
+    picture = reference.split_file(file_of(value))
+    places = ((k % picture.width, k // picture.width) for k in range(picture.width * picture.height))
+    return {place: pixel.hex(" ") for place, pixel in zip(places, picture.pixels()) if any(pixel)}
 
 
 def colour_of_one(*draws, **top):
@@ -210,6 +206,97 @@ class Merging(unittest.TestCase):
         value = scene(3, 3, draw(FIRST), small)
         self.assertEqual(pixels(value), {(0, 0): RED, (1, 0): WHITE, (0, 1): WHITE})
         self.assertEqual(set(pixels(scene(3, 3, small, draw(FIRST))).values()), {WHITE})
+
+
+class Primitives(unittest.TestCase):
+    SQUARE = [vertex(x, y, alpha=128) for x, y in ((128, 128), (640, 128), (128, 640), (640, 640))]
+    FOUR = {(0, 0), (1, 0), (0, 1), (1, 1)}
+
+    def strip(self, places, **state):
+        return pixels(scene(3, 3, {"vertices": self.SQUARE, "strip": places, **state}))
+
+    def quads(self, *quads, **state):
+        return pixels(scene(3, 3, {"vertices": self.SQUARE, "quads": list(quads), **state}))
+
+    def test_strip_keeps_its_orientation(self):
+        self.assertEqual(set(self.strip([0, 1, 2, 3], cull="back")), self.FOUR)
+        self.assertEqual(self.strip([0, 1, 2, 3], cull="front"), {})
+
+    def test_short_strips_draw_nothing(self):
+        for places in ([], [0], [0, 1]):
+            self.assertEqual(self.strip(places), {})
+        self.assertEqual(set(self.strip([0, 1, 2])), {(0, 0), (1, 0), (0, 1)})
+
+    def test_repeated_places_of_a_strip_draw_nothing_more(self):
+        self.assertEqual(self.strip([0, 1, 2, 2, 3, 3, 1], cull="back"), self.strip([0, 1, 2], cull="back"))
+
+    def test_quad_touches_its_diagonal_once(self):
+        for quad in ([0, 1, 3, 2], [1, 3, 2, 0], [2, 3, 1, 0]):
+            found = self.quads(quad, blend="over")
+            self.assertEqual(found, {place: "80 80 80" for place in self.FOUR})
+
+    def test_quads_that_are_not_convex(self):
+        corners = [(128, 128), (640, 128), (256, 256), (128, 640), (640, 640), (384, 128)]
+        vertices = [vertex(x, y) for x, y in corners]
+        dent, crossed, straight, point = [0, 1, 2, 3], [0, 4, 1, 3], [0, 5, 1, 3], [0, 0, 1, 3]
+        for quad in (dent, crossed, straight, point):
+            told = fault(scene(3, 3, {"vertices": vertices, "quads": [quad]}))
+            self.assertEqual(told, "10 NotConvex in draw 0")
+
+    def test_one_of_three_lists(self):
+        lists = {"triangles": [], "strip": [], "quads": []}
+        self.assertEqual(fault(scene(1, 1, {"vertices": []})), "3 MissingKey in draw 0")
+        for left_out in lists:
+            two = {key: value for key, value in lists.items() if key != left_out}
+            self.assertEqual(fault(scene(1, 1, {"vertices": [], **two})), "9 TwoLists in draw 0")
+        self.assertEqual(fault(scene(1, 1, {"vertices": [], **lists})), "9 TwoLists in draw 0")
+        self.assertEqual(fault(scene(1, 1, dict(lists))), "3 MissingKey in draw 0")
+        for key in lists:
+            self.assertIsNone(fault(scene(1, 1, {"vertices": [], key: []})))
+
+    def test_counts(self):
+        def told(*draws):
+            return fault(scene(1, 1, *({"vertices": self.SQUARE, **faces} for faces in draws)))
+
+        self.assertIsNone(told({"strip": [0] * 65538}))
+        self.assertEqual(told({"strip": [0] * 65539}), "7 TooMany in draw 0")
+        self.assertIsNone(told({"strip": [0] * 40002}, {"strip": [0] * 25538}))
+        self.assertEqual(told({"strip": [0] * 40002}, {"strip": [0] * 25539}), "7 TooMany in draw 1")
+        quad = [0, 1, 3, 2]
+        self.assertIsNone(told({"quads": [quad] * 32768}))
+        self.assertEqual(told({"quads": [quad] * 32769}), "7 TooMany in draw 0")
+        self.assertIsNone(told({"strip": [0] * 65536}, {"quads": [quad]}))
+        self.assertEqual(told({"strip": [0] * 65537}, {"quads": [quad]}), "7 TooMany in draw 1")
+
+    def test_order_of_checks_in_quads(self):
+        dented = [vertex(x, y) for x, y in ((128, 128), (640, 128), (256, 256), (128, 640))]
+        for quads, told in (
+            ([[0, 1, 2, 3], [0, 1, 2, 9]], "10 NotConvex in draw 0"),
+            ([[0, 1, 2, 9], [0, 1, 2, 3]], "6 BadIndex in draw 0"),
+            ([[0, 1, 2]], "4 WrongKind in draw 0"),
+        ):
+            self.assertEqual(fault(scene(1, 1, {"vertices": dented, "quads": quads})), told)
+
+
+class Depths(unittest.TestCase):
+    def test_file_of_depths(self):
+        value = scene(3, 3, draw(first(depths=(0, 3, 0)), depth_write=True), output="depth")
+        wanted = b"P5\n3 3\n65535\n" + bytes.fromhex("0000 0001 ffff 0000 ffff ffff ffff ffff ffff")
+        self.assertEqual(file_of(value), wanted)
+
+    def test_depth_of_the_first_sample(self):
+        corners = [vertex(0, 0, 0), vertex(256, 0, 255), vertex(0, 256, 0)]
+        found = file_of(scene(1, 1, draw(corners, depth_write=True), samples=4, output="depth"))
+        self.assertEqual(found, b"P5\n1 1\n65535\n" + bytes.fromhex("005f"))
+        masked = draw(corners, depth_write=True, sample_mask=14)
+        self.assertEqual(file_of(scene(1, 1, masked, samples=4, output="depth"))[-2:], b"\xff\xff")
+
+    def test_word_of_the_output(self):
+        self.assertIsNone(fault(scene(1, 1, output="color")))
+        self.assertEqual(fault(scene(1, 1, output="Depth")), "5 OutOfRange")
+        self.assertEqual(fault(scene(1, 1, output=1)), "4 WrongKind")
+        self.assertEqual(fault(scene(1, 1, output=1, clear_depth=-1)), "5 OutOfRange")
+        self.assertEqual(fault(dict(scene(1, 1, output="red"), draws={})), "5 OutOfRange")
 
 
 class Refusals(unittest.TestCase):
