@@ -5,11 +5,15 @@
 //! Words: `[--frames NUMBER] [--time] [--tile SIDE] [--workers NUMBER]`; the last two are those of the program.
 #![tactic(auto)]
 
+ghost use Rattle.std.specs.Prelude.{◌≤◌};
+
 use list::{DrawList, MOST_BYTES, read};
 use pool::Open;
 use std::alloc::Global;
 use std::io::{ErrorKind, Read, Write};
-use std::time::Instant;
+use std::sync::Wait;
+use std::thread::Threads;
+use std::time::{Clock, Instant};
 use std::{env, io};
 use trirast::{Counted, Fault, Options, options, write_picture};
 
@@ -36,6 +40,7 @@ struct Asked {
     frames: usize,
     timed: bool,
     options: Options,
+    ghost workers: { (1 ≤ options.workers) × (options.workers ≤ 16) },
 }
 
 /// The words that this program was called with, its own name first.
@@ -48,7 +53,7 @@ fn own_words(rt: &HostRuntime) -> io::Result<Vec<String>> {
 }
 
 /// What the words ask for. The words of the program itself are read by the program's own reader of words.
-fn asked(alloc: Global, words: &[String]) -> io::Result<Asked> {
+fn read_words(alloc: Global, words: &[String]) -> io::Result<Asked> {
     let mut own = Vec::new(alloc);
     let (mut frames, mut timed, mut number_follows) = (1, false, false);
     for word in words {
@@ -87,8 +92,9 @@ fn list_of_input(rt: &HostRuntime) -> io::Result<DrawList> {
 }
 
 /// One frame: the picture's file into a writer.
-fn frame<W: Write>(
-    rt: &HostRuntime,
+fn draw_frame<R: Threads + Wait + Sync, W: Write + Drop>(
+    rt: &R,
+    alloc: Global,
     list: &DrawList,
     options: Options,
     output: W,
@@ -96,18 +102,23 @@ fn frame<W: Write>(
     requires { (1 ≤ options.workers) × (options.workers ≤ 16) }
 {
     let mut output = Counted::new(output);
-    match write_picture(rt, rt.alloc(), list, options, &Open, &mut output) {
+    match write_picture(rt, alloc, list, options, &Open, &mut output) {
         Ok(()) => Ok(output.into_inner()),
         Err(_) => Err(io::Error::from(ErrorKind::Other)),
     }
 }
 
 /// The times of so many frames in nanoseconds, in ascending order.
-fn times(rt: &HostRuntime, list: &DrawList, asked: &Asked) -> io::Result<Vec<u64>> {
-    let mut times = Vec::new(rt.alloc());
+fn times<R: Threads + Wait + Sync + Clock>(
+    rt: &R,
+    alloc: Global,
+    list: &DrawList,
+    asked: &Asked,
+) -> io::Result<Vec<u64>> {
+    let mut times = Vec::new(alloc);
     for _ in 0..asked.frames {
         let start = Instant::now(rt)?;
-        frame(rt, list, asked.options, io::sink())?;
+        draw_frame(rt, alloc, list, asked.options, io::sink())?;
         times.push(u64::try_from(start.elapsed(rt)?.as_nanos()).unwrap_or(u64::MAX))?;
     }
     times.sort()?;
@@ -116,14 +127,23 @@ fn times(rt: &HostRuntime, list: &DrawList, asked: &Asked) -> io::Result<Vec<u64
 
 fn main(rt: HostRuntime) -> io::Result<()> {
     let words = own_words(&rt)?;
-    let asked = asked(rt.alloc(), &words)?;
+    let asked = read_words(rt.alloc(), &words)?;
     let list = list_of_input(&rt)?;
-    let sum = frame(&rt, &list, asked.options, Checksum(0xcbf29ce484222325))?;
+    let sum = draw_frame(
+        &rt,
+        rt.alloc(),
+        &list,
+        asked.options,
+        Checksum(0xcbf29ce484222325),
+    )?;
     println!(rt; "{} triangles, checksum {:016x}", list.triangles(), sum.0)?;
     if asked.timed {
-        let times = times(&rt, &list, &asked)?;
-        let (least, middle) = (times[0], times[times.len() / 2]);
-        println!(rt; "least {least} ns, middle {middle} ns of {} frames", times.len())?;
+        let times = times(&rt, rt.alloc(), &list, &asked)?;
+        let middle = times.get(times.len() / 2);
+        if let (Some(least), Some(middle)) = (times.first(), middle) {
+            let frames = times.len();
+            println!(rt; "least {least} ns, middle {middle} ns of {frames} frames")?;
+        }
     }
     Ok(())
 }
