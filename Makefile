@@ -7,6 +7,7 @@
 #   make schema    try the JSON Schema of the draw list
 #   make memory    refuse the program each growth of memory in turn
 #   make bench     time the program on generated scenes
+#   make frames    build the program that times frames by themselves, for bench/llvmpipe.py
 #   make clean     remove what this file made; what rt keeps in crates/*/out/ stays
 
 RT ?= rt
@@ -17,7 +18,7 @@ SOURCES := crates.txt $(shell find crates -name out -prune -o -type f \( -name '
 LISTS := $(wildcard examples/*.json)
 PICTURES := $(LISTS:examples/%.json=out/%.pnm)
 
-.PHONY: all demo test compare schema memory bench clean
+.PHONY: all demo test compare schema memory bench frames clean
 .DELETE_ON_ERROR:
 
 all: $(PROGRAM)
@@ -47,6 +48,9 @@ schema:
 
 memory: $(PROGRAM)
 	$(PYTHON) scripts/refuse_memory.py
+
+frames: $(PROGRAM)
+	cd crates/frames && $(RT) run < "$(CURDIR)/examples/triangle.json" > /dev/null
 
 bench: $(PROGRAM)
 	$(PYTHON) bench/run.py

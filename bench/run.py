@@ -22,7 +22,10 @@ import time
 BENCH = os.path.dirname(os.path.abspath(__file__))
 TOP = os.path.dirname(BENCH)
 OUT = os.path.join(BENCH, "out")
-SCENES = ("tiny", "empty", "smooth", "small", "mesh", "slivers", "blended", "long_list")
+SCENES = (
+    "tiny", "empty", "smooth", "small", "mesh", "slivers", "blended", "flat", "flat_depth", "flat_blended", "large_mesh",
+    "whole_values", "thin_slivers", "level_rows", "long_list",
+)
 TILES = (8, 16, 32, 64)
 WORKERS = (1, 2, 4)
 ENOUGH_SECONDS = 6.0

@@ -123,6 +123,98 @@ def blended():
     return {"width": 1024, "height": 1024, "draws": draws_of(triangles, blend="over")}
 
 
+def flat_triangles(name, alpha=255):
+    """48 triangles larger than the picture, each of one colour and one depth."""
+    pick = random.Random(name)
+    triangles = []
+    for _ in range(48):
+        turn, radius = pick.random() * 2 * math.pi, pick.uniform(500, 1600)
+        colour, z = some_colour(pick), pick.randint(0, 65535)
+        angles = [turn + k * 2 * math.pi / 3 + pick.uniform(-0.3, 0.3) for k in range(3)]
+        corners = [(512 + radius * math.cos(a), 512 + radius * math.sin(a)) for a in angles]
+        triangles.append([vertex(x, y, z, colour, alpha) for x, y in corners])
+    return triangles
+
+
+def flat():
+    """48 large triangles of one colour each, four samples: nothing but coverage and stores."""
+    return {"width": 1024, "height": 1024, "samples": 4, "draws": draws_of(flat_triangles("flat"))}
+
+
+def flat_depth():
+    """The same with a depth for each triangle and the depth test."""
+    draws = draws_of(flat_triangles("flat depth"), depth_test="less", depth_write=True)
+    return {"width": 1024, "height": 1024, "samples": 4, "draws": draws}
+
+
+def flat_blended():
+    """The same, half transparent."""
+    draws = draws_of(flat_triangles("flat blended", 100), blend="over")
+    return {"width": 1024, "height": 1024, "samples": 4, "draws": draws}
+
+
+def large_mesh():
+    """A bent sheet of 65,000 triangles that fills 4096 by 4096 pixels, one sample, depth test: the largest picture."""
+    columns, rows = 180, 180
+    vertices = []
+    for j in range(rows + 1):
+        for i in range(columns + 1):
+            x, y = 4096 * i / columns, 4096 * j / rows
+            wave = math.sin(x / 207) * math.cos(y / 171)
+            colour = [round(128 + 120 * wave), round(255 * j / rows), round(255 * i / columns)]
+            vertices.append(vertex(x + 7 * wave, y + 7 * math.sin(x / 153), round(32768 + 30000 * wave), colour))
+    corners = [j * (columns + 1) + i for j in range(rows) for i in range(columns)]
+    triangles = []
+    for here in corners:
+        below = here + columns + 1
+        triangles += [[here, here + 1, below], [below, here + 1, below + 1]]
+    draw = {"depth_test": "less", "depth_write": True, "vertices": vertices, "triangles": triangles}
+    return {"width": 4096, "height": 4096, "draws": [draw]}
+
+
+def whole_values():
+    """Layers of triangles whose legs are 255 pixels long, with colours from 0 to 255 along them, so that every value is a
+    whole number at every sample: what fixed-point arithmetic with an error cannot tell from the number below."""
+    layer = []
+    for row in range(4):
+        for column in range(4):
+            x, y = 255 * column + 0.5, 255 * row + 0.5
+            corner = [vertex(x + i, y + j, 0, (i, j, 255 - i)) for i, j in ((0, 0), (255, 0), (255, 255), (0, 255))]
+            layer += [[corner[0], corner[1], corner[3]], [corner[3], corner[1], corner[2]]]
+    return {"width": 1024, "height": 1024, "draws": draws_of(12 * layer)}
+
+
+def thin_slivers():
+    """4,096 triangles under 2/256 pixel wide, smooth and blended: values change too steeply for a plane."""
+    pick = random.Random("thin slivers")
+    triangles = []
+    for _ in range(4096):
+        (ax, ay), (bx, by) = ((pick.randint(0, 262144), pick.randint(0, 262144)) for _ in "ab")
+        dx, dy = pick.randint(-2, 2), pick.randint(-2, 2)
+        places = [(ax, ay), (bx, by), (bx + dx, by + dy)]
+        triangles.append([[x, y, 0, *some_colour(pick), pick.randint(100, 255)] for x, y in places])
+    return {"width": 1024, "height": 1024, "samples": 4, "draws": draws_of(triangles, blend="over")}
+
+
+def level_rows():
+    """24 large triangles whose depth is the same along each row, four samples, depth test."""
+    pick = random.Random("level rows")
+    triangles = []
+    for _ in range(24):
+        above, below = pick.randint(0, 65535), pick.randint(0, 65535)
+        places = [(-300, -100, above), (1400, -100, above), (pick.uniform(0, 1024), 1200, below)]
+        triangles.append([vertex(x, y, z, some_colour(pick)) for x, y, z in places])
+    draws = draws_of(triangles, depth_test="less", depth_write=True)
+    return {"width": 1024, "height": 1024, "samples": 4, "draws": draws}
+
+
+def refused_list():
+    """The long list with its last index past the vertices: what is told only at the end."""
+    scene = long_list()
+    scene["draws"][-1]["triangles"][-1][-1] = MOST_VERTICES
+    return scene
+
+
 def long_list():
     """A list of about 40 MB, nearly all of it vertices: reading."""
     pick = random.Random("long")
@@ -146,7 +238,15 @@ SCENES = {
     "mesh": mesh,
     "slivers": slivers,
     "blended": blended,
+    "flat": flat,
+    "flat_depth": flat_depth,
+    "flat_blended": flat_blended,
+    "large_mesh": large_mesh,
+    "whole_values": whole_values,
+    "thin_slivers": thin_slivers,
+    "level_rows": level_rows,
     "long_list": long_list,
+    "refused_list": refused_list,
 }
 
 

@@ -74,8 +74,9 @@ fn write_bands<R: Threads + Wait + Sync, W: Write, G: Gate>(
     Ok(written)
 }
 
-/// Draws a picture, writes its file, and flushes the output.
-fn write_picture<R: Threads + Wait + Sync, W: Write, G: Gate>(
+/// Draws a list's picture, writes its file, and flushes the output. Each worker passes through the gate before it draws a tile.
+/// `run_with` is this after reading the list; a program that has a list, or draws one several times, calls this.
+pub fn write_picture<R: Threads + Wait + Sync, W: Write, G: Gate>(
     rt: &R,
     alloc: Global,
     list: &DrawList,

@@ -13,7 +13,7 @@ mod sending;
 mod words;
 
 pub use counted::Counted;
-pub use engine::{run, run_with};
+pub use engine::{run, run_with, write_picture};
 pub use fault::Fault;
 pub use line::{LineFault, Options};
 pub use ppm::{ppm_header, ppm_rows, write_ppm};
