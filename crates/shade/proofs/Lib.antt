@@ -4,3 +4,5 @@ pub mod Decided
 pub mod Drawn
 pub mod Endings
 pub mod Merged
+pub mod Blocks
+pub mod LaneNumbers

@@ -8,4 +8,5 @@ pub mod Merging
 pub mod Resolve
 pub mod Placed
 pub mod Interpolants
+pub mod Block
 pub mod Ending

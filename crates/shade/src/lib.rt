@@ -2,8 +2,10 @@
 #![tactic(auto)]
 
 mod blend;
+mod block;
 mod depth;
 mod depths;
+mod drawing;
 mod fragments;
 mod gradient;
 mod interpolants;
@@ -18,6 +20,7 @@ mod value;
 mod weights;
 
 pub use blend::over;
+pub use block::BlockSamples;
 pub use depth::DepthTest;
 pub use depths::Depths;
 pub use fragments::Fragments;
