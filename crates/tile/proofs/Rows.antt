@@ -3,18 +3,18 @@ use Rattle.std.proofs.Common.{◌≡◌, ◌⊎◌, inl, inr, refl, sym, ap, ◌
 use Rattle.std.proofs.Math.Nat.{eq-or-lt_of_le}
 use Rattle.std.proofs.lemmas.List.{get_or_append_left, get_or-append-add}
 use Rattle.std.proofs.lemmas.Nat.{same_from_place}
-use Rattle.shade.specs.declared.sample.Sample.{Sample}
+use Rattle.shade.specs.declared.block.BlockSamples.{BlockSamples}
 use Rattle.tile.specs.declared.tile.Tile.{Tile}
 use Rattle.tile.specs.Picture.{IsColourAt, ArePixels}
 
 -- a colour of other bytes
-same_colour : (tile : Tile) (samples : List Sample) (row column row' column' r g b r' g' b' : ℕ) → row ≡ row' → column ≡ column' → r ≡ r' → g ≡ g' → b ≡ b' → IsColourAt tile samples row column r g b → IsColourAt tile samples row' column' r' g' b'
+same_colour : (tile : Tile) (samples : List BlockSamples) (row column row' column' r g b r' g' b' : ℕ) → row ≡ row' → column ≡ column' → r ≡ r' → g ≡ g' → b ≡ b' → IsColourAt tile samples row column r g b → IsColourAt tile samples row' column' r' g' b'
 same_colour tile samples row column row' column' r g b r' g' b' ej ei er eg eb h = rw (← ej, ← ei, ← er, ← eg, ← eb) h
 
-pub no_pixels : (tile : Tile) (samples : List Sample) (width n : ℕ) → n ≡ 0 → ArePixels tile samples width n []
+pub no_pixels : (tile : Tile) (samples : List BlockSamples) (width n : ℕ) → n ≡ 0 → ArePixels tile samples width n []
 no_pixels tile samples width n e = record { size = omega arith; pixels = λ i j h k. absurd (omega arith) }
 
-module _ (tile : Tile) (samples : List Sample) (width i j n r g b : ℕ) (bytes : List ℕ) (begun : ArePixels tile samples width n bytes) where
+module _ (tile : Tile) (samples : List BlockSamples) (width i j n r g b : ℕ) (bytes : List ℕ) (begun : ArePixels tile samples width n bytes) where
   after : List ℕ
   after = bytes ++ r ∷ g ∷ b ∷ []
 

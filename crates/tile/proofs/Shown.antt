@@ -5,7 +5,7 @@ use Rattle.std.proofs.lemmas.Bool.{cases_lt}
 use Rattle.std.proofs.lemmas.Nat.{mul-add-lt}
 use Rattle.std.proofs.lemmas.Int.{ints}
 use Rattle.grid.specs.Pixels.{side_of, IsInBox}
-use Rattle.shade.specs.declared.sample.Sample.{Sample}
+use Rattle.shade.specs.declared.block.BlockSamples.{BlockSamples}
 use Rattle.shade.specs.Resolve.{IsResolved}
 use Rattle.list.specs.Scene.{Scene}
 use Rattle.list.specs.Picture.{IsColour}
@@ -14,7 +14,7 @@ use Rattle.bins.specs.Bin.{IsBinOf}
 use Rattle.bins.proofs.Tiles.{starts_within, in_rect}
 use Rattle.bins.proofs.Drawn.{bin_at_sample}
 use Rattle.tile.specs.declared.tile.Tile.{Tile}
-use Rattle.tile.specs.Samples.{stored, place_of}
+use Rattle.tile.specs.Samples.{stored}
 use Rattle.tile.specs.Picture.{IsTileAt, IsPictureIn, IsShown, IsTileBin, AreEnds, IsColourAt, ArePixels}
 
 -- tile k stands in one of the columns and rows
@@ -54,20 +54,20 @@ module _ (g : TileGrid) (k : ℕ) (h : k < tiles_of g) (tile : Tile) (at : IsTil
     tile_bin count bin has row column s shown =
         bin_at_sample l (rect_of g k) (8 * tile.bx + column) (8 * tile.by + row) s bin (in_tile row column s shown) (rw count at shown.sample.is_sample) has
 
-    module _ (samples : List Sample) (ends : AreEnds l tile samples) (count : tile.count ≡ l.count) (width height : ℕ)
+    module _ (samples : List BlockSamples) (ends : AreEnds l tile samples) (count : tile.count ≡ l.count) (width height : ℕ)
         (across : width ≡ min (g.width - 8 * tile.bx) (side_of tile.side)) (along : height ≡ min (g.height - 8 * tile.by) (side_of tile.side))
         (bytes : List ℕ) (pixels : ArePixels tile samples width (height * width) bytes) where
       colour : (i j r b' b : ℕ) → i < width → j < height → IsColourAt tile samples j i r b' b → IsColour l (8 * tile.bx + i) (8 * tile.by + j) r b' b
       colour i j r b' b wide' high' c = record {
-        end = λ s. stored samples (place_of tile j i s);
+        end = λ s. stored tile samples j i s;
         ends = λ s below. ends j i s (record {
           sample = record { high = omega arith; wide = omega arith; is_sample = rw count below };
           in_width = let begins = begins_in_width in omega arith;
           in_height = let begins = begins_in_height in omega arith;
         });
-        red = subst (λ n. IsResolved n (λ s. (stored samples (place_of tile j i s)).r) r) count c.red;
-        green = subst (λ n. IsResolved n (λ s. (stored samples (place_of tile j i s)).g) b') count c.green;
-        blue = subst (λ n. IsResolved n (λ s. (stored samples (place_of tile j i s)).b) b) count c.blue;
+        red = subst (λ n. IsResolved n (λ s. (stored tile samples j i s).r) r) count c.red;
+        green = subst (λ n. IsResolved n (λ s. (stored tile samples j i s).g) b') count c.green;
+        blue = subst (λ n. IsResolved n (λ s. (stored tile samples j i s).b) b) count c.blue;
       }
 
       pub picture_in : IsPictureIn l (rect_of g k) bytes

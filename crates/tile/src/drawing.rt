@@ -4,7 +4,7 @@ ghost use Rattle.std.specs.List.{All};
 ghost use Rattle.grid.specs.Pixels.{side_of};
 ghost use Rattle.bins.specs.Grid.{tiles_of, rect_of};
 ghost use Rattle.bins.specs.Bin.{HasTile, IsBinOf, bin_of};
-ghost use Rattle.tile.specs.Samples.{samples_of, stored};
+ghost use Rattle.tile.specs.Samples.{planes_of, AreAll};
 ghost use Rattle.tile.specs.Picture.{IsTileAt, IsPictureIn, IsTileBin, AreEnds};
 
 use crate::pixels::resolve;
@@ -14,7 +14,7 @@ use crate::tile::Tile;
 use bins::{Bins, Tiling};
 use grid::{OutOfMemory, PixelBox, SampleCount, TileSide};
 use list::DrawList;
-use shade::Sample;
+use shade::BlockSamples;
 use std::alloc::Global;
 
 /// A tile of the picture.
@@ -27,10 +27,10 @@ pub struct TilePixels {
 }
 
 /// Draws the triangles of the tile's bin, one after another, over cleared samples.
-fn draw_bin(list: &DrawList, numbers: &[u32], tile: &Tile, samples: &mut [Sample])
-    requires samples { length samples.old ≡ samples_of tile.now.side tile.now.count }
+fn draw_bin(list: &DrawList, numbers: &[u32], tile: &Tile, samples: &mut [BlockSamples])
+    requires samples { length samples.old ≡ planes_of tile.now.side tile.now.count }
     requires count { tile.now.count ≡ list.now.count }
-    requires cleared { (place : ℕ) → place < length samples.old → stored samples.old place ≡ list.now.clear }
+    requires cleared { AreAll samples.old list.now.clear }
     requires numbers { All (λ number. number < length list.now.triangles) numbers.now }
     requires bin { IsTileBin list.now tile.now numbers.now }
     ensures { AreEnds list.now tile.now samples.new }

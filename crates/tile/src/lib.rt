@@ -4,7 +4,7 @@
 mod block;
 mod drawing;
 mod pixels;
-mod run;
+mod scissor;
 mod squares;
 mod store;
 mod tile;

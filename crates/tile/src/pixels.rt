@@ -1,12 +1,12 @@
 //! The bytes of a tile's pixels.
 ghost use Rattle.std.specs.Prelude.{◌≡◌, ◌+◌, ◌*◌, ◌<◌, ◌≤◌, [], ◌∷◌, ◌++◌, length, IfOk, OnOk};
 ghost use Rattle.grid.specs.Pixels.{side_of};
-ghost use Rattle.tile.specs.Samples.{samples_of};
+ghost use Rattle.tile.specs.Samples.{IsSampleOf, planes_of, stored};
 ghost use Rattle.tile.specs.Picture.{IsColourAt, ArePixels};
 
 use crate::tile::Tile;
 use grid::{OutOfMemory, SampleCount};
-use shade::{Sample, mean_of_four};
+use shade::{BlockSamples, Sample, mean_of_four};
 use std::alloc::Global;
 
 /// The colour of a pixel.
@@ -17,14 +17,24 @@ struct Colour {
     b: u8,
 }
 
+/// Sample `s` of the pixel in a row and a column of the tile.
+fn sample_of(tile: &Tile, samples: &[BlockSamples], row: u32, column: u32, s: u32) -> Sample
+    requires samples { length samples.now ≡ planes_of tile.now.side tile.now.count }
+    requires sample { IsSampleOf tile.now row column s }
+    ensures { result ≡ stored tile.now samples.now row column s }
+{
+    let place = tile.place(row / 8, column / 8, s);
+    samples[place].sample((8 * (row % 8) + column % 8) as usize)
+}
+
 /// The colour of the pixel in a row and a column of the tile.
-fn colour_at(tile: &Tile, samples: &[Sample], row: u32, column: u32) -> Colour
-    requires samples { length samples.now ≡ samples_of tile.now.side tile.now.count }
+fn colour_at(tile: &Tile, samples: &[BlockSamples], row: u32, column: u32) -> Colour
+    requires samples { length samples.now ≡ planes_of tile.now.side tile.now.count }
     requires row { row < side_of tile.now.side }
     requires column { column < side_of tile.now.side }
     ensures { IsColourAt tile.now samples.now row column result.r result.g result.b }
 {
-    let first = samples[tile.place(row, column, 0)];
+    let first = sample_of(tile, samples, row, column, 0);
     match tile.count {
         SampleCount::One => Colour {
             r: first.r,
@@ -32,9 +42,9 @@ fn colour_at(tile: &Tile, samples: &[Sample], row: u32, column: u32) -> Colour
             b: first.b,
         },
         SampleCount::Four => {
-            let second = samples[tile.place(row, column, 1)];
-            let third = samples[tile.place(row, column, 2)];
-            let fourth = samples[tile.place(row, column, 3)];
+            let second = sample_of(tile, samples, row, column, 1);
+            let third = sample_of(tile, samples, row, column, 2);
+            let fourth = sample_of(tile, samples, row, column, 3);
             Colour {
                 r: mean_of_four(first.r, second.r, third.r, fourth.r),
                 g: mean_of_four(first.g, second.g, third.g, fourth.g),
@@ -55,12 +65,12 @@ fn push_colour(colour: Colour, bytes: &mut Vec<u8>) -> Result<(), OutOfMemory>
 /// Appends a row of the tile, as far as it is in the picture, to the rows above it.
 fn push_row(
     tile: &Tile,
-    samples: &[Sample],
+    samples: &[BlockSamples],
     width: u32,
     row: u32,
     bytes: &mut Vec<u8>,
 ) -> Result<(), OutOfMemory>
-    requires samples { length samples.now ≡ samples_of tile.now.side tile.now.count }
+    requires samples { length samples.now ≡ planes_of tile.now.side tile.now.count }
     requires row { row < side_of tile.now.side }
     requires width { width ≤ side_of tile.now.side }
     requires above { ArePixels tile.now samples.now width (row * width) bytes.old.items }
@@ -76,11 +86,11 @@ fn push_row(
 pub(crate) fn resolve(
     alloc: Global,
     tile: &Tile,
-    samples: &[Sample],
+    samples: &[BlockSamples],
     width: u32,
     height: u32,
 ) -> Result<Vec<u8>, OutOfMemory>
-    requires samples { length samples.now ≡ samples_of tile.now.side tile.now.count }
+    requires samples { length samples.now ≡ planes_of tile.now.side tile.now.count }
     requires width { width ≤ side_of tile.now.side }
     requires height { height ≤ side_of tile.now.side }
     ensures { IfOk result (λ bytes. ArePixels tile.now samples.now width (height * width) bytes.items) }
