@@ -1,6 +1,6 @@
 use crate::render;
 use grid::{Cull, PixelBox, Point, SampleCount};
-use list::{Draw, DrawList, State, Vertex};
+use list::{Draw, DrawList, Output, State, Vertex};
 use shade::{DepthTest, Merge, Sample};
 use std::alloc::Global;
 use std::process::Abort;
@@ -78,7 +78,7 @@ fn picture(
     for one in drawn {
         draws.push(one.place(rt, alloc)?)?;
     }
-    let list = DrawList::new(alloc, side, side, count, BLACK, draws).expect(
+    let list = DrawList::new(alloc, side, side, count, BLACK, Output::Color, draws).expect(
         rt,
         "within the limits",
     );

@@ -3,7 +3,7 @@ ghost use Rattle.std.specs.Prelude.{◌<◌};
 use crate::{Store, TilePixels, render};
 use bins::{Bins, Tiling};
 use grid::{Cull, OutOfMemory, PixelBox, Point, SampleCount, TileSide};
-use list::{Draw, DrawList, State, Vertex};
+use list::{Draw, DrawList, Output, State, Vertex};
 use shade::{DepthTest, Merge, Sample};
 use std::alloc::Global;
 use std::process::Abort;
@@ -103,7 +103,7 @@ fn white(
         triangles: vec![in alloc; [0, 1, 2]]?,
     })?;
     let (width, height) = size;
-    Ok(DrawList::new(alloc, width, height, count, BLACK, draws).expect(rt, "within the limits"))
+    Ok(DrawList::new(alloc, width, height, count, BLACK, Output::Color, draws).expect(rt, "within the limits"))
 }
 
 #[test]
@@ -275,7 +275,7 @@ impl Numbers {
             z: self.below(65536) as u16,
         };
         let (width, height) = (1 + self.below(80), 1 + self.below(80));
-        Ok(DrawList::new(alloc, width, height, count, clear, draws).expect(rt, "within the limits"))
+        Ok(DrawList::new(alloc, width, height, count, clear, Output::Color, draws).expect(rt, "within the limits"))
     }
 }
 
