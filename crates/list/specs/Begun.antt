@@ -1,5 +1,5 @@
 -- Bytes of a rectangle of the picture that are not all there yet.
-use Rattle.std.specs.Prelude.{◌≡◌, ℕ, ◌+◌, ◌*◌, ◌<◌, List, length}
+use Rattle.std.specs.Prelude.{◌≡◌, ℕ, ◌+◌, ◌*◌, ◌<◌, List, ◌++◌, length}
 use Rattle.list.specs.Scene.{Scene}
 use Rattle.list.specs.Picture.{IsPixel, pixel_at, pixel_bytes}
 
@@ -12,3 +12,9 @@ pub record IsBegun (l : Scene) (x y width n : ℕ) (bytes : List ℕ) : Type 0 w
 pub record IsRun (l : Scene) (i j many : ℕ) (bytes : List ℕ) : Type 0 where
   pub size : length bytes ≡ pixel_bytes l.output * many
   pub pixels : (m : ℕ) → m < many → IsPixel l (i + m) j (pixel_at l.output m bytes)
+
+-- The new bytes are the old ones, and behind them those of pixel (i, j).
+pub record AddsPixel (l : Scene) (i j : ℕ) (old new : List ℕ) : Type 0 where
+  pub pixel : List ℕ
+  pub is : IsPixel l i j pixel
+  pub behind : new ≡ old ++ pixel

@@ -85,7 +85,15 @@ fn read_value(alloc: Global, value: &Value) -> Result<DrawList, ReadFault>
     };
     let (width, height) = (header.width, header.height);
     let draws = draws_of(alloc, header.draws, picture_of(width, height))?;
-    match DrawList::within_limits(alloc, width, height, header.count, header.clear, Output::Color, draws) {
+    match DrawList::within_limits(
+        alloc,
+        width,
+        height,
+        header.count,
+        header.clear,
+        Output::Color,
+        draws,
+    ) {
         Ok(list) => Ok(list),
         Err(_) => Err(ReadFault::outside(ReadKind::OutOfMemory)),
     }
