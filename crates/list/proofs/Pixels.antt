@@ -51,9 +51,17 @@ pub pixel_of_colour : (l : Scene) (i j r g b : ℕ) → l.output ≡ Color → I
 pixel_of_colour l i j r g b e h =
     subst (λ o. PixelOf o l i j (r ∷ g ∷ b ∷ [])) (sym e) (record { red = r; green = g; blue = b; colour = h; order = refl })
 
-pub pixel_of_depth : (l : Scene) (i j high low : ℕ) (end : Sample) → l.output ≡ Depth → IsEnd l i j 0 end → end.z ≡ 256 * high + low → low < 256 → IsPixel l i j (high ∷ low ∷ [])
-pixel_of_depth l i j high low end e h value small =
-    subst (λ o. PixelOf o l i j (high ∷ low ∷ [])) (sym e) (record { end = end; is_end = h; high = high; low = low; value = value; is_byte = small; order = refl })
+pub pixel_of_depth : (l : Scene) (i j : ℕ) (end : Sample) → l.output ≡ Depth → IsEnd l i j 0 end → IsPixel l i j (end.z / 256 ∷ end.z % 256 ∷ [])
+pixel_of_depth l i j end e h =
+    let z : ℕ = end.z in
+    subst (λ o. PixelOf o l i j (z / 256 ∷ z % 256 ∷ [])) (sym e)
+    (record { end = end; is_end = h; high = z / 256; low = z % 256; value = omega arith; is_byte = omega arith; order = refl })
+
+-- the bytes of a depth in the order of `to_be_bytes`
+pub depth_bytes : (z : ℕ) → z < 65536 → to_be_bytes w16 z ≡ z / 256 ∷ z % 256 ∷ []
+depth_bytes z small =
+    let high : z / 256 % 256 ≡ z / 256 = omega arith in
+    ap (λ n. n ∷ z % 256 ∷ []) high
 
 -- ---- a pixel among others
 

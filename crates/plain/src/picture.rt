@@ -1,5 +1,4 @@
-ghost use Rattle.std.specs.Prelude.{◌≡◌, ◌<◌, ◌+◌, ◌*◌, ℕ, List, [], ◌∷◌, ◌++◌, IfOk, OnOk};
-ghost use Rattle.std.specs.Int.{w16, to_be_bytes};
+ghost use Rattle.std.specs.Prelude.{◌≡◌, ◌<◌, ◌+◌, ◌*◌, ◌/◌, ◌%◌, ℕ, List, [], ◌∷◌, ◌++◌, IfOk, OnOk};
 ghost use Rattle.list.specs.Begun.{AddsPixel, IsBegun};
 ghost use Rattle.list.specs.Picture.{IsPicture};
 
@@ -18,7 +17,7 @@ fn push_colour(colour: Colour, bytes: &mut Vec<u8>) -> Result<(), OutOfMemory>
 
 /// Appends the bytes of a depth, the more significant one first.
 fn push_depth(depth: u16, bytes: &mut Vec<u8>) -> Result<(), OutOfMemory>
-    ensures { OnOk result (bytes.new.items ≡ bytes.old.items ++ to_be_bytes w16 depth) }
+    ensures { OnOk result (bytes.new.items ≡ bytes.old.items ++ depth / 256 ∷ depth % 256 ∷ []) }
 {
     bytes.extend_from_slice(&depth.to_be_bytes())?;
     Ok(())

@@ -1,10 +1,13 @@
 -- The part of a tile that is in the picture.
-use Rattle.std.proofs.Common.{◌≡◌, inl, inr, ap, subst, ℕ, ◌+◌, ◌-◌, ◌*◌, ◌/◌, ◌%◌, ◌<◌, min, pos, List, arith}
+use Rattle.std.proofs.Common.{◌≡◌, inl, inr, ap, subst, ℕ, ◌+◌, ◌-◌, ◌*◌, ◌/◌, ◌%◌, ◌<◌, ◌≤◌, min, pos, List, arith}
 use Rattle.std.proofs.Math.Nat.{mod-lt, div-lt_iff_lt-mul, mul_comm, zero-mul}
 use Rattle.std.proofs.lemmas.Bool.{cases_lt}
 use Rattle.std.proofs.lemmas.Nat.{mul-add-lt}
 use Rattle.std.proofs.lemmas.Int.{ints}
 use Rattle.grid.specs.Pixels.{side_of, IsInBox}
+use Rattle.grid.specs.Samples.{count_of}
+use Rattle.grid.specs.declared.sample_count.SampleCount.{SampleCount}
+use Rattle.grid.specs.declared.sample_count.SampleCount.TheVariants.{One, Four}
 use Rattle.shade.specs.declared.sample.Sample.{Sample}
 use Rattle.shade.specs.Resolve.{IsResolved}
 use Rattle.list.specs.Scene.{Scene}
@@ -70,6 +73,19 @@ module _ (g : TileGrid) (k : ℕ) (h : k < tiles_of g) (tile : Tile) (at : IsTil
         bottom = ap pos (let begins = begins_in_height in let side : side_of tile.side ≡ side_of g.side = ap side_of at.side in omega (arith, at.top));
         part = part;
       }
+
+some_sample : (count : SampleCount) → 0 < count_of count
+some_sample One = omega arith
+some_sample Four = omega arith
+
+-- the first samples of a row of pixels in the picture
+pub row_shown : (l : Scene) (tile : Tile) (width height row : ℕ) → width ≤ side_of tile.side → height ≤ side_of tile.side → 8 * tile.bx + width ≤ l.width → 8 * tile.by + height ≤ l.height → row < height
+    → (column : ℕ) → column < width → IsShown l tile row column 0
+row_shown l tile width height row wide high right bottom within column below = record {
+  sample = record { high = omega arith; wide = omega arith; is_sample = some_sample tile.count };
+  in_width = omega arith;
+  in_height = omega arith;
+}
 
 -- the colour of a pixel, where its samples are their ends
 pub colour_shown : (l : Scene) (tile : Tile) (samples : List Sample) (row column r g b : ℕ) → AreEnds l tile samples → tile.count ≡ l.count → IsShown l tile row column 0

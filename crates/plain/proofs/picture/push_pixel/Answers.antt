@@ -9,4 +9,4 @@ returns-in-Color c =
 
 pub returns-in-Depth : goal.returns-in-Depth
 returns-in-Depth c =
-    adds_pixel _ c.args.list.now c.args.px c.args.py _ _ _ (pixel_of_depth _ _ _ c.end_at.result (sym c.output.ensures ∙ c.in-Depth.is) c.end_at.ensures.end ?) c.push_depth.ensures
+    adds_pixel _ c.args.list.now c.args.px c.args.py _ _ _ (pixel_of_depth _ _ _ c.end_at.result (sym c.output.ensures ∙ c.in-Depth.is) c.end_at.ensures.end) c.push_depth.ensures

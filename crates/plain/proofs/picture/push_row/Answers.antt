@@ -1,5 +1,4 @@
-use Rattle.std.proofs.Common.{refl, ◌+◌, zero-add, arith}
-use Rattle.list.specs.Begun.{AddsPixel}
+use Rattle.std.proofs.Common.{◌≡◌, refl, ◌+◌, ◌*◌, ◌<◌, zero-add, arith}
 use Rattle.list.proofs.Begun.{begun_pixel}
 use Rattle.plain.proofs.picture.push_row.Goals as goal
 
@@ -8,5 +7,6 @@ loop-px-preserved c =
     let list = c.args.list.now in
     let px = c.loop-px.px in
     let py = c.args.py in
-    let pixel : AddsPixel list (0 + px) (0 + py) _ _ = rw (zero-add px, zero-add py) c.in_ok-push_pixel.ensures in
-    begun_pixel list 0 0 list.width _ _ px py _ _ c.loop-px.invariant (omega arith) refl (omega arith) pixel
+    let place : py * list.width + (px + 1) ≡ (py * list.width + px) + 1 = omega arith in
+    let below : px < list.width = omega arith in
+    begun_pixel list 0 0 list.width _ _ px py _ _ c.loop-px.invariant below refl place (rw (zero-add px, zero-add py) c.in_ok-push_pixel.ensures)
