@@ -1,5 +1,6 @@
 pub mod Numbering
 pub mod Unique
+pub mod Pixels
 pub mod Parts
 pub mod Spans
 pub mod Starting

@@ -6,5 +6,4 @@ pub mod Planes
 pub mod Whole
 pub mod Waiting
 pub mod Ends
-pub mod Rows
 pub mod Shown
