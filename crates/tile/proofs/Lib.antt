@@ -7,3 +7,4 @@ pub mod Whole
 pub mod Waiting
 pub mod Ends
 pub mod Shown
+pub mod Runs

@@ -1,11 +1,12 @@
 -- A tile's part of the picture.
-use Rattle.std.specs.Prelude.{◌≡◌, ℕ, ◌+◌, ◌*◌, ◌/◌, ◌%◌, ◌<◌, List, pos}
+use Rattle.std.specs.Prelude.{◌≡◌, ℕ, ◌+◌, ◌*◌, ◌/◌, ◌%◌, ◌<◌, List, ◌++◌, slice_index, pos}
 use Rattle.grid.specs.Pixels.{side_of}
 use Rattle.grid.specs.declared.pixels.PixelBox.{PixelBox}
 use Rattle.shade.specs.declared.block.BlockSamples.{BlockSamples}
 use Rattle.shade.specs.Resolve.{IsResolved}
 use Rattle.shade.specs.Placed.{Meets}
 use Rattle.list.specs.Scene.{Scene}
+use Rattle.list.specs.Begun.{IsRun}
 use Rattle.list.specs.Picture.{IsEnd, IsPart}
 use Rattle.bins.specs.Grid.{TileGrid, columns_of}
 use Rattle.bins.specs.Bin.{IsBin}
@@ -51,3 +52,25 @@ pub record IsColourAt (tile : Tile) (samples : List BlockSamples) (row column : 
   pub red : IsResolved tile.count (λ s. (stored tile samples row column s).r) r
   pub green : IsResolved tile.count (λ s. (stored tile samples row column s).g) g
   pub blue : IsResolved tile.count (λ s. (stored tile samples row column s).b) b
+
+-- The bytes of the eight pixels in a row of the tile and a column of its blocks: red, green and blue of each.
+abbrev pub AreColoursAt : Tile → List BlockSamples → ℕ → ℕ → List ℕ → Type 0
+AreColoursAt tile samples row column bytes =
+    (i : ℕ) → i < 8 → IsColourAt tile samples row (8 * column + i) (slice_index bytes (3 * i)) (slice_index bytes (3 * i + 1)) (slice_index bytes (3 * i + 2))
+
+-- Of each of them the more and the less significant byte of the depth of sample 0.
+abbrev pub AreDepthsAt : Tile → List BlockSamples → ℕ → ℕ → List ℕ → Type 0
+AreDepthsAt tile samples row column bytes =
+    (i : ℕ) → i < 8
+    → (slice_index bytes (2 * i) ≡ (stored tile samples row (8 * column + i) 0).z / 256) × (slice_index bytes (2 * i + 1) ≡ (stored tile samples row (8 * column + i) 0).z % 256)
+
+-- The first eight of three lists, one of each after another.
+abbrev pub AreInterleaved : List ℕ → List ℕ → List ℕ → List ℕ → Type 0
+AreInterleaved r g b bytes =
+    (i : ℕ) → i < 8 → (slice_index bytes (3 * i) ≡ slice_index r i) × (slice_index bytes (3 * i + 1) ≡ slice_index g i) × (slice_index bytes (3 * i + 2) ≡ slice_index b i)
+
+-- The new bytes are the old ones, and behind them those of so many pixels of one row of the picture, from pixel (i, j) on.
+pub record AddsRun (l : Scene) (i j many : ℕ) (old new : List ℕ) : Type 0 where
+  pub run : List ℕ
+  pub is : IsRun l i j many run
+  pub behind : new ≡ old ++ run

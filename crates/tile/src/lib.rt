@@ -3,6 +3,7 @@
 
 mod block;
 mod drawing;
+mod eight;
 mod pixels;
 mod scissor;
 mod squares;

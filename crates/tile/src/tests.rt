@@ -1,5 +1,7 @@
 ghost use Rattle.std.specs.Prelude.{◌<◌};
 
+mod combinations;
+
 use crate::{Store, TilePixels, render};
 use bins::{Bins, Tiling};
 use grid::{Cull, OutOfMemory, PixelBox, Point, SampleCount, TileSide};

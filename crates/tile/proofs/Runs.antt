@@ -1,0 +1,143 @@
+-- The bytes of eight pixels.
+use Rattle.std.proofs.Common.{◌≡◌, inl, inr, zero, suc, refl, sym, ap, subst, ◌∙◌, ℕ, ◌+◌, ◌*◌, ◌/◌, ◌%◌, ◌<◌, ◌≤◌, List, [], ◌∷◌, ◌++◌, length, take, slice_index, slice_index_or, slice_set, get_or-set_same, get_or-set_other, Result, Ok, Err, OnOk, length-take, length-set, arith}
+use Rattle.std.proofs.lemmas.Bool.{cases_lt}
+use Rattle.grid.specs.declared.sample_count.SampleCount.{SampleCount}
+use Rattle.grid.specs.declared.sample_count.SampleCount.TheVariants.{One, Four}
+use Rattle.shade.specs.declared.block.BlockSamples.{BlockSamples}
+use Rattle.shade.specs.declared.sample.Sample.{Sample}
+use Rattle.shade.specs.Block.{stored_at}
+use Rattle.shade.specs.Quotient.{IsQuotient}
+use Rattle.shade.specs.Resolve.{IsResolved}
+use Rattle.list.specs.Begun.{IsBegun, IsRun}
+use Rattle.list.specs.Picture.{IsPixel, IsColour, IsEnd, pixel_at, pixel_bytes}
+use Rattle.list.specs.Scene.{Scene}
+use Rattle.list.specs.declared.output.Output.{Output}
+use Rattle.list.specs.declared.output.Output.TheVariants.{Color, Depth}
+use Rattle.list.proofs.Begun.{begun_run}
+use Rattle.list.proofs.Pixels.{same_pixel, pixel_of_part, pixel_of_three, pixel_of_two, pixel_of_colour, pixel_of_depth}
+use Rattle.tile.specs.declared.tile.Tile.{Tile}
+use Rattle.tile.specs.Samples.{place_of, stored}
+use Rattle.tile.specs.Picture.{IsShown, AreEnds, IsColourAt, AreColoursAt, AreDepthsAt, AreInterleaved, AddsRun}
+use Rattle.tile.proofs.Shown.{colour_shown}
+
+-- ---- lists
+-- what holds of the first elements, and of the one that is set behind them
+pub set_more : (P : ℕ → ℕ → Type 0) (xs : List ℕ) (i x : ℕ) → i < length xs → ((k : ℕ) → k < i → P k (slice_index xs k)) → P i x
+    → (k : ℕ) → k < i + 1 → P k (slice_index (slice_set xs i x) k)
+set_more P xs i x below begun here k h =
+    elim (cases_lt k i) [
+      | inl less ↦ rw (get_or-set_other xs i k x 0 (λ e. omega (arith, e))) (begun k less)
+      | inr more ↦ let same : k ≡ i = omega arith in rw (same, get_or-set_same xs i x 0 below) here
+    ]
+
+-- the same of pairs of elements
+pub set_two_more : (P : ℕ → ℕ → ℕ → Type 0) (xs : List ℕ) (i x y : ℕ) → 2 * i + 1 < length xs
+    → ((k : ℕ) → k < i → P k (slice_index xs (2 * k)) (slice_index xs (2 * k + 1))) → P i x y
+    → (k : ℕ) → k < i + 1 → P k (slice_index (slice_set (slice_set xs (2 * i) x) (2 * i + 1) y) (2 * k)) (slice_index (slice_set (slice_set xs (2 * i) x) (2 * i + 1) y) (2 * k + 1))
+set_two_more P xs i x y below begun here k h =
+    let first : List ℕ = slice_set xs (2 * i) x in
+    let long : length first ≡ length xs = length-set xs (2 * i) x in
+    elim (cases_lt k i) [
+      | inl less ↦
+          rw (
+            get_or-set_other first (2 * i + 1) (2 * k) y 0 (λ e. omega (arith, e)),
+            get_or-set_other xs (2 * i) (2 * k) x 0 (λ e. omega (arith, e)),
+            get_or-set_other first (2 * i + 1) (2 * k + 1) y 0 (λ e. omega (arith, e)),
+            get_or-set_other xs (2 * i) (2 * k + 1) x 0 (λ e. omega (arith, e)),
+          ) (begun k less)
+      | inr more ↦
+          let same : k ≡ i = omega arith in
+          rw (
+            same,
+            get_or-set_other first (2 * i + 1) (2 * i) y 0 (λ e. omega (arith, e)),
+            get_or-set_same xs (2 * i) x 0 (omega (arith, below)),
+            get_or-set_same first (2 * i + 1) y 0 (omega (arith, long, below)),
+          ) here
+    ]
+
+pub interleaved_is : (r g b : ℕ → ℕ) (i : ℕ) → i < 8
+    → let bytes : List ℕ = r 0 ∷ g 0 ∷ b 0 ∷ r 1 ∷ g 1 ∷ b 1 ∷ r 2 ∷ g 2 ∷ b 2 ∷ r 3 ∷ g 3 ∷ b 3 ∷ r 4 ∷ g 4 ∷ b 4 ∷ r 5 ∷ g 5 ∷ b 5 ∷ r 6 ∷ g 6 ∷ b 6 ∷ r 7 ∷ g 7 ∷ b 7 ∷ [] in
+    (slice_index bytes (3 * i) ≡ r i) × (slice_index bytes (3 * i + 1) ≡ g i) × (slice_index bytes (3 * i + 2) ≡ b i)
+interleaved_is r g b zero h = (refl, refl, refl)
+interleaved_is r g b (suc zero) h = (refl, refl, refl)
+interleaved_is r g b (suc (suc zero)) h = (refl, refl, refl)
+interleaved_is r g b (suc (suc (suc zero))) h = (refl, refl, refl)
+interleaved_is r g b (suc (suc (suc (suc zero)))) h = (refl, refl, refl)
+interleaved_is r g b (suc (suc (suc (suc (suc zero))))) h = (refl, refl, refl)
+interleaved_is r g b (suc (suc (suc (suc (suc (suc zero)))))) h = (refl, refl, refl)
+interleaved_is r g b (suc (suc (suc (suc (suc (suc (suc zero))))))) h = (refl, refl, refl)
+interleaved_is r g b (suc (suc (suc (suc (suc (suc (suc (suc i)))))))) h = absurd (omega arith)
+
+-- ---- eight samples in a row of a block
+module _ (tile : Tile) (samples : List BlockSamples) (row column : ℕ) where
+  abbrev plane : ℕ → BlockSamples
+  plane s = slice_index_or samples (place_of tile (row / 8) column s) (record { z = []; r = []; g = []; b = [] })
+
+  module _ (i : ℕ) (h : i < 8) where
+    abbrev k : ℕ
+    k = 8 * (row % 8) + i
+
+    block : (8 * column + i) / 8 ≡ column
+    block = omega arith
+
+    pixel : (8 * column + i) % 8 ≡ i
+    pixel = omega arith
+
+    pub one_resolved : tile.count ≡ One → (r g b : ℕ) → r ≡ slice_index (plane 0).r k → g ≡ slice_index (plane 0).g k → b ≡ slice_index (plane 0).b k
+        → IsColourAt tile samples row (8 * column + i) r g b
+    one_resolved e r g b red green blue = record {
+      red = subst (λ n. IsResolved n (λ s. (stored tile samples row (8 * column + i) s).r) r) (sym e) (rw (block, pixel) red);
+      green = subst (λ n. IsResolved n (λ s. (stored tile samples row (8 * column + i) s).g) g) (sym e) (rw (block, pixel) green);
+      blue = subst (λ n. IsResolved n (λ s. (stored tile samples row (8 * column + i) s).b) b) (sym e) (rw (block, pixel) blue);
+    }
+
+    pub four_resolved : tile.count ≡ Four → (r g b : ℕ)
+        → IsQuotient (slice_index (plane 0).r k + slice_index (plane 1).r k + slice_index (plane 2).r k + slice_index (plane 3).r k + 2) 4 r
+        → IsQuotient (slice_index (plane 0).g k + slice_index (plane 1).g k + slice_index (plane 2).g k + slice_index (plane 3).g k + 2) 4 g
+        → IsQuotient (slice_index (plane 0).b k + slice_index (plane 1).b k + slice_index (plane 2).b k + slice_index (plane 3).b k + 2) 4 b
+        → IsColourAt tile samples row (8 * column + i) r g b
+    four_resolved e r g b red green blue = record {
+      red = subst (λ n. IsResolved n (λ s. (stored tile samples row (8 * column + i) s).r) r) (sym e) (rw (block, pixel) red);
+      green = subst (λ n. IsResolved n (λ s. (stored tile samples row (8 * column + i) s).g) g) (sym e) (rw (block, pixel) green);
+      blue = subst (λ n. IsResolved n (λ s. (stored tile samples row (8 * column + i) s).b) b) (sym e) (rw (block, pixel) blue);
+    }
+
+    pub depth_in : (high low : ℕ) → high ≡ slice_index (plane 0).z k / 256 → low ≡ slice_index (plane 0).z k % 256
+        → (high ≡ (stored tile samples row (8 * column + i) 0).z / 256) × (low ≡ (stored tile samples row (8 * column + i) 0).z % 256)
+    depth_in high low e f = rw (block, pixel) (e, f)
+
+-- ---- runs of pixels
+pub adds_run : {X E : Type 0} (r : Result X E) (l : Scene) (i j many : ℕ) (run old new : List ℕ) → IsRun l i j many run → OnOk r (new ≡ old ++ run) → OnOk r (AddsRun l i j many old new)
+adds_run (Ok x) l i j many run old new h behind = record { run = run; is = h; behind = behind }
+adds_run (Err e) l i j many run old new h behind = tt
+
+pub begun_more : (l : Scene) (x y width n m i j many : ℕ) (old new : List ℕ) → IsBegun l x y width n old → i + many ≤ width → n ≡ j * width + i → m ≡ n + many → AddsRun l (x + i) (y + j) many old new
+    → IsBegun l x y width m new
+begun_more l x y width n m i j many old new begun fits place more h = rw (more, h.behind) (begun_run l x y width n i j many old h.run begun fits place h.is)
+
+module _ (l : Scene) (tile : Tile) (samples : List BlockSamples) (row column many : ℕ) (ends : AreEnds l tile samples) (count : tile.count ≡ l.count) (few : many ≤ 8)
+    (shown : (i : ℕ) → i < many → IsShown l tile row (8 * column + i) 0) (bytes : List ℕ) where
+  across : (i : ℕ) → 8 * tile.bx + (8 * column + i) ≡ 8 * tile.bx + 8 * column + i
+  across i = omega arith
+
+  pub run_of_colours : l.output ≡ Color → 24 ≤ length bytes → AreColoursAt tile samples row column bytes → IsRun l (8 * tile.bx + 8 * column) (8 * tile.by + row) many (take (3 * many) bytes)
+  run_of_colours e long colours = record {
+    size = rw e (omega (arith, length-take (3 * many) bytes));
+    pixels = λ i below.
+        let here : pixel_at Color i (take (3 * many) bytes) ≡ slice_index bytes (3 * i) ∷ slice_index bytes (3 * i + 1) ∷ slice_index bytes (3 * i + 2) ∷ [] =
+        pixel_of_part Color 0 i i many 0 (3 * many) bytes refl refl (omega arith) below (omega arith) ∙ pixel_of_three i bytes (omega arith) in
+        same_pixel l (8 * tile.bx + (8 * column + i)) (8 * tile.by + row) _ _ _ _ (across i) refl (sym (ap (λ o. pixel_at o i (take (3 * many) bytes)) e ∙ here))
+        (pixel_of_colour l (8 * tile.bx + (8 * column + i)) (8 * tile.by + row) _ _ _ e (colour_shown l tile samples row (8 * column + i) _ _ _ ends count (shown i below) (colours i (omega arith))));
+  }
+
+  pub run_of_depths : l.output ≡ Depth → 16 ≤ length bytes → AreDepthsAt tile samples row column bytes → IsRun l (8 * tile.bx + 8 * column) (8 * tile.by + row) many (take (2 * many) bytes)
+  run_of_depths e long depths = record {
+    size = rw e (omega (arith, length-take (2 * many) bytes));
+    pixels = λ i below.
+        let depth = depths i (omega arith) in
+        let here : pixel_at Depth i (take (2 * many) bytes) ≡ (stored tile samples row (8 * column + i) 0).z / 256 ∷ (stored tile samples row (8 * column + i) 0).z % 256 ∷ [] =
+        pixel_of_part Depth 0 i i many 0 (2 * many) bytes refl refl (omega arith) below (omega arith) ∙ pixel_of_two i bytes (omega arith)
+        ∙ ap (λ high. high ∷ slice_index bytes (2 * i + 1) ∷ []) depth.0 ∙ ap (λ low. (stored tile samples row (8 * column + i) 0).z / 256 ∷ low ∷ []) depth.1 in
+        same_pixel l (8 * tile.bx + (8 * column + i)) (8 * tile.by + row) _ _ _ _ (across i) refl (sym (ap (λ o. pixel_at o i (take (2 * many) bytes)) e ∙ here))
+        (pixel_of_depth l (8 * tile.bx + (8 * column + i)) (8 * tile.by + row) _ e (ends row (8 * column + i) 0 (shown i below)));
+  }
