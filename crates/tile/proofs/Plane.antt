@@ -117,8 +117,8 @@ module _ (t : Placed) (tile : Tile) (bx by s : ℕ) (lies : LiesIn tile bx by 8)
       elsewhere row column s' h n =
           let other : place_of tile (row / 8) (column / 8) s' ≢ place =
           λ e.
-              let same = same_place tile (by - tile.by) (bx - tile.bx) s row_within column_within small (row / 8) (column / 8) s' (omega (arith, h.wide, whole_blocks tile.side)) h.is_sample e in
-              n (in_plane row column s' same.0 same.1 same.2) in
+          let same = same_place tile (by - tile.by) (bx - tile.bx) s row_within column_within small (row / 8) (column / 8) s' (omega (arith, h.wide, whole_blocks tile.side)) h.is_sample e in
+          n (in_plane row column s' same.0 same.1 same.2) in
           ap (λ plane. stored_at plane (pixel row column)) (get_or-set_other xs place (place_of tile (row / 8) (column / 8) s') x _ other)
 
       module _ (plane : ℕ) (met : IsMetPlane t bx by tile.count s plane) (d : IsDrawn t.tri t.state.cull) (in_mask : t.state.sample_mask / 2 ^ s % 2 ≡ 1)

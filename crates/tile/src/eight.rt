@@ -68,12 +68,7 @@ fn in_bytes(depths: &[u16; 64], from: usize) -> [u8; 16]
 
 /// Red, green and blue of the eight pixels in a row of the tile and a column of its blocks, pixel by pixel.
 #[inline]
-pub(crate) fn colours(
-    tile: &Tile,
-    samples: &[BlockSamples],
-    row: u32,
-    column: u32,
-) -> [u8; 24]
+pub(crate) fn colours(tile: &Tile, samples: &[BlockSamples], row: u32, column: u32) -> [u8; 24]
     requires samples { length samples.now ≡ planes_of tile.now.side tile.now.count }
     requires row { row < side_of tile.now.side }
     requires column { column < side_of tile.now.side / 8 }
@@ -97,12 +92,7 @@ pub(crate) fn colours(
 
 /// The more and the less significant byte of the depth of sample 0 of each of these eight pixels.
 #[inline]
-pub(crate) fn depths(
-    tile: &Tile,
-    samples: &[BlockSamples],
-    row: u32,
-    column: u32,
-) -> [u8; 16]
+pub(crate) fn depths(tile: &Tile, samples: &[BlockSamples], row: u32, column: u32) -> [u8; 16]
     requires samples { length samples.now ≡ planes_of tile.now.side tile.now.count }
     requires row { row < side_of tile.now.side }
     requires column { column < side_of tile.now.side / 8 }

@@ -54,7 +54,9 @@ fn is_part(tile: &TilePixels, width: u32, pixel_bytes: u32, picture: &[u8]) -> b
     for y in tile.rect.y0..tile.rect.y1 {
         for x in tile.rect.x0..tile.rect.x1 {
             for byte in 0..pixel_bytes {
-                let expected = place(width, pixel_bytes, x, y, byte).and_then(|place| picture.get(place));
+                let expected = place(width, pixel_bytes, x, y, byte).and_then(|place| picture.get(
+                    place,
+                ));
                 if expected.is_none() || bytes.next() != expected {
                     return false;
                 }
@@ -107,7 +109,10 @@ fn white(
         triangles: vec![in alloc; [0, 1, 2]]?,
     })?;
     let (width, height) = size;
-    Ok(DrawList::new(alloc, width, height, count, BLACK, Output::Color, draws).expect(rt, "within the limits"))
+    Ok(DrawList::new(alloc, width, height, count, BLACK, Output::Color, draws).expect(
+        rt,
+        "within the limits",
+    ))
 }
 
 #[test]
@@ -280,7 +285,10 @@ impl Numbers {
             z: self.below(65536) as u16,
         };
         let (width, height) = (1 + self.below(80), 1 + self.below(80));
-        Ok(DrawList::new(alloc, width, height, count, clear, output, draws).expect(rt, "within the limits"))
+        Ok(DrawList::new(alloc, width, height, count, clear, output, draws).expect(
+            rt,
+            "within the limits",
+        ))
     }
 }
 

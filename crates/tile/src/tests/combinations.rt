@@ -10,7 +10,7 @@ use std::process::Abort;
 use std::test::Fail;
 
 /// The size of the pictures in pixels, which is no whole number of tiles.
-const SIZE: (u32, u32) = (44, 27);
+const SIZE: (u32, u32) = (20, 19);
 
 /// A scissor that holds the whole picture, one that cuts through blocks, one along blocks, and one that is empty.
 const SCISSORS: [PixelBox; 4] = [
@@ -23,35 +23,35 @@ const SCISSORS: [PixelBox; 4] = [
     PixelBox {
         x0: 3,
         y0: 5,
-        x1: 38,
-        y1: 21,
+        x1: 18,
+        y1: 14,
     },
     PixelBox {
         x0: 8,
-        y0: 8,
-        x1: 32,
+        y0: 0,
+        x1: 16,
         y1: 16,
     },
     PixelBox {
         x0: 9,
         y0: 9,
         x1: 9,
-        y1: 20,
+        y1: 18,
     },
 ];
 
-/// How many combinations there are: six choices of two, and the scissors.
-const COMBINATIONS: u32 = 64 * 4;
+/// How many combinations there are: five choices of two, and the scissors.
+const COMBINATIONS: u32 = 32 * 4;
 
 /// Whether a combination has the other one of two choices.
 fn has(combination: u32, choice: u32) -> bool
-    requires { choice < 6 }
+    requires { choice < 5 }
 {
     (combination >> choice) % 2 == 1
 }
 
 /// The state of a combination. Number 2 writes colour and depth of every sample.
-fn state(combination: u32) -> State {
+fn combined(combination: u32) -> State {
     State {
         merge: Merge {
             test: if has(combination, 0) {
@@ -65,7 +65,7 @@ fn state(combination: u32) -> State {
         },
         cull: Cull::None,
         sample_mask: if has(combination, 4) { 6 } else { 15 },
-        scissor: SCISSORS[(combination / 64) as usize % 4],
+        scissor: SCISSORS[(combination / 32) as usize % 4],
     }
 }
 
@@ -80,7 +80,7 @@ impl Numbers {
     ) -> Result<Draw, Fail> {
         let first = self.vertex(rt);
         let mut vertices = Vec::new(alloc);
-        for (x, y) in [(-3000, -2000), (22000, -1000), (1000, 17000)] {
+        for (x, y) in [(-1000, -500), (9000, -500), (500, 9000)] {
             let other = self.vertex(rt);
             vertices.push(Vertex {
                 at: Point::new(x, y).expect(rt, "inside of the guard band"),
@@ -103,18 +103,19 @@ impl Numbers {
         })
     }
 
-    /// A list of a draw of this combination over another draw.
-    fn combined(
+    /// A list of a draw in this state over another draw.
+    fn two_draws(
         &mut self,
         rt: &impl Abort,
         alloc: Global,
         count: SampleCount,
         output: Output,
-        combination: u32,
+        state: State,
+        flat: bool,
     ) -> Result<DrawList, Fail> {
         let mut draws = Vec::new(alloc);
-        draws.push(self.over_blocks(rt, alloc, state(2), false)?)?;
-        draws.push(self.over_blocks(rt, alloc, state(combination), has(combination, 5))?)?;
+        draws.push(self.over_blocks(rt, alloc, combined(2), false)?)?;
+        draws.push(self.over_blocks(rt, alloc, state, flat)?)?;
         let clear = Sample {
             r: self.byte(),
             g: self.byte(),
@@ -122,23 +123,24 @@ impl Numbers {
             z: self.below(65536) as u16,
         };
         let (width, height) = SIZE;
-        Ok(
-            DrawList::new(alloc, width, height, count, clear, output, draws)
-                .expect(rt, "within the limits"),
-        )
+        Ok(DrawList::new(alloc, width, height, count, clear, output, draws).expect(
+            rt,
+            "within the limits",
+        ))
     }
 }
 
-/// Draws each combination tile by tile, and each sample by itself.
+/// Draws each combination tile by tile, and each sample by itself; smooth triangles, or flat ones.
 fn compare_all(
     rt: &impl Abort,
     alloc: Global,
     count: SampleCount,
     output: Output,
+    flat: bool,
 ) -> Result<(), Fail> {
     let mut numbers = Numbers { state: 5 };
     for combination in 0..COMBINATIONS {
-        let list = numbers.combined(rt, alloc, count, output, combination)?;
+        let list = numbers.two_draws(rt, alloc, count, output, combined(combination), flat)?;
         let picture = plain::render(alloc, &list)?;
         for side in SIDES {
             assert!(rt; are_parts(alloc, &list, side, &picture)?);
@@ -148,16 +150,28 @@ fn compare_all(
 }
 
 #[test]
-fn draws_every_combination_at_one_sample(rt: HostRuntime) -> Result<(), Fail> {
-    compare_all(&rt, rt.alloc(), SampleCount::One, Output::Color)
+fn draws_every_combination_of_smooth_triangles(rt: HostRuntime) -> Result<(), Fail> {
+    compare_all(&rt, rt.alloc(), SampleCount::One, Output::Color, false)
 }
 
 #[test]
-fn draws_every_combination_at_four_samples(rt: HostRuntime) -> Result<(), Fail> {
-    compare_all(&rt, rt.alloc(), SampleCount::Four, Output::Color)
+fn draws_every_combination_of_flat_triangles(rt: HostRuntime) -> Result<(), Fail> {
+    compare_all(&rt, rt.alloc(), SampleCount::One, Output::Color, true)
+}
+
+#[test]
+fn draws_every_combination_of_smooth_triangles_at_four_samples(
+    rt: HostRuntime,
+) -> Result<(), Fail> {
+    compare_all(&rt, rt.alloc(), SampleCount::Four, Output::Color, false)
+}
+
+#[test]
+fn draws_every_combination_of_flat_triangles_at_four_samples(rt: HostRuntime) -> Result<(), Fail> {
+    compare_all(&rt, rt.alloc(), SampleCount::Four, Output::Color, true)
 }
 
 #[test]
 fn draws_the_depths_of_every_combination(rt: HostRuntime) -> Result<(), Fail> {
-    compare_all(&rt, rt.alloc(), SampleCount::Four, Output::Depth)
+    compare_all(&rt, rt.alloc(), SampleCount::Four, Output::Depth, false)
 }
