@@ -4,3 +4,10 @@ pub mod Decided
 pub mod Drawn
 pub mod Endings
 pub mod Merged
+pub mod Certificate
+pub mod Reciprocals
+pub mod Gradients
+pub mod Modulos
+pub mod Heights
+pub mod FixedPoint
+pub mod CandidateLanes

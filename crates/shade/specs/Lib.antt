@@ -9,3 +9,10 @@ pub mod Resolve
 pub mod Placed
 pub mod Interpolants
 pub mod Ending
+pub mod Candidate
+pub mod Modulo
+pub mod Reciprocal
+pub mod Plane
+pub mod Group
+pub mod AttributePlane
+pub mod Block

@@ -2,16 +2,22 @@
 #![tactic(auto)]
 
 mod blend;
+mod candidates;
+mod colour_planes;
 mod depth;
+mod depth_plane;
 mod depths;
 mod fragments;
 mod gradient;
 mod interpolants;
 mod merging;
 mod placed;
+mod plane;
+mod reciprocal;
 mod resolve;
 mod row;
 mod sample;
+mod slope;
 mod state;
 mod step;
 mod value;
