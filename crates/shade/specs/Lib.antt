@@ -9,4 +9,12 @@ pub mod Resolve
 pub mod Placed
 pub mod Interpolants
 pub mod Block
+pub mod Lanes
+pub mod Sources
 pub mod Ending
+pub mod Candidate
+pub mod Modulo
+pub mod Reciprocal
+pub mod Plane
+pub mod Group
+pub mod AttributePlane

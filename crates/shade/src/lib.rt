@@ -3,17 +3,26 @@
 
 mod blend;
 mod block;
+mod candidates;
+mod colour_planes;
 mod depth;
+mod depth_plane;
 mod depths;
 mod drawing;
 mod fragments;
 mod gradient;
 mod interpolants;
+mod lane_bytes;
+mod lane_mask;
 mod merging;
 mod placed;
+mod plane;
+mod reciprocal;
 mod resolve;
 mod row;
 mod sample;
+mod slope;
+mod sources;
 mod state;
 mod step;
 mod value;

@@ -1,0 +1,80 @@
+ghost use Rattle.std.specs.Prelude.{ℕ, ℤ, pos, ◌≡◌, ◌≤◌, ◌<◌, ◌+◌, ◌*◌, ◌-◌, ◌/◌, ◌%◌, ◌^◌, ◌+ℤ◌, ◌*ℤ◌, ◌-ℤ◌, length, slice_index};
+ghost use Rattle.std.specs.Int.RustNames.{unsigned_abs};
+ghost use Rattle.shade.specs.Modulo.{IsModulo};
+
+use crate::reciprocal::Reciprocal;
+use crate::slope::Slope;
+use std::simd::prelude::*;
+
+/// An attribute in fixed point, modulo 2^64, as a plane over x and y.
+#[derive(Clone, Copy, Debug)]
+pub(crate) struct Plane {
+    start: u64,
+    across: i64,
+    down: i64,
+}
+
+/// Two units of the high half, so that no error takes the plane under the attribute, and a sixteenth for the gradients' errors.
+const ABOVE: u64 = (2 << 32) + (1 << 28);
+
+/// A coordinate times a gradient, modulo 2^64.
+fn scaled(way: i32, gradient: i64) -> u64
+    ensures { IsModulo (way *ℤ gradient) result }
+{
+    i64::from(way)
+        .cast_unsigned()
+        .wrapping_mul(gradient.cast_unsigned())
+}
+
+impl Plane {
+    ghost use Rattle.shade.specs.Plane.{IsPlane, IsPart, IsHeight, IsHighPart};
+
+    /// The plane of a slope that is not steep, with so many fractional bits.
+    pub(crate) fn new(slope: Slope, reciprocal: Reciprocal, bits: u32) -> Plane
+        requires bits { bits ≤ 56 }
+        requires across_bound { unsigned_abs slope.across < 2 ^ 41 }
+        requires across_level { unsigned_abs slope.across < reciprocal.area * 2 ^ (63 - bits) }
+        requires down_bound { unsigned_abs slope.down < 2 ^ 41 }
+        requires down_level { unsigned_abs slope.down < reciprocal.area * 2 ^ (63 - bits) }
+        ensures { IsPlane bits reciprocal.area slope result }
+    {
+        let across = reciprocal.gradient(slope.across, bits);
+        let down = reciprocal.gradient(slope.down, bits);
+        let start = (u64::from(slope.first) << bits)
+            .wrapping_sub(scaled(slope.x, across))
+            .wrapping_sub(scaled(slope.y, down))
+            .wrapping_add(ABOVE);
+        Plane {
+            start,
+            across,
+            down,
+        }
+    }
+
+    /// The growth over a way, modulo 2^64.
+    pub(crate) fn part(&self, x: i32, y: i32) -> u64
+        ensures { IsPart self.now x y result }
+    {
+        scaled(x, self.across).wrapping_add(scaled(y, self.down))
+    }
+
+    /// The height at a point, modulo 2^64.
+    pub(crate) fn height(&self, x: i32, y: i32) -> u64
+        ensures { IsHeight self.now x y result }
+    {
+        self.start.wrapping_add(self.part(x, y))
+    }
+
+    /// The high halves of the growth to each of sixteen pixels, eight columns by two rows.
+    pub(crate) fn lanes(&self) -> u32x16
+        ensures length { length result ≡ 16 }
+        ensures each { (i : ℕ) → i < 16 → IsHighPart self.now (pos (256 * (i % 8))) (pos (256 * (i / 8))) (slice_index result i) }
+    {
+        let mut halves = [0; 16];
+        for i in 0..16 {
+            let part = self.part((256 * (i % 8)) as i32, (256 * (i / 8)) as i32);
+            halves[i] = (part >> 32) as u32;
+        }
+        u32x16::from_array(halves)
+    }
+}
