@@ -11,6 +11,7 @@ mod depths;
 mod drawing;
 mod fragments;
 mod gradient;
+mod group;
 mod interpolants;
 mod lane_bytes;
 mod lane_mask;
