@@ -11,3 +11,4 @@ pub mod Modulos
 pub mod Heights
 pub mod FixedPoint
 pub mod CandidateLanes
+pub mod Slopes

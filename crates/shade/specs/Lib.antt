@@ -13,6 +13,7 @@ pub mod Candidate
 pub mod Modulo
 pub mod Reciprocal
 pub mod Plane
+pub mod Slope
 pub mod Group
 pub mod AttributePlane
 pub mod Block
