@@ -4,6 +4,12 @@ pub mod Decided
 pub mod Drawn
 pub mod Endings
 pub mod Merged
+pub mod Blocks
+pub mod LaneNumbers
+pub mod Lanes
+pub mod Blending
+pub mod Flat
+pub mod Groups
 pub mod Certificate
 pub mod Reciprocals
 pub mod Gradients

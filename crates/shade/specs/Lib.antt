@@ -8,6 +8,9 @@ pub mod Merging
 pub mod Resolve
 pub mod Placed
 pub mod Interpolants
+pub mod Block
+pub mod Lanes
+pub mod Sources
 pub mod Ending
 pub mod Candidate
 pub mod Modulo
@@ -16,4 +19,3 @@ pub mod Plane
 pub mod Slope
 pub mod Group
 pub mod AttributePlane
-pub mod Block

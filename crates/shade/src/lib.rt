@@ -2,14 +2,18 @@
 #![tactic(auto)]
 
 mod blend;
+mod block;
 mod candidates;
 mod colour_planes;
 mod depth;
 mod depth_plane;
 mod depths;
+mod drawing;
 mod fragments;
 mod gradient;
 mod interpolants;
+mod lane_bytes;
+mod lane_mask;
 mod merging;
 mod placed;
 mod plane;
@@ -18,12 +22,14 @@ mod resolve;
 mod row;
 mod sample;
 mod slope;
+mod sources;
 mod state;
 mod step;
 mod value;
 mod weights;
 
 pub use blend::over;
+pub use block::BlockSamples;
 pub use depth::DepthTest;
 pub use depths::Depths;
 pub use fragments::Fragments;

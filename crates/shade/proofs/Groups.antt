@@ -1,0 +1,2 @@
+-- Sixteen samples drawn at once.
+use Rattle.std.proofs.Common.{◌≡◌, ℕ}
