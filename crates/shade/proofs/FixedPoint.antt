@@ -1,6 +1,7 @@
 -- The plane of a slope, as the code forms it.
-use Rattle.std.proofs.Common.{◌≡◌, refl, arith, ℕ, ◌+◌, ◌-◌, ◌*◌, ◌/◌, ◌%◌, ◌<◌, ◌^◌, FitsSigned, w32, w64, to_z, of_z, ℤ, pos, ◌*ℤ◌, ◌+ℤ◌}
+use Rattle.std.proofs.Common.{◌≡◌, refl, inl, inr, ◌⊎◌, arith, ℕ, ◌+◌, ◌-◌, ◌*◌, ◌/◌, ◌%◌, ◌<◌, ◌^◌, FitsSigned, w32, w64, to_z, of_z, ℤ, pos, ◌*ℤ◌, ◌+ℤ◌, ◌-ℤ◌}
 use Rattle.std.proofs.lemmas.Int.{ints, to_z-of_z}
+use Rattle.grid.proofs.Sign.{mul_null}
 use Rattle.shade.specs.declared.plane.Plane.{Plane}
 use Rattle.shade.specs.declared.slope.Slope.{Slope}
 use Rattle.shade.specs.Reciprocal.{IsGradient}
@@ -24,7 +25,7 @@ plane_of bits area s a d from m n fx fy fs ft fa fd m_fits n_fits e h k right be
     let second = rw (to_z-of_z w32 s.y fy, to_z-of_z w64 d fd) at below in
     let start : IsModulo (pos (s.first * 2 ^ bits)) (from * 2 ^ bits) = rw e (modulo_self (s.first * 2 ^ bits)) in
     let moved = wrapped_difference _ _ _ n n_fits (wrapped_difference _ _ _ m m_fits (modulo_rest _ _ start) first) second in
-    rw (to_z-of_z w64 a fa, to_z-of_z w64 d fd) (record { across = across; down = down; start = wrapped_sum _ _ _ _ moved (modulo_self (2 ^ 33 + 2 ^ 28)) })
+    rw (to_z-of_z w64 a fa, to_z-of_z w64 d fd) (record { across = across; down = down; above = 2 ^ 33 + 2 ^ 28; margin = inl refl; start = wrapped_sum _ _ _ _ moved (modulo_self (2 ^ 33 + 2 ^ 28)) })
 
 pub part_of : (x y a d : ℤ) (m n : ℕ) → FitsSigned w32 x → FitsSigned w32 y → FitsSigned w64 a → FitsSigned w64 d
     → IsModulo (to_z w32 (of_z w32 x) *ℤ to_z w64 (of_z w64 a)) m → IsModulo (to_z w32 (of_z w32 y) *ℤ to_z w64 (of_z w64 d)) n
@@ -48,3 +49,15 @@ way_is n h = omega (arith, ints)
 pub lane_of : (p : Plane) (x y m : ℕ) → x < 2 ^ 16 → y < 2 ^ 16 → m < 2 ^ 64
     → IsModulo (to_z w32 x *ℤ p.across +ℤ to_z w32 y *ℤ p.down) m → IsHighPart p (pos x) (pos y) (m / 2 ^ 32)
 lane_of p x y m few few' fits h = record { part = m; fits = fits; is_part = rw (way_is x few, way_is y few') at h; is = refl }
+
+-- the plane of a slope that does not grow
+pub level_of : (bits area : ℕ) (s : Slope) (from : ℕ) → 0 < area → from ≡ s.first → s.across ≡ pos 0 → s.down ≡ pos 0
+    → IsPlane bits area s (record { start = (from * 2 ^ bits % 2 ^ 64 + 3 * 2 ^ 32) % 2 ^ 64; across = pos 0; down = pos 0 })
+level_of bits area s from some e h k =
+    let none : (n : ℤ) → n ≡ pos 0 → IsGradient bits area n (pos 0) = λ n f. rw f (record { low = omega (arith, ints); high = omega (arith, ints) }) in
+    let start : IsModulo (pos (s.first * 2 ^ bits)) (from * 2 ^ bits) = rw e (modulo_self (s.first * 2 ^ bits)) in
+    let sum = wrapped_sum _ _ _ _ (modulo_rest _ _ start) (modulo_self (3 * 2 ^ 32)) in
+    let right = mul_null s.x (pos 0) refl in
+    let below = mul_null s.y (pos 0) refl in
+    let same : pos (s.first * 2 ^ bits) -ℤ s.x *ℤ pos 0 -ℤ s.y *ℤ pos 0 +ℤ pos (3 * 2 ^ 32) ≡ pos (s.first * 2 ^ bits) +ℤ pos (3 * 2 ^ 32) = omega (arith, ints, right, below) in
+    record { across = none s.across h; down = none s.down k; above = 3 * 2 ^ 32; margin = inr (refl, h, k, refl, refl); start = rw same sum }

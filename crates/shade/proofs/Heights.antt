@@ -1,10 +1,11 @@
 -- The candidate at a point, from the high halves of two parts of the plane's height there.
-use Rattle.std.proofs.Common.{◌≡◌, refl, ap, ◌∙◌, [], ◌∷◌, arith, ℕ, ◌+◌, ◌*◌, ◌/◌, ◌%◌, ◌<◌, ◌≤◌, ◌^◌, ℤ, pos, negsuc, ◌+ℤ◌, ◌-ℤ◌, ◌*ℤ◌}
+use Rattle.std.proofs.Common.{◌≡◌, refl, ap, ◌∙◌, [], ◌∷◌, inl, inr, ◌⊎◌, arith, ℕ, ◌+◌, ◌*◌, ◌/◌, ◌%◌, ◌<◌, ◌≤◌, ◌^◌, ℤ, pos, negsuc, ◌+ℤ◌, ◌-ℤ◌, ◌*ℤ◌}
 use Rattle.std.proofs.lemmas.Int.{ints}
 use Rattle.std.proofs.Math.Nat.{lt_of_mul-lt-mul_right, mul-le-mul_right}
 use Rattle.std.proofs.lemmas.Nat.{pow-add}
 use Rattle.grid.specs.Bounds.{IsWithin}
 use Rattle.grid.proofs.Bounds.{IsWithin-mul}
+use Rattle.grid.proofs.Sign.{mul_null}
 use Rattle.grid.proofs.Ring.{var, plus, neg, times, ring}
 use Rattle.shade.specs.declared.plane.Plane.{Plane}
 use Rattle.shade.specs.declared.slope.Slope.{Slope}
@@ -28,10 +29,10 @@ turns_few a b z (pos t) h k l e = (t, omega (arith, ints, e), omega (arith, ints
 turns_few a b z (negsuc t) h k l e = absurd (omega (arith, ints, e))
 
 -- ---- the height, multiplied by the area
--- z is two units of 2^32 above the numerator by the area, and a little more.
+-- z is more than two units of 2^32 above the numerator by the area, and at most three.
 pub record IsAbove (k n area z : ℕ) : Type 0 where
   pub low : n * 2 ^ (32 + k) + 2 ^ 33 * area < z * area
-  pub high : z * area < n * 2 ^ (32 + k) + (2 ^ 33 + 2 ^ 29) * area
+  pub high : z * area ≤ n * 2 ^ (32 + k) + 3 * 2 ^ 32 * area
 
 candidate_of : (k n area z f : ℕ) → IsAbove k n area z → IsHalf z f → IsCandidate k n area f
 candidate_of k n area z f h half =
@@ -39,9 +40,9 @@ candidate_of k n area z f h half =
     let least : f * 2 ^ 32 * area ≤ z * area = mul-le-mul_right area half.low in
     let most : z * area ≤ (f * 2 ^ 32 + 2 ^ 33) * area = mul-le-mul_right area (omega (arith, half.high)) in
     let below : n * 2 ^ k * 2 ^ 32 < f * area * 2 ^ 32 = omega (arith, power, most, h.low) in
-    let above : f * area * 2 ^ 32 < (n * 2 ^ k + 3 * area) * 2 ^ 32 = omega (arith, power, least, h.high) in
+    let above : f * area * 2 ^ 32 ≤ (n * 2 ^ k + 3 * area) * 2 ^ 32 = omega (arith, power, least, h.high) in
     let low : n * 2 ^ k < f * area = lt_of_mul-lt-mul_right (2 ^ 32) below in
-    record { low = omega (arith, low); high = lt_of_mul-lt-mul_right (2 ^ 32) above }
+    record { low = omega (arith, low); high = omega (arith, above) }
 
 above_low : (k n area z : ℕ) → IsAbove k n area z → 2 ^ 33 < z
 above_low k n area z h =
@@ -72,9 +73,9 @@ error v f s ax ay gx gy x y r b up nx ny =
     refl
 
 -- the height at a point, which is not wrapped
-pub height : ℕ → Slope → Plane → ℤ → ℤ → ℤ → ℤ → ℤ
-height f s p x y r b =
-    pos (s.first * f) -ℤ s.x *ℤ p.across -ℤ s.y *ℤ p.down +ℤ pos (2 ^ 33 + 2 ^ 28) +ℤ (x *ℤ p.across +ℤ y *ℤ p.down) +ℤ (r *ℤ p.across +ℤ b *ℤ p.down)
+pub height : ℕ → ℕ → Slope → Plane → ℤ → ℤ → ℤ → ℤ → ℤ
+height f above s p x y r b =
+    pos (s.first * f) -ℤ s.x *ℤ p.across -ℤ s.y *ℤ p.down +ℤ pos above +ℤ (x *ℤ p.across +ℤ y *ℤ p.down) +ℤ (r *ℤ p.across +ℤ b *ℤ p.down)
 
 gradient_within : (bits area : ℕ) (n g : ℤ) → IsGradient bits area n g → IsWithin (2 * area) (g *ℤ pos area -ℤ n *ℤ pos (2 ^ bits))
 gradient_within bits area n g h =
@@ -102,9 +103,9 @@ high_from k n area (negsuc z) e e' some sum first second =
     let product = over_product (negsuc z) 0 area (omega (arith, ints, sum)) in
     absurd (omega (arith, ints, product))
 
-high : (k n area : ℕ) (s : Slope) (p : Plane) (x y r b : ℤ) → IsPlane (32 + k) area s p → IsReached k area s (x +ℤ r) (y +ℤ b) n → IsHigh k n area (height (2 ^ (32 + k)) s p x y r b)
+high_near : (k n area : ℕ) (s : Slope) (p : Plane) (x y r b : ℤ) → IsPlane (32 + k) area s p → IsReached k area s (x +ℤ r) (y +ℤ b) n → IsHigh k n area (height (2 ^ (32 + k)) (2 ^ 33 + 2 ^ 28) s p x y r b)
 unfolding height
-high k n area s p x y r b plane reached =
+high_near k n area s p x y r b plane reached =
     let f = 2 ^ (32 + k) in
     let sum = error (pos s.first) (pos f) (pos area) s.x s.y p.across p.down x y r b (pos (2 ^ 33 + 2 ^ 28)) s.across s.down in
     let value = ap (λ z. z *ℤ pos f) reached.value in
@@ -116,7 +117,36 @@ high k n area s p x y r b plane reached =
     (IsWithin-mul _ _ (2 ^ 23 + 2 ^ 20) (2 * area) reached.near_x (gradient_within (32 + k) area s.across p.across plane.across))
     (IsWithin-mul _ _ (2 ^ 23 + 2 ^ 20) (2 * area) reached.near_y (gradient_within (32 + k) area s.down p.down plane.down))
 
-height_modulo : (bits area : ℕ) (s : Slope) (p : Plane) (x y r b : ℤ) (m n : ℕ) → IsPlane bits area s p → IsHeight p x y m → IsPart p r b n → IsModulo (height (2 ^ bits) s p x y r b) (m + n)
+-- a plane that does not grow is exact
+high_whole : (k n area : ℕ) (h : ℤ) → 0 < area → h *ℤ pos area ≡ pos (n * 2 ^ (32 + k)) +ℤ pos (3 * 2 ^ 32 * area) → IsHigh k n area h
+high_whole k n area (pos z) some sum =
+    record { z = z; is = refl; above = record { low = omega (arith, ints, sum); high = omega (arith, ints, sum) } }
+high_whole k n area (negsuc z) some sum =
+    let product = over_product (negsuc z) 0 area (omega (arith, ints, sum)) in
+    absurd (omega (arith, ints, product))
+
+no_error : (w g n : ℤ) (area f : ℕ) → g ≡ pos 0 → n ≡ pos 0 → w *ℤ (g *ℤ pos area -ℤ n *ℤ pos f) ≡ pos 0
+no_error w g n area f e h = mul_null w (g *ℤ pos area -ℤ n *ℤ pos f) (rw (e, h) (omega (arith, ints)))
+
+high_exact : (k n area : ℕ) (s : Slope) (p : Plane) (x y r b : ℤ) → IsPlane (32 + k) area s p → IsReached k area s (x +ℤ r) (y +ℤ b) n
+    → s.across ≡ pos 0 → s.down ≡ pos 0 → p.across ≡ pos 0 → p.down ≡ pos 0 → IsHigh k n area (height (2 ^ (32 + k)) (3 * 2 ^ 32) s p x y r b)
+unfolding height
+high_exact k n area s p x y r b plane reached e g h l =
+    let f = 2 ^ (32 + k) in
+    let sum = error (pos s.first) (pos f) (pos area) s.x s.y p.across p.down x y r b (pos (3 * 2 ^ 32)) s.across s.down in
+    let value = ap (λ z. z *ℤ pos f) reached.value in
+    let first = no_error (x +ℤ r -ℤ s.x) p.across s.across area f h e in
+    let second = no_error (y +ℤ b -ℤ s.y) p.down s.down area f l g in
+    high_whole k n area _ (area_some (32 + k) area s.across p.across plane.across) (omega (arith, ints, sum, value, first, second))
+
+high : (k n area : ℕ) (s : Slope) (p : Plane) (x y r b : ℤ) → (plane : IsPlane (32 + k) area s p) → IsReached k area s (x +ℤ r) (y +ℤ b) n → IsHigh k n area (height (2 ^ (32 + k)) plane.above s p x y r b)
+high k n area s p x y r b plane reached =
+    elim plane.margin [
+      | inl e ↦ rw e (high_near k n area s p x y r b plane reached)
+      | inr e ↦ rw e.0 (high_exact k n area s p x y r b plane reached e.1 e.2 e.3 e.4)
+    ]
+
+height_modulo : (bits area : ℕ) (s : Slope) (p : Plane) (x y r b : ℤ) (m n : ℕ) → (plane : IsPlane bits area s p) → IsHeight p x y m → IsPart p r b n → IsModulo (height (2 ^ bits) plane.above s p x y r b) (m + n)
 unfolding height
 height_modulo bits area s p x y r b m n plane whole part =
     modulo_sum _ (r *ℤ p.across +ℤ b *ℤ p.down) m n (modulo_through _ (x *ℤ p.across +ℤ y *ℤ p.down) p.start m plane.start whole) part

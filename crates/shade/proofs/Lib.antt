@@ -17,3 +17,4 @@ pub mod Modulos
 pub mod Heights
 pub mod FixedPoint
 pub mod CandidateLanes
+pub mod Slopes

@@ -16,5 +16,6 @@ pub mod Candidate
 pub mod Modulo
 pub mod Reciprocal
 pub mod Plane
+pub mod Slope
 pub mod Group
 pub mod AttributePlane

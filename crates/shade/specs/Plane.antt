@@ -1,20 +1,25 @@
-use Rattle.std.specs.Prelude.{ℕ, ℤ, pos, ◌≡◌, ◌≤◌, ◌<◌, ◌+◌, ◌*◌, ◌^◌, ◌/◌, ◌+ℤ◌, ◌-ℤ◌, ◌*ℤ◌}
+use Rattle.std.specs.Prelude.{ℕ, ℤ, pos, ◌≡◌, ◌⊎◌, ◌≤◌, ◌<◌, ◌+◌, ◌*◌, ◌^◌, ◌/◌, ◌+ℤ◌, ◌-ℤ◌, ◌*ℤ◌}
 use Rattle.grid.specs.Bounds.{IsWithin}
 use Rattle.shade.specs.declared.plane.Plane.{Plane}
 use Rattle.shade.specs.declared.slope.Slope.{Slope}
+use Rattle.shade.specs.Slope.{numerator}
 use Rattle.shade.specs.Reciprocal.{IsGradient}
 use Rattle.shade.specs.Modulo.{IsModulo}
 
--- The numerator of an attribute at a point: the attribute is this by the area.
-abbrev pub numerator : Slope → ℕ → ℤ → ℤ → ℤ
-numerator s area x y = pos (s.first * area) +ℤ (x -ℤ s.x) *ℤ s.across +ℤ (y -ℤ s.y) *ℤ s.down
+-- How far a plane lies above its slope: two units of 2^32 and a sixteenth, so that no error takes it under the slope, and three
+-- units where neither grows.
+abbrev pub IsMargin : Slope → Plane → ℕ → Type 0
+IsMargin s p above =
+    (above ≡ 2 ^ 33 + 2 ^ 28) ⊎ ((above ≡ 3 * 2 ^ 32) × (s.across ≡ pos 0) × (s.down ≡ pos 0) × (p.across ≡ pos 0) × (p.down ≡ pos 0))
 
 -- The plane of a slope with so many fractional bits: its gradients are near the exact ones, and it starts at the slope's vertex,
--- two units of 2^32 and a sixteenth above the attribute there.
+-- by its margin above the attribute there.
 pub record IsPlane (bits area : ℕ) (s : Slope) (p : Plane) : Type 0 where
   pub across : IsGradient bits area s.across p.across
   pub down : IsGradient bits area s.down p.down
-  pub start : IsModulo (pos (s.first * 2 ^ bits) -ℤ s.x *ℤ p.across -ℤ s.y *ℤ p.down +ℤ pos (2 ^ 33 + 2 ^ 28)) p.start
+  pub above : ℕ
+  pub margin : IsMargin s p above
+  pub start : IsModulo (pos (s.first * 2 ^ bits) -ℤ s.x *ℤ p.across -ℤ s.y *ℤ p.down +ℤ pos above) p.start
 
 -- The plane's growth over a way, and its height at a point, modulo 2^64.
 abbrev pub IsPart : Plane → ℤ → ℤ → ℕ → Type 0

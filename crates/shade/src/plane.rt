@@ -14,8 +14,12 @@ pub(crate) struct Plane {
     down: i64,
 }
 
-/// Two units of the high half, so that no error takes the plane under the attribute, and a sixteenth for the gradients' errors.
+/// How far a plane lies above its attribute: two units of the high half, so that no error takes it under the attribute, and a
+/// sixteenth for the gradients' errors.
 const ABOVE: u64 = (2 << 32) + (1 << 28);
+
+/// The same where nothing grows and there is no error: three units, so that each candidate is sure.
+const ABOVE_LEVEL: u64 = 3 << 32;
 
 /// A coordinate times a gradient, modulo 2^64.
 fn scaled(way: i32, gradient: i64) -> u64
@@ -38,9 +42,17 @@ impl Plane {
         requires down_level { unsigned_abs slope.down < reciprocal.area * 2 ^ (63 - bits) }
         ensures { IsPlane bits reciprocal.area slope result }
     {
+        let first = u64::from(slope.first) << bits;
+        if slope.across == 0 && slope.down == 0 {
+            return Plane {
+                start: first.wrapping_add(ABOVE_LEVEL),
+                across: 0,
+                down: 0,
+            };
+        }
         let across = reciprocal.gradient(slope.across, bits);
         let down = reciprocal.gradient(slope.down, bits);
-        let start = (u64::from(slope.first) << bits)
+        let start = first
             .wrapping_sub(scaled(slope.x, across))
             .wrapping_sub(scaled(slope.y, down))
             .wrapping_add(ABOVE);

@@ -11,14 +11,14 @@ pub(crate) struct Reciprocal {
     /// 2^127 - 1 by the shifted area, rounded down.
     value: u64,
     pub ghost exact: { IsReciprocal area shift value },
-    pub ghost small: { area < 2 ^ 48 },
+    pub ghost small: { area ≤ 2 ^ 48 },
 }
 
 impl Reciprocal {
     /// The reciprocal of an area, by one division.
     pub(crate) fn of(area: u64) -> Reciprocal
         requires some { 0 < area }
-        requires bound { area < 2 ^ 48 }
+        requires bound { area ≤ 2 ^ 48 }
         ensures { result.area ≡ area }
     {
         let shift = area.leading_zeros();
