@@ -7,10 +7,10 @@ pub mod Blend
 pub mod Merging
 pub mod Resolve
 pub mod Placed
-pub mod Interpolants
 pub mod Block
 pub mod Lanes
 pub mod Sources
+pub mod Way
 pub mod Ending
 pub mod Candidate
 pub mod Modulo
