@@ -6,7 +6,7 @@ use Rattle.shade.specs.declared.plane.Plane.{Plane}
 use Rattle.shade.specs.declared.slope.Slope.{Slope}
 use Rattle.shade.specs.Reciprocal.{IsGradient}
 use Rattle.shade.specs.Modulo.{IsModulo}
-use Rattle.shade.specs.Plane.{IsPlane, IsHighPart}
+use Rattle.shade.specs.Plane.{IsPlane, IsNumeratorPlane, IsHighPart}
 use Rattle.shade.proofs.Modulos.{modulo_self, modulo_rest, wrapped_sum, wrapped_difference}
 
 pub plane_of : (bits area : ℕ) (s : Slope) (a d : ℤ) (from m n : ℕ)
@@ -61,3 +61,18 @@ level_of bits area s from some e h k =
     let below = mul_null s.y (pos 0) refl in
     let same : pos (s.first * 2 ^ bits) -ℤ s.x *ℤ pos 0 -ℤ s.y *ℤ pos 0 +ℤ pos (3 * 2 ^ 32) ≡ pos (s.first * 2 ^ bits) +ℤ pos (3 * 2 ^ 32) = omega (arith, ints, right, below) in
     record { across = none s.across h; down = none s.down k; above = 3 * 2 ^ 32; margin = inr (refl, h, k, refl, refl); start = rw same sum }
+
+-- the numerator as a plane
+pub numerator_of : (area : ℕ) (s : Slope) (from m n : ℕ) → FitsSigned w32 s.x → FitsSigned w32 s.y → FitsSigned w64 s.across → FitsSigned w64 s.down → m < 2 ^ 64 → n < 2 ^ 64 → from ≡ s.first
+    → IsModulo (to_z w32 (of_z w32 s.x) *ℤ to_z w64 (of_z w64 s.across)) m → IsModulo (to_z w32 (of_z w32 s.y) *ℤ to_z w64 (of_z w64 s.down)) n
+    → IsNumeratorPlane area s (record {
+      start = ((from * area % 2 ^ 64 + (2 ^ 64 - m)) % 2 ^ 64 + (2 ^ 64 - n)) % 2 ^ 64;
+      across = to_z w64 (of_z w64 s.across);
+      down = to_z w64 (of_z w64 s.down);
+    })
+numerator_of area s from m n fx fy fs ft m_fits n_fits e right below =
+    let first = rw (to_z-of_z w32 s.x fx, to_z-of_z w64 s.across fs) at right in
+    let second = rw (to_z-of_z w32 s.y fy, to_z-of_z w64 s.down ft) at below in
+    let start : IsModulo (pos (s.first * area)) (from * area) = rw e (modulo_self (s.first * area)) in
+    let moved = wrapped_difference _ _ _ n n_fits (wrapped_difference _ _ _ m m_fits (modulo_rest _ _ start) first) second in
+    rw (to_z-of_z w64 s.across fs, to_z-of_z w64 s.down ft) (record { across = refl; down = refl; start = moved })

@@ -18,3 +18,4 @@ pub mod Heights
 pub mod FixedPoint
 pub mod CandidateLanes
 pub mod Slopes
+pub mod AttributePlanes

@@ -21,6 +21,12 @@ pub record IsPlane (bits area : ℕ) (s : Slope) (p : Plane) : Type 0 where
   pub margin : IsMargin s p above
   pub start : IsModulo (pos (s.first * 2 ^ bits) -ℤ s.x *ℤ p.across -ℤ s.y *ℤ p.down +ℤ pos above) p.start
 
+-- The numerator itself as a plane, with no fractional bits.
+pub record IsNumeratorPlane (area : ℕ) (s : Slope) (p : Plane) : Type 0 where
+  pub across : p.across ≡ s.across
+  pub down : p.down ≡ s.down
+  pub start : IsModulo (pos (s.first * area) -ℤ s.x *ℤ s.across -ℤ s.y *ℤ s.down) p.start
+
 -- The plane's growth over a way, and its height at a point, modulo 2^64.
 abbrev pub IsPart : Plane → ℤ → ℤ → ℕ → Type 0
 IsPart p x y n = IsModulo (x *ℤ p.across +ℤ y *ℤ p.down) n

@@ -1,20 +1,17 @@
-ghost use Rattle.std.specs.Prelude.{ℕ, ℤ, pos, ◌≡◌, ◌+◌, ◌*◌, ◌<◌, ◌≤◌, ◌/◌, ◌^◌, ◌+ℤ◌, ◌-ℤ◌, IsTrue, length, slice_index};
+//! Candidates of sixteen values, and what is done with them.
+ghost use Rattle.std.specs.Prelude.{ℕ, ℤ, pos, ◌≡◌, ◌⊎◌, ◌-◌, ◌*◌, ◌<◌, ◌≤◌, ◌/◌, ◌%◌, ◌^◌, ◌+◌, ◌+ℤ◌, ◌-ℤ◌, IsTrue, min, length, slice_index};
+ghost use Rattle.std.specs.Simd.Lanes.{Each1};
 ghost use Rattle.shade.specs.declared.plane.Plane.{Plane};
 ghost use Rattle.shade.specs.declared.slope.Slope.{Slope};
 ghost use Rattle.shade.specs.Quotient.{IsQuotient};
+ghost use Rattle.shade.specs.Modulo.{IsModulo};
 ghost use Rattle.shade.specs.Candidate.{IsCandidate, IsNear};
-ghost use Rattle.shade.specs.Plane.{IsPlane, IsPart, IsHeight, IsHighPart, IsReached};
+ghost use Rattle.shade.specs.Plane.{IsPlane, IsHeight, IsHighPart, IsReached};
 
 use std::simd::prelude::*;
 
-/// The candidate of `k` fractional bits at a point, from the high halves of a plane's height near it and of its growth from there.
-pub(crate) fn candidate(height: u64, part: u64) -> u32
-    ensures { (k area n : ℕ) (s : Slope) (p : Plane) (x y right below : ℤ) → IsPlane (32 + k) area s p → IsHeight p x y height → IsPart p right below part → IsReached k area s (x +ℤ right) (y +ℤ below) n → IsCandidate k n area result }
-{
-    ((height >> 32) as u32).wrapping_add((part >> 32) as u32)
-}
-
 /// The candidates at sixteen points, from the high halves of a plane's growth to each and of its height.
+#[inline(always)]
 pub(crate) fn candidates(lanes: u32x16, height: u64) -> u32x16
     requires { length lanes ≡ 16 }
     ensures length { length result ≡ 16 }
@@ -23,46 +20,63 @@ pub(crate) fn candidates(lanes: u32x16, height: u64) -> u32x16
     lanes + u32x16::splat((height >> 32) as u32)
 }
 
-/// The whole part of a candidate with so many fractional bits: the quotient or the number after it.
+/// The whole parts of sixteen candidates with so many fractional bits.
 #[inline(always)]
-pub(crate) fn whole(candidate: u32, bits: u32) -> u32
-    requires low { 2 ≤ bits }
-    requires high { bits < 32 }
-    ensures value { result ≡ candidate / 2 ^ bits }
-    ensures near { (n s : ℕ) → 0 < s → IsCandidate bits n s candidate → IsNear n s result }
-    ensures cases { (n s q : ℕ) → 0 < s → IsCandidate bits n s candidate → IsQuotient n s q → (q ≤ result) × (result ≤ q + 1) }
-{
-    candidate >> bits
-}
-
-/// The whole parts of sixteen candidates.
-#[inline(always)]
-pub(crate) fn wholes(candidates: u32x16, bits: u32) -> u32x16
-    requires long { length candidates ≡ 16 }
-    requires high { bits < 32 }
+pub(crate) fn wholes(candidates: u32x16, bits: u32) -> u16x16
+    requires { (bits ≡ 16) ⊎ (bits ≡ 24) }
     ensures length { length result ≡ 16 }
     ensures each { (i : ℕ) → i < 16 → slice_index result i ≡ slice_index candidates i / 2 ^ bits }
+    ensures bytes { bits ≡ 24 → Each1 (λ n. n ≤ 255) result }
 {
-    candidates >> u32x16::splat(bits)
+    (candidates >> u32x16::splat(bits)).cast::<u16>()
 }
 
-/// Whether the whole part of a candidate with so many fractional bits is surely the quotient.
+/// The fractions of sixteen candidates, in units of their last bit. `mask` has a bit for each fractional one.
 #[inline(always)]
-pub(crate) fn is_sure(candidate: u32, bits: u32) -> bool
-    requires low { 2 ≤ bits }
-    requires high { bits < 32 }
-    ensures { (n s : ℕ) → 0 < s → IsTrue result → IsCandidate bits n s candidate → IsQuotient n s (candidate / 2 ^ bits) }
+pub(crate) fn fractions(candidates: u32x16, mask: u32) -> u32x16
+    ensures length { length result ≡ 16 }
+    ensures each { (i k : ℕ) → i < 16 → mask ≡ 2 ^ k - 1 → slice_index result i ≡ slice_index candidates i % 2 ^ k }
 {
-    candidate % (1 << bits) >= 3
+    candidates & u32x16::splat(mask)
+}
+
+/// The lesser of the two, lane by lane.
+#[inline(always)]
+pub(crate) fn least(a: u32x16, b: u32x16) -> u32x16
+    ensures length { length result ≡ 16 }
+    ensures each { (i : ℕ) → i < 16 → slice_index result i ≡ min (slice_index a i) (slice_index b i) }
+{
+    a.simd_lt(b).select(a, b)
+}
+
+/// The least fraction, in units of the last bit, with which the whole part of a candidate is surely the value.
+const SURE: u32 = 3;
+
+/// Whether the whole parts of candidates with these fractions are surely the values.
+#[inline(always)]
+pub(crate) fn are_sure(fractions: u32x16) -> bool
+    ensures { IsTrue result → (i : ℕ) → i < 16 → 3 ≤ slice_index fractions i }
+{
+    fractions.simd_lt(u32x16::splat(SURE)).to_bitmask() == 0
+}
+
+/// What is left of a numerator without so many times the area, where it is less than the area in size.
+pub(crate) fn rest(numerator: u64, value: u16, area: u64) -> i64
+    ensures { (n : ℕ) → area ≤ 2 ^ 48 → IsModulo (pos n) numerator → IsNear n area value → result ≡ pos n -ℤ pos (value * area) }
+{
+    numerator
+        .wrapping_sub(u64::from(value).wrapping_mul(area))
+        .cast_signed()
 }
 
 /// The quotient, from it or the number after it, by the sign of what is left.
 #[inline(always)]
-pub(crate) fn corrected(value: u32, left: i64) -> u32
-    ensures { (n s : ℕ) → IsNear n s value → left ≡ pos n -ℤ pos (value * s) → IsQuotient n s result }
+pub(crate) fn corrected(value: u16, left: i64) -> u16
+    ensures value { (n s : ℕ) → IsNear n s value → left ≡ pos n -ℤ pos (value * s) → IsQuotient n s result }
+    ensures at_most { result ≤ value }
 {
     if left < 0 {
-        value.wrapping_sub(1)
+        value.saturating_sub(1)
     } else {
         value
     }

@@ -5,16 +5,27 @@ ghost use Rattle.shade.specs.declared.placed.Placed.{Placed as Triangle};
 ghost use Rattle.shade.specs.Placed.{IsInterpolated};
 ghost use Rattle.shade.specs.Block.{position_in};
 ghost use Rattle.shade.specs.Group.{IsGroupOnScreen};
-ghost use Rattle.shade.specs.AttributePlane.{IsDepthPlane};
+ghost use Rattle.shade.specs.AttributePlane.{IsAttributePlane, IsDepthPlane};
 
+use crate::attribute_plane::AttributePlane;
+use crate::candidates::{are_sure, fractions, wholes};
 use crate::placed::Placed;
 use crate::reciprocal::Reciprocal;
+use grid::Tri;
 use std::simd::prelude::*;
+
+/// What the vertices of `t` have as depths, made ready for sixteen samples at once.
+fn plane_of_depths(t: &Tri, values: [u16; 3], reciprocal: Reciprocal) -> Option<AttributePlane>
+    requires { reciprocal.area ≡ unsigned_abs (doubled_area t.now.a t.now.b t.now.c) }
+    ensures { IfSome result (λ p. IsAttributePlane 16 t.now.a t.now.b t.now.c values p) }
+{
+    AttributePlane::new(t, values, reciprocal, 16)
+}
 
 /// The depth of a triangle, made ready for sixteen samples at once.
 #[derive(Clone, Copy, Debug)]
 pub(crate) struct DepthPlane {
-    area: u64,
+    depth: AttributePlane,
 }
 
 impl DepthPlane {
@@ -23,7 +34,8 @@ impl DepthPlane {
         requires { reciprocal.area ≡ unsigned_abs (doubled_area placed.now.tri.a placed.now.tri.b placed.now.tri.c) }
         ensures { IfSome result (λ p. IsDepthPlane placed.now p) }
     {
-        None
+        let depth = plane_of_depths(&placed.tri, placed.z, reciprocal)?;
+        Some(DepthPlane { depth })
     }
 
     /// The depths at sixteen samples, two rows of eight pixels, the first of which is at (x, y): right wherever the triangle
@@ -35,6 +47,12 @@ impl DepthPlane {
         ensures values { (t : Triangle) (i : ℕ) → IsDepthPlane t self.now → i < 16 → Covers t.tri.a t.tri.b t.tri.c (position_in (record { x = x; y = y }) i)
             → IsInterpolated t (position_in (record { x = x; y = y }) i) t.z (slice_index result i) }
     {
-        u16x16::splat(0)
+        let candidates = self.depth.candidates(x, y);
+        let found = wholes(candidates, 16);
+        if are_sure(fractions(candidates, 0xffff)) {
+            found
+        } else {
+            self.depth.corrected(x, y, found)
+        }
     }
 }

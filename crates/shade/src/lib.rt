@@ -1,6 +1,7 @@
 //! Values at covered points, depth tests, blending, the step of one sample, and its resolve.
 #![tactic(auto)]
 
+mod attribute_plane;
 mod blend;
 mod block;
 mod candidates;

@@ -22,6 +22,7 @@ const ABOVE: u64 = (2 << 32) + (1 << 28);
 const ABOVE_LEVEL: u64 = 3 << 32;
 
 /// A coordinate times a gradient, modulo 2^64.
+#[inline(always)]
 fn scaled(way: i32, gradient: i64) -> u64
     ensures { IsModulo (way *ℤ gradient) result }
 {
@@ -31,7 +32,7 @@ fn scaled(way: i32, gradient: i64) -> u64
 }
 
 impl Plane {
-    ghost use Rattle.shade.specs.Plane.{IsPlane, IsPart, IsHeight, IsHighPart};
+    ghost use Rattle.shade.specs.Plane.{IsPlane, IsNumeratorPlane, IsPart, IsHeight, IsHighPart};
 
     /// The plane of a slope that is not steep, with so many fractional bits.
     pub(crate) fn new(slope: Slope, reciprocal: Reciprocal, bits: u32) -> Plane
@@ -63,7 +64,23 @@ impl Plane {
         }
     }
 
+    /// The numerator of a slope as a plane.
+    pub(crate) fn of_numerator(slope: Slope, area: u64) -> Plane
+        ensures { IsNumeratorPlane area slope result }
+    {
+        let start = u64::from(slope.first)
+            .wrapping_mul(area)
+            .wrapping_sub(scaled(slope.x, slope.across))
+            .wrapping_sub(scaled(slope.y, slope.down));
+        Plane {
+            start,
+            across: slope.across,
+            down: slope.down,
+        }
+    }
+
     /// The growth over a way, modulo 2^64.
+    #[inline(always)]
     pub(crate) fn part(&self, x: i32, y: i32) -> u64
         ensures { IsPart self.now x y result }
     {
@@ -71,6 +88,7 @@ impl Plane {
     }
 
     /// The height at a point, modulo 2^64.
+    #[inline(always)]
     pub(crate) fn height(&self, x: i32, y: i32) -> u64
         ensures { IsHeight self.now x y result }
     {
