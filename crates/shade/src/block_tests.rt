@@ -80,10 +80,24 @@ impl Random {
         [self.byte(), self.byte(), self.byte(), self.byte()]
     }
 
-    /// A point at most 1024 pixels from the block's first sample.
-    fn point(&mut self, rt: &impl Abort) -> Point {
-        let (x, y) = (self.below(524_288) as i32, self.below(524_288) as i32);
-        point(rt, x - 200_000, y - 200_000)
+    /// A triangle around the block at (80, 120), as large as the block or much larger.
+    fn triangle(&mut self, rt: &impl Abort) -> Tri {
+        let reach = if self.coin() { 4096 } else { 300_000 };
+        Tri::new(
+            self.point(rt, reach),
+            self.point(rt, reach),
+            self.point(rt, reach),
+        )
+    }
+
+    /// A point this far from the block's middle at most, in x and in y.
+    fn point(&mut self, rt: &impl Abort, reach: i32) -> Point
+        requires some { pos 0 <ℤ reach }
+        requires few { reach <ℤ pos 1000000 }
+    {
+        let span = 2 * reach as u32;
+        let (x, y) = (self.below(span) as i32, self.below(span) as i32);
+        point(rt, 21_504 + x - reach, 31_744 + y - reach)
     }
 
     fn sample(&mut self) -> Sample {
@@ -93,6 +107,29 @@ impl Random {
             b: self.byte(),
             z: self.depth(),
         }
+    }
+
+    /// The same three times, or three of their own.
+    fn depths(&mut self, flat: bool) -> [u16; 3] {
+        let z = self.depth();
+        if flat {
+            [z, z, z]
+        } else {
+            [z, self.depth(), self.depth()]
+        }
+    }
+
+    /// The same colour three times, or three of their own; alpha may differ where only colour has to be the same.
+    fn colours(&mut self, flat: bool, flat_alpha: bool) -> [[u8; 4]; 3] {
+        let first = self.rgba();
+        if !flat {
+            return [first, self.rgba(), self.rgba()];
+        }
+        let [r, g, b, _] = first;
+        if flat_alpha {
+            return [first, first, first];
+        }
+        [first, [r, g, b, self.byte()], [r, g, b, self.byte()]]
     }
 
     fn samples(&mut self) -> BlockSamples {
@@ -125,5 +162,87 @@ fn compare(rt: &impl Abort, t: &Placed, p: Point, wanted: u64, old: &BlockSample
             stored
         };
         assert_eq!(rt; new.sample(k as usize), expected, "{name}: pixel {k}");
+    }
+}
+
+/// All depth tests.
+const TESTS: [DepthTest; 8] = [
+    DepthTest::Never,
+    DepthTest::Less,
+    DepthTest::Equal,
+    DepthTest::LessEqual,
+    DepthTest::Greater,
+    DepthTest::NotEqual,
+    DepthTest::GreaterEqual,
+    DepthTest::Always,
+];
+
+/// Write masks with all channels, none, one and two.
+const WRITES: [[bool; 3]; 4] = [
+    [true, true, true],
+    [false, false, false],
+    [false, true, false],
+    [true, false, true],
+];
+
+/// A triangle near the block, drawn by this merge.
+fn placed(rt: &impl Abort, random: &mut Random, merge: Merge, flat: [bool; 3]) -> Placed {
+    let [flat_z, flat_colour, flat_alpha] = flat;
+    Placed {
+        tri: random.triangle(rt),
+        z: random.depths(flat_z),
+        rgba: random.colours(flat_colour, flat_alpha),
+        state: State {
+            merge,
+            cull: Cull::None,
+            sample_mask: 15,
+            scissor: PixelBox {
+                x0: 0,
+                y0: 0,
+                x1: 4096,
+                y1: 4096,
+            },
+        },
+    }
+}
+
+/// Generated triangles, drawn by this merge.
+fn compare_all(rt: &impl Abort, random: &mut Random, merge: Merge) {
+    let p = point(rt, 20_576, 30_880);
+    for flat in [
+        [true, true, true],
+        [true, true, false],
+        [true, false, false],
+        [false, true, true],
+        [false, true, false],
+        [false, false, false],
+    ] {
+        for wanted in [u64::MAX, 0x00ff_f0f0_0000_5aa5] {
+            let t = placed(rt, random, merge, flat);
+            let old = random.samples();
+            if t.tri.area2() != 0 {
+                compare(rt, &t, p, wanted, &old, "generated");
+            }
+        }
+    }
+}
+
+#[test]
+fn draws_blocks_as_samples_one_by_one(rt: HostRuntime) {
+    let mut random = Random(5);
+    for test in TESTS {
+        for write in WRITES {
+            for depth_write in [false, true] {
+                for over in [false, true] {
+                    let merge = Merge {
+                        test,
+                        depth_write,
+                        write,
+                        over,
+                    };
+                    compare_all(&rt, &mut random, merge);
+                }
+            }
+        }
     }
 }

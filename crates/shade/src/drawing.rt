@@ -92,7 +92,16 @@ fn draw_rows(
     }
     let covered = lanes_of(whole, mask, group);
     let (x, y) = (p.x(), p.y() + 512 * group as i32);
-    draw_group(merge, depth, colour, covered, x, y, samples, 16 * group as usize);
+    draw_group(
+        merge,
+        depth,
+        colour,
+        covered,
+        x,
+        y,
+        samples,
+        16 * group as usize,
+    );
 }
 
 /// Draws a block by two rows at once.

@@ -80,13 +80,7 @@ fn store_depths(written: bool, mask: u16x16, z: u16x16, old: u16x16, stored: &mu
 /// Tests depths against sixteen stored ones from a place on, where the mask is set, and stores those that pass where depth
 /// writes are on. The answer is the mask of those that pass.
 #[inline(always)]
-fn test_depths(
-    merge: &Merge,
-    mask: u16x16,
-    z: u16x16,
-    stored: &mut [u16],
-    at: usize,
-) -> u16x16
+fn test_depths(merge: &Merge, mask: u16x16, z: u16x16, stored: &mut [u16], at: usize) -> u16x16
     requires room { at + 16 ≤ length stored.old }
     ensures set { (i : ℕ) → i < 16 → slice_index mask i ≡ 65535
         → IsTested merge.now (slice_index z i) (slice_index stored.old (at + i)) (slice_index stored.new (at + i)) (slice_index result i) }
@@ -155,7 +149,31 @@ pub(crate) fn draw_group(
         return;
     }
     let c = colour.values(merge.over, x, y);
-    draw_channel(merge.write[0], merge.over, drawn, c.r, c.a, &mut samples.r, at);
-    draw_channel(merge.write[1], merge.over, drawn, c.g, c.a, &mut samples.g, at);
-    draw_channel(merge.write[2], merge.over, drawn, c.b, c.a, &mut samples.b, at);
+    draw_channel(
+        merge.write[0],
+        merge.over,
+        drawn,
+        c.r,
+        c.a,
+        &mut samples.r,
+        at,
+    );
+    draw_channel(
+        merge.write[1],
+        merge.over,
+        drawn,
+        c.g,
+        c.a,
+        &mut samples.g,
+        at,
+    );
+    draw_channel(
+        merge.write[2],
+        merge.over,
+        drawn,
+        c.b,
+        c.a,
+        &mut samples.b,
+        at,
+    );
 }

@@ -41,8 +41,14 @@ fn plain_colour(placed: &Placed) -> Option<ColourSource>
 {
     let [[r, g, b, a], second, third] = placed.rgba;
     let blended = placed.state.merge.over;
-    if r == second[0] && g == second[1] && b == second[2] && (!blended || a == second[3])
-        && r == third[0] && g == third[1] && b == third[2] && (!blended || a == third[3])
+    if r == second[0]
+        && g == second[1]
+        && b == second[2]
+        && (!blended || a == second[3])
+        && r == third[0]
+        && g == third[1]
+        && b == third[2]
+        && (!blended || a == third[3])
     {
         return Some(ColourSource::Flat([r, g, b, a]));
     }
