@@ -133,7 +133,8 @@ fn is_whole(mask: u64) -> bool
 }
 
 /// The same with code of its own for a block that is drawn whole, where masks are left out.
-fn draw_by_rows(
+#[inline(always)]
+fn draw_by_mask(
     merge: &Merge,
     depth: &DepthSource,
     colour: &ColourSource,
@@ -151,6 +152,61 @@ fn draw_by_rows(
     }
 }
 
+/// The same with code of its own for each source of colour: a variant that is named again is known where the code is inlined.
+#[inline(always)]
+fn draw_by_colour(
+    merge: &Merge,
+    depth: &DepthSource,
+    colour: &ColourSource,
+    p: Point,
+    mask: u64,
+    samples: &mut BlockSamples,
+)
+    requires { IsOnScreen p }
+    ensures { (t : Triangle) → AreSourcesOf t merge.now depth.now colour.now → CoversMask t p mask → AreDrawn t p mask samples.old samples.new 0 64 }
+{
+    match colour {
+        ColourSource::Flat(rgba) => {
+            draw_by_mask(merge, depth, &ColourSource::Flat(*rgba), p, mask, samples);
+        }
+        ColourSource::Planes(planes) => {
+            draw_by_mask(
+                merge,
+                depth,
+                &ColourSource::Planes(*planes),
+                p,
+                mask,
+                samples,
+            );
+        }
+    }
+}
+
+/// The same with code of its own for each source of depth.
+fn draw_by_depth(
+    merge: &Merge,
+    depth: &DepthSource,
+    colour: &ColourSource,
+    p: Point,
+    mask: u64,
+    samples: &mut BlockSamples,
+)
+    requires { IsOnScreen p }
+    ensures { (t : Triangle) → AreSourcesOf t merge.now depth.now colour.now → CoversMask t p mask → AreDrawn t p mask samples.old samples.new 0 64 }
+{
+    match depth {
+        DepthSource::Unused => {
+            draw_by_colour(merge, &DepthSource::Unused, colour, p, mask, samples);
+        }
+        DepthSource::Flat(z) => {
+            draw_by_colour(merge, &DepthSource::Flat(*z), colour, p, mask, samples);
+        }
+        DepthSource::Plane(plane) => {
+            draw_by_colour(merge, &DepthSource::Plane(*plane), colour, p, mask, samples);
+        }
+    }
+}
+
 impl Interpolants {
     /// Draws the triangle at samples of a block whose first sample is at `p`; bit k of `mask` tells whether pixel k (row k / 8,
     /// column k % 8) is drawn.
@@ -164,7 +220,7 @@ impl Interpolants {
             Way::Each => self.placed.draw_each(p, mask, samples),
             Way::Groups(depth, colour) => {
                 let merge = self.placed.state.merge;
-                draw_by_rows(&merge, depth, colour, p, mask, samples);
+                draw_by_depth(&merge, depth, colour, p, mask, samples);
             }
         }
     }
