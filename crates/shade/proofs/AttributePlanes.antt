@@ -148,6 +148,6 @@ least_second m a b e h = omega (arith, e, h, min-le_right a b)
 
 pub corrected_lane : (q : AttributePlane) (p : Position) (i found found' value : ℕ) (x y : ℤ)
     → ((k : ℕ) (a b c : Position) (values : List ℕ) → IsAttributePlane k a b c values q → Covers a b c (record { x = x; y = y }) → IsNear (sum_at a b c values (record { x = x; y = y })) (unsigned_abs (doubled_area a b c)) found'
-      → IsValueAt a b c (record { x = x; y = y }) (get_or values 0 0) (get_or values 1 0) (get_or values 2 0) value)
+    → IsValueAt a b c (record { x = x; y = y }) (get_or values 0 0) (get_or values 1 0) (get_or values 2 0) value)
     → value ≤ found' → found' ≡ found → x ≡ p.x +ℤ pos (256 * (i % 8)) → y ≡ p.y +ℤ pos (256 * (i / 8)) → IsCorrected q p i found value
 corrected_lane q p i found found' value x y right most g e f = record { at_most = rw g at most; right = rw (e, f, g) at right }

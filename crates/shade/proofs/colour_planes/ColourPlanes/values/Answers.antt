@@ -56,4 +56,3 @@ returns-else-are_all_sure-clause-alpha c t i asked planes less covered =
     let are = (rw (to_z-of_z w32 c.args.x c.ranges.x, to_z-of_z w32 c.args.y c.ranges.y) at c.alpha_candidates-alpha.ensures.each) 24 t.tri.a t.tri.b t.tri.c (channel t 3) asked planes.of_alpha in
     let near = wholes_near 24 t.tri.a t.tri.b t.tri.c p (channel t 3) c.alpha_candidates-alpha.result c.wholes-4.result planes.of_alpha.narrow are c.wholes-4.ensures.each in
     (rw (to_z-of_z w32 c.args.x c.ranges.x, to_z-of_z w32 c.args.y c.ranges.y) at c.corrected.ensures.alpha) 24 t.tri.a t.tri.b t.tri.c (channel t 3) asked planes.of_alpha near i less covered
-
