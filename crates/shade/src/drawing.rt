@@ -19,7 +19,7 @@ use grid::Point;
 use std::simd::prelude::*;
 
 /// The sample of pixel `k` of a block whose first sample is at `p`.
-fn sample_position(p: Point, k: u32) -> Point
+pub(crate) fn sample_position(p: Point, k: u32) -> Point
     requires on_screen { IsOnScreen p }
     requires pixel { k < 64 }
     ensures { result ≡ position_in p k }

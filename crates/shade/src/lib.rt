@@ -44,4 +44,6 @@ pub use value::floor_at;
 pub use weights::Weights;
 
 #[cfg(test)]
+mod block_tests;
+#[cfg(test)]
 mod tests;
