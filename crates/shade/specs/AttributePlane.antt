@@ -5,7 +5,6 @@ use Rattle.grid.specs.Position.{Position}
 use Rattle.grid.specs.Triangle.{doubled_area, Covers}
 use Rattle.shade.specs.Value.{weighted_sum, IsValueAt}
 use Rattle.shade.specs.Row.{IsSmall}
-use Rattle.shade.specs.Interpolants.{AreBytes}
 use Rattle.shade.specs.Block.{position_in}
 use Rattle.shade.specs.Candidate.{IsCandidate, IsNear}
 use Rattle.shade.specs.Slope.{IsSlope}
@@ -42,6 +41,12 @@ AreValues a b c values p lanes =
 pub record AreHighParts (p : Plane) (lanes : List ℕ) : Type 0 where
   pub long : length lanes ≡ 16
   pub each : (i : ℕ) → i < 16 → IsHighPart p (pos (256 * (i % 8))) (pos (256 * (i / 8))) (slice_index lanes i)
+
+-- The values fit 8 bits.
+pub record AreBytes (values : List ℕ) : Type 0 where
+  pub first : slice_index values 0 ≤ 255
+  pub second : slice_index values 1 ≤ 255
+  pub third : slice_index values 2 ≤ 255
 
 -- The values of depth leave 16 fractional bits of 32, and those of a channel 24.
 abbrev pub IsNarrow : ℕ → List ℕ → Type 0

@@ -1,4 +1,4 @@
-use Rattle.std.proofs.Common.{◌≡◌, ◌⊎◌, inl, inr, ℕ, ◌<◌, eqb, ltb, get_or, arith, w32, IsTrue}
+use Rattle.std.proofs.Common.{◌≡◌, inl, inr, ℕ, eqb, ltb, get_or, arith, w32, IsTrue}
 use Rattle.std.proofs.lemmas.Simd.{bitmask_splat}
 use Rattle.std.proofs.lemmas.Bool.{cases_lt}
 use Rattle.std.proofs.lemmas.Bool.Decides.{nat_tests, Decides-ltb}

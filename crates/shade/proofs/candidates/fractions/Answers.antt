@@ -1,4 +1,4 @@
-use Rattle.std.proofs.Common.{ℕ, get_or, replicate, ap, ◌∙◌, bit_and}
+use Rattle.std.proofs.Common.{get_or, replicate, ap, ◌∙◌, bit_and}
 use Rattle.std.proofs.lemmas.Nat.{and_mask}
 use Rattle.shade.proofs.Lanes.{itself, zipped, splat}
 use Rattle.shade.proofs.candidates.fractions.Goals as goal

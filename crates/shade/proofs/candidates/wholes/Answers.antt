@@ -1,4 +1,4 @@
-use Rattle.std.proofs.Common.{◌≡◌, ◌⊎◌, ℕ, ◌/◌, ◌^◌, ◌<◌, ◌≤◌, List, length, get_or, replicate, ap, ◌∙◌, arith, w16, w32, Fits}
+use Rattle.std.proofs.Common.{◌≡◌, ℕ, ◌/◌, ◌^◌, ◌<◌, List, length, get_or, replicate, ap, ◌∙◌, arith, w32, Fits}
 use Rattle.std.proofs.lemmas.Simd.{Each1-get_or}
 use Rattle.std.proofs.lemmas.List.{map-id}
 use Rattle.std.specs.Simd.Lanes.{zip2, Each1}

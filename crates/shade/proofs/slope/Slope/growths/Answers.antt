@@ -1,4 +1,4 @@
-use Rattle.std.proofs.Common.{arith, slice_index, pos, ◌≡◌, ◌+ℤ◌, ◌-ℤ◌, ◌*ℤ◌}
+use Rattle.std.proofs.Common.{arith, slice_index, pos}
 use Rattle.std.proofs.lemmas.Int.{ints}
 use Rattle.shade.proofs.Slopes.{growths_of, growth_is, sum_is, sum_within}
 use Rattle.shade.proofs.slope.Slope.growths.Goals as goal
