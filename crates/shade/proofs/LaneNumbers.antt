@@ -3,7 +3,7 @@ use Rattle.std.proofs.Common.{◌≡◌, ◌≢◌, ◌↔◌, ℕ, ◌+◌, ◌
 use Rattle.std.specs.Int.{bit_at}
 use Rattle.std.proofs.Math.Nat.{div-div-eq-div-mul}
 use Rattle.std.proofs.lemmas.Nat.{pow_pos, pow-add, and_mask, and_comm}
-use Rattle.std.proofs.lemmas.Nat.Bits.{and_pow, bit_at-lt, bit_at_cat_low}
+use Rattle.std.proofs.lemmas.Nat.Bits.{and_pow, bit_at-lt, bit_at-zero, bit_at_cat_low}
 use Rattle.std.proofs.Math.Nat.{mul-le-mul_right, zero-mul}
 use Rattle.shade.specs.Quotient.{IsQuotient}
 use Rattle.shade.specs.Blend.{IsOver}
@@ -84,3 +84,6 @@ group_bit n j k l =
 
 pub in_group : (n j k : ℕ) → k < 16 → IsBitSet (n / 2 ^ j % 65536) k ↔ IsBitSet n (j + k)
 in_group n j k l = (λ h. is_set n (j + k) (sym (group_bit n j k l) ∙ is_one _ k h), λ h. is_set _ k (group_bit n j k l ∙ is_one n (j + k) h))
+
+pub none_set : (k : ℕ) → ¬ IsBitSet 0 k
+none_set k h = let bad : ◌≡◌ {A = ℕ} 0 1 = sym (bit_at-zero k) ∙ is_one 0 k h in omega arith

@@ -6,3 +6,16 @@ pub mod Endings
 pub mod Merged
 pub mod Blocks
 pub mod LaneNumbers
+pub mod Lanes
+pub mod Blending
+pub mod Flat
+pub mod Groups
+pub mod Certificate
+pub mod Reciprocals
+pub mod Gradients
+pub mod Modulos
+pub mod Heights
+pub mod FixedPoint
+pub mod CandidateLanes
+pub mod Slopes
+pub mod AttributePlanes
