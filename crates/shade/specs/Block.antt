@@ -1,5 +1,5 @@
 -- The samples of a block of 8 by 8 pixels.
-use Rattle.std.specs.Prelude.{◌≡◌, ℕ, ◌+◌, ◌<◌, ◌≤◌, IsBitSet, ◌*◌, ◌/◌, ◌%◌, ◌^◌, ℤ, pos, ◌+ℤ◌, ◌≤ℤ◌, ◌<ℤ◌, slice_index}
+use Rattle.std.specs.Prelude.{◌≡◌, ℕ, ◌+◌, ◌<◌, ◌≤◌, IsBitSet, ◌*◌, ◌/◌, ◌%◌, ◌^◌, pos, ◌+ℤ◌, ◌≤ℤ◌, ◌<ℤ◌, slice_index}
 use Rattle.grid.specs.Position.{Position}
 use Rattle.grid.specs.Triangle.{Covers}
 use Rattle.shade.specs.declared.sample.Sample.{Sample}

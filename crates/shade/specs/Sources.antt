@@ -1,5 +1,5 @@
 -- How depth and colour of a triangle are had at its samples.
-use Rattle.std.specs.Prelude.{◌≡◌, ◌≢◌, ℕ, ◌<◌, true, false, List, slice_index}
+use Rattle.std.specs.Prelude.{◌≡◌, ℕ, true, false, List, slice_index}
 use Rattle.shade.specs.declared.depth.DepthTest.TheVariants.{Always}
 use Rattle.shade.specs.declared.placed.Placed.{Placed}
 use Rattle.shade.specs.Placed.{channel}

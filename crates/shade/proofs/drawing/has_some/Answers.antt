@@ -1,4 +1,4 @@
-use Rattle.std.proofs.Common.{◌≡◌, ℕ, ◌+◌, ◌*◌, ◌/◌, ◌%◌, ◌^◌, subst, sym, arith, IsBitSet, nat_eq, not, false}
+use Rattle.std.proofs.Common.{◌≡◌, ℕ, ◌*◌, subst, arith, IsBitSet, nat_eq, not, false}
 use Rattle.std.proofs.lemmas.Bool.Decides.{nat_tests}
 use Rattle.shade.proofs.LaneNumbers.{in_group, none_set}
 use Rattle.shade.proofs.drawing.has_some.Goals as goal

@@ -1,4 +1,4 @@
-use Rattle.std.proofs.Common.{◌≡◌, subst, sym, nat_eq, true, ℕ, arith, IsBitSet}
+use Rattle.std.proofs.Common.{◌≡◌, subst, sym, arith, IsBitSet}
 use Rattle.std.proofs.lemmas.Bool.Decides.{nat_tests}
 use Rattle.std.proofs.lemmas.Nat.Bits.{bit_at_ones}
 use Rattle.shade.proofs.LaneNumbers.{is_set}

@@ -1,6 +1,5 @@
-use Rattle.std.proofs.Common.{◌≡◌, subst, arith, pos, ◌+ℤ◌, ◌*◌, ◌/◌, ◌%◌, IfSome, to_z, of_z, w32}
+use Rattle.std.proofs.Common.{◌≡◌, arith, pos, ◌+ℤ◌, ◌*◌, ◌/◌, ◌%◌}
 use Rattle.std.proofs.lemmas.Int.{ints}
-use Rattle.grid.specs.Position.{Position}
 use Rattle.shade.proofs.drawing.sample_position.Goals as goal
 
 pub returns : goal.returns

@@ -1,4 +1,4 @@
-use Rattle.std.proofs.Common.{refl, ◌+◌, ap, get_or}
+use Rattle.std.proofs.Common.{refl}
 use Rattle.std.proofs.lemmas.Simd.{get_or-chunk}
 use Rattle.shade.proofs.Groups.{tested_lane}
 use Rattle.shade.proofs.group.test_depths.Goals as goal

@@ -1,4 +1,4 @@
-use Rattle.std.proofs.Common.{◌≡◌, ◌+◌, ℕ, get_or, subst, w32, to_z, of_z}
+use Rattle.std.proofs.Common.{◌+◌, get_or, subst, w32}
 use Rattle.std.proofs.lemmas.Int.{to_z-of_z}
 use Rattle.std.proofs.lemmas.Simd.{get_or-replicate}
 use Rattle.shade.specs.Block.{position_in}

@@ -1,5 +1,4 @@
-use Rattle.std.proofs.Common.{◌≡◌, ℕ, ◌+◌, ◌<◌, subst, sym, ap, arith}
-use Rattle.shade.specs.declared.sample.Merge.{Merge}
+use Rattle.std.proofs.Common.{◌≡◌, subst, sym, ap, arith}
 use Rattle.shade.specs.declared.placed.Placed.{Placed}
 use Rattle.shade.specs.declared.sources.DepthSource.{DepthSource}
 use Rattle.shade.specs.declared.sources.ColourSource.{ColourSource}

@@ -1,9 +1,8 @@
-use Rattle.std.proofs.Common.{◌≡◌, sym, subst, arith, IsBitSet, ◌<◌, ◌+◌, ◌∙◌, ap}
-use Rattle.shade.specs.declared.block.BlockSamples.{BlockSamples}
+use Rattle.std.proofs.Common.{sym, subst, arith, ◌+◌}
 use Rattle.shade.specs.Placed.{IsDrawnAt}
 use Rattle.shade.specs.Block.{stored_at, position_in}
 use Rattle.shade.proofs.LaneNumbers.{is_one, is_set}
-use Rattle.shade.proofs.Blocks.{IsDrawnBefore, and_next, one_drawn, one_kept, none_yet}
+use Rattle.shade.proofs.Blocks.{IsDrawnBefore, and_next, one_drawn, one_kept}
 use Rattle.shade.proofs.placed.Placed.draw_each.Goals.{then-mask-k-eq1, else-mask-k-eq1}
 use Rattle.shade.proofs.placed.Placed.draw_each.Goals as goal
 
