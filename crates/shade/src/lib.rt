@@ -36,7 +36,7 @@ pub use gradient::Gradient;
 pub use interpolants::Interpolants;
 pub use merging::{apply, passes};
 pub use placed::Placed;
-pub use resolve::mean_of_four;
+pub use resolve::{mean_of_four, means_of_four};
 pub use row::Row;
 pub use sample::{Merge, Sample, Shaded};
 pub use state::State;

@@ -21,16 +21,7 @@ use Rattle.tile.specs.Picture.{IsShown, AreEnds, IsColourAt, AreColoursAt, AreDe
 use Rattle.tile.proofs.Shown.{colour_shown}
 
 -- ---- lists
--- what holds of the first elements, and of the one that is set behind them
-pub set_more : (P : ℕ → ℕ → Type 0) (xs : List ℕ) (i x : ℕ) → i < length xs → ((k : ℕ) → k < i → P k (slice_index xs k)) → P i x
-    → (k : ℕ) → k < i + 1 → P k (slice_index (slice_set xs i x) k)
-set_more P xs i x below begun here k h =
-    elim (cases_lt k i) [
-      | inl less ↦ rw (get_or-set_other xs i k x 0 (λ e. omega (arith, e))) (begun k less)
-      | inr more ↦ let same : k ≡ i = omega arith in rw (same, get_or-set_same xs i x 0 below) here
-    ]
-
--- the same of pairs of elements
+-- what holds of the first pairs of elements, and of the pair that is set behind them
 pub set_two_more : (P : ℕ → ℕ → ℕ → Type 0) (xs : List ℕ) (i x y : ℕ) → 2 * i + 1 < length xs
     → ((k : ℕ) → k < i → P k (slice_index xs (2 * k)) (slice_index xs (2 * k + 1))) → P i x y
     → (k : ℕ) → k < i + 1 → P k (slice_index (slice_set (slice_set xs (2 * i) x) (2 * i + 1) y) (2 * k)) (slice_index (slice_set (slice_set xs (2 * i) x) (2 * i + 1) y) (2 * k + 1))
@@ -105,6 +96,13 @@ module _ (tile : Tile) (samples : List BlockSamples) (row column : ℕ) where
     pub depth_in : (high low : ℕ) → high ≡ slice_index (plane 0).z k / 256 → low ≡ slice_index (plane 0).z k % 256
         → (high ≡ (stored tile samples row (8 * column + i) 0).z / 256) × (low ≡ (stored tile samples row (8 * column + i) 0).z % 256)
     depth_in high low e f = rw (block, pixel) (e, f)
+
+-- a mean of sixteen that begin elsewhere
+pub four_of_sixteen : (first second third fourth means : List ℕ) (begin skip from i q : ℕ) → begin + (skip + i) ≡ from + i
+    → IsResolved Four (slice_index (slice_index first (begin + (skip + i)) ∷ slice_index second (begin + (skip + i)) ∷ slice_index third (begin + (skip + i)) ∷ slice_index fourth (begin + (skip + i)) ∷ [])) (slice_index means (skip + i))
+    → q ≡ slice_index means (skip + i) → IsQuotient (slice_index first (from + i) + slice_index second (from + i) + slice_index third (from + i) + slice_index fourth (from + i) + 2) 4 q
+four_of_sixteen first second third fourth means begin skip from i q e h same =
+    rw same (subst (λ n. IsQuotient (slice_index first n + slice_index second n + slice_index third n + slice_index fourth n + 2) 4 (slice_index means (skip + i))) e h)
 
 -- ---- runs of pixels
 pub adds_run : {X E : Type 0} (r : Result X E) (l : Scene) (i j many : ℕ) (run old new : List ℕ) → IsRun l i j many run → OnOk r (new ≡ old ++ run) → OnOk r (AddsRun l i j many old new)

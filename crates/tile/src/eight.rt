@@ -1,33 +1,12 @@
 //! The bytes of eight pixels in a row of a block.
 ghost use Rattle.std.specs.Prelude.{◌≡◌, ℕ, ◌+◌, ◌*◌, ◌/◌, ◌%◌, ◌<◌, ◌≤◌, [], ◌∷◌, length, slice_index};
 ghost use Rattle.grid.specs.Pixels.{side_of};
-ghost use Rattle.shade.specs.Quotient.{IsQuotient};
 ghost use Rattle.tile.specs.Samples.{planes_of};
 ghost use Rattle.tile.specs.Picture.{AreColoursAt, AreDepthsAt, AreInterleaved};
 
 use crate::tile::Tile;
 use grid::SampleCount;
-use shade::{BlockSamples, mean_of_four};
-
-/// A channel of eight pixels in order, from a pixel of a block on, from that channel of their four samples.
-#[inline(always)]
-fn means(
-    first: &[u8; 64],
-    second: &[u8; 64],
-    third: &[u8; 64],
-    fourth: &[u8; 64],
-    from: usize,
-) -> [u8; 8]
-    requires { from ≤ 56 }
-    ensures { (i : ℕ) → i < 8 → IsQuotient (slice_index first.now (from + i) + slice_index second.now (from + i) + slice_index third.now (from + i) + slice_index fourth.now (from + i) + 2) 4 (slice_index result i) }
-{
-    let mut means = [0; 8];
-    for i in 0..8 {
-        let k = from + i;
-        means[i] = mean_of_four(first[k], second[k], third[k], fourth[k]);
-    }
-    means
-}
+use shade::{BlockSamples, means_of_four};
 
 /// Red, green and blue of eight pixels, pixel by pixel.
 #[inline(always)]
@@ -82,10 +61,14 @@ pub(crate) fn colours(tile: &Tile, samples: &[BlockSamples], row: u32, column: u
             let second = &samples[tile.place(row / 8, column, 1)];
             let third = &samples[tile.place(row / 8, column, 2)];
             let fourth = &samples[tile.place(row / 8, column, 3)];
-            let r = means(&first.r, &second.r, &third.r, &fourth.r, from);
-            let g = means(&first.g, &second.g, &third.g, &fourth.g, from);
-            let b = means(&first.b, &second.b, &third.b, &fourth.b, from);
-            interleaved(&r, &g, &b)
+            // Sixteen pixels are resolved at once, of which eight are needed; they begin a row above the last one.
+            let begin = from.min(48);
+            let red = means_of_four(&first.r, &second.r, &third.r, &fourth.r, begin);
+            let green = means_of_four(&first.g, &second.g, &third.g, &fourth.g, begin);
+            let blue = means_of_four(&first.b, &second.b, &third.b, &fourth.b, begin);
+            let (r, g, b) = (red.to_array(), green.to_array(), blue.to_array());
+            let skip = from - begin;
+            interleaved(&r[skip..], &g[skip..], &b[skip..])
         }
     }
 }

@@ -10,7 +10,7 @@ use std::process::Abort;
 use std::test::Fail;
 
 /// The size of the pictures in pixels, which is no whole number of tiles.
-const SIZE: (u32, u32) = (20, 19);
+const SIZE: (u32, u32) = (12, 11);
 
 /// A scissor that holds the whole picture, one that cuts through blocks, one along blocks, and one that is empty.
 const SCISSORS: [PixelBox; 4] = [
@@ -22,21 +22,21 @@ const SCISSORS: [PixelBox; 4] = [
     },
     PixelBox {
         x0: 3,
-        y0: 5,
-        x1: 18,
-        y1: 14,
+        y0: 2,
+        x1: 11,
+        y1: 9,
     },
     PixelBox {
         x0: 8,
         y0: 0,
         x1: 16,
-        y1: 16,
+        y1: 8,
     },
     PixelBox {
         x0: 9,
-        y0: 9,
+        y0: 1,
         x1: 9,
-        y1: 18,
+        y1: 10,
     },
 ];
 
@@ -80,7 +80,7 @@ impl Numbers {
     ) -> Result<Draw, Fail> {
         let first = self.vertex(rt);
         let mut vertices = Vec::new(alloc);
-        for (x, y) in [(-1000, -500), (9000, -500), (500, 9000)] {
+        for (x, y) in [(-1000, -500), (5000, -500), (500, 5000)] {
             let other = self.vertex(rt);
             vertices.push(Vertex {
                 at: Point::new(x, y).expect(rt, "inside of the guard band"),
