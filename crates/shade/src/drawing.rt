@@ -152,7 +152,8 @@ fn draw_by_mask(
     }
 }
 
-/// The same with code of its own for each source of colour: a variant that is named again is known where the code is inlined.
+/// The same with code of its own for each source of colour. A value that is made again is known where the code is inlined, and
+/// planes are not copied.
 #[inline(always)]
 fn draw_by_colour(
     merge: &Merge,
@@ -169,16 +170,7 @@ fn draw_by_colour(
         ColourSource::Flat(rgba) => {
             draw_by_mask(merge, depth, &ColourSource::Flat(*rgba), p, mask, samples);
         }
-        ColourSource::Planes(planes) => {
-            draw_by_mask(
-                merge,
-                depth,
-                &ColourSource::Planes(*planes),
-                p,
-                mask,
-                samples,
-            );
-        }
+        ColourSource::Planes(_) => draw_by_mask(merge, depth, colour, p, mask, samples),
     }
 }
 
@@ -201,9 +193,7 @@ fn draw_by_depth(
         DepthSource::Flat(z) => {
             draw_by_colour(merge, &DepthSource::Flat(*z), colour, p, mask, samples);
         }
-        DepthSource::Plane(plane) => {
-            draw_by_colour(merge, &DepthSource::Plane(*plane), colour, p, mask, samples);
-        }
+        DepthSource::Plane(_) => draw_by_colour(merge, depth, colour, p, mask, samples),
     }
 }
 
