@@ -46,4 +46,6 @@ pub use weights::Weights;
 #[cfg(test)]
 mod block_tests;
 #[cfg(test)]
+mod plane_tests;
+#[cfg(test)]
 mod tests;
