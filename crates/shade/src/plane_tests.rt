@@ -83,7 +83,7 @@ fn agrees(rt: &impl Abort, t: &Placed, (x, y): (i32, i32)) -> Option<bool> {
     for i in 0..16 {
         let column = 256 * (i % 8);
         let row = 256 * (i / 8);
-        let p = Point::new(x + column as i32, y + row as i32)?;
+        let p = Point::new(x.checked_add(column as i32)?, y.checked_add(row as i32)?)?;
         if t.tri.covers(p) {
             met = true;
             assert_eq!(rt; depths[i], floor_at(&t.tri, p, t.z), "depth of lane {i}");
