@@ -1,29 +1,28 @@
 -- The values at sixteen samples, from their candidates.
-use Rattle.std.proofs.Common.{◌≡◌, ◌⊎◌, inl, inr, refl, sym, ap, ◌∙◌, [], ◌∷◌, arith, ℕ, ◌+◌, ◌*◌, ◌/◌, ◌%◌, ◌<◌, ◌≤◌, ◌^◌, List, get_or, length, min, ℤ, pos, ◌+ℤ◌, ◌-ℤ◌, ◌*ℤ◌}
+use Rattle.std.proofs.Common.{◌≡◌, inl, inr, refl, ◌∙◌, [], ◌∷◌, arith, ℕ, ◌+◌, ◌*◌, ◌/◌, ◌%◌, ◌<◌, ◌≤◌, ◌^◌, List, get_or, length, min, ℤ, pos, ◌+ℤ◌, ◌-ℤ◌, ◌*ℤ◌}
 use Rattle.std.proofs.lemmas.Int.{ints}
 use Rattle.std.proofs.Math.Nat.{mul-le-mul_right, min-le_left, min-le_right}
 use Rattle.std.proofs.lemmas.Simd.{Each1-get_or}
 use Rattle.std.specs.Simd.Lanes.{Each1}
 use Rattle.shade.proofs.Lanes.{of_each}
 use Rattle.std.specs.Int.RustNames.{unsigned_abs}
-use Rattle.grid.specs.Bounds.{IsWithin}
 use Rattle.grid.specs.Position.{Position}
 use Rattle.grid.specs.Triangle.{doubled_area, Covers}
 use Rattle.grid.proofs.Ring.{var, plus, neg, times, ring}
 use Rattle.shade.specs.Quotient.{IsQuotient}
-use Rattle.shade.specs.Value.{weighted_sum, IsValueAt}
+use Rattle.shade.specs.Value.{IsValueAt}
 use Rattle.shade.specs.Block.{position_in}
 use Rattle.shade.specs.Group.{IsGroupOnScreen}
 use Rattle.shade.specs.Modulo.{IsModulo}
 use Rattle.shade.specs.Candidate.{IsCandidate, IsNear}
 use Rattle.shade.specs.Slope.{IsSlope, numerator}
-use Rattle.shade.specs.Plane.{IsPlane, IsNumeratorPlane, IsHeight, IsHighPart, IsReached}
+use Rattle.shade.specs.Plane.{IsPlane, IsHeight, IsHighPart, IsReached}
 use Rattle.shade.specs.declared.slope.Slope.{Slope}
 use Rattle.shade.specs.declared.plane.Plane.{Plane}
 use Rattle.shade.specs.declared.attribute_plane.AttributePlane.{AttributePlane}
 use Rattle.shade.specs.AttributePlane.{sum_at, AreCandidates, AreNear, AreValues, IsNarrow, IsAttributePlane}
 use Rattle.shade.proofs.Values.{area_positive, weighted_sum-bound}
-use Rattle.shade.proofs.Certificate.{candidate_near, candidate_sure, units}
+use Rattle.shade.proofs.Certificate.{candidate_near, candidate_sure}
 use Rattle.shade.proofs.Modulos.{modulo_through}
 
 -- ---- a covered sample of the group is near the slope's vertex

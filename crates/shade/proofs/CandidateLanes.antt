@@ -1,5 +1,5 @@
 -- Candidates in lanes.
-use Rattle.std.proofs.Common.{◌≡◌, ◌⊎◌, inl, inr, ap, ◌∙◌, arith, ℕ, zero, suc, ◌*◌, ◌-◌, ◌≤◌, w64, to_z, of_z, FitsSigned, pos, negsuc, ◌-ℤ◌, ◌*ℤ◌, ◌+◌, ◌/◌, ◌%◌, ◌<◌, ◌^◌, List, length, get_or, ℤ, ◌+ℤ◌}
+use Rattle.std.proofs.Common.{◌≡◌, ◌⊎◌, inl, inr, ap, ◌∙◌, arith, ℕ, ◌*◌, ◌-◌, ◌≤◌, w64, to_z, of_z, FitsSigned, pos, negsuc, ◌-ℤ◌, ◌+◌, ◌/◌, ◌%◌, ◌<◌, ◌^◌, List, length, get_or, ℤ, ◌+ℤ◌}
 use Rattle.std.specs.Prelude.{replicate}
 use Rattle.std.proofs.Math.Nat.{add_comm}
 use Rattle.std.proofs.lemmas.Simd.{get_or-zip2, get_or-replicate, length-zip2}

@@ -1,7 +1,7 @@
 -- A candidate's whole part is the quotient or the number after it, and the quotient where its fraction is at least three units.
 use Rattle.std.proofs.Common.{◌≡◌, arith, ℕ, ◌+◌, ◌*◌, ◌/◌, ◌%◌, ◌<◌, ◌≤◌, ◌^◌, zero, suc, ap}
 use Rattle.std.proofs.Math.Nat.{pow-le-pow_right, lt_of_mul-lt-mul_right, mul-le-mul_right, mul-lt-mul_of_pos_right}
-use Rattle.std.proofs.lemmas.Nat.{mod_below, div-add-mod', pow_below}
+use Rattle.std.proofs.lemmas.Nat.{mod_below, div-add-mod'}
 use Rattle.shade.specs.Quotient.{IsQuotient}
 use Rattle.shade.specs.Candidate.{IsCandidate, IsNear}
 

@@ -1,5 +1,5 @@
 -- The numerator of a triangle's attribute is the weighted sum of its values.
-use Rattle.std.proofs.Common.{◌≡◌, refl, [], ◌∷◌, arith, ap, ◌∙◌, ℕ, ◌+◌, ◌*◌, ◌^◌, ◌<◌, ◌≤◌, FitsSigned, w32, w64, to_z, of_z, ℤ, pos, neg_ℤ, ◌+ℤ◌, ◌-ℤ◌, ◌*ℤ◌, ◌<ℤ◌, ◌≤ℤ◌}
+use Rattle.std.proofs.Common.{◌≡◌, refl, [], ◌∷◌, arith, ap, ◌∙◌, ℕ, ◌*◌, ◌^◌, FitsSigned, w32, w64, to_z, of_z, ℤ, pos, neg_ℤ, ◌+ℤ◌, ◌-ℤ◌, ◌*ℤ◌, ◌≤ℤ◌}
 use Rattle.std.proofs.lemmas.Int.{ints}
 use Rattle.std.specs.Int.RustNames.{unsigned_abs}
 use Rattle.std.proofs.lemmas.Int.{to_z-of_z}
@@ -11,7 +11,6 @@ use Rattle.grid.specs.Triangle.{doubled_area, Covers}
 use Rattle.grid.proofs.Between.{over, under, sides_of_sign}
 use Rattle.grid.proofs.Ring.{Term, var, plus, neg, times, ring}
 use Rattle.shade.specs.Value.{weighted_sum}
-use Rattle.shade.specs.declared.slope.Slope.{Slope}
 use Rattle.shade.specs.Slope.{AreGrowths, IsSlope}
 use Rattle.shade.proofs.Steps.{signed_sum, sum_over, sum_under, scaled_over, scaled_under}
 

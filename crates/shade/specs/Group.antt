@@ -1,5 +1,5 @@
 -- Sixteen samples of two rows of eight pixels.
-use Rattle.std.specs.Prelude.{ℤ, pos, ◌^◌, ◌≤ℤ◌, ◌<ℤ◌, ◌+ℤ◌}
+use Rattle.std.specs.Prelude.{pos, ◌^◌, ◌≤ℤ◌, ◌<ℤ◌, ◌+ℤ◌}
 use Rattle.grid.specs.Position.{Position}
 
 -- The group whose first sample is at p lies on the screen, which is 4096 by 4096 pixels.

@@ -100,10 +100,13 @@ impl Plane {
         ensures length { length result ≡ 16 }
         ensures each { (i : ℕ) → i < 16 → IsHighPart self.now (pos (256 * (i % 8))) (pos (256 * (i / 8))) (slice_index result i) }
     {
+        let (across, down) = (scaled(256, self.across), scaled(256, self.down));
         let mut halves = [0; 16];
-        for i in 0..16 {
-            let part = self.part((256 * (i % 8)) as i32, (256 * (i / 8)) as i32);
+        let mut part: u64 = 0;
+        for i in 0..8 {
             halves[i] = (part >> 32) as u32;
+            halves[i + 8] = (part.wrapping_add(down) >> 32) as u32;
+            part = part.wrapping_add(across);
         }
         u32x16::from_array(halves)
     }

@@ -1,4 +1,4 @@
-use Rattle.std.proofs.Common.{refl, ◌≡◌, ◌≤◌, ◌%◌, ◌^◌}
+use Rattle.std.proofs.Common.{refl}
 use Rattle.shade.proofs.AttributePlanes.{least_first, least_second}
 use Rattle.shade.proofs.colour_planes.are_all_sure.Goals as goal
 

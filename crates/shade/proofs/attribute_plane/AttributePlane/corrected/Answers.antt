@@ -1,4 +1,4 @@
-use Rattle.std.proofs.Common.{◌≡◌, ◌≢◌, ◌<◌, ◌≤◌, ◌*◌, ◌/◌, ◌%◌, refl, length, w32, to_z, of_z, get_or, arith, rules, get_or-set_other, get_or-set_same, below_more}
+use Rattle.std.proofs.Common.{◌≡◌, ◌≢◌, ◌<◌, ◌/◌, ◌%◌, refl, length, w32, to_z, of_z, get_or, arith, rules, get_or-set_other, get_or-set_same, below_more}
 use Rattle.std.proofs.lemmas.Int.{ints, to_z-of_z}
 use Rattle.shade.proofs.AttributePlanes.{corrected_lane}
 use Rattle.shade.proofs.attribute_plane.AttributePlane.corrected.Goals as goal
