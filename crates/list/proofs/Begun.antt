@@ -61,8 +61,8 @@ module _ (l : Scene) (x y width height : ℕ) (bytes : List ℕ) (h : IsPart l x
   first : start ≡ pixel_bytes l.output * (j * width)
   first = at ∙ rw wide (bytes_of_rows l.output j width)
 
-  within : start + across ≤ length bytes
-  within =
+  pub row_within : start + across ≤ length bytes
+  row_within =
       let size = h.size in
       let more : (j + 1) * width ≤ height * width = mul-le-mul_right width (let le : j + 1 ≤ height = omega arith in le) in
       let both = bytes_of_both l.output (j * width) width in
@@ -71,7 +71,7 @@ module _ (l : Scene) (x y width height : ℕ) (bytes : List ℕ) (h : IsPart l x
 
   pub part_run : IsRun l x (y + j) width row
   part_run =
-      let all = within in
+      let all = row_within in
       let rest : start + across - start ≡ across = omega arith in
       let begin = first in record {
         size = omega (arith, length-take (start + across - start) (drop start bytes), length-drop start bytes);
