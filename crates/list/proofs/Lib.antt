@@ -1,3 +1,4 @@
+pub mod Triangulated
 pub mod Numbering
 pub mod Unique
 pub mod Parts
