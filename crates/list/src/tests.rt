@@ -228,7 +228,10 @@ fn turns_every_other_triangle_of_a_strip(rt: HostRuntime) -> Result<(), Fail> {
     let corners = [(0, 1), (256, 2), (512, 3)];
     let primitives = strip(alloc, &[0, 1, 2, 0, 0, 1])?;
     assert_eq!(rt; primitives.triangles(), 4);
-    let draws = vec![in alloc; draw_of(&rt, alloc, corners, primitives)?, draw(&rt, alloc, corners, &[2])?]?;
+    let draws = vec![in alloc;
+        draw_of(&rt, alloc, corners, primitives)?,
+        draw(&rt, alloc, corners, &[2])?,
+    ]?;
     let list = list(&rt, alloc, draws);
     assert_eq!(rt; list.triangles(), 5);
     let corners_of = |number: usize| {

@@ -352,10 +352,7 @@ fn needs_one_list_of_primitives(rt: HostRuntime) {
         (r#""vertices":[],"strip":[]"#, None),
         (r#""vertices":[]"#, in_draw(MissingKey, 0)),
         (r#""strip":[]"#, in_draw(MissingKey, 0)),
-        (
-            r#""triangles":[],"strip":[]"#,
-            in_draw(MissingKey, 0),
-        ),
+        (r#""triangles":[],"strip":[]"#, in_draw(MissingKey, 0)),
         (
             r#""vertices":[],"triangles":[],"strip":[]"#,
             in_draw(TwoLists, 0),
@@ -681,24 +678,52 @@ fn counts_triangles(rt: HostRuntime) {
 fn counts_the_triangles_of_strips(rt: HostRuntime) {
     for (first, second, told) in [
         (("strip", "0", 65_538), ("strip", "0", 2), None),
-        (("strip", "0", 65_539), ("strip", "0", 0), in_draw(TooMany, 0)),
-        (("strip", "7", 65_539), ("strip", "0", 0), in_draw(TooMany, 0)),
-        (("strip", "0", 65_538), ("strip", "0", 3), in_draw(TooMany, 1)),
-        (("strip", "0", 65_538), ("strip", "7", 3), in_draw(TooMany, 1)),
-        (("strip", "0", 65_538), ("strip", "7", 2), in_draw(BadIndex, 1)),
+        (
+            ("strip", "0", 65_539),
+            ("strip", "0", 0),
+            in_draw(TooMany, 0),
+        ),
+        (
+            ("strip", "7", 65_539),
+            ("strip", "0", 0),
+            in_draw(TooMany, 0),
+        ),
+        (
+            ("strip", "0", 65_538),
+            ("strip", "0", 3),
+            in_draw(TooMany, 1),
+        ),
+        (
+            ("strip", "0", 65_538),
+            ("strip", "7", 3),
+            in_draw(TooMany, 1),
+        ),
+        (
+            ("strip", "0", 65_538),
+            ("strip", "7", 2),
+            in_draw(BadIndex, 1),
+        ),
         (("strip", "0", 32_770), ("strip", "0", 32_770), None),
         (
             ("strip", "0", 32_770),
             ("strip", "0", 32_771),
             in_draw(TooMany, 1),
         ),
-        (("strip", "0", 32_770), ("triangles", "[0,0,0]", 32_768), None),
+        (
+            ("strip", "0", 32_770),
+            ("triangles", "[0,0,0]", 32_768),
+            None,
+        ),
         (
             ("strip", "0", 32_770),
             ("triangles", "[0,0,0]", 32_769),
             in_draw(TooMany, 1),
         ),
-        (("triangles", "[0,0,0]", 32_768), ("strip", "0", 32_770), None),
+        (
+            ("triangles", "[0,0,0]", 32_768),
+            ("strip", "0", 32_770),
+            None,
+        ),
         (
             ("triangles", "[0,0,0]", 32_768),
             ("strip", "0", 32_771),
