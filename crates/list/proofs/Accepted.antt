@@ -1,5 +1,5 @@
 -- What denotes a draw list is within the limits of a draw list.
-use Rattle.std.proofs.Common.{◌≡◌, ℕ, ◌<◌, ◌≤◌, List, [], ◌∷◌, length, sum_by, slice_index, Option, arith}
+use Rattle.std.proofs.Common.{◌≡◌, refl, ℕ, ◌<◌, ◌≤◌, List, [], ◌∷◌, length, sum_by, slice_index, Option, arith}
 use Rattle.std.proofs.lemmas.Int.{ints}
 use Rattle.std.specs.List.{All}
 use Rattle.std.proofs.lemmas.List.Elements.{All-nil, All-cons}
@@ -8,6 +8,7 @@ use Rattle.grid.specs.declared.pixels.PixelBox.{PixelBox}
 use Rattle.list.specs.Primitives.{PrimitiveListing, triangle_list, triangle_strip, count_of_triangles, NameVertices}
 use Rattle.list.specs.Listing.{DrawListing, Listing, IsDrawWithinLimits, IsWithinLimits}
 use Rattle.serde_json.specs.View.{items_view}
+use Rattle.list.specs.declared.output.Output.TheVariants.{Color}
 use Rattle.list.specs.declared.reader.header.Header.{Header}
 use Rattle.list.specs.Header.{IsHeader}
 use Rattle.list.specs.Denotes.{Each, picture_box, IsTriangle, IsStripIndex, IsPrimitives, IsDraw, IsListing}
@@ -55,7 +56,7 @@ listing_within d l is = record {
 -- a top object with its draws is a draw list
 pub headed : (d : Data) (h : Header) (draws : List DrawListing) → IsHeader d h → Each (IsDraw (picture_box h.width h.height)) (items_view h.draws.now) draws
     → sum_by (λ d. count_of_triangles d.primitives) draws ≤ 65536
-    → IsListing d (record { width = h.width; height = h.height; count = h.count; clear = h.clear; draws = draws })
+    → IsListing d (record { width = h.width; height = h.height; count = h.count; clear = h.clear; output = Color; draws = draws })
 headed d h draws is parts few =
     let many = items_len_each _ _ _ parts in
     let all = items_len_view h.draws.now in
@@ -67,6 +68,7 @@ headed d h draws is parts few =
       samples = is.beginning.samples;
       clear = is.beginning.colour;
       clear_depth = is.beginning.depth;
+      output = refl;
       draws = record { array = is.array; parts = rw is.draws at parts; at_most = omega (arith, many, all, is.at_most) };
       triangles = few;
     }

@@ -14,6 +14,7 @@ use Rattle.shade.specs.declared.depth.DepthTest.TheVariants as test
 use Rattle.shade.specs.declared.sample.Merge.{Merge}
 use Rattle.shade.specs.declared.state.State.{State}
 use Rattle.list.specs.declared.draw.Vertex.{Vertex}
+use Rattle.list.specs.declared.output.Output.TheVariants as output
 use Rattle.list.specs.Json.{json_of, whole, text, truth, array_of, element, elements, length_of, has_other_key}
 use Rattle.list.specs.Keys.{top_keys, draw_keys, cull_word, depth_test_word, blend_word}
 use Rattle.list.specs.Primitives.{PrimitiveListing, triangle_list, triangle_strip, count_of_triangles}
@@ -180,6 +181,7 @@ pub record IsListing (value : Data) (l : Listing) : Type 0 where
   pub samples : OrDefault samples.One IsSampleCount (get (codes "samples") value) l.count
   pub clear : OrDefault (0 ∷ 0 ∷ 0 ∷ []) IsClearColour (get (codes "clear") value) (l.clear.r ∷ l.clear.g ∷ l.clear.b ∷ [])
   pub clear_depth : OrDefault 65535 IsDepthNumber (get (codes "clear_depth") value) l.clear.z
+  pub output : l.output ≡ output.Color
   pub draws : IsArrayOf 1024 (IsDraw (picture_box l.width l.height)) (get (codes "draws") value) l.draws
   pub triangles : sum_by (λ d. count_of_triangles d.primitives) l.draws ≤ 65536
 

@@ -6,6 +6,7 @@ use Rattle.shade.specs.declared.sample.Sample.{Sample}
 use Rattle.list.specs.declared.draw.Vertex.{Vertex}
 use Rattle.shade.specs.declared.state.State.{State}
 use Rattle.list.specs.declared.draw.Draw.{Draw}
+use Rattle.list.specs.declared.output.Output.{Output}
 use Rattle.shade.specs.declared.placed.Placed.{Placed}
 use Rattle.list.specs.Primitives.{PrimitiveListing, triangles_of, count_of_triangles, NameVertices, primitive_listing}
 use Rattle.list.specs.Scene.{Scene}
@@ -20,6 +21,7 @@ pub record Listing : Type 0 where
   pub height : ℕ
   pub count : SampleCount
   pub clear : Sample
+  pub output : Output
   pub draws : List DrawListing
 
 -- The vertex of this number; the origin past the end, which no triangle of a draw list names.
@@ -50,6 +52,7 @@ scene_of l = record {
   height = l.height;
   count = l.count;
   clear = l.clear;
+  output = l.output;
   triangles = flat_map placed_all l.draws;
 }
 
@@ -76,6 +79,6 @@ pub record IsWithinLimits (l : Listing) : Type 0 where
 abbrev pub draw_listing : Draw → DrawListing
 draw_listing d = record { state = d.state; vertices = d.vertices.items; primitives = primitive_listing d.primitives }
 
--- The listing of draws in memory, with the picture's size, samples and clear values.
-abbrev pub listing_of : ℕ → ℕ → SampleCount → Sample → List Draw → Listing
-listing_of width height count clear draws = record { width = width; height = height; count = count; clear = clear; draws = map draw_listing draws }
+-- The listing of draws in memory, with the picture's size, samples, clear values and output.
+abbrev pub listing_of : ℕ → ℕ → SampleCount → Sample → Output → List Draw → Listing
+listing_of width height count clear output draws = record { width = width; height = height; count = count; clear = clear; output = output; draws = map draw_listing draws }

@@ -4,6 +4,7 @@ ghost use Rattle.list.specs.Rows.{IsRowSpan};
 
 use crate::draw::Draw;
 use crate::limits::{are_within_limits, is_side};
+use crate::output::Output;
 use crate::rows::{RowSpan, rows_of};
 use crate::starts::{draw_of, starts_of};
 use grid::{OutOfMemory, SampleCount};
@@ -11,7 +12,7 @@ use shade::{Placed, Sample};
 use std::alloc::Global;
 use std::marker::Model;
 
-/// Draws in their order, and the picture's size, samples and clear values. It is within the limits of a draw list: a picture
+/// Draws in their order, and the picture's size, samples, clear values and output. It is within the limits of a draw list: a picture
 /// of 1 to 4096 pixels a side, at most 1,024 draws, at most 65,536 vertices a draw, at most 65,536 triangles together, and
 /// primitives that name vertices of their draw alone.
 #[derive(Debug, Drop)]
@@ -20,6 +21,7 @@ pub struct DrawList {
     height: u32,
     count: SampleCount,
     clear: Sample,
+    output: Output,
     draws: Vec<Draw>,
     /// The number of each draw's first triangle.
     starts: Vec<u32>,
@@ -57,16 +59,17 @@ impl DrawList {
         height: u32,
         count: SampleCount,
         clear: Sample,
+        output: Output,
         draws: Vec<Draw>,
     ) -> Result<DrawList, ListFault>
-        ensures scene { IfOk result (λ list. list ≡ scene_of (listing_of width height count clear draws.items)) }
-        ensures limits { IfOk result (λ _. IsWithinLimits (listing_of width height count clear draws.items)) }
-        ensures past_limit { (result ≡ Err ListFault.PastLimit) ↔ ¬ IsWithinLimits (listing_of width height count clear draws.items) }
+        ensures scene { IfOk result (λ list. list ≡ scene_of (listing_of width height count clear output draws.items)) }
+        ensures limits { IfOk result (λ _. IsWithinLimits (listing_of width height count clear output draws.items)) }
+        ensures past_limit { (result ≡ Err ListFault.PastLimit) ↔ ¬ IsWithinLimits (listing_of width height count clear output draws.items) }
     {
         if !is_side(width) || !is_side(height) || !are_within_limits(&draws) {
             return Err(ListFault::PastLimit);
         }
-        match DrawList::within_limits(alloc, width, height, count, clear, draws) {
+        match DrawList::within_limits(alloc, width, height, count, clear, output, draws) {
             Ok(list) => Ok(list),
             Err(OutOfMemory) => Err(ListFault::OutOfMemory),
         }
@@ -79,10 +82,11 @@ impl DrawList {
         height: u32,
         count: SampleCount,
         clear: Sample,
+        output: Output,
         draws: Vec<Draw>,
     ) -> Result<DrawList, OutOfMemory>
-        requires { IsWithinLimits (listing_of width height count clear draws.items) }
-        ensures { IfOk result (λ list. list ≡ scene_of (listing_of width height count clear draws.items)) }
+        requires { IsWithinLimits (listing_of width height count clear output draws.items) }
+        ensures { IfOk result (λ list. list ≡ scene_of (listing_of width height count clear output draws.items)) }
     {
         let starts = starts_of(alloc, &draws)?;
         let rows = rows_of(alloc, &draws)?;
@@ -91,6 +95,7 @@ impl DrawList {
             height,
             count,
             clear,
+            output,
             draws,
             starts,
             rows,
@@ -127,6 +132,13 @@ impl DrawList {
         ensures { result ≡ self.now.clear }
     {
         self.clear
+    }
+
+    /// What the picture shows.
+    pub fn output(&self) -> Output
+        ensures { result ≡ self.now.output }
+    {
+        self.output
     }
 
     /// How many triangles all draws have together.

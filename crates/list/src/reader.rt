@@ -29,6 +29,7 @@ use crate::draw::Draw;
 use crate::draw_list::DrawList;
 use crate::fault::{ReadFault, ReadKind};
 use crate::limits::MOST_TRIANGLES;
+use crate::output::Output;
 use draw::read_draw;
 use grid::PixelBox;
 use header::Header;
@@ -88,7 +89,15 @@ fn read_value(alloc: Global, value: &Value) -> Result<DrawList, ReadFault>
     };
     let (width, height) = (header.width, header.height);
     let draws = draws_of(alloc, header.draws, picture_of(width, height))?;
-    match DrawList::within_limits(alloc, width, height, header.count, header.clear, draws) {
+    match DrawList::within_limits(
+        alloc,
+        width,
+        height,
+        header.count,
+        header.clear,
+        Output::Color,
+        draws,
+    ) {
         Ok(list) => Ok(list),
         Err(_) => Err(ReadFault::outside(ReadKind::OutOfMemory)),
     }

@@ -1,4 +1,4 @@
-use crate::{Draw, DrawList, ListFault, Primitives, RowSpan, State, Vertex};
+use crate::{Draw, DrawList, ListFault, Output, Primitives, RowSpan, State, Vertex};
 use grid::{Cull, PixelBox, Point, SampleCount};
 use shade::{DepthTest, Merge, Sample, Shaded};
 use std::alloc::{AllocError, Global};
@@ -82,12 +82,24 @@ const CORNER: [(i32, i32); 3] = [(128, 128), (640, 128), (128, 640)];
 
 /// The list of these draws, for a picture of 3 by 3 pixels.
 fn list(rt: &impl Abort, alloc: Global, draws: Vec<Draw>) -> DrawList {
-    DrawList::new(alloc, 3, 3, SampleCount::One, BLACK, draws).expect(rt, "within the limits")
+    DrawList::new(alloc, 3, 3, SampleCount::One, BLACK, Output::Color, draws).expect(
+        rt,
+        "within the limits",
+    )
 }
 
 /// The fault of a list of a picture of this size, or none.
 fn fault(alloc: Global, width: u32, height: u32, draws: Vec<Draw>) -> Option<ListFault> {
-    DrawList::new(alloc, width, height, SampleCount::Four, BLACK, draws).err()
+    DrawList::new(
+        alloc,
+        width,
+        height,
+        SampleCount::Four,
+        BLACK,
+        Output::Color,
+        draws,
+    )
+    .err()
 }
 
 #[test]
@@ -274,6 +286,26 @@ fn refuses_a_strip_past_the_limits(rt: HostRuntime) -> Result<(), Fail> {
         }
         let draws = vec![in alloc; draw_of(&rt, alloc, CORNER, Primitives::Strip(indices))?]?;
         assert_eq!(rt; fault(alloc, 1, 1, draws), expected);
+    }
+    Ok(())
+}
+
+#[test]
+fn keeps_what_the_picture_shows(rt: HostRuntime) -> Result<(), Fail> {
+    let alloc = rt.alloc();
+    for (output, pixel_bytes) in [(Output::Color, 3), (Output::Depth, 2)] {
+        let list = DrawList::new(
+            alloc,
+            2,
+            1,
+            SampleCount::One,
+            BLACK,
+            output,
+            Vec::new(alloc),
+        );
+        let shown = list.expect(&rt, "within the limits").output();
+        assert_eq!(rt; shown, output);
+        assert_eq!(rt; shown.pixel_bytes(), pixel_bytes);
     }
     Ok(())
 }

@@ -15,5 +15,4 @@ pub returns-clause-picture : goal.returns-clause-picture
 returns-clause-picture c =
     let width : c.shown-width.result ≡ min (c.args.tiling.now.width - 8 * c.tile_of-tile.result.bx) (side_of c.tile_of-tile.result.side) = rw c.width.ensures.value at c.shown-width.ensures in
     let height : c.shown-height.result ≡ min (c.args.tiling.now.height - 8 * c.tile_of-tile.result.by) (side_of c.tile_of-tile.result.side) = rw c.height.ensures.value at c.shown-height.ensures in
-    rw c.rect-rect.ensures (picture_in c.args.tiling.now c.args.k c.requires.tile c.tile_of-tile.result c.tile_of-tile.ensures.place c.args.list.now c.requires.width c.requires.height c.draw_bin.new.samples c.draw_bin.ensures
-    (c.tile_of-tile.ensures.count ∙ c.count.ensures) _ _ width height _ c.in_ok-bytes.ensures)
+    rw c.rect-rect.ensures (picture_in c.args.tiling.now c.args.k c.requires.tile c.tile_of-tile.result c.tile_of-tile.ensures.place c.args.list.now c.requires.width c.requires.height _ _ width height _ c.in_ok-bytes.ensures)
