@@ -11,4 +11,7 @@ returns-in-Color c =
     (pixel_of_colour _ _ _ _ _ _ (sym c.output.ensures ∙ c.in-Color.is) (colour_shown c.args.list.now tile c.args.samples.now c.args.row c.args.column _ _ _ c.requires.ends c.requires.count c.requires.pixel c.colour_at.ensures)) c.push_colour.ensures
 
 pub returns-in-Depth : goal.returns-in-Depth
-returns-in-Depth c = ?
+returns-in-Depth c =
+    let tile = c.args.tile.now in
+    let end = c.requires.ends c.args.row c.args.column 0 c.requires.pixel in
+    adds_pixel _ c.args.list.now (8 * tile.bx + c.args.column) (8 * tile.by + c.args.row) _ _ _ (pixel_of_depth _ _ _ _ (sym c.output.ensures ∙ c.in-Depth.is) end) (rw c.place.ensures.value at c.push_depth.ensures)
