@@ -12,9 +12,9 @@ use shade::{Placed, Sample};
 use std::alloc::Global;
 use std::marker::Model;
 
-/// Draws in their order, and the picture's size, samples, clear values and output. It is within the limits of a draw list: a picture
-/// of 1 to 4096 pixels a side, at most 1,024 draws, at most 65,536 vertices a draw, at most 65,536 triangles together, and
-/// triangles that name vertices of their draw alone.
+/// Draws in their order, and the picture's size, samples, clear values and output. It is within the limits of a draw list: a
+/// picture of 1 to 4096 pixels a side, at most 1,024 draws, at most 65,536 vertices a draw, at most 65,536 triangles together,
+/// primitives that name vertices of their draw alone, and strictly convex quads.
 #[derive(Debug, Drop)]
 pub struct DrawList {
     width: u32,
@@ -149,8 +149,8 @@ impl DrawList {
         self.rows.len()
     }
 
-    /// The triangle of this number in draw order: draw by draw, and in a draw as they are listed. It takes a binary search
-    /// over the draws.
+    /// The triangle of this number in draw order: draw by draw, and in a draw as its primitives are listed. It takes a binary
+    /// search over the draws.
     pub fn triangle(&self, number: usize) -> Placed
         requires { number < length self.now.triangles }
         ensures { slice_get self.now.triangles number ≡ Some result }

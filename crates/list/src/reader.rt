@@ -4,6 +4,7 @@ ghost use Rattle.list.specs.declared.fault.ReadKind.TheVariants.{NotJson, OutOfM
 ghost use Rattle.serde_json.specs.Errors.{IsMemory};
 ghost use Rattle.list.specs.Json.{json_of};
 ghost use Rattle.list.specs.Place.{ReadsAll, IsFirstFault, PassesBefore};
+ghost use Rattle.list.specs.Primitives.{count_of_triangles};
 ghost use Rattle.list.specs.Listing.{draw_listing};
 ghost use Rattle.list.specs.Scene.{Scene};
 ghost use Rattle.list.specs.Checks.{draw_places, value_places, places, Reaches};
@@ -12,9 +13,13 @@ ghost use Rattle.list.specs.Denotes.{Each, picture_box, IsDraw, IsDrawList, Deno
 mod array;
 mod draw;
 mod header;
+mod index;
 mod keys;
 mod number;
+mod primitives;
+mod quads;
 mod state;
+mod strip;
 #[cfg(test)]
 mod tests;
 mod triangles;
@@ -25,7 +30,6 @@ use crate::draw::Draw;
 use crate::draw_list::DrawList;
 use crate::fault::{ReadFault, ReadKind};
 use crate::limits::MOST_TRIANGLES;
-use crate::output::Output;
 use draw::read_draw;
 use grid::PixelBox;
 use header::Header;
@@ -40,7 +44,7 @@ fn draws_of(alloc: Global, list: &[Value], picture: PixelBox) -> Result<Vec<Draw
     requires { length list.now ≤ 1024 }
     ensures told { let items = items_view list.now in ReadsAll (draw_places 0 0 items)
         (λ found. let draws = map draw_listing found.items in
-        Each (IsDraw picture) items draws × (sum_by (λ d. length d.triangles) draws ≤ MOST_TRIANGLES)) result }
+        Each (IsDraw picture) items draws × (sum_by (λ d. count_of_triangles d.primitives) draws ≤ MOST_TRIANGLES)) result }
     ensures reached { IfErr result (λ fault. IfSome fault.draw
         (λ n. (n < length list.now) × PassesBefore n (draw_places 0 0 (items_view list.now)))) }
 {
@@ -53,7 +57,7 @@ fn draws_of(alloc: Global, list: &[Value], picture: PixelBox) -> Result<Vec<Draw
             Ok(next) => next,
             Err(kind) => return Err(ReadFault::in_draw(kind, number as u32)),
         };
-        earlier += next.triangles.len();
+        earlier += next.primitives.triangles();
         found.push_reserved(next);
     }
     Ok(found)
@@ -91,7 +95,7 @@ fn read_value(alloc: Global, value: &Value) -> Result<DrawList, ReadFault>
         height,
         header.count,
         header.clear,
-        Output::Color,
+        header.output,
         draws,
     ) {
         Ok(list) => Ok(list),
@@ -113,9 +117,9 @@ fn kind_of(error: &Error) -> ReadKind
 /// Reads a draw list from JSON (RFC 8259, as `serde_json` reads it; the keys, ranges and defaults are this project's format).
 ///
 /// What is told is the first check that fails, in this order. Whether the bytes are JSON. The top object: its kind, a key that
-/// it should not have, a key that it lacks, then `width`, `height`, `samples`, `clear`, `clear_depth` and `draws`. Each draw in
-/// turn: its kind, a key that it should not have, a key that it lacks, then `cull`, `depth_test`, `depth_write`, `blend`,
-/// `write`, `sample_mask`, `scissor`, `vertices` and `triangles`. The kind of a value comes before its range, the number of
+/// it should not have, a key that it lacks, then `width`, `height`, `samples`, `clear`, `clear_depth`, `output` and `draws`. Each draw in
+/// turn: its kind, a key that it should not have, a key that it lacks, a second list of primitives, then `cull`, `depth_test`, `depth_write`, `blend`,
+/// `write`, `sample_mask`, `scissor`, `vertices`, and `triangles`, `strip` or `quads`. The kind of a value comes before its range, the number of
 /// elements before the elements. A fault of a draw tells the draw's number.
 ///
 /// `OutOfMemory` is told where a growth of memory was refused, in place of whatever would have come later: with the number of

@@ -1,6 +1,6 @@
 use crate::render;
 use grid::{Cull, PixelBox, Point, SampleCount};
-use list::{Draw, DrawList, Output, State, Vertex};
+use list::{Draw, DrawList, Output, Primitives, State, Vertex};
 use shade::{DepthTest, Merge, Sample};
 use std::alloc::Global;
 use std::process::Abort;
@@ -61,7 +61,7 @@ impl Drawn {
                 },
             },
             vertices,
-            triangles: vec![in alloc; [0, 1, 2]]?,
+            primitives: Primitives::Triangles(vec![in alloc; [0, 1, 2]]?),
         })
     }
 }

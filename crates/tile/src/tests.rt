@@ -3,7 +3,7 @@ ghost use Rattle.std.specs.Prelude.{◌<◌};
 use crate::{Store, TilePixels, render};
 use bins::{Bins, Tiling};
 use grid::{Cull, OutOfMemory, PixelBox, Point, SampleCount, TileSide};
-use list::{Draw, DrawList, Output, State, Vertex};
+use list::{Draw, DrawList, Output, Primitives, State, Vertex};
 use shade::{DepthTest, Merge, Sample};
 use std::alloc::Global;
 use std::process::Abort;
@@ -102,7 +102,7 @@ fn white(
     draws.push(Draw {
         state: PLAIN,
         vertices,
-        triangles: vec![in alloc; [0, 1, 2]]?,
+        primitives: Primitives::Triangles(vec![in alloc; [0, 1, 2]]?),
     })?;
     let (width, height) = size;
     Ok(DrawList::new(alloc, width, height, count, BLACK, Output::Color, draws).expect(rt, "within the limits"))
@@ -256,7 +256,7 @@ impl Numbers {
         Ok(Draw {
             state: self.drawn(),
             vertices,
-            triangles,
+            primitives: Primitives::Triangles(triangles),
         })
     }
 
