@@ -22,8 +22,9 @@ const CLEAR: &str = "FFFF FFFF FFFF  FFFF FFFF FFFF  FFFF FFFF FFFF";
 /// of the draw, each behind a comma.
 fn corner(alloc: Global, keys: &str) -> Result<String, AllocError> {
     let white = "255,255,255,255";
-    let vertices =
-        format!(in alloc; "[128,128,0,{white}],[640,128,3,{white}],[128,640,0,{white}]")?;
+    let vertices = format!(in alloc;
+        "[128,128,0,{white}],[640,128,3,{white}],[128,640,0,{white}]"
+    )?;
     let draw = format!(in alloc; "{{\"vertices\":[{vertices}],\"triangles\":[[0,1,2]]{keys}}}")?;
     format!(in alloc; "{{\"width\":3,\"height\":3,\"output\":\"depth\",\"draws\":[{draw}]}}")
 }
@@ -55,7 +56,11 @@ fn shows<R: Threads + Wait + Sync + Abort>(
             let options = Options { tile, workers };
             run(rt, alloc, &mut input, &mut output, options)?;
             let written: Vec<u8> = output.into_inner();
-            assert_eq!(rt; written.as_slice(), expected.as_slice(), "{tile:?} {workers}");
+            assert_eq!(rt;
+                written.as_slice(),
+                expected.as_slice(),
+                "{tile:?} {workers}"
+            );
         }
     }
     Ok(())
