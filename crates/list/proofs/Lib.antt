@@ -21,3 +21,9 @@ pub mod OneValue
 pub mod OneState
 pub mod OneDraw
 pub mod OneList
+pub mod Numbers
+pub mod Taking
+pub mod TakenArrays
+pub mod Members
+pub mod Drafts
+pub mod Listings

@@ -12,3 +12,5 @@ pub mod Place
 pub mod Checks
 pub mod Denotes
 pub mod Header
+pub mod Took
+pub mod Drafted

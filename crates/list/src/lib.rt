@@ -8,6 +8,7 @@ mod limits;
 mod reader;
 mod rows;
 mod starts;
+mod tokens;
 
 pub use draw::{Draw, Vertex};
 pub use draw_list::{DrawList, ListFault};

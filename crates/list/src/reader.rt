@@ -25,6 +25,7 @@ use crate::draw::Draw;
 use crate::draw_list::DrawList;
 use crate::fault::{ReadFault, ReadKind};
 use crate::limits::MOST_TRIANGLES;
+use crate::tokens::read_list;
 use draw::read_draw;
 use grid::PixelBox;
 use header::Header;
@@ -101,6 +102,23 @@ fn kind_of(error: &Error) -> ReadKind
     }
 }
 
+/// The draw list that `serde_json`'s value of the bytes denotes, or the first fault.
+pub(crate) fn read_by_value(alloc: Global, bytes: &[u8]) -> Result<DrawList, ReadFault>
+    requires { length bytes.now ≤ MOST_BYTES }
+    ensures ok { IfOk result (Denotes bytes.now) }
+    ensures only { (list : Scene) → Denotes bytes.now list
+        → MatchResult result (λ found. found ≡ list) (λ fault. fault.kind ≡ OutOfMemory) }
+    ensures first { IfErr result (λ fault. fault.kind ≢ OutOfMemory
+        → IsFirstFault (places (json_of bytes.now)) fault) }
+    ensures reached { IfErr result (Reaches (json_of bytes.now)) }
+{
+    let value = match Value::from_slice(alloc, bytes) {
+        Ok(value) => value,
+        Err(error) => return Err(ReadFault::outside(kind_of(&error))),
+    };
+    read_value(alloc, &value)
+}
+
 /// Reads a draw list from JSON (RFC 8259, as `serde_json` reads it; the keys, ranges and defaults are this project's format).
 ///
 /// What is told is the first check that fails, in this order. Whether the bytes are JSON. The top object: its kind, a key that
@@ -124,9 +142,8 @@ pub fn read(alloc: Global, bytes: &[u8]) -> Result<DrawList, ReadFault>
     // Want of memory too names a draw only where all before that draw is right.
     ensures reached { IfErr result (Reaches (json_of bytes.now)) }
 {
-    let value = match Value::from_slice(alloc, bytes) {
-        Ok(value) => value,
-        Err(error) => return Err(ReadFault::outside(kind_of(&error))),
-    };
-    read_value(alloc, &value)
+    if let Some(list) = read_list(alloc, bytes) {
+        return Ok(list);
+    }
+    read_by_value(alloc, bytes)
 }

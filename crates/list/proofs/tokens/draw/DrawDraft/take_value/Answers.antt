@@ -1,0 +1,26 @@
+use Rattle.std.proofs.Common.{◌≡◌, codes, length, Option, Some, None, is_some, false, true≢false, refl, arith}
+use Rattle.list.specs.Took.{Took}
+use Rattle.list.proofs.Drafts.{draft_vertices, draft_triangles, draft_state, TriangleArray}
+use Rattle.list.proofs.tokens.draw.DrawDraft.take_value.Goals as goal
+
+absent : {X : Type 0} (o : Option X) → is_some o ≡ false → o ≡ None
+absent None e = refl
+absent (Some x) e = absurd (true≢false e)
+
+pub returns-in_ok-take_vertices-in-vertices : goal.returns-in_ok-take_vertices-in-vertices
+returns-in_ok-take_vertices-in-vertices c picture =
+    let key : c.args.key.now ≡ codes "vertices" = grind arith in
+    let none : c.args.self.now.triangles ≡ None = absent c.args.self.now.triangles (grind arith) in
+    rw key (draft_vertices picture c.args.reader.now c.take_vertices.new.reader c.args.self.now c.in_ok-take_vertices-in-vertices.field-0 none c.in_ok-take_vertices-in-vertices.ensures)
+
+pub returns-in_ok-take_triangles-in-triangles : goal.returns-in_ok-take_triangles-in-triangles
+returns-in_ok-take_triangles-in-triangles c picture =
+    let key : c.args.key.now ≡ codes "triangles" = grind arith in
+    let there : c.args.self.now.vertices ≡ Some c.in-Some.vertices = c.in-Some.is in
+    let counted : c.len.result ≡ length c.in-Some.vertices.items = omega arith in
+    let took : Took 2 (TriangleArray (length c.in-Some.vertices.items)) c.args.reader.now c.in_ok-take_triangles-in-triangles.field-0.items c.take_triangles.new.reader = rw counted at c.in_ok-take_triangles-in-triangles.ensures in
+    rw key (draft_triangles picture c.args.reader.now c.take_triangles.new.reader c.args.self.now c.in-Some.vertices c.in_ok-take_triangles-in-triangles.field-0 there took)
+
+pub returns-in_ok-take_state_value-in_default : goal.returns-in_ok-take_state_value-in_default
+returns-in_ok-take_state_value-in_default c picture =
+    draft_state picture c.args.reader.now c.take_state_value.new.reader c.args.key.now c.args.self.now c.take_state_value.new.state (c.in_ok-take_state_value-in_default.ensures picture)

@@ -1,0 +1,64 @@
+-- What the members of an object that were read so far say of a draw, and of a draw list.
+use Rattle.std.specs.Prelude.{ℕ, ◌≤◌, List, [], ◌∷◌, map, length, codes, sum_by, Option, Some, None, Vec}
+use Rattle.std.specs.declared.alloc.Global.{Global}
+use Rattle.serde_json.specs.Data.{Data, object, Members}
+use Rattle.serde_json.specs.Find.{get_member}
+use Rattle.grid.specs.declared.pixels.PixelBox.{PixelBox}
+use Rattle.shade.specs.declared.state.State.{State}
+use Rattle.list.specs.declared.draw.Vertex.{Vertex}
+use Rattle.list.specs.declared.draw.Draw.{Draw}
+use Rattle.list.specs.declared.tokens.draw.DrawDraft.{DrawDraft}
+use Rattle.list.specs.declared.tokens.top.ListDraft.{ListDraft}
+use Rattle.list.specs.Listing.{draw_listing}
+use Rattle.list.specs.Denotes.{IsVertex, IsTriangle, IsArrayOf, IsState, IsDraw, IsSize, picture_box}
+use Rattle.list.specs.Header.{IsBeginning}
+use Rattle.list.specs.Took.{Slot}
+
+-- ---- a draw
+
+-- the keys of a draw's state
+abbrev pub state_keys : List (List ℕ)
+state_keys = codes "cull" ∷ codes "depth_test" ∷ codes "depth_write" ∷ codes "blend" ∷ codes "write" ∷ codes "sample_mask" ∷ codes "scissor" ∷ []
+
+abbrev pub HasState : PixelBox → Members → State → Type 0
+HasState picture found state = IsState picture (object found) state
+
+abbrev pub AreVertices : Data → Vec Vertex Global → Type 0
+AreVertices d vertices = IsArrayOf 65536 IsVertex (Some d) vertices.items
+
+-- triangles of as many vertices as were read
+abbrev pub AreTriangles : Option (Vec Vertex Global) → Data → Vec (List ℕ) Global → Type 0
+AreTriangles None d triangles = ⊥
+AreTriangles (Some vertices) d triangles = IsArrayOf 65536 (IsTriangle (length vertices.items)) (Some d) triangles.items
+
+pub record HasDraw (picture : PixelBox) (found : Members) (draft : DrawDraft) : Type 0 where
+  pub state : HasState picture found draft.state
+  pub vertices : Slot AreVertices (get_member (codes "vertices") found) draft.vertices
+  pub triangles : Slot (AreTriangles draft.vertices) (get_member (codes "triangles") found) draft.triangles
+
+-- ---- a draw list
+
+abbrev pub HasSize : Data → ℕ → Type 0
+HasSize d n = IsSize (Some d) n
+
+-- all pixels of a picture whose sides were read
+abbrev pub picture_of : Option ℕ → Option ℕ → Option PixelBox
+picture_of None height = None
+picture_of (Some width) None = None
+picture_of (Some width) (Some height) = Some (picture_box width height)
+
+abbrev pub AreDraws : PixelBox → Data → List Draw → Type 0
+AreDraws picture d draws =
+    let listed = map draw_listing draws in
+    IsArrayOf 1024 (IsDraw picture) (Some d) listed × (sum_by (λ x. length x.triangles) listed ≤ 65536)
+
+-- draws on a picture whose sides were read
+abbrev pub AreDrawsOn : Option PixelBox → Data → Vec Draw Global → Type 0
+AreDrawsOn None d draws = ⊥
+AreDrawsOn (Some picture) d draws = AreDraws picture d draws.items
+
+pub record HasList (found : Members) (draft : ListDraft) : Type 0 where
+  pub width : Slot HasSize (get_member (codes "width") found) draft.width
+  pub height : Slot HasSize (get_member (codes "height") found) draft.height
+  pub beginning : IsBeginning (object found) draft.count draft.clear
+  pub draws : Slot (AreDrawsOn (picture_of draft.width draft.height)) (get_member (codes "draws") found) draft.draws
