@@ -1,5 +1,5 @@
 -- What the members of a draw say, after one more.
-use Rattle.std.proofs.Common.{◌≡◌, ℕ, List, [], ◌∷◌, ◌++◌, length, codes, Bool, true, false, ◌||◌, Option, Some, None, Vec, Global, bytes_eq, refl, sym, ap, subst, ◌∙◌, true≢false, arith}
+use Rattle.std.proofs.Common.{◌≡◌, ℕ, List, [], ◌∷◌, ◌++◌, length, codes, Bool, true, false, ◌||◌, Option, Some, None, Vec, Global, bytes_eq, is_some, refl, sym, ap, subst, ◌∙◌, true≢false, arith}
 use Rattle.json.specs.Token.{Token}
 use Rattle.serde_json.specs.Data.{Data, object, Members, no_members, put}
 use Rattle.serde_json.specs.Find.{get_member}
@@ -13,10 +13,13 @@ use Rattle.list.specs.declared.draw.Vertex.{Vertex}
 use Rattle.list.specs.declared.tokens.draw.DrawDraft.{DrawDraft}
 use Rattle.list.specs.Json.{is_among, has_other_member}
 use Rattle.list.specs.Keys.{draw_keys}
-use Rattle.list.specs.Denotes.{OrDefault, IsArrayOf, IsVertex, IsTriangle, IsCull, IsDepthTest, IsTruth, IsBlend, IsWriteMask, IsSampleMask, IsScissor, IsDraw}
+use Rattle.list.specs.Denotes.{OrDefault, IsArrayOf, IsVertex, IsTriangle, IsStripIndex, IsPrimitives, IsCull, IsDepthTest, IsTruth, IsBlend, IsWriteMask, IsSampleMask, IsScissor, IsDraw}
+use Rattle.list.specs.declared.primitives.Primitives.{Primitives}
+use Rattle.list.specs.declared.primitives.Primitives.TheVariants.{Triangles, Strip}
+use Rattle.list.specs.Primitives.{primitive_listing}
 use Rattle.list.specs.Listing.{draw_listing}
 use Rattle.list.specs.Took.{Took, Adds, IsObjectOf, Slot}
-use Rattle.list.specs.Drafted.{state_keys, HasState, AreVertices, AreTriangles, HasDraw}
+use Rattle.list.specs.Drafted.{state_keys, HasState, AreVertices, AreTriangles, IsStrip, HasDraw, IsOnlyList}
 use Rattle.list.proofs.Members.{here, stays, deeper, differ}
 use Rattle.list.proofs.Numbers.{took_also}
 
@@ -203,6 +206,7 @@ pub none_of_draw : (picture : PixelBox) → HasDraw picture no_members (record {
   };
   vertices = None;
   triangles = None;
+  strip = None;
 })
 none_of_draw picture = record {
   state = record {
@@ -213,27 +217,36 @@ none_of_draw picture = record {
   };
   vertices = tt;
   triangles = tt;
+  strip = tt;
 }
 
 pub draft_state : (picture : PixelBox) (old new : List Token) (key : List ℕ) (draft : DrawDraft) (s : State) → Took 1 (Adds state_keys (HasState picture) key draft.state) old s new
-    → Took 2 (Adds draw_keys (HasDraw picture) key draft) old (record { state = s; vertices = draft.vertices; triangles = draft.triangles }) new
+    → Took 2 (Adds draw_keys (HasDraw picture) key draft) old (record { state = s; vertices = draft.vertices; triangles = draft.triangles; strip = draft.strip }) new
 draft_state picture old new key draft s t =
     took_also 2 (Adds state_keys (HasState picture) key draft.state) (Adds draw_keys (HasDraw picture) key draft) old new s _
     (λ d is. (
-      among_more state_keys (codes "vertices" ∷ codes "triangles" ∷ []) key is.0,
+      among_more state_keys (codes "vertices" ∷ codes "triangles" ∷ codes "strip" ∷ []) key is.0,
       λ found h. record {
         state = is.1 found h.state;
         vertices = stays (codes "vertices") key d found (λ o. Slot AreVertices o draft.vertices) (state_key_apart (codes "vertices") key refl is.0) h.vertices;
         triangles = stays (codes "triangles") key d found (λ o. Slot (AreTriangles draft.vertices) o draft.triangles) (state_key_apart (codes "triangles") key refl is.0) h.triangles;
+        strip = stays (codes "strip") key d found (λ o. Slot (IsStrip draft.vertices) o draft.strip) (state_key_apart (codes "strip") key refl is.0) h.strip;
       },
     ))
     (deeper 1 2 (Adds state_keys (HasState picture) key draft.state) old new s (omega arith) t)
 
-no_triangles : (before : Option (Vec Vertex Global)) (vs : Vec Vertex Global) (o : Option Data) (x : Option (Vec (List ℕ) Global)) → x ≡ None → Slot (AreTriangles before) o x
-    → Slot (AreTriangles (Some vs)) o x
-no_triangles before vs None None e h = tt
-no_triangles before vs (Some d) None e h = absurd h
-no_triangles before vs o (Some ts) e h = absurd (cc)
+no_list : {X : Type 0} (Before After : Data → X → Type 0) (o : Option Data) (x : Option X) → x ≡ None → Slot Before o x → Slot After o x
+no_list Before After None None e h = tt
+no_list Before After (Some d) None e h = absurd h
+no_list Before After o (Some found) e h = absurd (cc)
+
+absent : {X : Type 0} (o : Option X) → is_some o ≡ false → o ≡ None
+absent None e = refl
+absent (Some x) e = absurd (true≢false e)
+
+neither : (a b : Bool) → (a || b) ≡ false → (a ≡ false) × (b ≡ false)
+neither true b e = absurd (true≢false e)
+neither false b e = (refl, e)
 
 abbrev pub VertexArray : Data → List Vertex → Type 0
 VertexArray d xs = IsArrayOf 65536 IsVertex (Some d) xs
@@ -241,9 +254,13 @@ VertexArray d xs = IsArrayOf 65536 IsVertex (Some d) xs
 abbrev pub TriangleArray : ℕ → Data → List (List ℕ) → Type 0
 TriangleArray n d xs = IsArrayOf 65536 (IsTriangle n) (Some d) xs
 
-pub draft_vertices : (picture : PixelBox) (old new : List Token) (draft : DrawDraft) (vs : Vec Vertex Global) → draft.triangles ≡ None → Took 2 VertexArray old vs.items new
-    → Took 2 (Adds draw_keys (HasDraw picture) (codes "vertices") draft) old (record { state = draft.state; vertices = Some vs; triangles = draft.triangles }) new
+abbrev pub StripArray : ℕ → Data → List ℕ → Type 0
+StripArray n d xs = IsArrayOf 65538 (IsStripIndex n) (Some d) xs
+
+pub draft_vertices : (picture : PixelBox) (old new : List Token) (draft : DrawDraft) (vs : Vec Vertex Global) → (is_some draft.triangles || is_some draft.strip) ≡ false → Took 2 VertexArray old vs.items new
+    → Took 2 (Adds draw_keys (HasDraw picture) (codes "vertices") draft) old (record { state = draft.state; vertices = Some vs; triangles = draft.triangles; strip = draft.strip }) new
 draft_vertices picture old new draft vs none t =
+    let empty = neither (is_some draft.triangles) (is_some draft.strip) none in
     took_also 2 VertexArray (Adds draw_keys (HasDraw picture) (codes "vertices") draft) old new vs.items _
     (λ d is. (
       refl,
@@ -251,7 +268,9 @@ draft_vertices picture old new draft vs none t =
         state = state_stays picture (codes "vertices") d draft.state found refl h.state;
         vertices = here (codes "vertices") d found (λ o. Slot AreVertices o (Some vs)) is;
         triangles = stays (codes "triangles") (codes "vertices") d found (λ o. Slot (AreTriangles (Some vs)) o draft.triangles) (differ (codes "triangles") (codes "vertices") refl refl)
-            (no_triangles draft.vertices vs (get_member (codes "triangles") found) draft.triangles none h.triangles);
+        (no_list (AreTriangles draft.vertices) (AreTriangles (Some vs)) (get_member (codes "triangles") found) draft.triangles (absent draft.triangles empty.0) h.triangles);
+        strip = stays (codes "strip") (codes "vertices") d found (λ o. Slot (IsStrip (Some vs)) o draft.strip) (differ (codes "strip") (codes "vertices") refl refl)
+        (no_list (IsStrip draft.vertices) (IsStrip (Some vs)) (get_member (codes "strip") found) draft.strip (absent draft.strip empty.1) h.strip);
       },
     )) t
 
@@ -260,7 +279,7 @@ are_triangles x vs d ts e is = rw e is
 
 pub draft_triangles : (picture : PixelBox) (old new : List Token) (draft : DrawDraft) (vs : Vec Vertex Global) (ts : Vec (List ℕ) Global) → draft.vertices ≡ Some vs
     → Took 2 (TriangleArray (length vs.items)) old ts.items new
-    → Took 2 (Adds draw_keys (HasDraw picture) (codes "triangles") draft) old (record { state = draft.state; vertices = draft.vertices; triangles = Some ts }) new
+    → Took 2 (Adds draw_keys (HasDraw picture) (codes "triangles") draft) old (record { state = draft.state; vertices = draft.vertices; triangles = Some ts; strip = draft.strip }) new
 draft_triangles picture old new draft vs ts there t =
     took_also 2 (TriangleArray (length vs.items)) (Adds draw_keys (HasDraw picture) (codes "triangles") draft) old new ts.items _
     (λ d is. (
@@ -269,38 +288,75 @@ draft_triangles picture old new draft vs ts there t =
         state = state_stays picture (codes "triangles") d draft.state found refl h.state;
         vertices = stays (codes "vertices") (codes "triangles") d found (λ o. Slot AreVertices o draft.vertices) (differ (codes "vertices") (codes "triangles") refl refl) h.vertices;
         triangles = here (codes "triangles") d found (λ o. Slot (AreTriangles draft.vertices) o (Some ts)) (are_triangles draft.vertices vs d ts there is);
+        strip = stays (codes "strip") (codes "triangles") d found (λ o. Slot (IsStrip draft.vertices) o draft.strip) (differ (codes "strip") (codes "triangles") refl refl) h.strip;
       },
     )) t
 
-vertices_at : (vs : Vec Vertex Global) (o : Option Data) → Slot AreVertices o (Some vs) → IsArrayOf 65536 IsVertex o vs.items
-vertices_at vs None h = absurd h
-vertices_at vs (Some d) h = h
+is_strip : (x : Option (Vec Vertex Global)) (vs : Vec Vertex Global) (d : Data) (ts : Vec ℕ Global) → x ≡ Some vs → StripArray (length vs.items) d ts.items → IsStrip x d ts
+is_strip x vs d ts e is = rw e is
 
-vertices_there : (vs : Vec Vertex Global) (x : Option (Vec Vertex Global)) (o : Option Data) → x ≡ Some vs → Slot AreVertices o x → IsArrayOf 65536 IsVertex o vs.items
-vertices_there vs x o e h = vertices_at vs o (subst (λ w. Slot AreVertices o w) e h)
+pub draft_strip : (picture : PixelBox) (old new : List Token) (draft : DrawDraft) (vs : Vec Vertex Global) (ts : Vec ℕ Global) → draft.vertices ≡ Some vs
+    → Took 1 (StripArray (length vs.items)) old ts.items new
+    → Took 2 (Adds draw_keys (HasDraw picture) (codes "strip") draft) old (record { state = draft.state; vertices = draft.vertices; triangles = draft.triangles; strip = Some ts }) new
+draft_strip picture old new draft vs ts there t =
+    took_also 2 (StripArray (length vs.items)) (Adds draw_keys (HasDraw picture) (codes "strip") draft) old new ts.items _
+    (λ d is. (
+      refl,
+      λ found h. record {
+        state = state_stays picture (codes "strip") d draft.state found refl h.state;
+        vertices = stays (codes "vertices") (codes "strip") d found (λ o. Slot AreVertices o draft.vertices) (differ (codes "vertices") (codes "strip") refl refl) h.vertices;
+        triangles = stays (codes "triangles") (codes "strip") d found (λ o. Slot (AreTriangles draft.vertices) o draft.triangles) (differ (codes "triangles") (codes "strip") refl refl) h.triangles;
+        strip = here (codes "strip") d found (λ o. Slot (IsStrip draft.vertices) o (Some ts)) (is_strip draft.vertices vs d ts there is);
+      },
+    ))
+    (deeper 1 2 (StripArray (length vs.items)) old new ts.items (omega arith) t)
 
-triangles_at : (vs : Vec Vertex Global) (ts : Vec (List ℕ) Global) (o : Option Data) → Slot (AreTriangles (Some vs)) o (Some ts) → IsArrayOf 65536 (IsTriangle (length vs.items)) o ts.items
-triangles_at vs ts None h = absurd h
-triangles_at vs ts (Some d) h = h
+-- ---- the whole draw
 
-triangles_there : (vs : Vec Vertex Global) (ts : Vec (List ℕ) Global) (x : Option (Vec Vertex Global)) (y : Option (Vec (List ℕ) Global)) (o : Option Data) → x ≡ Some vs → y ≡ Some ts
-    → Slot (AreTriangles x) o y → IsArrayOf 65536 (IsTriangle (length vs.items)) o ts.items
-triangles_there vs ts x y o e f h = triangles_at vs ts o (subst (λ z. Slot (AreTriangles (Some vs)) o z) f (subst (λ w. Slot (AreTriangles w) o y) e h))
+-- what a key has that was read, and that it was not read
+there_at : {X : Type 0} (Is : Data → X → Type 0) (P : Option Data → Type 0) (o : Option Data) (found : X) → ((d : Data) → Is d found → P (Some d)) → Slot Is o (Some found) → P o
+there_at Is P None found f h = absurd h
+there_at Is P (Some d) found f h = f d h
 
-drawn : (picture : PixelBox) (found : Members) (draft : DrawDraft) (vs : Vec Vertex Global) (ts : Vec (List ℕ) Global) → draft.vertices ≡ Some vs → draft.triangles ≡ Some ts
-    → has_other_member draw_keys found ≡ false → HasDraw picture found draft → IsDraw picture (object found) (record { state = draft.state; vertices = vs.items; triangles = ts.items })
-drawn picture found draft vs ts e f known h = record {
-  object = refl;
-  keys = known;
-  state = h.state;
-  vertices = vertices_there vs draft.vertices (get_member (codes "vertices") found) e h.vertices;
-  triangles = triangles_there vs ts draft.vertices draft.triangles (get_member (codes "triangles") found) e f h.triangles;
-}
+there : {X : Type 0} (Is : Data → X → Type 0) (P : Option Data → Type 0) (o : Option Data) (x : Option X) (found : X) → x ≡ Some found → ((d : Data) → Is d found → P (Some d)) → Slot Is o x → P o
+there Is P o x found e f h = there_at Is P o found f (subst (λ y. Slot Is o y) e h)
 
-pub whole_draw : (picture : PixelBox) (old new : List Token) (draft : DrawDraft) (vs : Vec Vertex Global) (ts : Vec (List ℕ) Global) → draft.vertices ≡ Some vs → draft.triangles ≡ Some ts
-    → Took 3 (IsObjectOf draw_keys (HasDraw picture)) old draft new
-    → Took 3 (λ d x. IsDraw picture d (draw_listing x)) old (record { state = draft.state; vertices = vs; triangles = ts }) new
-whole_draw picture old new draft vs ts e f t =
-    took_also 3 (IsObjectOf draw_keys (HasDraw picture)) (λ d x. IsDraw picture d (draw_listing x)) old new draft (record { state = draft.state; vertices = vs; triangles = ts })
-    (λ d is. subst (λ v. IsDraw picture v (record { state = draft.state; vertices = vs.items; triangles = ts.items })) (sym is.is_object) (drawn picture is.found draft vs ts e f is.known is.has))
-    t
+not_there : {X : Type 0} (Is : Data → X → Type 0) (o : Option Data) (x : Option X) → x ≡ None → Slot Is o x → o ≡ None
+not_there Is None x e h = refl
+not_there Is (Some d) None e h = absurd h
+not_there Is (Some d) (Some found) e h = absurd (cc)
+
+module _ (draft : DrawDraft) (vs : Vec Vertex Global) (e : draft.vertices ≡ Some vs) where
+  triangles_at : (d : Data) (ts : Vec (List ℕ) Global) → AreTriangles draft.vertices d ts → TriangleArray (length vs.items) d ts.items
+  triangles_at d ts is = subst (λ x. AreTriangles x d ts) e is
+
+  strip_at : (d : Data) (ts : Vec ℕ Global) → IsStrip draft.vertices d ts → StripArray (length vs.items) d ts.items
+  strip_at d ts is = subst (λ x. IsStrip x d ts) e is
+
+  primitives_are : (picture : PixelBox) (found : Members) (p : Primitives) → IsOnlyList draft.triangles draft.strip p → HasDraw picture found draft
+      → IsPrimitives (length vs.items) (get_member (codes "triangles") found) (get_member (codes "strip") found) (primitive_listing p)
+  primitives_are picture found (Triangles ts) only h = (
+    there (AreTriangles draft.vertices) (λ o. IsArrayOf 65536 (IsTriangle (length vs.items)) o ts.items) (get_member (codes "triangles") found) draft.triangles ts only.0 (λ d is. triangles_at d ts is) h.triangles,
+    not_there (IsStrip draft.vertices) (get_member (codes "strip") found) draft.strip only.1 h.strip,
+  )
+  primitives_are picture found (Strip ts) only h = (
+    there (IsStrip draft.vertices) (λ o. IsArrayOf 65538 (IsStripIndex (length vs.items)) o ts.items) (get_member (codes "strip") found) draft.strip ts only.0 (λ d is. strip_at d ts is) h.strip,
+    not_there (AreTriangles draft.vertices) (get_member (codes "triangles") found) draft.triangles only.1 h.triangles,
+  )
+
+  drawn : (picture : PixelBox) (found : Members) (p : Primitives) → IsOnlyList draft.triangles draft.strip p → has_other_member draw_keys found ≡ false → HasDraw picture found draft
+      → IsDraw picture (object found) (record { state = draft.state; vertices = vs.items; primitives = primitive_listing p })
+  drawn picture found p only known h = record {
+    object = refl;
+    keys = known;
+    state = h.state;
+    vertices = there AreVertices (λ o. IsArrayOf 65536 IsVertex o vs.items) (get_member (codes "vertices") found) draft.vertices vs e (λ d is. is) h.vertices;
+    primitives = primitives_are picture found p only h;
+  }
+
+  pub whole_draw : (picture : PixelBox) (old new : List Token) (p : Primitives) → IsOnlyList draft.triangles draft.strip p → Took 3 (IsObjectOf draw_keys (HasDraw picture)) old draft new
+      → Took 3 (λ d x. IsDraw picture d (draw_listing x)) old (record { state = draft.state; vertices = vs; primitives = p }) new
+  whole_draw picture old new p only t =
+      took_also 3 (IsObjectOf draw_keys (HasDraw picture)) (λ d x. IsDraw picture d (draw_listing x)) old new draft (record { state = draft.state; vertices = vs; primitives = p })
+      (λ d is. subst (λ v. IsDraw picture v (record { state = draft.state; vertices = vs.items; primitives = primitive_listing p })) (sym is.is_object) (drawn picture is.found p only is.known is.has))
+      t

@@ -1,5 +1,7 @@
+pub mod Triangulated
 pub mod Numbering
 pub mod Unique
+pub mod Pixels
 pub mod Parts
 pub mod Spans
 pub mod Starting

@@ -15,6 +15,8 @@ use Rattle.list.specs.Denotes.{Each, OrDefault, IsArrayOf, IsSize, IsSampleCount
 use Rattle.list.specs.Header.{IsBeginning}
 use Rattle.list.specs.Listing.{Listing, draw_listing, listing_of, scene_of}
 use Rattle.list.specs.Scene.{Scene}
+use Rattle.list.specs.Primitives.{count_of_triangles}
+use Rattle.list.specs.declared.output.Output.TheVariants as output
 use Rattle.list.specs.Took.{Took, Adds, IsObjectOf, Slot}
 use Rattle.list.specs.Drafted.{HasSize, picture_of, AreDraws, AreDrawsOn, HasList}
 use Rattle.list.proofs.Members.{here, stays, deeper, differ}
@@ -185,12 +187,12 @@ size_there : (n : ℕ) (x : Option ℕ) (o : Option Data) → x ≡ Some n → S
 size_there n x o e h = size_at n o (subst (λ y. Slot HasSize o y) e h)
 
 draws_at : (picture : PixelBox) (xs : Vec Draw Global) (o : Option Data) → Slot (AreDrawsOn (Some picture)) o (Some xs)
-    → IsArrayOf 1024 (IsDraw picture) o (map draw_listing xs.items) × (sum_by (λ x. length x.triangles) (map draw_listing xs.items) ≤ 65536)
+    → IsArrayOf 1024 (IsDraw picture) o (map draw_listing xs.items) × (sum_by (λ x. count_of_triangles x.primitives) (map draw_listing xs.items) ≤ 65536)
 draws_at picture xs None h = absurd h
 draws_at picture xs (Some d) h = h
 
 module _ (l : ListDraft) (width height : ℕ) (draws : Vec Draw Global) (e : l.width ≡ Some width) (f : l.height ≡ Some height) (g : l.draws ≡ Some draws) where
-  listed : (found : Members) → has_other_member top_keys found ≡ false → HasList found l → IsListing (object found) (listing_of width height l.count l.clear draws.items)
+  listed : (found : Members) → has_other_member top_keys found ≡ false → HasList found l → IsListing (object found) (listing_of width height l.count l.clear output.Color draws.items)
   listed found known h =
       let o = get_member (codes "draws") found in
       let picture : picture_of l.width l.height ≡ Some (picture_box width height) = rw (e, f) refl in
@@ -203,12 +205,13 @@ module _ (l : ListDraft) (width height : ℕ) (draws : Vec Draw Global) (e : l.w
         samples = h.beginning.samples;
         clear = h.beginning.colour;
         clear_depth = h.beginning.depth;
+        output = refl;
         draws = drawn.0;
         triangles = drawn.1;
       }
 
-  pub whole_list : (d : Data) → IsObjectOf top_keys HasList d l → IsListing d (listing_of width height l.count l.clear draws.items)
-  whole_list d is = subst (λ v. IsListing v (listing_of width height l.count l.clear draws.items)) (sym is.is_object) (listed is.found is.known is.has)
+  pub whole_list : (d : Data) → IsObjectOf top_keys HasList d l → IsListing d (listing_of width height l.count l.clear output.Color draws.items)
+  whole_list d is = subst (λ v. IsListing v (listing_of width height l.count l.clear output.Color draws.items)) (sym is.is_object) (listed is.found is.known is.has)
 
 pub ok_denotes : {E : Type 0} (bytes : List ℕ) (l : Listing) (d : Data) → length bytes ≤ 67108864 → json_of bytes ≡ Some d → IsListing d l → (r : Result Scene E) → IfOk r (λ list. list ≡ scene_of l)
     → IfSome (result_ok r) (Denotes bytes)

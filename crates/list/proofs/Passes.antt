@@ -1,5 +1,5 @@
 -- What denotes a draw list passes each check.
-use Rattle.std.proofs.Common.{◌≡◌, ℕ, ◌+◌, ◌≤◌, ℤ, pos, negsuc, ◌≤ℤ◌, ◌<◌, ◌-ℤ◌, List, [], ◌∷◌, ◌++◌, length, sum_by, Bool, true, false, ◌||◌, Option, Some, None, IsSome, is_none, nat_lt, codes, arith, rules, refl, ap, ◌∙◌}
+use Rattle.std.proofs.Common.{◌≡◌, ℕ, ◌+◌, ◌≤◌, ℤ, pos, negsuc, ◌≤ℤ◌, ◌<◌, ◌-ℤ◌, List, [], ◌∷◌, ◌++◌, length, sum_by, Bool, true, false, not, ◌||◌, ◌&&◌, Option, Some, None, IsSome, is_none, nat_lt, codes, arith, rules, refl, ap, ◌∙◌}
 use Rattle.std.proofs.lemmas.Int.{ints}
 use Rattle.std.proofs.lemmas.List.Sums.{sum_by-append}
 use Rattle.std.proofs.lemmas.Bool.Decides.{nat_tests}
@@ -18,14 +18,14 @@ use Rattle.shade.specs.declared.sample.Merge.{Merge}
 use Rattle.shade.specs.declared.state.State.{State}
 use Rattle.list.specs.declared.draw.Vertex.{Vertex}
 use Rattle.list.specs.declared.fault.ReadKind.{ReadKind}
-use Rattle.list.specs.declared.fault.ReadKind.TheVariants.{TooMany}
 use Rattle.list.specs.Json.{whole, array_of, count, elements}
 use Rattle.list.specs.Keys.{cull_words, depth_test_words, blend_words}
+use Rattle.list.specs.Primitives.{PrimitiveListing, triangle_list, triangle_strip, strip_count, count_of_triangles}
 use Rattle.list.specs.Listing.{DrawListing, Listing}
-use Rattle.list.specs.Place.{Place, place, first_fault, told_as}
-use Rattle.list.specs.Checks.{Checks, each, is_from_to, number_checks, depth_checks, vertex_checks, triangle_checks, array_checks, where_there, word_checks, truth_checks, colour_checks, write_mask_checks, sample_mask_checks, scissor_checks, sample_count_checks, merge_checks, state_checks, vertices_checks, triangles_checks, part_checks, draw_checks, clear_checks, top_checks, in_draw, outside, draw_places, value_places}
-use Rattle.list.specs.Denotes.{Each, OrDefault, IsWhole, IsDepthNumber, IsTruth, IsVertex, IsTriangle, IsArrayOf, IsCull, IsDepthTest, IsBlend, IsWriteMask, IsSampleMask, IsScissor, IsMerge, IsState, IsDraw, IsSampleCount, IsClearColour, IsListing}
-use Rattle.list.proofs.Counts.{items_len_each}
+use Rattle.list.specs.Place.{Place, first_fault, told_as}
+use Rattle.list.specs.Checks.{Checks, each, is_from_to, number_checks, depth_checks, vertex_checks, triangle_checks, strip_index_checks, array_checks, sum_check, where_there, word_checks, truth_checks, colour_checks, write_mask_checks, sample_mask_checks, scissor_checks, sample_count_checks, merge_checks, state_checks, vertices_checks, triangles_checks, strip_checks, primitive_checks, part_checks, triangles_counted, draw_checks, clear_checks, top_checks, in_draw, outside, draw_places, value_places}
+use Rattle.list.specs.Denotes.{Each, OrDefault, IsWhole, IsDepthNumber, IsTruth, IsVertex, IsTriangle, IsStripIndex, IsPrimitives, IsArrayOf, IsCull, IsDepthTest, IsBlend, IsWriteMask, IsSampleMask, IsScissor, IsMerge, IsState, IsDraw, IsSampleCount, IsClearColour, IsListing}
+use Rattle.list.proofs.Counts.{items_len_each, given_is}
 use Rattle.list.proofs.Faults.{first_fault_of_both, first_fault_told_as}
 
 both_pass : {T : Type 0} (ps qs : List (Place T)) → first_fault ps ≡ None → first_fault qs ≡ None → first_fault (ps ++ qs) ≡ None
@@ -115,6 +115,9 @@ vertex_passes d v is = rw (
 pub triangle_passes : (n : ℕ) (d : Data) (t : List ℕ) → IsTriangle n d t → first_fault (triangle_checks n d) ≡ None
 triangle_passes n d t is = rw (is.array, is.first.0, index_in_range n _ is.first.1, is.second.0, index_in_range n _ is.second.1, is.third.0, index_in_range n _ is.third.1) refl
 
+strip_index_passes : (n : ℕ) (d : Data) (k : ℕ) → IsStripIndex n d k → first_fault (strip_index_checks n d) ≡ None
+strip_index_passes n d k is = rw (is.0, index_in_range n k is.1) refl
+
 colour_passes : (v : Data) (colour : List ℕ) → IsClearColour (Some v) colour → first_fault (colour_checks (Some v)) ≡ None
 colour_passes v colour is = rw (is.array, is.red.0, in_range _ _ _ is.red.1 is.red.2, is.green.0, in_range _ _ _ is.green.1 is.green.2, is.blue.0, in_range _ _ _ is.blue.1 is.blue.2) refl
 
@@ -161,7 +164,7 @@ state_passes picture d state is =
     both_pass culls (merge_checks d ++ (sample_masks ++ scissors)) cull
     (both_pass (merge_checks d) (sample_masks ++ scissors) (merge_passes d state.merge is.merge) (both_pass sample_masks scissors sample_mask scissor))
 
--- ---- the vertices and the triangles of a draw
+-- ---- the vertices and the primitives of a draw
 
 pub each_passes : {X : Type 0} (checks : Data → Checks) (Is : Data → X → Type 0) → ((d : Data) (x : X) → Is d x → first_fault (checks d) ≡ None)
     → (ds : Items) (xs : List X) → Each Is ds xs → first_fault (each checks ds) ≡ None
@@ -178,49 +181,84 @@ array_passes most Is value xs is =
     let few : count value ≤ most = omega (arith, many, is.at_most) in
     rw (there (array_of value) is.array, not_over most (count value) few) refl
 
-vertices_pass : (v : Data) (xs : List Vertex) → IsArrayOf 65536 IsVertex (Some v) xs → first_fault (vertices_checks v) ≡ None
+vertices_pass : (v : Option Data) (xs : List Vertex) → IsArrayOf 65536 IsVertex v xs → first_fault (vertices_checks v) ≡ None
 unfolding vertices_checks
-vertices_pass v xs is = both_pass (array_checks 65536 (Some v)) (each vertex_checks (elements (Some v))) (array_passes _ _ _ _ is) (each_passes vertex_checks IsVertex vertex_passes _ xs is.parts)
+vertices_pass v xs is = both_pass (array_checks 65536 v) (each vertex_checks (elements v)) (array_passes _ _ _ _ is) (each_passes vertex_checks IsVertex vertex_passes _ xs is.parts)
 
-triangles_pass : (earlier n : ℕ) (t : Data) (xs : List (List ℕ)) → IsArrayOf 65536 (IsTriangle n) (Some t) xs → earlier + length xs ≤ 65536 → first_fault (triangles_checks earlier n t) ≡ None
+triangles_pass : (earlier n : ℕ) (t : Option Data) (xs : List (List ℕ)) → IsArrayOf 65536 (IsTriangle n) t xs → earlier + length xs ≤ 65536 → first_fault (triangles_checks earlier n t) ≡ None
 unfolding triangles_checks
 triangles_pass earlier n t xs is room =
-    let many = items_len_each (IsTriangle n) (elements (Some t)) xs is.parts in
-    let few : earlier + count (Some t) ≤ 65536 = omega (arith, many) in
+    let many = items_len_each (IsTriangle n) (elements t) xs is.parts in
+    let few : earlier + count t ≤ 65536 = omega (arith, many) in
     let each_one = each_passes (triangle_checks n) (IsTriangle n) (triangle_passes n) _ xs is.parts in
-    let later : Checks = place (nat_lt 65536 (earlier + count (Some t))) TooMany ∷ each (triangle_checks n) (elements (Some t)) in
-    let passed : first_fault later ≡ None = rw (not_over 65536 (earlier + count (Some t)) few) each_one in
-    both_pass (array_checks 65536 (Some t)) later (array_passes _ _ _ _ is) passed
+    let later : Checks = sum_check earlier (count t) ∷ each (triangle_checks n) (elements t) in
+    let passed : first_fault later ≡ None = rw (not_over 65536 (earlier + count t) few) each_one in
+    both_pass (array_checks 65536 t) later (array_passes _ _ _ _ is) passed
 
-parts_pass : (earlier : ℕ) (v t : Option Data) (draw : DrawListing) → IsArrayOf 65536 IsVertex v draw.vertices → IsArrayOf 65536 (IsTriangle (length draw.vertices)) t draw.triangles
-    → earlier + length draw.triangles ≤ 65536 → ((is_none v || is_none t) ≡ false) × (first_fault (part_checks earlier v t) ≡ None)
-parts_pass earlier None t draw vs ts room = let bad : false ≡ true = vs.array in absurd (cc)
-parts_pass earlier (Some v) None draw vs ts room = let bad : false ≡ true = ts.array in absurd (cc)
-parts_pass earlier (Some v) (Some t) draw vs ts room =
-    let n = items_len_each IsVertex (elements (Some v)) draw.vertices vs.parts in (
-      refl,
-      both_pass (vertices_checks v) (triangles_checks earlier (count (Some v)) t) (vertices_pass v draw.vertices vs)
-          (rw n (triangles_pass earlier (length draw.vertices) t draw.triangles ts room)),
-    )
+strip_pass : (earlier n : ℕ) (s : Option Data) (xs : List ℕ) → IsArrayOf 65538 (IsStripIndex n) s xs → earlier + strip_count (length xs) ≤ 65536 → first_fault (strip_checks earlier n s) ≡ None
+unfolding strip_checks
+strip_pass earlier n s xs is room =
+    let many = items_len_each (IsStripIndex n) (elements s) xs is.parts in
+    let few : earlier + strip_count (count s) ≤ 65536 = omega (arith, many) in
+    let each_one = each_passes (strip_index_checks n) (IsStripIndex n) (strip_index_passes n) _ xs is.parts in
+    let later : Checks = sum_check earlier (strip_count (count s)) ∷ each (strip_index_checks n) (elements s) in
+    let passed : first_fault later ≡ None = rw (not_over 65536 (earlier + strip_count (count s)) few) each_one in
+    both_pass (array_checks 65538 s) later (array_passes _ _ _ _ is) passed
+
+-- what passes where it is there passes also where it may be absent
+passes_where_there : (checks : Option Data → Checks) (value : Option Data) → first_fault (checks value) ≡ None → first_fault (where_there checks value) ≡ None
+passes_where_there checks None passes = refl
+passes_where_there checks (Some v) passes = passes
+
+nothing_there : (checks : Option Data → Checks) (value : Option Data) → value ≡ None → first_fault (where_there checks value) ≡ None
+nothing_there checks value none = rw none refl
+
+primitives_pass : (earlier n : ℕ) (t s : Option Data) (p : PrimitiveListing) → IsPrimitives n t s p → earlier + count_of_triangles p ≤ 65536 → first_fault (primitive_checks earlier n t s) ≡ None
+primitives_pass earlier n t s (triangle_list xs) is room =
+    both_pass (where_there (triangles_checks earlier n) t) (where_there (strip_checks earlier n) s)
+    (passes_where_there (triangles_checks earlier n) t (triangles_pass earlier n t xs is.0 room)) (nothing_there (strip_checks earlier n) s is.1)
+primitives_pass earlier n t s (triangle_strip xs) is room =
+    both_pass (where_there (triangles_checks earlier n) t) (where_there (strip_checks earlier n) s)
+    (nothing_there (triangles_checks earlier n) t is.1) (passes_where_there (strip_checks earlier n) s (strip_pass earlier n s xs is.0 room))
+
+array_there : (value : Option Data) → IsSome (array_of value) → is_none value ≡ false
+array_there None is = let bad : false ≡ true = is in absurd (cc)
+array_there (Some v) is = refl
+
+-- one of the two lists of primitives is there
+one_list : (n : ℕ) (t s : Option Data) (p : PrimitiveListing) → IsPrimitives n t s p → ((is_none t && is_none s) ≡ false) × ((not (is_none t) && not (is_none s)) ≡ false)
+one_list n t s (triangle_list xs) is = rw (array_there t is.0.array, is.1) (refl, refl)
+one_list n t s (triangle_strip xs) is = rw (array_there s is.0.array, is.1) (refl, refl)
+
+parts_pass : (earlier : ℕ) (v t s : Option Data) (draw : DrawListing) → IsArrayOf 65536 IsVertex v draw.vertices → IsPrimitives (length draw.vertices) t s draw.primitives
+    → earlier + count_of_triangles draw.primitives ≤ 65536 → first_fault (part_checks earlier v t s) ≡ None
+parts_pass earlier v t s draw vs is room =
+    let n = items_len_each IsVertex (elements v) draw.vertices vs.parts in
+    both_pass (where_there vertices_checks v) (primitive_checks earlier (count v) t s) (passes_where_there vertices_checks v (vertices_pass v draw.vertices vs))
+    (rw n (primitives_pass earlier (length draw.vertices) t s draw.primitives is room))
 
 -- ---- the draws
 
-pub draw_passes : (picture : PixelBox) (earlier : ℕ) (d : Data) (draw : DrawListing) → IsDraw picture d draw → earlier + length draw.triangles ≤ 65536
+pub draw_passes : (picture : PixelBox) (earlier : ℕ) (d : Data) (draw : DrawListing) → IsDraw picture d draw → earlier + count_of_triangles draw.primitives ≤ 65536
     → first_fault (draw_checks earlier d) ≡ None
 draw_passes picture earlier d draw is room =
-    let parts = parts_pass earlier (get (codes "vertices") d) (get (codes "triangles") d) draw is.vertices is.triangles room in
-    let rest = both_pass (state_checks d) (part_checks earlier (get (codes "vertices") d) (get (codes "triangles") d)) (state_passes picture d draw.state is.state) parts.1 in
-    rw (there (as_object d) is.object, is.keys, parts.0) rest
+    let vertices = get (codes "vertices") d in
+    let triangles = get (codes "triangles") d in
+    let strip = get (codes "strip") d in
+    let one = one_list (length draw.vertices) triangles strip draw.primitives is.primitives in
+    let parts = parts_pass earlier vertices triangles strip draw is.vertices is.primitives room in
+    let rest = both_pass (state_checks d) (part_checks earlier vertices triangles strip) (state_passes picture d draw.state is.state) parts in
+    rw (there (as_object d) is.object, is.keys, array_there vertices is.vertices.array, one.0, one.1) rest
 
 pub draws_pass : (picture : PixelBox) (number earlier : ℕ) (ds : Items) (xs : List DrawListing) → Each (IsDraw picture) ds xs
-    → earlier + sum_by (λ d. length d.triangles) xs ≤ 65536 → first_fault (draw_places number earlier ds) ≡ None
+    → earlier + sum_by (λ d. count_of_triangles d.primitives) xs ≤ 65536 → first_fault (draw_places number earlier ds) ≡ None
 draws_pass picture number earlier no_items xs h room = refl
 draws_pass picture number earlier (item d ds) [] h room = absurd h
 draws_pass picture number earlier (item d ds) (x ∷ xs) h room =
-    let many = items_len_each _ _ _ h.0.triangles.parts in
-    let total = sum_by-append (λ (d : DrawListing). length d.triangles) (x ∷ []) xs in
+    let many = given_is (length x.vertices) _ _ x.primitives h.0.primitives in
+    let total = sum_by-append (λ (d : DrawListing). count_of_triangles d.primitives) (x ∷ []) xs in
     both_pass (told_as (in_draw number) (draw_checks earlier d)) _ (told_pass (in_draw number) (draw_checks earlier d) (draw_passes picture earlier d x h.0 (omega (arith, total))))
-    (draws_pass picture (number + 1) (earlier + count (get (codes "triangles") d)) ds xs h.1 (omega (arith, many, total)))
+    (draws_pass picture (number + 1) (earlier + triangles_counted d) ds xs h.1 (omega (arith, many, total)))
 
 -- ---- the whole list
 
@@ -238,10 +276,6 @@ clear_passes d l is =
 number_there : (value : Option Data) (z : ℤ) → whole value ≡ Some z → is_none value ≡ false
 number_there None z is = absurd (cc)
 number_there (Some v) z is = refl
-
-array_there : (value : Option Data) → IsSome (array_of value) → is_none value ≡ false
-array_there None is = let bad : false ≡ true = is in absurd (cc)
-array_there (Some v) is = refl
 
 top_passes : (d : Data) (l : Listing) → IsListing d l → first_fault (top_checks d) ≡ None
 unfolding top_checks

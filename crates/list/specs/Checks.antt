@@ -5,9 +5,10 @@ use Rattle.std.specs.Ordering.{int_eq}
 use Rattle.serde_json.specs.Data.{Data, Items, no_items, item}
 use Rattle.serde_json.specs.Find.{get, at, as_object}
 use Rattle.list.specs.declared.fault.ReadKind.{ReadKind}
-use Rattle.list.specs.declared.fault.ReadKind.TheVariants.{NotJson, UnknownKey, MissingKey, WrongKind, OutOfRange, BadIndex, TooMany}
+use Rattle.list.specs.declared.fault.ReadKind.TheVariants.{NotJson, UnknownKey, MissingKey, WrongKind, OutOfRange, BadIndex, TooMany, TwoLists}
 use Rattle.list.specs.declared.fault.ReadFault.{ReadFault}
 use Rattle.list.specs.Json.{whole, text, truth, array_of, element, elements, count, length_of, is_among, has_other_key}
+use Rattle.list.specs.Primitives.{strip_count}
 use Rattle.list.specs.Keys.{top_keys, draw_keys, cull_words, depth_test_words, blend_words}
 use Rattle.list.specs.Place.{Place, PassesBefore, place, told_as}
 
@@ -101,6 +102,9 @@ abbrev pub triangle_checks : ℕ → Data → Checks
 triangle_checks n value =
     length_check 3 (Some value) ∷ (index_checks n (at 0 value) ++ (index_checks n (at 1 value) ++ index_checks n (at 2 value)))
 
+abbrev pub strip_index_checks : ℕ → Data → Checks
+strip_index_checks n value = index_checks n (Some value)
+
 abbrev pub colour_checks : Option Data → Checks
 colour_checks value =
     length_check 3 value ∷ (channel_checks (element 0 value) ++ (channel_checks (element 1 value) ++ channel_checks (element 2 value)))
@@ -131,28 +135,53 @@ state_checks value =
     ++ (where_there sample_mask_checks (get (codes "sample_mask") value)
     ++ where_there scissor_checks (get (codes "scissor") value)))
 
-unfoldable pub vertices_checks : Data → Checks
-vertices_checks value = array_checks 65536 (Some value) ++ each vertex_checks (elements (Some value))
+unfoldable pub vertices_checks : Option Data → Checks
+vertices_checks value = array_checks 65536 value ++ each vertex_checks (elements value)
 
--- the triangles of a draw of n vertices, before which the draws have so many triangles
-unfoldable pub triangles_checks : ℕ → ℕ → Data → Checks
-triangles_checks earlier n value =
-    array_checks 65536 (Some value)
-    ++ place (nat_lt 65536 (earlier + count (Some value))) TooMany
-    ∷ each (triangle_checks n) (elements (Some value))
+-- so many triangles are too many where the draws before have so many
+abbrev pub sum_check : ℕ → ℕ → Place ReadKind
+sum_check earlier triangles = place (nat_lt 65536 (earlier + triangles)) TooMany
 
-abbrev pub part_checks : ℕ → Option Data → Option Data → Checks
-part_checks earlier None triangles = []
-part_checks earlier (Some vertices) None = []
-part_checks earlier (Some vertices) (Some triangles) = vertices_checks vertices ++ triangles_checks earlier (count (Some vertices)) triangles
+-- the triangle list of a draw of n vertices, before which the draws have so many triangles
+unfoldable pub triangles_checks : ℕ → ℕ → Option Data → Checks
+triangles_checks earlier n value = array_checks 65536 value ++ sum_check earlier (count value) ∷ each (triangle_checks n) (elements value)
+
+-- the triangle strip of such a draw
+unfoldable pub strip_checks : ℕ → ℕ → Option Data → Checks
+strip_checks earlier n value = array_checks 65538 value ++ sum_check earlier (strip_count (count value)) ∷ each (strip_index_checks n) (elements value)
+
+-- the primitives of such a draw, of which one list is there
+abbrev pub primitive_checks : ℕ → ℕ → Option Data → Option Data → Checks
+primitive_checks earlier n triangles strip = where_there (triangles_checks earlier n) triangles ++ where_there (strip_checks earlier n) strip
+
+abbrev pub part_checks : ℕ → Option Data → Option Data → Option Data → Checks
+part_checks earlier vertices triangles strip =
+    where_there vertices_checks vertices ++ primitive_checks earlier (count vertices) triangles strip
+
+-- how many triangles the values of `triangles` and `strip` are, of which one is there
+abbrev pub triangles_given : Option Data → Option Data → ℕ
+triangles_given triangles strip = count triangles + strip_count (count strip)
+
+-- how many triangles a draw counts
+abbrev pub triangles_counted : Data → ℕ
+triangles_counted value = triangles_given (get (codes "triangles") value) (get (codes "strip") value)
+
+-- a draw without a list of primitives
+abbrev pub has_no_list : Data → Bool
+has_no_list value = is_absent (codes "triangles") value && is_absent (codes "strip") value
+
+-- a draw with more than one
+abbrev pub has_two_lists : Data → Bool
+has_two_lists value = not (is_absent (codes "triangles") value) && not (is_absent (codes "strip") value)
 
 -- the checks of a draw before which the draws have so many triangles
 abbrev pub draw_checks : ℕ → Data → Checks
 draw_checks earlier value =
     place (is_none (as_object value)) WrongKind
     ∷ place (has_other_key draw_keys (as_object value)) UnknownKey
-    ∷ place (is_absent (codes "vertices") value || is_absent (codes "triangles") value) MissingKey
-    ∷ (state_checks value ++ part_checks earlier (get (codes "vertices") value) (get (codes "triangles") value))
+    ∷ place (is_absent (codes "vertices") value || has_no_list value) MissingKey
+    ∷ place (has_two_lists value) TwoLists
+    ∷ (state_checks value ++ part_checks earlier (get (codes "vertices") value) (get (codes "triangles") value) (get (codes "strip") value))
 
 -- ---- the whole list
 
@@ -185,7 +214,7 @@ abbrev pub draw_places : ℕ → ℕ → Items → List (Place ReadFault)
 draw_places number earlier no_items = []
 draw_places number earlier (item value rest) =
     told_as (in_draw number) (draw_checks earlier value)
-    ++ draw_places (number + 1) (earlier + count (get (codes "triangles") value)) rest
+    ++ draw_places (number + 1) (earlier + triangles_counted value) rest
 
 abbrev pub value_places : Data → List (Place ReadFault)
 value_places value = told_as outside (top_checks value) ++ draw_places 0 0 (elements (get (codes "draws") value))

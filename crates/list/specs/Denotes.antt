@@ -14,8 +14,10 @@ use Rattle.shade.specs.declared.depth.DepthTest.TheVariants as test
 use Rattle.shade.specs.declared.sample.Merge.{Merge}
 use Rattle.shade.specs.declared.state.State.{State}
 use Rattle.list.specs.declared.draw.Vertex.{Vertex}
+use Rattle.list.specs.declared.output.Output.TheVariants as output
 use Rattle.list.specs.Json.{json_of, whole, text, truth, array_of, element, elements, length_of, has_other_key}
 use Rattle.list.specs.Keys.{top_keys, draw_keys, cull_word, depth_test_word, blend_word}
+use Rattle.list.specs.Primitives.{PrimitiveListing, triangle_list, triangle_strip, count_of_triangles}
 use Rattle.list.specs.Listing.{DrawListing, Listing, scene_of}
 use Rattle.list.specs.Scene.{Scene}
 
@@ -87,6 +89,16 @@ pub record IsTriangle (n : ℕ) (value : Data) (triangle : List ℕ) : Type 0 wh
   pub second : IsIndex n (at 1 value) (slice_index triangle 1)
   pub third : IsIndex n (at 2 value) (slice_index triangle 2)
 
+-- The value is the number of one of n vertices in a strip.
+abbrev pub IsStripIndex : ℕ → Data → ℕ → Type 0
+IsStripIndex n value k = IsIndex n (Some value) k
+
+-- The primitives of a draw of n vertices, where its keys `triangles` and `strip` have these values: one of the two is there,
+-- and it is this triangle list or this triangle strip.
+abbrev pub IsPrimitives : ℕ → Option Data → Option Data → PrimitiveListing → Type 0
+IsPrimitives n triangles strip (triangle_list found) = IsArrayOf 65536 (IsTriangle n) triangles found × (strip ≡ None)
+IsPrimitives n triangles strip (triangle_strip found) = IsArrayOf 65538 (IsStripIndex n) strip found × (triangles ≡ None)
+
 -- ---- the state of a draw
 
 abbrev pub IsCull : Option Data → Cull → Type 0
@@ -144,7 +156,7 @@ pub record IsDraw (picture : PixelBox) (value : Data) (draw : DrawListing) : Typ
   pub keys : has_other_key draw_keys (as_object value) ≡ false
   pub state : IsState picture value draw.state
   pub vertices : IsArrayOf 65536 IsVertex (get (codes "vertices") value) draw.vertices
-  pub triangles : IsArrayOf 65536 (IsTriangle (length draw.vertices)) (get (codes "triangles") value) draw.triangles
+  pub primitives : IsPrimitives (length draw.vertices) (get (codes "triangles") value) (get (codes "strip") value) draw.primitives
 
 abbrev pub IsSampleCount : Option Data → SampleCount → Type 0
 IsSampleCount value n = whole value ≡ Some (pos (count_of n))
@@ -169,8 +181,9 @@ pub record IsListing (value : Data) (l : Listing) : Type 0 where
   pub samples : OrDefault samples.One IsSampleCount (get (codes "samples") value) l.count
   pub clear : OrDefault (0 ∷ 0 ∷ 0 ∷ []) IsClearColour (get (codes "clear") value) (l.clear.r ∷ l.clear.g ∷ l.clear.b ∷ [])
   pub clear_depth : OrDefault 65535 IsDepthNumber (get (codes "clear_depth") value) l.clear.z
+  pub output : l.output ≡ output.Color
   pub draws : IsArrayOf 1024 (IsDraw (picture_box l.width l.height)) (get (codes "draws") value) l.draws
-  pub triangles : sum_by (λ d. length d.triangles) l.draws ≤ 65536
+  pub triangles : sum_by (λ d. count_of_triangles d.primitives) l.draws ≤ 65536
 
 -- The value is the draw list of this scene: its triangles in draw order, each with the vertices that its indices name and the
 -- state of its draw.

@@ -9,8 +9,11 @@ use Rattle.list.specs.declared.draw.Vertex.{Vertex}
 use Rattle.list.specs.declared.draw.Draw.{Draw}
 use Rattle.list.specs.declared.tokens.draw.DrawDraft.{DrawDraft}
 use Rattle.list.specs.declared.tokens.top.ListDraft.{ListDraft}
+use Rattle.list.specs.declared.primitives.Primitives.{Primitives}
+use Rattle.list.specs.declared.primitives.Primitives.TheVariants.{Triangles, Strip}
+use Rattle.list.specs.Primitives.{count_of_triangles}
 use Rattle.list.specs.Listing.{draw_listing}
-use Rattle.list.specs.Denotes.{IsVertex, IsTriangle, IsArrayOf, IsState, IsDraw, IsSize, picture_box}
+use Rattle.list.specs.Denotes.{IsVertex, IsTriangle, IsStripIndex, IsArrayOf, IsState, IsDraw, IsSize, picture_box}
 use Rattle.list.specs.Header.{IsBeginning}
 use Rattle.list.specs.Took.{Slot}
 
@@ -31,10 +34,21 @@ abbrev pub AreTriangles : Option (Vec Vertex Global) → Data → Vec (List ℕ)
 AreTriangles None d triangles = ⊥
 AreTriangles (Some vertices) d triangles = IsArrayOf 65536 (IsTriangle (length vertices.items)) (Some d) triangles.items
 
+-- a strip of as many vertices as were read
+abbrev pub IsStrip : Option (Vec Vertex Global) → Data → Vec ℕ Global → Type 0
+IsStrip None d strip = ⊥
+IsStrip (Some vertices) d strip = IsArrayOf 65538 (IsStripIndex (length vertices.items)) (Some d) strip.items
+
 pub record HasDraw (picture : PixelBox) (found : Members) (draft : DrawDraft) : Type 0 where
   pub state : HasState picture found draft.state
   pub vertices : Slot AreVertices (get_member (codes "vertices") found) draft.vertices
   pub triangles : Slot (AreTriangles draft.vertices) (get_member (codes "triangles") found) draft.triangles
+  pub strip : Slot (IsStrip draft.vertices) (get_member (codes "strip") found) draft.strip
+
+-- The primitives are the one list of them that was read.
+abbrev pub IsOnlyList : Option (Vec (List ℕ) Global) → Option (Vec ℕ Global) → Primitives → Type 0
+IsOnlyList triangles strip (Triangles found) = (triangles ≡ Some found) × (strip ≡ None)
+IsOnlyList triangles strip (Strip found) = (strip ≡ Some found) × (triangles ≡ None)
 
 -- ---- a draw list
 
@@ -50,7 +64,7 @@ picture_of (Some width) (Some height) = Some (picture_box width height)
 abbrev pub AreDraws : PixelBox → Data → List Draw → Type 0
 AreDraws picture d draws =
     let listed = map draw_listing draws in
-    IsArrayOf 1024 (IsDraw picture) (Some d) listed × (sum_by (λ x. length x.triangles) listed ≤ 65536)
+    IsArrayOf 1024 (IsDraw picture) (Some d) listed × (sum_by (λ x. count_of_triangles x.primitives) listed ≤ 65536)
 
 -- draws on a picture whose sides were read
 abbrev pub AreDrawsOn : Option PixelBox → Data → Vec Draw Global → Type 0

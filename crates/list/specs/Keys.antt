@@ -11,7 +11,7 @@ top_keys = codes "width" ∷ codes "height" ∷ codes "samples" ∷ codes "clear
 abbrev pub draw_keys : List (List ℕ)
 draw_keys =
     codes "cull" ∷ codes "depth_test" ∷ codes "depth_write" ∷ codes "blend" ∷ codes "write" ∷ codes "sample_mask" ∷ codes "scissor"
-    ∷ codes "vertices" ∷ codes "triangles" ∷ []
+    ∷ codes "vertices" ∷ codes "triangles" ∷ codes "strip" ∷ []
 
 abbrev pub cull_word : Cull → List ℕ
 cull_word cull.None = codes "none"

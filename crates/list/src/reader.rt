@@ -4,6 +4,7 @@ ghost use Rattle.list.specs.declared.fault.ReadKind.TheVariants.{NotJson, OutOfM
 ghost use Rattle.serde_json.specs.Errors.{IsMemory};
 ghost use Rattle.list.specs.Json.{json_of};
 ghost use Rattle.list.specs.Place.{ReadsAll, IsFirstFault, PassesBefore};
+ghost use Rattle.list.specs.Primitives.{count_of_triangles};
 ghost use Rattle.list.specs.Listing.{draw_listing};
 ghost use Rattle.list.specs.Scene.{Scene};
 ghost use Rattle.list.specs.Checks.{draw_places, value_places, places, Reaches};
@@ -12,9 +13,12 @@ ghost use Rattle.list.specs.Denotes.{Each, picture_box, IsDraw, IsDrawList, Deno
 mod array;
 mod draw;
 mod header;
+mod index;
 mod keys;
 mod number;
+mod primitives;
 mod state;
+mod strip;
 #[cfg(test)]
 mod tests;
 mod triangles;
@@ -25,6 +29,7 @@ use crate::draw::Draw;
 use crate::draw_list::DrawList;
 use crate::fault::{ReadFault, ReadKind};
 use crate::limits::MOST_TRIANGLES;
+use crate::output::Output;
 use crate::tokens::read_list;
 use draw::read_draw;
 use grid::PixelBox;
@@ -40,7 +45,7 @@ fn draws_of(alloc: Global, list: &[Value], picture: PixelBox) -> Result<Vec<Draw
     requires { length list.now ≤ 1024 }
     ensures told { let items = items_view list.now in ReadsAll (draw_places 0 0 items)
         (λ found. let draws = map draw_listing found.items in
-        Each (IsDraw picture) items draws × (sum_by (λ d. length d.triangles) draws ≤ MOST_TRIANGLES)) result }
+        Each (IsDraw picture) items draws × (sum_by (λ d. count_of_triangles d.primitives) draws ≤ MOST_TRIANGLES)) result }
     ensures reached { IfErr result (λ fault. IfSome fault.draw
         (λ n. (n < length list.now) × PassesBefore n (draw_places 0 0 (items_view list.now)))) }
 {
@@ -53,7 +58,7 @@ fn draws_of(alloc: Global, list: &[Value], picture: PixelBox) -> Result<Vec<Draw
             Ok(next) => next,
             Err(kind) => return Err(ReadFault::in_draw(kind, number as u32)),
         };
-        earlier += next.triangles.len();
+        earlier += next.primitives.triangles();
         found.push_reserved(next);
     }
     Ok(found)
@@ -85,7 +90,15 @@ fn read_value(alloc: Global, value: &Value) -> Result<DrawList, ReadFault>
     };
     let (width, height) = (header.width, header.height);
     let draws = draws_of(alloc, header.draws, picture_of(width, height))?;
-    match DrawList::within_limits(alloc, width, height, header.count, header.clear, draws) {
+    match DrawList::within_limits(
+        alloc,
+        width,
+        height,
+        header.count,
+        header.clear,
+        Output::Color,
+        draws,
+    ) {
         Ok(list) => Ok(list),
         Err(_) => Err(ReadFault::outside(ReadKind::OutOfMemory)),
     }
@@ -123,8 +136,8 @@ pub(crate) fn read_by_value(alloc: Global, bytes: &[u8]) -> Result<DrawList, Rea
 ///
 /// What is told is the first check that fails, in this order. Whether the bytes are JSON. The top object: its kind, a key that
 /// it should not have, a key that it lacks, then `width`, `height`, `samples`, `clear`, `clear_depth` and `draws`. Each draw in
-/// turn: its kind, a key that it should not have, a key that it lacks, then `cull`, `depth_test`, `depth_write`, `blend`,
-/// `write`, `sample_mask`, `scissor`, `vertices` and `triangles`. The kind of a value comes before its range, the number of
+/// turn: its kind, a key that it should not have, a key that it lacks, a second list of primitives, then `cull`, `depth_test`, `depth_write`, `blend`,
+/// `write`, `sample_mask`, `scissor`, `vertices`, and `triangles` or `strip`. The kind of a value comes before its range, the number of
 /// elements before the elements. A fault of a draw tells the draw's number.
 ///
 /// `OutOfMemory` is told where a growth of memory was refused, in place of whatever would have come later: with the number of

@@ -12,6 +12,7 @@ mod draw;
 mod draws;
 mod number;
 mod state;
+mod strip;
 #[cfg(test)]
 mod tests;
 mod top;
@@ -20,6 +21,7 @@ mod vertices;
 mod word;
 
 use crate::draw_list::DrawList;
+use crate::output::Output;
 use crate::reader::MOST_BYTES;
 use json::{Reader, Scratch};
 use std::alloc::Global;
@@ -51,5 +53,14 @@ pub(crate) fn read_list(alloc: Global, bytes: &[u8]) -> Option<DrawList>
 {
     let draft = read_draft(alloc, bytes)?;
     let (width, height) = (u32::from(draft.width?), u32::from(draft.height?));
-    DrawList::within_limits(alloc, width, height, draft.count, draft.clear, draft.draws?).ok()
+    DrawList::within_limits(
+        alloc,
+        width,
+        height,
+        draft.count,
+        draft.clear,
+        Output::Color,
+        draft.draws?,
+    )
+    .ok()
 }

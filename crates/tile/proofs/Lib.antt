@@ -6,6 +6,5 @@ pub mod Planes
 pub mod Whole
 pub mod Waiting
 pub mod Ends
-pub mod Rows
 pub mod Shown
 pub mod Stepped

@@ -1,5 +1,5 @@
 -- A tile's part of the picture.
-use Rattle.std.specs.Prelude.{◌≡◌, ℕ, ◌+◌, ◌*◌, ◌/◌, ◌%◌, ◌<◌, List, length, slice_index, pos}
+use Rattle.std.specs.Prelude.{◌≡◌, ℕ, ◌+◌, ◌*◌, ◌/◌, ◌%◌, ◌<◌, List, pos}
 use Rattle.grid.specs.Pixels.{side_of}
 use Rattle.grid.specs.declared.pixels.PixelBox.{PixelBox}
 use Rattle.shade.specs.declared.sample.Sample.{Sample}
@@ -51,10 +51,3 @@ pub record IsColourAt (tile : Tile) (samples : List Sample) (row column : ℕ) (
   pub red : IsResolved tile.count (λ s. (stored samples (place_of tile row column s)).r) r
   pub green : IsResolved tile.count (λ s. (stored samples (place_of tile row column s)).g) g
   pub blue : IsResolved tile.count (λ s. (stored samples (place_of tile row column s)).b) b
-
--- The bytes of the first n pixels of rows of this width.
-pub record ArePixels (tile : Tile) (samples : List Sample) (width n : ℕ) (bytes : List ℕ) : Type 0 where
-  pub size : length bytes ≡ 3 * n
-  pub pixels : (i j : ℕ) → i < width → j * width + i < n
-      → let k = 3 * (j * width + i) in
-      IsColourAt tile samples j i (slice_index bytes k) (slice_index bytes (k + 1)) (slice_index bytes (k + 2))

@@ -1,11 +1,14 @@
 //! The bytes of a tile's pixels.
-ghost use Rattle.std.specs.Prelude.{◌≡◌, ◌+◌, ◌*◌, ◌<◌, ◌≤◌, [], ◌∷◌, ◌++◌, length, IfOk, OnOk};
+ghost use Rattle.std.specs.Prelude.{◌≡◌, ℕ, ◌+◌, ◌*◌, ◌/◌, ◌%◌, ◌<◌, ◌≤◌, [], ◌∷◌, ◌++◌, length, IfOk, OnOk};
 ghost use Rattle.grid.specs.Pixels.{side_of};
 ghost use Rattle.tile.specs.Samples.{samples_of};
-ghost use Rattle.tile.specs.Picture.{IsColourAt, ArePixels};
+ghost use Rattle.list.specs.Begun.{AddsPixel, IsBegun};
+ghost use Rattle.list.specs.Picture.{IsPart};
+ghost use Rattle.tile.specs.Picture.{IsShown, AreEnds, IsColourAt};
 
 use crate::tile::Tile;
 use grid::{OutOfMemory, SampleCount};
+use list::{DrawList, Output};
 use shade::{Sample, mean_of_four};
 use std::alloc::Global;
 
@@ -52,8 +55,38 @@ fn push_colour(colour: Colour, bytes: &mut Vec<u8>) -> Result<(), OutOfMemory>
     Ok(())
 }
 
+/// Appends the bytes of a depth, the more significant one first.
+fn push_depth(depth: u16, bytes: &mut Vec<u8>) -> Result<(), OutOfMemory>
+    ensures { OnOk result (bytes.new.items ≡ bytes.old.items ++ depth / 256 ∷ depth % 256 ∷ []) }
+{
+    bytes.extend_from_slice(&depth.to_be_bytes())?;
+    Ok(())
+}
+
+/// Appends the bytes of the pixel in a row and a column of the tile.
+fn push_pixel(
+    list: &DrawList,
+    tile: &Tile,
+    samples: &[Sample],
+    row: u32,
+    column: u32,
+    bytes: &mut Vec<u8>,
+) -> Result<(), OutOfMemory>
+    requires samples { length samples.now ≡ samples_of tile.now.side tile.now.count }
+    requires count { tile.now.count ≡ list.now.count }
+    requires ends { AreEnds list.now tile.now samples.now }
+    requires pixel { IsShown list.now tile.now row column 0 }
+    ensures { OnOk result (AddsPixel list.now (8 * tile.now.bx + column) (8 * tile.now.by + row) bytes.old.items bytes.new.items) }
+{
+    match list.output() {
+        Output::Color => push_colour(colour_at(tile, samples, row, column), bytes),
+        Output::Depth => push_depth(samples[tile.place(row, column, 0)].z, bytes),
+    }
+}
+
 /// Appends a row of the tile, as far as it is in the picture, to the rows above it.
 fn push_row(
+    list: &DrawList,
     tile: &Tile,
     samples: &[Sample],
     width: u32,
@@ -61,13 +94,14 @@ fn push_row(
     bytes: &mut Vec<u8>,
 ) -> Result<(), OutOfMemory>
     requires samples { length samples.now ≡ samples_of tile.now.side tile.now.count }
-    requires row { row < side_of tile.now.side }
-    requires width { width ≤ side_of tile.now.side }
-    requires above { ArePixels tile.now samples.now width (row * width) bytes.old.items }
-    ensures { OnOk result (ArePixels tile.now samples.now width ((row + 1) * width) bytes.new.items) }
+    requires count { tile.now.count ≡ list.now.count }
+    requires ends { AreEnds list.now tile.now samples.now }
+    requires shown { (column : ℕ) → column < width → IsShown list.now tile.now row column 0 }
+    requires above { IsBegun list.now (8 * tile.now.bx) (8 * tile.now.by) width (row * width) bytes.old.items }
+    ensures { OnOk result (IsBegun list.now (8 * tile.now.bx) (8 * tile.now.by) width ((row + 1) * width) bytes.new.items) }
 {
     for column in 0..width {
-        push_colour(colour_at(tile, samples, row, column), bytes)?;
+        push_pixel(list, tile, samples, row, column, bytes)?;
     }
     Ok(())
 }
@@ -75,19 +109,25 @@ fn push_row(
 /// The bytes of so many columns and rows of the tile, from its first pixel on.
 pub(crate) fn resolve(
     alloc: Global,
+    list: &DrawList,
     tile: &Tile,
     samples: &[Sample],
     width: u32,
     height: u32,
 ) -> Result<Vec<u8>, OutOfMemory>
     requires samples { length samples.now ≡ samples_of tile.now.side tile.now.count }
+    requires count { tile.now.count ≡ list.now.count }
+    requires ends { AreEnds list.now tile.now samples.now }
     requires width { width ≤ side_of tile.now.side }
     requires height { height ≤ side_of tile.now.side }
-    ensures { IfOk result (λ bytes. ArePixels tile.now samples.now width (height * width) bytes.items) }
+    requires in_width { 8 * tile.now.bx + width ≤ list.now.width }
+    requires in_height { 8 * tile.now.by + height ≤ list.now.height }
+    ensures { IfOk result (λ bytes. IsPart list.now (8 * tile.now.bx) (8 * tile.now.by) width height bytes.items) }
 {
-    let mut bytes = Vec::with_capacity(alloc, (3 * width * height) as usize)?;
+    let size = list.output().pixel_bytes() * width * height;
+    let mut bytes = Vec::with_capacity(alloc, size as usize)?;
     for row in 0..height {
-        push_row(tile, samples, width, row, &mut bytes)?;
+        push_row(list, tile, samples, width, row, &mut bytes)?;
     }
     Ok(bytes)
 }

@@ -1,5 +1,6 @@
 use crate::ReadKind::{
-    BadIndex, MissingKey, NotJson, OutOfMemory, OutOfRange, TooMany, UnknownKey, WrongKind,
+    BadIndex, MissingKey, NotJson, OutOfMemory, OutOfRange, TooMany, TwoLists, UnknownKey,
+    WrongKind,
 };
 use crate::{DrawList, MOST_BYTES, ReadFault, ReadKind, State, read};
 use grid::{Cull, PixelBox, Point, SampleCount, Tri};
@@ -70,6 +71,15 @@ fn triangle_fault(rt: &(impl Abort + AllocGlobal), triangle: &str) -> Option<Rea
     draw_fault(rt, members.as_str())
 }
 
+/// The fault of a list of one draw of three vertices with this strip.
+fn strip_fault(rt: &(impl Abort + AllocGlobal), strip: &str) -> Option<ReadFault> {
+    let vertex = "[0,0,0,0,0,0,0]";
+    let members = format!(in rt.alloc();
+        r#""vertices":[{vertex},{vertex},{vertex}],"strip":{strip}"#
+    ).expect(rt, "memory");
+    draw_fault(rt, members.as_str())
+}
+
 #[test]
 fn numbers_and_names_its_faults(rt: HostRuntime) {
     for (kind, number, name) in [
@@ -81,6 +91,7 @@ fn numbers_and_names_its_faults(rt: HostRuntime) {
         (BadIndex, 6, "BadIndex"),
         (TooMany, 7, "TooMany"),
         (OutOfMemory, 8, "OutOfMemory"),
+        (TwoLists, 9, "TwoLists"),
     ] {
         assert_eq!(rt; kind.number(), number);
         assert!(rt; kind.name() == name, "{name}");
@@ -311,6 +322,51 @@ fn checks_triangles(rt: HostRuntime) {
 }
 
 #[test]
+fn checks_strips(rt: HostRuntime) {
+    for (strip, told) in [
+        ("[]", None),
+        ("[2]", None),
+        ("[0,1]", None),
+        ("[0,1,2]", None),
+        ("[2,2,2,0,1,1]", None),
+        ("[3]", in_draw(BadIndex, 0)),
+        ("[0,1,3]", in_draw(BadIndex, 0)),
+        ("[-1,0,1]", in_draw(BadIndex, 0)),
+        ("[0,18446744073709551615,1]", in_draw(BadIndex, 0)),
+        ("[0,1,2.0]", in_draw(WrongKind, 0)),
+        ("[0,1,[2]]", in_draw(WrongKind, 0)),
+        ("[[0,1,2]]", in_draw(WrongKind, 0)),
+        ("[null]", in_draw(WrongKind, 0)),
+        ("null", in_draw(WrongKind, 0)),
+        (r#"{"0":0}"#, in_draw(WrongKind, 0)),
+        ("7", in_draw(WrongKind, 0)),
+    ] {
+        assert_eq!(rt; strip_fault(&rt, strip), told, "{strip}");
+    }
+}
+
+#[test]
+fn needs_one_list_of_primitives(rt: HostRuntime) {
+    for (members, told) in [
+        (r#""vertices":[],"triangles":[]"#, None),
+        (r#""vertices":[],"strip":[]"#, None),
+        (r#""vertices":[]"#, in_draw(MissingKey, 0)),
+        (r#""strip":[]"#, in_draw(MissingKey, 0)),
+        (r#""triangles":[],"strip":[]"#, in_draw(MissingKey, 0)),
+        (
+            r#""vertices":[],"triangles":[],"strip":[]"#,
+            in_draw(TwoLists, 0),
+        ),
+        (
+            r#""vertices":[],"triangles":null,"strip":null"#,
+            in_draw(TwoLists, 0),
+        ),
+    ] {
+        assert_eq!(rt; draw_fault(&rt, members), told, "{members}");
+    }
+}
+
+#[test]
 fn tells_the_first_of_two_faults_of_the_top_object(rt: HostRuntime) {
     for (text, told) in [
         (r#"{"width":"x","draws":[]}"#, outside(MissingKey)),
@@ -389,6 +445,15 @@ fn tells_the_first_of_two_faults_of_a_draw(rt: HostRuntime) {
             r#""vertices":[[0,0,0,0,0,0,256]],"triangles":7"#,
             OutOfRange,
         ),
+        (r#""vertices":[[0,0,0,0,0,0,256]],"strip":7"#, OutOfRange),
+        (r#""fog":1,"triangles":[],"strip":[]"#, UnknownKey),
+        (r#""triangles":[],"strip":[]"#, MissingKey),
+        (
+            r#""cull":1,"vertices":[],"triangles":[],"strip":[]"#,
+            TwoLists,
+        ),
+        (r#""vertices":7,"triangles":[],"strip":[]"#, TwoLists),
+        (r#""vertices":[],"triangles":7,"strip":8"#, TwoLists),
     ] {
         assert_eq!(rt; draw_fault(&rt, members), in_draw(told, 0), "{members}");
     }
@@ -482,6 +547,14 @@ fn tells_the_first_of_two_neighbouring_elements(rt: HostRuntime) {
             3,
             "0",
             ("null", in_draw(WrongKind, 0)),
+            ("1", in_draw(BadIndex, 0)),
+        ),
+        (
+            r#""draws":[{"vertices":[[0,0,0,0,0,0,0]],"strip":"#,
+            "}]",
+            5,
+            "0",
+            ("[0]", in_draw(WrongKind, 0)),
             ("1", in_draw(BadIndex, 0)),
         ),
         (
@@ -600,6 +673,74 @@ fn counts_triangles(rt: HostRuntime) {
     }
 }
 
+/// The sum of triangles over two draws, of which one has a triangle list, one a strip, or both a strip.
+#[test]
+fn counts_the_triangles_of_strips(rt: HostRuntime) {
+    for (first, second, told) in [
+        (("strip", "0", 65_538), ("strip", "0", 2), None),
+        (
+            ("strip", "0", 65_539),
+            ("strip", "0", 0),
+            in_draw(TooMany, 0),
+        ),
+        (
+            ("strip", "7", 65_539),
+            ("strip", "0", 0),
+            in_draw(TooMany, 0),
+        ),
+        (
+            ("strip", "0", 65_538),
+            ("strip", "0", 3),
+            in_draw(TooMany, 1),
+        ),
+        (
+            ("strip", "0", 65_538),
+            ("strip", "7", 3),
+            in_draw(TooMany, 1),
+        ),
+        (
+            ("strip", "0", 65_538),
+            ("strip", "7", 2),
+            in_draw(BadIndex, 1),
+        ),
+        (("strip", "0", 32_770), ("strip", "0", 32_770), None),
+        (
+            ("strip", "0", 32_770),
+            ("strip", "0", 32_771),
+            in_draw(TooMany, 1),
+        ),
+        (
+            ("strip", "0", 32_770),
+            ("triangles", "[0,0,0]", 32_768),
+            None,
+        ),
+        (
+            ("strip", "0", 32_770),
+            ("triangles", "[0,0,0]", 32_769),
+            in_draw(TooMany, 1),
+        ),
+        (
+            ("triangles", "[0,0,0]", 32_768),
+            ("strip", "0", 32_770),
+            None,
+        ),
+        (
+            ("triangles", "[0,0,0]", 32_768),
+            ("strip", "0", 32_771),
+            in_draw(TooMany, 1),
+        ),
+    ] {
+        let ones = repeated(&rt, first.1, first.2);
+        let others = repeated(&rt, second.1, second.2);
+        let (one, other) = (first.0, second.0);
+        let vertices = r#""vertices":[[0,0,0,0,0,0,0]]"#;
+        let text = format!(in rt.alloc();
+            r#"{{"width":1,"height":1,"draws":[{{{vertices},"{one}":[{ones}]}},{{{vertices},"{other}":[{others}]}}]}}"#
+        ).expect(&rt, "memory");
+        assert_eq!(rt; fault(&rt, text.as_str()), told);
+    }
+}
+
 fn point(rt: &impl Abort, x: i32, y: i32) -> Point {
     Point::new(x, y).expect(rt, "inside of the guard band")
 }
@@ -706,4 +847,19 @@ fn knows_each_depth_test(rt: HostRuntime) {
         assert!(rt; list.triangles() == 1);
         assert_eq!(rt; list.triangle(0).state.merge.test, test, "{word}");
     }
+}
+
+#[test]
+fn reads_a_strip(rt: HostRuntime) {
+    let text =
+        r#"{"width":3,"height":3,"draws":[{"vertices":[[1,0,0,0,0,0,0],[2,0,0,0,0,0,0],[3,0,0,0,0,0,0],[4,0,0,0,0,0,0]],"strip":[0,1,2,3,3]}]}"#;
+    let list = answer(&rt, text).expect(&rt, "a draw list");
+    assert!(rt; list.triangles() == 3);
+    let corners = |number: usize| {
+        let tri = list.triangle(number).tri;
+        (tri.a.x(), tri.b.x(), tri.c.x())
+    };
+    assert_eq!(rt; corners(0), (1, 2, 3));
+    assert_eq!(rt; corners(1), (2, 4, 3));
+    assert_eq!(rt; corners(2), (3, 4, 4));
 }

@@ -4,11 +4,13 @@ ghost use Rattle.list.specs.Keys.{draw_keys};
 ghost use Rattle.list.specs.Listing.{draw_listing};
 ghost use Rattle.list.specs.Denotes.{IsDraw};
 ghost use Rattle.list.specs.Took.{Took, IsObjectOf};
-ghost use Rattle.list.specs.Drafted.{HasDraw};
+ghost use Rattle.list.specs.Drafted.{HasDraw, IsOnlyList};
 
 use crate::draw::{Draw, Vertex};
+use crate::primitives::Primitives;
 use crate::tokens::array::{take_begin_object, take_key};
 use crate::tokens::state::take_state_value;
+use crate::tokens::strip::take_strip;
 use crate::tokens::triangles::take_triangles;
 use crate::tokens::vertices::take_vertices;
 use grid::{Cull, PixelBox};
@@ -23,10 +25,11 @@ pub(super) struct DrawDraft {
     pub state: State,
     pub vertices: Option<Vec<Vertex>>,
     pub triangles: Option<Vec<[u32; 3]>>,
+    pub strip: Option<Vec<u32>>,
 }
 
 impl DrawDraft {
-    ghost use Rattle.std.specs.Prelude.{◌≡◌, IfSome};
+    ghost use Rattle.std.specs.Prelude.{◌≡◌, ◌||◌, is_some, IfSome};
     ghost use Rattle.grid.specs.declared.pixels.PixelBox.{PixelBox as Box};
     ghost use Rattle.serde_json.specs.Data.{no_members};
     ghost use Rattle.list.specs.Keys.{draw_keys};
@@ -52,17 +55,25 @@ impl DrawDraft {
             },
             vertices: None,
             triangles: None,
+            strip: None,
         }
     }
 
-    /// Takes the value of a key. The triangles are taken after the vertices, of which they name some.
+    /// Whether a list of primitives was taken.
+    fn has_primitives(&self) -> bool
+        ensures { result ≡ (is_some self.now.triangles || is_some self.now.strip) }
+    {
+        self.triangles.is_some() || self.strip.is_some()
+    }
+
+    /// Takes the value of a key. The primitives are taken after the vertices, of which they name some.
     fn take_value(&mut self, alloc: Global, reader: &mut Reader<'_>, key: &str) -> Option<()>
         ensures { (picture : Box) → IfSome result
             (λ _. Took 2 (Adds draw_keys (HasDraw picture) key.now self.old) reader.old self.new reader.new) }
     {
         match key {
             "vertices" => {
-                if self.triangles.is_some() {
+                if self.has_primitives() {
                     return None;
                 }
                 self.vertices = Some(take_vertices(alloc, reader)?);
@@ -72,6 +83,12 @@ impl DrawDraft {
                     return None;
                 };
                 self.triangles = Some(take_triangles(alloc, reader, vertices.len())?);
+            }
+            "strip" => {
+                let Some(vertices) = &self.vertices else {
+                    return None;
+                };
+                self.strip = Some(take_strip(alloc, reader, vertices.len())?);
             }
             _ => take_state_value(reader, key, &mut self.state)?,
         }
@@ -91,6 +108,20 @@ fn take_members(alloc: Global, reader: &mut Reader<'_>, picture: PixelBox) -> Op
     Some(draft)
 }
 
+/// The primitives of a draw that has one list of them.
+fn only_list(
+    triangles: Option<Vec<[u32; 3]>>,
+    strip: Option<Vec<u32>>,
+) -> Option<Primitives>
+    ensures { IfSome result (IsOnlyList triangles strip) }
+{
+    match (triangles, strip) {
+        (Some(triangles), None) => Some(Primitives::Triangles(triangles)),
+        (None, Some(strip)) => Some(Primitives::Strip(strip)),
+        _ => None,
+    }
+}
+
 /// Takes a draw on a picture of these pixels.
 pub(super) fn take_draw(alloc: Global, reader: &mut Reader<'_>, picture: PixelBox) -> Option<Draw>
     ensures { IfSome result (λ draw. Took 3 (λ d x. IsDraw picture d (draw_listing x)) reader.old draw reader.new) }
@@ -99,9 +130,11 @@ pub(super) fn take_draw(alloc: Global, reader: &mut Reader<'_>, picture: PixelBo
         return None;
     }
     let draft = take_members(alloc, reader, picture)?;
+    let vertices = draft.vertices?;
+    let primitives = only_list(draft.triangles, draft.strip)?;
     Some(Draw {
         state: draft.state,
-        vertices: draft.vertices?,
-        triangles: draft.triangles?,
+        vertices,
+        primitives,
     })
 }

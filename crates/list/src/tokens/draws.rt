@@ -22,10 +22,11 @@ fn take_elements(alloc: Global, reader: &mut Reader<'_>, picture: PixelBox) -> O
             return None;
         }
         let draw = take_draw(alloc, reader, picture)?;
-        if draw.triangles.len() > MOST_TRIANGLES - total {
+        let triangles = draw.primitives.triangles();
+        if triangles > MOST_TRIANGLES - total {
             return None;
         }
-        total += draw.triangles.len();
+        total += triangles;
         if found.push(draw).is_err() {
             return None;
         }

@@ -1,9 +1,10 @@
-use Rattle.std.proofs.Common.{◌≡◌, refl, ◌+◌, ◌*◌, arith}
-use Rattle.tile.proofs.Rows.{pixels_more}
+use Rattle.std.proofs.Common.{refl, arith}
+use Rattle.list.proofs.Begun.{begun_pixel}
 use Rattle.tile.proofs.pixels.push_row.Goals as goal
 
 pub loop-column-preserved : goal.loop-column-preserved
 loop-column-preserved c =
-    let place : c.args.row * c.args.width + (c.loop-column.column + 1) ≡ (c.args.row * c.args.width + c.loop-column.column) + 1 = omega arith in
-    let more = pixels_more c.args.tile.now c.args.samples.now c.args.width c.loop-column.column c.args.row _ _ _ _ _ c.loop-column.invariant (omega arith) refl c.colour_at.ensures in
-    rw (place, c.in_ok-push_colour.ensures) more
+    begun_pixel c.args.list.now _ _ c.args.width _ _ c.loop-column.column c.args.row _ _ c.loop-column.invariant (omega arith) refl (omega arith) c.in_ok-push_pixel.ensures
+
+pub push_pixel-requires-clause-pixel : goal.push_pixel-requires-clause-pixel
+push_pixel-requires-clause-pixel c = c.requires.shown c.loop-column.column c.loop-column-test.true

@@ -5,6 +5,7 @@ use Rattle.json.specs.Token.{Token}
 use Rattle.json.specs.Json.{after_end_array}
 use Rattle.serde_json.specs.Data.{Data}
 use Rattle.list.specs.declared.draw.Draw.{Draw}
+use Rattle.list.specs.Primitives.{count_of_triangles}
 use Rattle.list.specs.Listing.{DrawListing, draw_listing}
 use Rattle.list.specs.Denotes.{IsDraw, IsArrayOf}
 use Rattle.list.specs.Took.{Took}
@@ -26,12 +27,13 @@ draws-preserved c =
     let same : c.take_end_array.new.self ≡ c.draws.reader = grind arith in
     let took : Took 3 Is c.draws.reader c.in_ok-draw.draw c.take_draw.new.reader = rw same at c.in_ok-draw.ensures in
     let pushed : c.push.new.self.items ≡ c.draws.found.items ++ c.in_ok-draw.draw ∷ [] = search rules in
+    let more : c.triangles.result ≡ count_of_triangles (draw_listing c.in_ok-draw.draw).primitives = search rules in
     let listed = ap (map draw_listing) pushed ∙ map-append draw_listing c.draws.found.items (c.in_ok-draw.draw ∷ []) in
-    let total = ap (sum_by (λ (x : DrawListing). length x.triangles)) listed ∙ sum_by-append (λ (x : DrawListing). length x.triangles) (map draw_listing c.draws.found.items) (draw_listing c.in_ok-draw.draw ∷ []) in
+    let total = ap (sum_by (λ (x : DrawListing). count_of_triangles x.primitives)) listed ∙ sum_by-append (λ (x : DrawListing). count_of_triangles x.primitives) (map draw_listing c.draws.found.items) (draw_listing c.in_ok-draw.draw ∷ []) in
     record {
       took = rw pushed (each_more 3 Is c.args.reader.now c.draws.reader c.take_draw.new.reader c.draws.found.items c.in_ok-draw.draw c.draws.invariant.took took);
       at_most = search (rules, arith);
-      counted = omega (arith, total);
+      counted = omega (arith, total, more);
       room = omega arith;
     }
 
@@ -42,7 +44,7 @@ returns c =
     let new = c.take_end_array.new.self in
     let ends : after_end_array c.draws.reader ≡ Some new = grind arith in
     let few : length xs ≤ 1024 = omega arith in
-    let room : sum_by (λ x. length x.triangles) (map draw_listing xs) ≤ 65536 = omega (arith, c.draws.invariant.counted, c.draws.invariant.room) in
+    let room : sum_by (λ x. count_of_triangles x.primitives) (map draw_listing xs) ≤ 65536 = omega (arith, c.draws.invariant.counted, c.draws.invariant.room) in
     took_also 4 (λ d ys. IsArrayOf 1024 Is (Some d) ys) (AreDraws c.args.picture) (Token.begin_array ∷ c.args.reader.now) new xs xs
     (λ d is. (array_map draw_listing 1024 (IsDraw c.args.picture) (Some d) xs is, room))
     (each_array 3 1024 Is c.args.reader.now c.draws.reader new xs c.draws.invariant.took ends few)
