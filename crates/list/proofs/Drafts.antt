@@ -13,18 +13,15 @@ use Rattle.list.specs.declared.draw.Vertex.{Vertex}
 use Rattle.list.specs.declared.tokens.draw.DrawDraft.{DrawDraft}
 use Rattle.list.specs.Json.{is_among, has_other_member}
 use Rattle.list.specs.Keys.{draw_keys}
-use Rattle.list.specs.Denotes.{OrDefault, IsArrayOf, IsVertex, IsTriangle, IsStripIndex, IsPrimitives, IsCull, IsDepthTest, IsTruth, IsBlend, IsWriteMask, IsSampleMask, IsScissor, IsDraw}
+use Rattle.list.specs.Denotes.{OrDefault, IsArrayOf, IsVertex, IsTriangle, IsStripIndex, IsQuad, IsPrimitives, IsCull, IsDepthTest, IsTruth, IsBlend, IsWriteMask, IsSampleMask, IsScissor, IsDraw}
 use Rattle.list.specs.declared.primitives.Primitives.{Primitives}
-use Rattle.list.specs.declared.primitives.Primitives.TheVariants.{Triangles, Strip}
+use Rattle.list.specs.declared.primitives.Primitives.TheVariants.{Triangles, Strip, Quads}
 use Rattle.list.specs.Primitives.{primitive_listing}
 use Rattle.list.specs.Listing.{draw_listing}
 use Rattle.list.specs.Took.{Took, Adds, IsObjectOf, Slot}
-use Rattle.list.specs.Drafted.{state_keys, HasState, AreVertices, AreTriangles, IsStrip, HasDraw, IsOnlyList}
-use Rattle.list.proofs.Members.{here, stays, deeper, differ}
+use Rattle.list.specs.Drafted.{state_keys, HasState, AreVertices, AreTriangles, IsStrip, AreQuads, HasDraw, IsOnlyList}
+use Rattle.list.proofs.Members.{here, stays, deeper, differ, apart}
 use Rattle.list.proofs.Numbers.{took_also}
-
-apart : (names : List (List ℕ)) (q k : List ℕ) → is_among names q ≡ true → is_among names k ≡ false → q ≡ k → ⊥
-apart names q k among other e = true≢false (sym among ∙ ap (is_among names) e ∙ other)
 
 -- ---- how its triangles are drawn
 
@@ -207,6 +204,7 @@ pub none_of_draw : (picture : PixelBox) → HasDraw picture no_members (record {
   vertices = None;
   triangles = None;
   strip = None;
+  quads = None;
 })
 none_of_draw picture = record {
   state = record {
@@ -218,19 +216,21 @@ none_of_draw picture = record {
   vertices = tt;
   triangles = tt;
   strip = tt;
+  quads = tt;
 }
 
 pub draft_state : (picture : PixelBox) (old new : List Token) (key : List ℕ) (draft : DrawDraft) (s : State) → Took 1 (Adds state_keys (HasState picture) key draft.state) old s new
-    → Took 2 (Adds draw_keys (HasDraw picture) key draft) old (record { state = s; vertices = draft.vertices; triangles = draft.triangles; strip = draft.strip }) new
+    → Took 2 (Adds draw_keys (HasDraw picture) key draft) old (record { state = s; vertices = draft.vertices; triangles = draft.triangles; strip = draft.strip; quads = draft.quads }) new
 draft_state picture old new key draft s t =
     took_also 2 (Adds state_keys (HasState picture) key draft.state) (Adds draw_keys (HasDraw picture) key draft) old new s _
     (λ d is. (
-      among_more state_keys (codes "vertices" ∷ codes "triangles" ∷ codes "strip" ∷ []) key is.0,
+      among_more state_keys (codes "vertices" ∷ codes "triangles" ∷ codes "strip" ∷ codes "quads" ∷ []) key is.0,
       λ found h. record {
         state = is.1 found h.state;
         vertices = stays (codes "vertices") key d found (λ o. Slot AreVertices o draft.vertices) (state_key_apart (codes "vertices") key refl is.0) h.vertices;
         triangles = stays (codes "triangles") key d found (λ o. Slot (AreTriangles draft.vertices) o draft.triangles) (state_key_apart (codes "triangles") key refl is.0) h.triangles;
         strip = stays (codes "strip") key d found (λ o. Slot (IsStrip draft.vertices) o draft.strip) (state_key_apart (codes "strip") key refl is.0) h.strip;
+        quads = stays (codes "quads") key d found (λ o. Slot (AreQuads draft.vertices) o draft.quads) (state_key_apart (codes "quads") key refl is.0) h.quads;
       },
     ))
     (deeper 1 2 (Adds state_keys (HasState picture) key draft.state) old new s (omega arith) t)
@@ -257,10 +257,14 @@ TriangleArray n d xs = IsArrayOf 65536 (IsTriangle n) (Some d) xs
 abbrev pub StripArray : ℕ → Data → List ℕ → Type 0
 StripArray n d xs = IsArrayOf 65538 (IsStripIndex n) (Some d) xs
 
-pub draft_vertices : (picture : PixelBox) (old new : List Token) (draft : DrawDraft) (vs : Vec Vertex Global) → (is_some draft.triangles || is_some draft.strip) ≡ false → Took 2 VertexArray old vs.items new
-    → Took 2 (Adds draw_keys (HasDraw picture) (codes "vertices") draft) old (record { state = draft.state; vertices = Some vs; triangles = draft.triangles; strip = draft.strip }) new
+abbrev pub QuadArray : List Vertex → Data → List (List ℕ) → Type 0
+QuadArray vertices d xs = IsArrayOf 32768 (IsQuad vertices) (Some d) xs
+
+pub draft_vertices : (picture : PixelBox) (old new : List Token) (draft : DrawDraft) (vs : Vec Vertex Global) → (is_some draft.triangles || (is_some draft.strip || is_some draft.quads)) ≡ false → Took 2 VertexArray old vs.items new
+    → Took 2 (Adds draw_keys (HasDraw picture) (codes "vertices") draft) old (record { state = draft.state; vertices = Some vs; triangles = draft.triangles; strip = draft.strip; quads = draft.quads }) new
 draft_vertices picture old new draft vs none t =
-    let empty = neither (is_some draft.triangles) (is_some draft.strip) none in
+    let empty = neither (is_some draft.triangles) (is_some draft.strip || is_some draft.quads) none in
+    let both = neither (is_some draft.strip) (is_some draft.quads) empty.1 in
     took_also 2 VertexArray (Adds draw_keys (HasDraw picture) (codes "vertices") draft) old new vs.items _
     (λ d is. (
       refl,
@@ -268,9 +272,11 @@ draft_vertices picture old new draft vs none t =
         state = state_stays picture (codes "vertices") d draft.state found refl h.state;
         vertices = here (codes "vertices") d found (λ o. Slot AreVertices o (Some vs)) is;
         triangles = stays (codes "triangles") (codes "vertices") d found (λ o. Slot (AreTriangles (Some vs)) o draft.triangles) (differ (codes "triangles") (codes "vertices") refl refl)
-        (no_list (AreTriangles draft.vertices) (AreTriangles (Some vs)) (get_member (codes "triangles") found) draft.triangles (absent draft.triangles empty.0) h.triangles);
+            (no_list (AreTriangles draft.vertices) (AreTriangles (Some vs)) (get_member (codes "triangles") found) draft.triangles (absent draft.triangles empty.0) h.triangles);
         strip = stays (codes "strip") (codes "vertices") d found (λ o. Slot (IsStrip (Some vs)) o draft.strip) (differ (codes "strip") (codes "vertices") refl refl)
-        (no_list (IsStrip draft.vertices) (IsStrip (Some vs)) (get_member (codes "strip") found) draft.strip (absent draft.strip empty.1) h.strip);
+            (no_list (IsStrip draft.vertices) (IsStrip (Some vs)) (get_member (codes "strip") found) draft.strip (absent draft.strip both.0) h.strip);
+        quads = stays (codes "quads") (codes "vertices") d found (λ o. Slot (AreQuads (Some vs)) o draft.quads) (differ (codes "quads") (codes "vertices") refl refl)
+            (no_list (AreQuads draft.vertices) (AreQuads (Some vs)) (get_member (codes "quads") found) draft.quads (absent draft.quads both.1) h.quads);
       },
     )) t
 
@@ -279,7 +285,7 @@ are_triangles x vs d ts e is = rw e is
 
 pub draft_triangles : (picture : PixelBox) (old new : List Token) (draft : DrawDraft) (vs : Vec Vertex Global) (ts : Vec (List ℕ) Global) → draft.vertices ≡ Some vs
     → Took 2 (TriangleArray (length vs.items)) old ts.items new
-    → Took 2 (Adds draw_keys (HasDraw picture) (codes "triangles") draft) old (record { state = draft.state; vertices = draft.vertices; triangles = Some ts; strip = draft.strip }) new
+    → Took 2 (Adds draw_keys (HasDraw picture) (codes "triangles") draft) old (record { state = draft.state; vertices = draft.vertices; triangles = Some ts; strip = draft.strip; quads = draft.quads }) new
 draft_triangles picture old new draft vs ts there t =
     took_also 2 (TriangleArray (length vs.items)) (Adds draw_keys (HasDraw picture) (codes "triangles") draft) old new ts.items _
     (λ d is. (
@@ -289,6 +295,7 @@ draft_triangles picture old new draft vs ts there t =
         vertices = stays (codes "vertices") (codes "triangles") d found (λ o. Slot AreVertices o draft.vertices) (differ (codes "vertices") (codes "triangles") refl refl) h.vertices;
         triangles = here (codes "triangles") d found (λ o. Slot (AreTriangles draft.vertices) o (Some ts)) (are_triangles draft.vertices vs d ts there is);
         strip = stays (codes "strip") (codes "triangles") d found (λ o. Slot (IsStrip draft.vertices) o draft.strip) (differ (codes "strip") (codes "triangles") refl refl) h.strip;
+        quads = stays (codes "quads") (codes "triangles") d found (λ o. Slot (AreQuads draft.vertices) o draft.quads) (differ (codes "quads") (codes "triangles") refl refl) h.quads;
       },
     )) t
 
@@ -297,7 +304,7 @@ is_strip x vs d ts e is = rw e is
 
 pub draft_strip : (picture : PixelBox) (old new : List Token) (draft : DrawDraft) (vs : Vec Vertex Global) (ts : Vec ℕ Global) → draft.vertices ≡ Some vs
     → Took 1 (StripArray (length vs.items)) old ts.items new
-    → Took 2 (Adds draw_keys (HasDraw picture) (codes "strip") draft) old (record { state = draft.state; vertices = draft.vertices; triangles = draft.triangles; strip = Some ts }) new
+    → Took 2 (Adds draw_keys (HasDraw picture) (codes "strip") draft) old (record { state = draft.state; vertices = draft.vertices; triangles = draft.triangles; strip = Some ts; quads = draft.quads }) new
 draft_strip picture old new draft vs ts there t =
     took_also 2 (StripArray (length vs.items)) (Adds draw_keys (HasDraw picture) (codes "strip") draft) old new ts.items _
     (λ d is. (
@@ -307,9 +314,29 @@ draft_strip picture old new draft vs ts there t =
         vertices = stays (codes "vertices") (codes "strip") d found (λ o. Slot AreVertices o draft.vertices) (differ (codes "vertices") (codes "strip") refl refl) h.vertices;
         triangles = stays (codes "triangles") (codes "strip") d found (λ o. Slot (AreTriangles draft.vertices) o draft.triangles) (differ (codes "triangles") (codes "strip") refl refl) h.triangles;
         strip = here (codes "strip") d found (λ o. Slot (IsStrip draft.vertices) o (Some ts)) (is_strip draft.vertices vs d ts there is);
+        quads = stays (codes "quads") (codes "strip") d found (λ o. Slot (AreQuads draft.vertices) o draft.quads) (differ (codes "quads") (codes "strip") refl refl) h.quads;
       },
     ))
     (deeper 1 2 (StripArray (length vs.items)) old new ts.items (omega arith) t)
+
+are_quads : (x : Option (Vec Vertex Global)) (vs : Vec Vertex Global) (d : Data) (qs : Vec (List ℕ) Global) → x ≡ Some vs → QuadArray vs.items d qs.items → AreQuads x d qs
+are_quads x vs d qs e is = rw e is
+
+pub draft_quads : (picture : PixelBox) (old new : List Token) (draft : DrawDraft) (vs : Vec Vertex Global) (qs : Vec (List ℕ) Global) → draft.vertices ≡ Some vs
+    → Took 2 (QuadArray vs.items) old qs.items new
+    → Took 2 (Adds draw_keys (HasDraw picture) (codes "quads") draft) old (record { state = draft.state; vertices = draft.vertices; triangles = draft.triangles; strip = draft.strip; quads = Some qs }) new
+draft_quads picture old new draft vs qs there t =
+    took_also 2 (QuadArray vs.items) (Adds draw_keys (HasDraw picture) (codes "quads") draft) old new qs.items _
+    (λ d is. (
+      refl,
+      λ found h. record {
+        state = state_stays picture (codes "quads") d draft.state found refl h.state;
+        vertices = stays (codes "vertices") (codes "quads") d found (λ o. Slot AreVertices o draft.vertices) (differ (codes "vertices") (codes "quads") refl refl) h.vertices;
+        triangles = stays (codes "triangles") (codes "quads") d found (λ o. Slot (AreTriangles draft.vertices) o draft.triangles) (differ (codes "triangles") (codes "quads") refl refl) h.triangles;
+        strip = stays (codes "strip") (codes "quads") d found (λ o. Slot (IsStrip draft.vertices) o draft.strip) (differ (codes "strip") (codes "quads") refl refl) h.strip;
+        quads = here (codes "quads") d found (λ o. Slot (AreQuads draft.vertices) o (Some qs)) (are_quads draft.vertices vs d qs there is);
+      },
+    )) t
 
 -- ---- the whole draw
 
@@ -333,18 +360,28 @@ module _ (draft : DrawDraft) (vs : Vec Vertex Global) (e : draft.vertices ≡ So
   strip_at : (d : Data) (ts : Vec ℕ Global) → IsStrip draft.vertices d ts → StripArray (length vs.items) d ts.items
   strip_at d ts is = subst (λ x. IsStrip x d ts) e is
 
-  primitives_are : (picture : PixelBox) (found : Members) (p : Primitives) → IsOnlyList draft.triangles draft.strip p → HasDraw picture found draft
-      → IsPrimitives (length vs.items) (get_member (codes "triangles") found) (get_member (codes "strip") found) (primitive_listing p)
+  quads_at : (d : Data) (qs : Vec (List ℕ) Global) → AreQuads draft.vertices d qs → QuadArray vs.items d qs.items
+  quads_at d qs is = subst (λ x. AreQuads x d qs) e is
+
+  primitives_are : (picture : PixelBox) (found : Members) (p : Primitives) → IsOnlyList draft.triangles draft.strip draft.quads p → HasDraw picture found draft
+      → IsPrimitives vs.items (get_member (codes "triangles") found) (get_member (codes "strip") found) (get_member (codes "quads") found) (primitive_listing p)
   primitives_are picture found (Triangles ts) only h = (
     there (AreTriangles draft.vertices) (λ o. IsArrayOf 65536 (IsTriangle (length vs.items)) o ts.items) (get_member (codes "triangles") found) draft.triangles ts only.0 (λ d is. triangles_at d ts is) h.triangles,
     not_there (IsStrip draft.vertices) (get_member (codes "strip") found) draft.strip only.1 h.strip,
+    not_there (AreQuads draft.vertices) (get_member (codes "quads") found) draft.quads only.2 h.quads,
   )
   primitives_are picture found (Strip ts) only h = (
     there (IsStrip draft.vertices) (λ o. IsArrayOf 65538 (IsStripIndex (length vs.items)) o ts.items) (get_member (codes "strip") found) draft.strip ts only.0 (λ d is. strip_at d ts is) h.strip,
     not_there (AreTriangles draft.vertices) (get_member (codes "triangles") found) draft.triangles only.1 h.triangles,
+    not_there (AreQuads draft.vertices) (get_member (codes "quads") found) draft.quads only.2 h.quads,
+  )
+  primitives_are picture found (Quads qs) only h = (
+    there (AreQuads draft.vertices) (λ o. IsArrayOf 32768 (IsQuad vs.items) o qs.items) (get_member (codes "quads") found) draft.quads qs only.0 (λ d is. quads_at d qs is) h.quads,
+    not_there (AreTriangles draft.vertices) (get_member (codes "triangles") found) draft.triangles only.1 h.triangles,
+    not_there (IsStrip draft.vertices) (get_member (codes "strip") found) draft.strip only.2 h.strip,
   )
 
-  drawn : (picture : PixelBox) (found : Members) (p : Primitives) → IsOnlyList draft.triangles draft.strip p → has_other_member draw_keys found ≡ false → HasDraw picture found draft
+  drawn : (picture : PixelBox) (found : Members) (p : Primitives) → IsOnlyList draft.triangles draft.strip draft.quads p → has_other_member draw_keys found ≡ false → HasDraw picture found draft
       → IsDraw picture (object found) (record { state = draft.state; vertices = vs.items; primitives = primitive_listing p })
   drawn picture found p only known h = record {
     object = refl;
@@ -354,7 +391,7 @@ module _ (draft : DrawDraft) (vs : Vec Vertex Global) (e : draft.vertices ≡ So
     primitives = primitives_are picture found p only h;
   }
 
-  pub whole_draw : (picture : PixelBox) (old new : List Token) (p : Primitives) → IsOnlyList draft.triangles draft.strip p → Took 3 (IsObjectOf draw_keys (HasDraw picture)) old draft new
+  pub whole_draw : (picture : PixelBox) (old new : List Token) (p : Primitives) → IsOnlyList draft.triangles draft.strip draft.quads p → Took 3 (IsObjectOf draw_keys (HasDraw picture)) old draft new
       → Took 3 (λ d x. IsDraw picture d (draw_listing x)) old (record { state = draft.state; vertices = vs; primitives = p }) new
   whole_draw picture old new p only t =
       took_also 3 (IsObjectOf draw_keys (HasDraw picture)) (λ d x. IsDraw picture d (draw_listing x)) old new draft (record { state = draft.state; vertices = vs; primitives = p })

@@ -1,4 +1,6 @@
 pub mod Triangulated
+pub mod Convex
+pub mod Corners
 pub mod Numbering
 pub mod Unique
 pub mod Pixels

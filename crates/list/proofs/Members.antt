@@ -135,3 +135,7 @@ stays q k d found P apart h = subst P (sym (get_member-put_other q k d found apa
 -- two names that are told apart
 pub differ : (q k : List ℕ) → bytes_eq k k ≡ true → bytes_eq q k ≡ false → q ≡ k → ⊥
 differ q k same other e = true≢false (sym same ∙ ap (λ name. bytes_eq name k) (sym e) ∙ other)
+
+-- one of the names, and one that is none of them
+pub apart : (names : List (List ℕ)) (q k : List ℕ) → is_among names q ≡ true → is_among names k ≡ false → q ≡ k → ⊥
+apart names q k among other e = true≢false (sym among ∙ ap (is_among names) e ∙ other)

@@ -6,9 +6,9 @@ use Rattle.grid.specs.Position.{Position}
 use Rattle.grid.specs.declared.pixels.PixelBox.{PixelBox}
 use Rattle.shade.specs.declared.state.State.{State}
 use Rattle.list.specs.declared.draw.Vertex.{Vertex}
-use Rattle.list.specs.Primitives.{PrimitiveListing, triangle_list, triangle_strip}
+use Rattle.list.specs.Primitives.{PrimitiveListing, triangle_list, triangle_strip, quad_list}
 use Rattle.list.specs.Listing.{DrawListing}
-use Rattle.list.specs.Denotes.{IsArrayOf, IsVertex, IsTriangle, IsStripIndex, IsPrimitives, IsDraw}
+use Rattle.list.specs.Denotes.{IsArrayOf, IsVertex, IsTriangle, IsStripIndex, IsQuad, IsPrimitives, IsDraw}
 use Rattle.list.proofs.OneValue.{IsUnique, same_some, same_number, array-unique, same_three, same_four}
 use Rattle.list.proofs.OneState.{state-unique}
 
@@ -20,7 +20,7 @@ position x y = record { x = x; y = y }
 made_same_position : (x y x' y' : ℤ) → x ≡ x' → y ≡ y' → position x y ≡ position x' y'
 made_same_position x y x' y' e f = cc
 
-same_position : (p q : Position) → p.x ≡ q.x → p.y ≡ q.y → p ≡ q
+pub same_position : (p q : Position) → p.x ≡ q.x → p.y ≡ q.y → p ≡ q
 unfolding position
 same_position p q e f = made_same_position p.x p.y q.x q.y e f
 
@@ -53,11 +53,32 @@ no_array : {X : Type 0} (most : ℕ) (Is : Data → X → Type 0) (value : Optio
 no_array most Is None found is e = let bad : false ≡ true = is.array in absurd (cc)
 no_array most Is (Some v) found is e = absurd (cc)
 
-primitives-unique : (n : ℕ) (t s : Option Data) (p q : PrimitiveListing) → IsPrimitives n t s p → IsPrimitives n t s q → p ≡ q
-primitives-unique n t s (triangle_list x) (triangle_list y) h k = ap triangle_list (array-unique 65536 (IsTriangle n) (triangle-unique n) t x y h.0 k.0)
-primitives-unique n t s (triangle_list x) (triangle_strip y) h k = absurd (no_array 65536 (IsTriangle n) t x h.0 k.1)
-primitives-unique n t s (triangle_strip x) (triangle_list y) h k = absurd (no_array 65538 (IsStripIndex n) s x h.0 k.1)
-primitives-unique n t s (triangle_strip x) (triangle_strip y) h k = ap triangle_strip (array-unique 65538 (IsStripIndex n) (strip_index-unique n) s x y h.0 k.0)
+quad-unique : (vs : List Vertex) → IsUnique (IsQuad vs)
+quad-unique vs value x y h k =
+    same_four x y h.indices k.indices (same_number _ _ _ h.first.0 k.first.0) (same_number _ _ _ h.second.0 k.second.0)
+    (same_number _ _ _ h.third.0 k.third.0) (same_number _ _ _ h.fourth.0 k.fourth.0)
+
+-- The three values of which one is a list of primitives.
+module _ (vs : List Vertex) (t s q : Option Data) where
+  no_triangles : (found : List (List ℕ)) → IsArrayOf 65536 (IsTriangle (length vs)) t found → t ≡ None → ⊥
+  no_triangles found is none = no_array 65536 (IsTriangle (length vs)) t found is none
+
+  no_strip : (found : List ℕ) → IsArrayOf 65538 (IsStripIndex (length vs)) s found → s ≡ None → ⊥
+  no_strip found is none = no_array 65538 (IsStripIndex (length vs)) s found is none
+
+  no_quads : (found : List (List ℕ)) → IsArrayOf 32768 (IsQuad vs) q found → q ≡ None → ⊥
+  no_quads found is none = no_array 32768 (IsQuad vs) q found is none
+
+  primitives-unique : (x y : PrimitiveListing) → IsPrimitives vs t s q x → IsPrimitives vs t s q y → x ≡ y
+  primitives-unique (triangle_list x) (triangle_list y) h k = ap triangle_list (array-unique 65536 (IsTriangle (length vs)) (triangle-unique (length vs)) t x y h.0 k.0)
+  primitives-unique (triangle_list x) (triangle_strip y) h k = absurd (no_triangles x h.0 k.1)
+  primitives-unique (triangle_list x) (quad_list y) h k = absurd (no_triangles x h.0 k.1)
+  primitives-unique (triangle_strip x) (triangle_list y) h k = absurd (no_strip x h.0 k.1)
+  primitives-unique (triangle_strip x) (triangle_strip y) h k = ap triangle_strip (array-unique 65538 (IsStripIndex (length vs)) (strip_index-unique (length vs)) s x y h.0 k.0)
+  primitives-unique (triangle_strip x) (quad_list y) h k = absurd (no_strip x h.0 k.2)
+  primitives-unique (quad_list x) (triangle_list y) h k = absurd (no_quads x h.0 k.2)
+  primitives-unique (quad_list x) (triangle_strip y) h k = absurd (no_quads x h.0 k.2)
+  primitives-unique (quad_list x) (quad_list y) h k = ap quad_list (array-unique 32768 (IsQuad vs) (quad-unique vs) q x y h.0 k.0)
 
 -- ---- the draw
 
@@ -74,5 +95,5 @@ same_draw x y e f g = made_same_draw x.state y.state x.vertices y.vertices x.pri
 pub draw-unique : (picture : PixelBox) → IsUnique (IsDraw picture)
 draw-unique picture value x y h k =
     let vertices = array-unique 65536 IsVertex vertex-unique (get (codes "vertices") value) x.vertices y.vertices h.vertices k.vertices in
-    let named = subst (λ vs. IsPrimitives (length vs) (get (codes "triangles") value) (get (codes "strip") value) y.primitives) (sym vertices) k.primitives in
-    same_draw x y (state-unique picture value _ _ h.state k.state) vertices (primitives-unique (length x.vertices) _ _ x.primitives y.primitives h.primitives named)
+    let named = subst (λ vs. IsPrimitives vs (get (codes "triangles") value) (get (codes "strip") value) (get (codes "quads") value) y.primitives) (sym vertices) k.primitives in
+    same_draw x y (state-unique picture value _ _ h.state k.state) vertices (primitives-unique x.vertices _ _ _ x.primitives y.primitives h.primitives named)

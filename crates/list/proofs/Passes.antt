@@ -1,12 +1,12 @@
 -- What denotes a draw list passes each check.
-use Rattle.std.proofs.Common.{◌≡◌, ℕ, ◌+◌, ◌≤◌, ℤ, pos, negsuc, ◌≤ℤ◌, ◌<◌, ◌-ℤ◌, List, [], ◌∷◌, ◌++◌, length, sum_by, Bool, true, false, not, ◌||◌, ◌&&◌, Option, Some, None, IsSome, is_none, nat_lt, codes, arith, rules, refl, ap, ◌∙◌}
+use Rattle.std.proofs.Common.{◌≡◌, ℕ, ◌+◌, ◌≤◌, ℤ, pos, negsuc, ◌≤ℤ◌, ◌<◌, ◌-ℤ◌, List, [], ◌∷◌, ◌++◌, length, map, sum_by, Bool, true, false, Option, Some, None, IsSome, is_some, is_none, nat_lt, codes, arith, rules, refl, ap, ◌∙◌}
 use Rattle.std.proofs.lemmas.Int.{ints}
 use Rattle.std.proofs.lemmas.List.Sums.{sum_by-append}
 use Rattle.std.proofs.lemmas.Bool.Decides.{nat_tests}
 use Rattle.std.specs.Option.{option_or, option_map}
 use Rattle.serde_json.specs.Data.{Data, Items, no_items, item}
-use Rattle.serde_json.specs.Find.{get, as_object}
-use Rattle.grid.specs.Position.{IsInBand}
+use Rattle.serde_json.specs.Find.{get, at, as_object}
+use Rattle.grid.specs.Position.{Position, IsInBand}
 use Rattle.grid.specs.declared.cull.Cull.{Cull}
 use Rattle.grid.specs.declared.cull.Cull.TheVariants as cull
 use Rattle.grid.specs.declared.pixels.PixelBox.{PixelBox}
@@ -18,13 +18,18 @@ use Rattle.shade.specs.declared.sample.Merge.{Merge}
 use Rattle.shade.specs.declared.state.State.{State}
 use Rattle.list.specs.declared.draw.Vertex.{Vertex}
 use Rattle.list.specs.declared.fault.ReadKind.{ReadKind}
+use Rattle.list.specs.declared.fault.ReadKind.TheVariants.{NotConvex}
 use Rattle.list.specs.Json.{whole, array_of, count, elements}
-use Rattle.list.specs.Keys.{cull_words, depth_test_words, blend_words}
-use Rattle.list.specs.Primitives.{PrimitiveListing, triangle_list, triangle_strip, strip_count, count_of_triangles}
+use Rattle.list.specs.declared.output.Output.{Output}
+use Rattle.list.specs.declared.output.Output.TheVariants as output
+use Rattle.list.specs.Keys.{output_words, cull_words, depth_test_words, blend_words}
+use Rattle.list.specs.Primitives.{PrimitiveListing, triangle_list, triangle_strip, quad_list, strip_count, quads_count, count_of_triangles, IsConvexOver}
 use Rattle.list.specs.Listing.{DrawListing, Listing}
 use Rattle.list.specs.Place.{Place, first_fault, told_as}
-use Rattle.list.specs.Checks.{Checks, each, is_from_to, number_checks, depth_checks, vertex_checks, triangle_checks, strip_index_checks, array_checks, sum_check, where_there, word_checks, truth_checks, colour_checks, write_mask_checks, sample_mask_checks, scissor_checks, sample_count_checks, merge_checks, state_checks, vertices_checks, triangles_checks, strip_checks, primitive_checks, part_checks, triangles_counted, draw_checks, clear_checks, top_checks, in_draw, outside, draw_places, value_places}
-use Rattle.list.specs.Denotes.{Each, OrDefault, IsWhole, IsDepthNumber, IsTruth, IsVertex, IsTriangle, IsStripIndex, IsPrimitives, IsArrayOf, IsCull, IsDepthTest, IsBlend, IsWriteMask, IsSampleMask, IsScissor, IsMerge, IsState, IsDraw, IsSampleCount, IsClearColour, IsListing}
+use Rattle.list.specs.Checks.{Checks, each, is_from_to, number_checks, depth_checks, vertex_checks, triangle_checks, strip_index_checks, quad_checks, quad_checks_over, has_length, corner_written, positions_written, is_strictly_convex, is_none_there, are_two_there, array_checks, sum_check, where_there, word_checks, truth_checks, colour_checks, write_mask_checks, sample_mask_checks, scissor_checks, sample_count_checks, merge_checks, state_checks, vertices_checks, triangles_checks, strip_checks, quads_checks, primitive_checks, part_checks, triangles_counted, draw_checks, clear_checks, top_checks, in_draw, outside, draw_places, value_places}
+use Rattle.list.specs.Denotes.{Each, OrDefault, IsWhole, IsDepthNumber, IsTruth, IsVertex, IsIndex, IsTriangle, IsStripIndex, IsQuad, IsPrimitives, IsArrayOf, IsCull, IsDepthTest, IsBlend, IsWriteMask, IsSampleMask, IsScissor, IsMerge, IsState, IsDraw, IsSampleCount, IsClearColour, IsOutput, IsListing}
+use Rattle.list.proofs.Convex.{convex_is_true, convex_is_false}
+use Rattle.list.proofs.Corners.{same_places, same_corner}
 use Rattle.list.proofs.Counts.{items_len_each, given_is}
 use Rattle.list.proofs.Faults.{first_fault_of_both, first_fault_told_as}
 
@@ -72,6 +77,10 @@ sample_count_passes v samples.Four is = rw is refl
 truth_passes : (v : Data) (b : Bool) → IsTruth (Some v) b → first_fault (truth_checks (Some v)) ≡ None
 truth_passes v b is = rw is refl
 
+output_passes : (v : Data) (o : Output) → IsOutput (Some v) o → first_fault (word_checks output_words (Some v)) ≡ None
+output_passes v output.Color is = rw is refl
+output_passes v output.Depth is = rw is refl
+
 cull_passes : (v : Data) (mode : Cull) → IsCull (Some v) mode → first_fault (word_checks cull_words (Some v)) ≡ None
 cull_passes v cull.None is = rw is refl
 cull_passes v cull.Front is = rw is refl
@@ -117,6 +126,51 @@ triangle_passes n d t is = rw (is.array, is.first.0, index_in_range n _ is.first
 
 strip_index_passes : (n : ℕ) (d : Data) (k : ℕ) → IsStripIndex n d k → first_fault (strip_index_checks n d) ≡ None
 strip_index_passes n d k is = rw (is.0, index_in_range n k is.1) refl
+
+-- the corners of a quad as they are written are those of its vertices
+quad_convex : (vs : List Vertex) (d : Data) (quad : List ℕ) → IsQuad vs d quad
+    → let corner : ℕ → Position = λ i. corner_written (map (λ v. v.at) vs) (at i d) in is_strictly_convex (corner 0) (corner 1) (corner 2) (corner 3) ≡ true
+quad_convex vs d quad is = rw (
+  same_corner vs _ _ _ is.first,
+  same_corner vs _ _ _ is.second,
+  same_corner vs _ _ _ is.third,
+  same_corner vs _ _ _ is.fourth,
+) (convex_is_true _ _ _ _ is.convex)
+
+pub quad_passes : (vs : List Vertex) (d : Data) (quad : List ℕ) → IsQuad vs d quad → first_fault (quad_checks (length vs) (map (λ v. v.at) vs) d) ≡ None
+quad_passes vs d quad is =
+    rw (
+      is.array,
+      quad_convex vs d quad is,
+      is.first.0,
+      index_in_range (length vs) _ is.first.1,
+      is.second.0,
+      index_in_range (length vs) _ is.second.1,
+      is.third.0,
+      index_in_range (length vs) _ is.third.1,
+      is.fourth.0,
+      index_in_range (length vs) _ is.fourth.1,
+    ) refl
+
+-- four indices whose vertices are not the corners of a strictly convex quad
+pub quad_fails : (vs : List Vertex) (d : Data) (k0 k1 k2 k3 : ℕ) → has_length 4 (Some d) ≡ true
+    → IsIndex (length vs) (at 0 d) k0 → IsIndex (length vs) (at 1 d) k1 → IsIndex (length vs) (at 2 d) k2 → IsIndex (length vs) (at 3 d) k3
+    → (IsConvexOver vs (k0 ∷ k1 ∷ k2 ∷ k3 ∷ []) → ⊥) → first_fault (quad_checks_over vs d) ≡ Some NotConvex
+quad_fails vs d k0 k1 k2 k3 long first second third fourth bent =
+    let turned : is_strictly_convex (corner_written (map (λ v. v.at) vs) (at 0 d)) (corner_written (map (λ v. v.at) vs) (at 1 d)) (corner_written (map (λ v. v.at) vs) (at 2 d)) (corner_written (map (λ v. v.at) vs) (at 3 d)) ≡ false =
+    rw (same_corner vs _ _ _ first, same_corner vs _ _ _ second, same_corner vs _ _ _ third, same_corner vs _ _ _ fourth) (convex_is_false _ _ _ _ bent) in
+    rw (
+      long,
+      turned,
+      first.0,
+      index_in_range (length vs) _ first.1,
+      second.0,
+      index_in_range (length vs) _ second.1,
+      third.0,
+      index_in_range (length vs) _ third.1,
+      fourth.0,
+      index_in_range (length vs) _ fourth.1,
+    ) refl
 
 colour_passes : (v : Data) (colour : List ℕ) → IsClearColour (Some v) colour → first_fault (colour_checks (Some v)) ≡ None
 colour_passes v colour is = rw (is.array, is.red.0, in_range _ _ _ is.red.1 is.red.2, is.green.0, in_range _ _ _ is.green.1 is.green.2, is.blue.0, in_range _ _ _ is.blue.1 is.blue.2) refl
@@ -205,6 +259,18 @@ strip_pass earlier n s xs is room =
     let passed : first_fault later ≡ None = rw (not_over 65536 (earlier + strip_count (count s)) few) each_one in
     both_pass (array_checks 65538 s) later (array_passes _ _ _ _ is) passed
 
+quads_pass : (earlier : ℕ) (vs : List Vertex) (q : Option Data) (xs : List (List ℕ)) → IsArrayOf 32768 (IsQuad vs) q xs → earlier + quads_count (length xs) ≤ 65536
+    → first_fault (quads_checks earlier (length vs) (map (λ v. v.at) vs) q) ≡ None
+unfolding quads_checks
+quads_pass earlier vs q xs is room =
+    let checks : Data → Checks = quad_checks (length vs) (map (λ v. v.at) vs) in
+    let many = items_len_each (IsQuad vs) (elements q) xs is.parts in
+    let few : earlier + quads_count (count q) ≤ 65536 = omega (arith, many) in
+    let each_one = each_passes checks (IsQuad vs) (quad_passes vs) _ xs is.parts in
+    let later : Checks = sum_check earlier (quads_count (count q)) ∷ each checks (elements q) in
+    let passed : first_fault later ≡ None = rw (not_over 65536 (earlier + quads_count (count q)) few) each_one in
+    both_pass (array_checks 32768 q) later (array_passes _ _ _ _ is) passed
+
 -- what passes where it is there passes also where it may be absent
 passes_where_there : (checks : Option Data → Checks) (value : Option Data) → first_fault (checks value) ≡ None → first_fault (where_there checks value) ≡ None
 passes_where_there checks None passes = refl
@@ -213,29 +279,52 @@ passes_where_there checks (Some v) passes = passes
 nothing_there : (checks : Option Data → Checks) (value : Option Data) → value ≡ None → first_fault (where_there checks value) ≡ None
 nothing_there checks value none = rw none refl
 
-primitives_pass : (earlier n : ℕ) (t s : Option Data) (p : PrimitiveListing) → IsPrimitives n t s p → earlier + count_of_triangles p ≤ 65536 → first_fault (primitive_checks earlier n t s) ≡ None
-primitives_pass earlier n t s (triangle_list xs) is room =
-    both_pass (where_there (triangles_checks earlier n) t) (where_there (strip_checks earlier n) s)
-    (passes_where_there (triangles_checks earlier n) t (triangles_pass earlier n t xs is.0 room)) (nothing_there (strip_checks earlier n) s is.1)
-primitives_pass earlier n t s (triangle_strip xs) is room =
-    both_pass (where_there (triangles_checks earlier n) t) (where_there (strip_checks earlier n) s)
-    (nothing_there (triangles_checks earlier n) t is.1) (passes_where_there (strip_checks earlier n) s (strip_pass earlier n s xs is.0 room))
+-- the lists of primitives, of which one is there
+module _ (earlier : ℕ) (vs : List Vertex) (t s q : Option Data) where
+  abbrev Pass : Type 0
+  Pass = first_fault (primitive_checks earlier (length vs) (map (λ v. v.at) vs) t s q) ≡ None
+
+  all_pass : first_fault (where_there (triangles_checks earlier (length vs)) t) ≡ None → first_fault (where_there (strip_checks earlier (length vs)) s) ≡ None
+      → first_fault (where_there (quads_checks earlier (length vs) (map (λ v. v.at) vs)) q) ≡ None → Pass
+  all_pass triangles strip quads =
+      let strips : Checks = where_there (strip_checks earlier (length vs)) s in
+      let others : Checks = where_there (quads_checks earlier (length vs) (map (λ v. v.at) vs)) q in
+      both_pass (where_there (triangles_checks earlier (length vs)) t) (strips ++ others) triangles (both_pass strips others strip quads)
+
+  primitives_pass : (p : PrimitiveListing) → IsPrimitives vs t s q p → earlier + count_of_triangles p ≤ 65536 → Pass
+  primitives_pass (triangle_list xs) is room =
+      all_pass (passes_where_there (triangles_checks earlier (length vs)) t (triangles_pass earlier (length vs) t xs is.0 room))
+      (nothing_there (strip_checks earlier (length vs)) s is.1) (nothing_there (quads_checks earlier (length vs) (map (λ v. v.at) vs)) q is.2)
+  primitives_pass (triangle_strip xs) is room =
+      all_pass (nothing_there (triangles_checks earlier (length vs)) t is.1)
+      (passes_where_there (strip_checks earlier (length vs)) s (strip_pass earlier (length vs) s xs is.0 room))
+      (nothing_there (quads_checks earlier (length vs) (map (λ v. v.at) vs)) q is.2)
+  primitives_pass (quad_list xs) is room =
+      all_pass (nothing_there (triangles_checks earlier (length vs)) t is.1) (nothing_there (strip_checks earlier (length vs)) s is.2)
+      (passes_where_there (quads_checks earlier (length vs) (map (λ v. v.at) vs)) q (quads_pass earlier vs q xs is.0 room))
 
 array_there : (value : Option Data) → IsSome (array_of value) → is_none value ≡ false
 array_there None is = let bad : false ≡ true = is in absurd (cc)
 array_there (Some v) is = refl
 
--- one of the two lists of primitives is there
-one_list : (n : ℕ) (t s : Option Data) (p : PrimitiveListing) → IsPrimitives n t s p → ((is_none t && is_none s) ≡ false) × ((not (is_none t) && not (is_none s)) ≡ false)
-one_list n t s (triangle_list xs) is = rw (array_there t is.0.array, is.1) (refl, refl)
-one_list n t s (triangle_strip xs) is = rw (array_there s is.0.array, is.1) (refl, refl)
+array_is_some : (value : Option Data) → IsSome (array_of value) → is_some value ≡ true
+array_is_some None is = let bad : false ≡ true = is in absurd (cc)
+array_is_some (Some v) is = refl
 
-parts_pass : (earlier : ℕ) (v t s : Option Data) (draw : DrawListing) → IsArrayOf 65536 IsVertex v draw.vertices → IsPrimitives (length draw.vertices) t s draw.primitives
-    → earlier + count_of_triangles draw.primitives ≤ 65536 → first_fault (part_checks earlier v t s) ≡ None
-parts_pass earlier v t s draw vs is room =
+-- one of the three lists of primitives is there
+one_list : (vs : List Vertex) (t s q : Option Data) (p : PrimitiveListing) → IsPrimitives vs t s q p → (is_none_there t s q ≡ false) × (are_two_there t s q ≡ false)
+one_list vs t s q (triangle_list xs) is = rw (array_there t is.0.array, array_is_some t is.0.array, is.1, is.2) (refl, refl)
+one_list vs t s q (triangle_strip xs) is = rw (array_there s is.0.array, array_is_some s is.0.array, is.1, is.2) (refl, refl)
+one_list vs t s q (quad_list xs) is = rw (array_there q is.0.array, array_is_some q is.0.array, is.1, is.2) (refl, refl)
+
+parts_pass : (earlier : ℕ) (v t s q : Option Data) (draw : DrawListing) → IsArrayOf 65536 IsVertex v draw.vertices → IsPrimitives draw.vertices t s q draw.primitives
+    → earlier + count_of_triangles draw.primitives ≤ 65536 → first_fault (part_checks earlier v t s q) ≡ None
+parts_pass earlier v t s q draw vs is room =
     let n = items_len_each IsVertex (elements v) draw.vertices vs.parts in
-    both_pass (where_there vertices_checks v) (primitive_checks earlier (count v) t s) (passes_where_there vertices_checks v (vertices_pass v draw.vertices vs))
-    (rw n (primitives_pass earlier (length draw.vertices) t s draw.primitives is room))
+    let places = same_places (elements v) draw.vertices vs.parts in
+    let lists : Checks = primitive_checks earlier (count v) (positions_written (elements v)) t s q in
+    let passed : first_fault lists ≡ None = rw (n, places) (primitives_pass earlier draw.vertices t s q draw.primitives is room) in
+    both_pass (where_there vertices_checks v) lists (passes_where_there vertices_checks v (vertices_pass v draw.vertices vs)) passed
 
 -- ---- the draws
 
@@ -245,9 +334,10 @@ draw_passes picture earlier d draw is room =
     let vertices = get (codes "vertices") d in
     let triangles = get (codes "triangles") d in
     let strip = get (codes "strip") d in
-    let one = one_list (length draw.vertices) triangles strip draw.primitives is.primitives in
-    let parts = parts_pass earlier vertices triangles strip draw is.vertices is.primitives room in
-    let rest = both_pass (state_checks d) (part_checks earlier vertices triangles strip) (state_passes picture d draw.state is.state) parts in
+    let quads = get (codes "quads") d in
+    let one = one_list draw.vertices triangles strip quads draw.primitives is.primitives in
+    let parts = parts_pass earlier vertices triangles strip quads draw is.vertices is.primitives room in
+    let rest = both_pass (state_checks d) (part_checks earlier vertices triangles strip quads) (state_passes picture d draw.state is.state) parts in
     rw (there (as_object d) is.object, is.keys, array_there vertices is.vertices.array, one.0, one.1) rest
 
 pub draws_pass : (picture : PixelBox) (number earlier : ℕ) (ds : Items) (xs : List DrawListing) → Each (IsDraw picture) ds xs
@@ -255,7 +345,7 @@ pub draws_pass : (picture : PixelBox) (number earlier : ℕ) (ds : Items) (xs : 
 draws_pass picture number earlier no_items xs h room = refl
 draws_pass picture number earlier (item d ds) [] h room = absurd h
 draws_pass picture number earlier (item d ds) (x ∷ xs) h room =
-    let many = given_is (length x.vertices) _ _ x.primitives h.0.primitives in
+    let many = given_is x.vertices _ _ _ x.primitives h.0.primitives in
     let total = sum_by-append (λ (d : DrawListing). count_of_triangles d.primitives) (x ∷ []) xs in
     both_pass (told_as (in_draw number) (draw_checks earlier d)) _ (told_pass (in_draw number) (draw_checks earlier d) (draw_passes picture earlier d x h.0 (omega (arith, total))))
     (draws_pass picture (number + 1) (earlier + triangles_counted d) ds xs h.1 (omega (arith, many, total)))
@@ -268,10 +358,12 @@ clear_passes d l is =
     let depth = key_passes _ IsDepthNumber depth_checks depth_passes (get (codes "clear_depth") d) l.clear.z is.clear_depth in
     let colour = key_passes _ IsClearColour colour_checks colour_passes (get (codes "clear") d) (l.clear.r ∷ l.clear.g ∷ l.clear.b ∷ []) is.clear in
     let count = key_passes _ IsSampleCount sample_count_checks sample_count_passes (get (codes "samples") d) l.count is.samples in
+    let output = key_passes _ IsOutput (word_checks output_words) output_passes (get (codes "output") d) l.output is.output in
+    let outputs : Checks = where_there (word_checks output_words) (get (codes "output") d) in
     let depths : Checks = where_there depth_checks (get (codes "clear_depth") d) in
     let colours : Checks = where_there colour_checks (get (codes "clear") d) in
     let counts : Checks = where_there sample_count_checks (get (codes "samples") d) in
-    both_pass counts (colours ++ depths) count (both_pass colours depths colour depth)
+    both_pass counts (colours ++ (depths ++ outputs)) count (both_pass colours (depths ++ outputs) colour (both_pass depths outputs depth output))
 
 number_there : (value : Option Data) (z : ℤ) → whole value ≡ Some z → is_none value ≡ false
 number_there None z is = absurd (cc)

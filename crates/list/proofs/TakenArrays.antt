@@ -1,5 +1,5 @@
 -- Arrays of a few numbers or truth values, from their elements.
-use Rattle.std.proofs.Common.{◌≡◌, ℕ, ℤ, ◌≤◌, List, [], ◌∷◌, Bool, Option, Some, SFits, w32, to_z, of_z, to_z-of_z, refl, ap, ◌∙◌, arith}
+use Rattle.std.proofs.Common.{◌≡◌, ℕ, ℤ, ◌<◌, ◌≤◌, List, [], ◌∷◌, length, Bool, Option, Some, SFits, w32, to_z, of_z, to_z-of_z, refl, ap, ◌∙◌, arith}
 use Rattle.std.proofs.lemmas.Int.{ints}
 use Rattle.json.specs.Token.{Token}
 use Rattle.json.specs.Json.{after_end_array, value}
@@ -7,7 +7,11 @@ use Rattle.serde_json.specs.Data.{Data, array}
 use Rattle.serde_json.specs.Read.{of_json, converted}
 use Rattle.serde_json.specs.View.{items_of}
 use Rattle.grid.specs.Position.{Position, IsInBand}
-use Rattle.list.specs.Denotes.{IsVertex, IsDepthNumber, IsChannel, IsIndex, IsTriangle, IsTruth, IsScissorSide, IsClearColour, IsWriteMask, IsScissor}
+use Rattle.list.specs.Denotes.{IsVertex, IsDepthNumber, IsChannel, IsIndex, IsTriangle, IsQuad, IsTruth, IsScissorSide, IsClearColour, IsWriteMask, IsScissor}
+use Rattle.std.specs.List.{All}
+use Rattle.std.proofs.lemmas.List.Elements.{All-nil, All-cons}
+use Rattle.list.specs.declared.draw.Vertex.{Vertex}
+use Rattle.list.specs.Primitives.{IsConvexOver}
 use Rattle.list.specs.Took.{Took, IsNumber}
 use Rattle.list.proofs.Taking.{no_items_yet, one_more, whole_array}
 
@@ -60,7 +64,7 @@ module _ {X : Type 0} (Is : Data → X → Type 0) (old t0 t1 t2 t3 new : List T
       let s3 = one_more 0 Is t0 t2 t3 _ z s2 tz in
       ap (λ ts. converted of_json (value depth ts)) first ∙ whole_array 0 t0 t3 new _ s3 ends depth deep
 
-abbrev Index : ℕ → Data → ℕ → Type 0
+abbrev pub Index : ℕ → Data → ℕ → Type 0
 Index n d k = IsIndex n (Some d) k
 
 pub took_triangle : (n : ℕ) (old t0 t1 t2 t3 new : List Token) (i j k : ℕ) → old ≡ Token.begin_array ∷ t0
@@ -114,5 +118,28 @@ took_scissor old t0 t1 t2 t3 t4 new x0 y0 x1 y1 first tl tu tr tb ends =
     record {
       seen = array (items_of (tl.seen ∷ tu.seen ∷ tr.seen ∷ tb.seen ∷ []));
       is = record { array = refl; left = side_at (Some tl.seen) x0 tl.is; top = side_at (Some tu.seen) y0 tu.is; right = side_at (Some tr.seen) x1 tr.is; bottom = side_at (Some tb.seen) y1 tb.is };
+      read = λ depth deep. ap (λ ts. converted of_json (value depth ts)) first ∙ whole_array 0 t0 t4 new _ s4 ends depth deep;
+    }
+
+-- ---- a quad
+
+-- all of four numbers are below n
+pub four_within : (n a b c d : ℕ) → a < n → b < n → c < n → d < n → All (λ k. k < n) (a ∷ b ∷ c ∷ d ∷ [])
+four_within n a b c d p q r s =
+    let P = λ (k : ℕ). k < n in
+    All-cons P a (b ∷ c ∷ d ∷ []) p (All-cons P b (c ∷ d ∷ []) q (All-cons P c (d ∷ []) r (All-cons P d [] s (All-nil P))))
+
+pub took_quad : (vertices : List Vertex) (old t0 t1 t2 t3 t4 new : List Token) (a b c d : ℕ) → old ≡ Token.begin_array ∷ t0
+    → Took 0 (Index (length vertices)) t0 a t1 → Took 0 (Index (length vertices)) t1 b t2 → Took 0 (Index (length vertices)) t2 c t3 → Took 0 (Index (length vertices)) t3 d t4
+    → after_end_array t4 ≡ Some new → IsConvexOver vertices (a ∷ b ∷ c ∷ d ∷ []) → Took 1 (IsQuad vertices) old (a ∷ b ∷ c ∷ d ∷ []) new
+took_quad vertices old t0 t1 t2 t3 t4 new a b c d first ta tb tc td ends convex =
+    let Is = Index (length vertices) in
+    let s1 = one_more 0 Is t0 t0 t1 [] a (no_items_yet 0 t0) ta in
+    let s2 = one_more 0 Is t0 t1 t2 _ b s1 tb in
+    let s3 = one_more 0 Is t0 t2 t3 _ c s2 tc in
+    let s4 = one_more 0 Is t0 t3 t4 _ d s3 td in
+    record {
+      seen = array (items_of (ta.seen ∷ tb.seen ∷ tc.seen ∷ td.seen ∷ []));
+      is = record { array = refl; indices = refl; first = ta.is; second = tb.is; third = tc.is; fourth = td.is; convex = convex };
       read = λ depth deep. ap (λ ts. converted of_json (value depth ts)) first ∙ whole_array 0 t0 t4 new _ s4 ends depth deep;
     }

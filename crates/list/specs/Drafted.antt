@@ -1,5 +1,5 @@
 -- What the members of an object that were read so far say of a draw, and of a draw list.
-use Rattle.std.specs.Prelude.{ℕ, ◌≤◌, List, [], ◌∷◌, map, length, codes, sum_by, Option, Some, None, Vec}
+use Rattle.std.specs.Prelude.{◌≡◌, ℕ, ◌≤◌, List, [], ◌∷◌, map, length, codes, sum_by, Option, Some, None, Vec}
 use Rattle.std.specs.declared.alloc.Global.{Global}
 use Rattle.serde_json.specs.Data.{Data, object, Members}
 use Rattle.serde_json.specs.Find.{get_member}
@@ -10,10 +10,10 @@ use Rattle.list.specs.declared.draw.Draw.{Draw}
 use Rattle.list.specs.declared.tokens.draw.DrawDraft.{DrawDraft}
 use Rattle.list.specs.declared.tokens.top.ListDraft.{ListDraft}
 use Rattle.list.specs.declared.primitives.Primitives.{Primitives}
-use Rattle.list.specs.declared.primitives.Primitives.TheVariants.{Triangles, Strip}
+use Rattle.list.specs.declared.primitives.Primitives.TheVariants.{Triangles, Strip, Quads}
 use Rattle.list.specs.Primitives.{count_of_triangles}
 use Rattle.list.specs.Listing.{draw_listing}
-use Rattle.list.specs.Denotes.{IsVertex, IsTriangle, IsStripIndex, IsArrayOf, IsState, IsDraw, IsSize, picture_box}
+use Rattle.list.specs.Denotes.{IsVertex, IsTriangle, IsStripIndex, IsQuad, IsArrayOf, IsState, IsDraw, IsSize, picture_box}
 use Rattle.list.specs.Header.{IsBeginning}
 use Rattle.list.specs.Took.{Slot}
 
@@ -39,16 +39,23 @@ abbrev pub IsStrip : Option (Vec Vertex Global) → Data → Vec ℕ Global → 
 IsStrip None d strip = ⊥
 IsStrip (Some vertices) d strip = IsArrayOf 65538 (IsStripIndex (length vertices.items)) (Some d) strip.items
 
+-- quads over the vertices that were read
+abbrev pub AreQuads : Option (Vec Vertex Global) → Data → Vec (List ℕ) Global → Type 0
+AreQuads None d quads = ⊥
+AreQuads (Some vertices) d quads = IsArrayOf 32768 (IsQuad vertices.items) (Some d) quads.items
+
 pub record HasDraw (picture : PixelBox) (found : Members) (draft : DrawDraft) : Type 0 where
   pub state : HasState picture found draft.state
   pub vertices : Slot AreVertices (get_member (codes "vertices") found) draft.vertices
   pub triangles : Slot (AreTriangles draft.vertices) (get_member (codes "triangles") found) draft.triangles
   pub strip : Slot (IsStrip draft.vertices) (get_member (codes "strip") found) draft.strip
+  pub quads : Slot (AreQuads draft.vertices) (get_member (codes "quads") found) draft.quads
 
 -- The primitives are the one list of them that was read.
-abbrev pub IsOnlyList : Option (Vec (List ℕ) Global) → Option (Vec ℕ Global) → Primitives → Type 0
-IsOnlyList triangles strip (Triangles found) = (triangles ≡ Some found) × (strip ≡ None)
-IsOnlyList triangles strip (Strip found) = (strip ≡ Some found) × (triangles ≡ None)
+abbrev pub IsOnlyList : Option (Vec (List ℕ) Global) → Option (Vec ℕ Global) → Option (Vec (List ℕ) Global) → Primitives → Type 0
+IsOnlyList triangles strip quads (Triangles found) = (triangles ≡ Some found) × (strip ≡ None) × (quads ≡ None)
+IsOnlyList triangles strip quads (Strip found) = (strip ≡ Some found) × (triangles ≡ None) × (quads ≡ None)
+IsOnlyList triangles strip quads (Quads found) = (quads ≡ Some found) × (triangles ≡ None) × (strip ≡ None)
 
 -- ---- a draw list
 
@@ -74,5 +81,5 @@ AreDrawsOn (Some picture) d draws = AreDraws picture d draws.items
 pub record HasList (found : Members) (draft : ListDraft) : Type 0 where
   pub width : Slot HasSize (get_member (codes "width") found) draft.width
   pub height : Slot HasSize (get_member (codes "height") found) draft.height
-  pub beginning : IsBeginning (object found) draft.count draft.clear
+  pub beginning : IsBeginning (object found) draft.count draft.clear draft.output
   pub draws : Slot (AreDrawsOn (picture_of draft.width draft.height)) (get_member (codes "draws") found) draft.draws

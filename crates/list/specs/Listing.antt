@@ -8,7 +8,7 @@ use Rattle.shade.specs.declared.state.State.{State}
 use Rattle.list.specs.declared.draw.Draw.{Draw}
 use Rattle.list.specs.declared.output.Output.{Output}
 use Rattle.shade.specs.declared.placed.Placed.{Placed}
-use Rattle.list.specs.Primitives.{PrimitiveListing, triangles_of, count_of_triangles, NameVertices, primitive_listing}
+use Rattle.list.specs.Primitives.{PrimitiveListing, triangles_of, count_of_triangles, AreOver, primitive_listing}
 use Rattle.list.specs.Scene.{Scene}
 
 pub record DrawListing : Type 0 where
@@ -59,7 +59,7 @@ scene_of l = record {
 -- The limits of a draw (this project's).
 pub record IsDrawWithinLimits (d : DrawListing) : Type 0 where
   pub vertices : length d.vertices ≤ 65536
-  pub primitives : NameVertices (length d.vertices) d.primitives
+  pub primitives : AreOver d.vertices d.primitives
 
 -- The limits of the draws of a draw list (this project's). The triangles are those of all draws together, so no draw has more.
 pub record AreWithinLimits (draws : List DrawListing) : Type 0 where

@@ -31,15 +31,15 @@ pub struct Draw {
 }
 
 impl Draw {
-    /// Whether the draw is within the limits of a draw: 65,536 vertices, and primitives of these alone.
+    /// Whether the draw is within the limits of a draw: 65,536 vertices, primitives of these alone, and
+    /// strictly convex quads.
     pub(crate) fn is_within_limits(&self) -> bool
         ensures { IsTrue result ↔ IsDrawWithinLimits (draw_listing self.now) }
     {
-        let vertices = self.vertices.len();
-        if vertices > MOST_VERTICES {
+        if self.vertices.len() > MOST_VERTICES {
             return false;
         }
-        self.primitives.are_of(vertices)
+        self.primitives.are_over(&self.vertices)
     }
 
     /// The triangle of this number, with its vertices and the state.

@@ -12,9 +12,9 @@ use shade::{Placed, Sample};
 use std::alloc::Global;
 use std::marker::Model;
 
-/// Draws in their order, and the picture's size, samples, clear values and output. It is within the limits of a draw list: a picture
-/// of 1 to 4096 pixels a side, at most 1,024 draws, at most 65,536 vertices a draw, at most 65,536 triangles together, and
-/// primitives that name vertices of their draw alone.
+/// Draws in their order, and the picture's size, samples, clear values and output. It is within the limits of a draw list: a
+/// picture of 1 to 4096 pixels a side, at most 1,024 draws, at most 65,536 vertices a draw, at most 65,536 triangles together,
+/// primitives that name vertices of their draw alone, and strictly convex quads.
 #[derive(Debug, Drop)]
 pub struct DrawList {
     width: u32,

@@ -21,6 +21,8 @@ pub enum ReadKind {
     OutOfMemory,
     /// A draw has more than one list of primitives.
     TwoLists,
+    /// A quad is not strictly convex.
+    NotConvex,
 }
 
 impl ReadKind {
@@ -41,6 +43,7 @@ impl ReadKind {
             ReadKind::TooMany => 7,
             ReadKind::OutOfMemory => 8,
             ReadKind::TwoLists => 9,
+            ReadKind::NotConvex => 10,
         }
     }
 
@@ -58,6 +61,7 @@ impl ReadKind {
             ReadKind::TooMany => "TooMany",
             ReadKind::OutOfMemory => "OutOfMemory",
             ReadKind::TwoLists => "TwoLists",
+            ReadKind::NotConvex => "NotConvex",
         }
     }
 }

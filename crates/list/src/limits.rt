@@ -18,6 +18,9 @@ pub(crate) const MOST_TRIANGLES: usize = 65_536;
 /// The most indices of a strip, which has two triangles less.
 pub(crate) const MOST_STRIP_INDICES: usize = 65_538;
 
+/// The most quads, which have two triangles each.
+pub(crate) const MOST_QUADS: usize = 32_768;
+
 /// Whether so many pixels are within the limits of a side of a picture.
 pub(crate) fn is_side(pixels: u32) -> bool
     ensures { IsTrue result ↔ ((1 ≤ pixels) × (pixels ≤ 4096)) }

@@ -17,6 +17,7 @@ mod index;
 mod keys;
 mod number;
 mod primitives;
+mod quads;
 mod state;
 mod strip;
 #[cfg(test)]
@@ -29,7 +30,6 @@ use crate::draw::Draw;
 use crate::draw_list::DrawList;
 use crate::fault::{ReadFault, ReadKind};
 use crate::limits::MOST_TRIANGLES;
-use crate::output::Output;
 use crate::tokens::read_list;
 use draw::read_draw;
 use grid::PixelBox;
@@ -96,7 +96,7 @@ fn read_value(alloc: Global, value: &Value) -> Result<DrawList, ReadFault>
         height,
         header.count,
         header.clear,
-        Output::Color,
+        header.output,
         draws,
     ) {
         Ok(list) => Ok(list),
@@ -135,9 +135,9 @@ pub(crate) fn read_by_value(alloc: Global, bytes: &[u8]) -> Result<DrawList, Rea
 /// Reads a draw list from JSON (RFC 8259, as `serde_json` reads it; the keys, ranges and defaults are this project's format).
 ///
 /// What is told is the first check that fails, in this order. Whether the bytes are JSON. The top object: its kind, a key that
-/// it should not have, a key that it lacks, then `width`, `height`, `samples`, `clear`, `clear_depth` and `draws`. Each draw in
+/// it should not have, a key that it lacks, then `width`, `height`, `samples`, `clear`, `clear_depth`, `output` and `draws`. Each draw in
 /// turn: its kind, a key that it should not have, a key that it lacks, a second list of primitives, then `cull`, `depth_test`, `depth_write`, `blend`,
-/// `write`, `sample_mask`, `scissor`, `vertices`, and `triangles` or `strip`. The kind of a value comes before its range, the number of
+/// `write`, `sample_mask`, `scissor`, `vertices`, and `triangles`, `strip` or `quads`. The kind of a value comes before its range, the number of
 /// elements before the elements. A fault of a draw tells the draw's number.
 ///
 /// `OutOfMemory` is told where a growth of memory was refused, in place of whatever would have come later: with the number of

@@ -309,3 +309,62 @@ fn keeps_what_the_picture_shows(rt: HostRuntime) -> Result<(), Fail> {
     }
     Ok(())
 }
+
+/// A draw of the corners of a square, in order, and its middle, with one quad.
+fn quad_draw(rt: &impl Abort, alloc: Global, quad: [u32; 4]) -> Result<Draw, AllocError> {
+    let mut vertices = vertices(rt, alloc, [(0, 0), (512, 0), (512, 512)])?;
+    for (x, y) in [(0, 512), (256, 256)] {
+        vertices.push(Vertex {
+            at: Point::new(x, y).expect(rt, "inside of the guard band"),
+            z: 0,
+            rgba: [0, 0, 0, 255],
+        })?;
+    }
+    Ok(Draw {
+        state: STATE,
+        vertices,
+        primitives: Primitives::Quads(vec![in alloc; quad]?),
+    })
+}
+
+#[test]
+fn cuts_a_quad_into_two_triangles(rt: HostRuntime) -> Result<(), Fail> {
+    let alloc = rt.alloc();
+    let draws = vec![in alloc;
+        quad_draw(&rt, alloc, [0, 1, 2, 3])?,
+        quad_draw(&rt, alloc, [3, 2, 1, 0])?,
+    ]?;
+    let list = list(&rt, alloc, draws);
+    assert_eq!(rt; list.triangles(), 4);
+    let corners_of = |number: usize| {
+        let tri = list.triangle(number).tri;
+        (
+            (tri.a.x(), tri.a.y()),
+            (tri.b.x(), tri.b.y()),
+            (tri.c.x(), tri.c.y()),
+        )
+    };
+    assert_eq!(rt; corners_of(0), ((0, 0), (512, 0), (512, 512)));
+    assert_eq!(rt; corners_of(1), ((512, 512), (0, 512), (0, 0)));
+    assert_eq!(rt; corners_of(2), ((0, 512), (512, 512), (512, 0)));
+    assert_eq!(rt; corners_of(3), ((512, 0), (0, 0), (0, 512)));
+    Ok(())
+}
+
+#[test]
+fn refuses_a_quad_that_is_not_convex(rt: HostRuntime) -> Result<(), Fail> {
+    let alloc = rt.alloc();
+    let past = Some(ListFault::PastLimit);
+    for (quad, expected) in [
+        ([0, 1, 2, 3], None),
+        ([1, 0, 3, 2], None),
+        ([0, 2, 1, 3], past),
+        ([0, 1, 2, 4], past),
+        ([0, 1, 2, 2], past),
+        ([0, 1, 2, 5], past),
+    ] {
+        let draws = vec![in alloc; quad_draw(&rt, alloc, quad)?]?;
+        assert_eq!(rt; fault(alloc, 1, 1, draws), expected);
+    }
+    Ok(())
+}

@@ -11,6 +11,7 @@ mod array;
 mod draw;
 mod draws;
 mod number;
+mod quads;
 mod state;
 mod strip;
 #[cfg(test)]
@@ -21,7 +22,6 @@ mod vertices;
 mod word;
 
 use crate::draw_list::DrawList;
-use crate::output::Output;
 use crate::reader::MOST_BYTES;
 use json::{Reader, Scratch};
 use std::alloc::Global;
@@ -59,7 +59,7 @@ pub(crate) fn read_list(alloc: Global, bytes: &[u8]) -> Option<DrawList>
         height,
         draft.count,
         draft.clear,
-        Output::Color,
+        draft.output,
         draft.draws?,
     )
     .ok()

@@ -1,9 +1,9 @@
-ghost use Rattle.std.specs.Prelude.{◌≡◌, ◌≤◌, ◌+◌, vec_len, Some, IfOk};
+ghost use Rattle.std.specs.Prelude.{◌≡◌, ◌≤◌, ◌+◌, Some, IfOk};
 ghost use Rattle.serde_json.specs.View.{view};
 ghost use Rattle.list.specs.Place.{Reads};
 ghost use Rattle.list.specs.Primitives.{primitive_listing, count_of_triangles};
 ghost use Rattle.list.specs.Listing.{draw_listing};
-ghost use Rattle.list.specs.Given.{given_triangles, given_strip};
+ghost use Rattle.list.specs.Given.{given_triangles, given_strip, given_quads};
 ghost use Rattle.list.specs.Checks.{part_checks, draw_checks};
 ghost use Rattle.list.specs.Denotes.{IsVertex, IsPrimitives, IsArrayOf, IsDraw};
 
@@ -20,7 +20,7 @@ use serde_json::Value;
 use std::alloc::Global;
 
 /// The vertices and the primitives of a draw, before which the draws have `earlier` triangles.
-#[tactic(auto, using(crate::proofs::Faults::first_fault_of_both, crate::proofs::Counts::items_len_each))]
+#[tactic(auto, using(crate::proofs::Faults::first_fault_of_both))]
 fn parts(
     alloc: Global,
     vertex_array: &Value,
@@ -29,14 +29,15 @@ fn parts(
 ) -> Result<(Vec<Vertex>, Primitives), ReadKind>
     requires { earlier ≤ MOST_TRIANGLES }
     ensures told { let vertices = Some (view vertex_array.now) in
-        let triangles = given_triangles given.entry in let strip = given_strip given.entry in
-        Reads (part_checks earlier vertices triangles strip)
+        let triangles = given_triangles given.entry in
+        let strip = given_strip given.entry in let quads = given_quads given.entry in
+        Reads (part_checks earlier vertices triangles strip quads)
         (λ found. IsArrayOf MOST_VERTICES IsVertex vertices found.0.items
-        × IsPrimitives (vec_len found.0) triangles strip (primitive_listing found.1)) result }
+        × IsPrimitives found.0.items triangles strip quads (primitive_listing found.1)) result }
     ensures room { IfOk result (λ found. earlier + count_of_triangles (primitive_listing found.1) ≤ MOST_TRIANGLES) }
 {
     let vertices = read_vertices(alloc, vertex_array)?;
-    let primitives = read_primitives(alloc, given, earlier, vertices.len())?;
+    let primitives = read_primitives(alloc, given, earlier, &vertices)?;
     Ok((vertices, primitives))
 }
 
@@ -69,6 +70,7 @@ pub(crate) fn read_draw(
             "vertices",
             "triangles",
             "strip",
+            "quads",
         ],
     ) {
         return Err(ReadKind::UnknownKey);

@@ -9,6 +9,7 @@ ghost use Rattle.list.specs.Drafted.{HasDraw, IsOnlyList};
 use crate::draw::{Draw, Vertex};
 use crate::primitives::Primitives;
 use crate::tokens::array::{take_begin_object, take_key};
+use crate::tokens::quads::take_quads;
 use crate::tokens::state::take_state_value;
 use crate::tokens::strip::take_strip;
 use crate::tokens::triangles::take_triangles;
@@ -26,6 +27,7 @@ pub(super) struct DrawDraft {
     pub vertices: Option<Vec<Vertex>>,
     pub triangles: Option<Vec<[u32; 3]>>,
     pub strip: Option<Vec<u32>>,
+    pub quads: Option<Vec<[u32; 4]>>,
 }
 
 impl DrawDraft {
@@ -56,14 +58,15 @@ impl DrawDraft {
             vertices: None,
             triangles: None,
             strip: None,
+            quads: None,
         }
     }
 
     /// Whether a list of primitives was taken.
     fn has_primitives(&self) -> bool
-        ensures { result ≡ (is_some self.now.triangles || is_some self.now.strip) }
+        ensures { result ≡ (is_some self.now.triangles || (is_some self.now.strip || is_some self.now.quads)) }
     {
-        self.triangles.is_some() || self.strip.is_some()
+        self.triangles.is_some() || self.strip.is_some() || self.quads.is_some()
     }
 
     /// Takes the value of a key. The primitives are taken after the vertices, of which they name some.
@@ -90,6 +93,12 @@ impl DrawDraft {
                 };
                 self.strip = Some(take_strip(alloc, reader, vertices.len())?);
             }
+            "quads" => {
+                let Some(vertices) = &self.vertices else {
+                    return None;
+                };
+                self.quads = Some(take_quads(alloc, reader, vertices.as_slice())?);
+            }
             _ => take_state_value(reader, key, &mut self.state)?,
         }
         Some(())
@@ -112,12 +121,14 @@ fn take_members(alloc: Global, reader: &mut Reader<'_>, picture: PixelBox) -> Op
 fn only_list(
     triangles: Option<Vec<[u32; 3]>>,
     strip: Option<Vec<u32>>,
+    quads: Option<Vec<[u32; 4]>>,
 ) -> Option<Primitives>
-    ensures { IfSome result (IsOnlyList triangles strip) }
+    ensures { IfSome result (IsOnlyList triangles strip quads) }
 {
-    match (triangles, strip) {
-        (Some(triangles), None) => Some(Primitives::Triangles(triangles)),
-        (None, Some(strip)) => Some(Primitives::Strip(strip)),
+    match (triangles, strip, quads) {
+        (Some(triangles), None, None) => Some(Primitives::Triangles(triangles)),
+        (None, Some(strip), None) => Some(Primitives::Strip(strip)),
+        (None, None, Some(quads)) => Some(Primitives::Quads(quads)),
         _ => None,
     }
 }
@@ -131,7 +142,7 @@ pub(super) fn take_draw(alloc: Global, reader: &mut Reader<'_>, picture: PixelBo
     }
     let draft = take_members(alloc, reader, picture)?;
     let vertices = draft.vertices?;
-    let primitives = only_list(draft.triangles, draft.strip)?;
+    let primitives = only_list(draft.triangles, draft.strip, draft.quads)?;
     Some(Draw {
         state: draft.state,
         vertices,

@@ -29,11 +29,7 @@ fn take_elements(alloc: Global, reader: &mut Reader<'_>, count: usize) -> Option
 }
 
 /// Takes the strip of a draw of `count` vertices.
-pub(super) fn take_strip(
-    alloc: Global,
-    reader: &mut Reader<'_>,
-    count: usize,
-) -> Option<Vec<u32>>
+pub(super) fn take_strip(alloc: Global, reader: &mut Reader<'_>, count: usize) -> Option<Vec<u32>>
     ensures { IfSome result (λ found. Took 1 (λ d xs. IsArrayOf 65538 (IsStripIndex count) (Some d) xs)
         reader.old found.items reader.new) }
 {

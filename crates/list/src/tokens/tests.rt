@@ -20,7 +20,10 @@ fn are_same(rt: &impl Abort, one: &DrawList, other: &DrawList) -> bool {
     if one.width() != other.width() || one.height() != other.height() {
         return false;
     }
-    if one.count() != other.count() || one.clear() != other.clear() {
+    if one.count() != other.count() || one.output() != other.output() {
+        return false;
+    }
+    if one.clear() != other.clear() {
         return false;
     }
     if one.triangles() != other.triangles() {
@@ -65,7 +68,12 @@ fn list_of(rt: &(impl Abort + AllocGlobal), top: &str, draw: &str) -> String {
     ).expect(rt, "memory")
 }
 
-const TOP_MEMBERS: [&str; 3] = [r#""samples":4"#, r#""clear":[1,2,3]"#, r#""clear_depth":4"#];
+const TOP_MEMBERS: [&str; 4] = [
+    r#""samples":4"#,
+    r#""clear":[1,2,3]"#,
+    r#""clear_depth":4"#,
+    r#""output":"depth""#,
+];
 
 const DRAW_MEMBERS: [&str; 7] = [
     r#""cull":"back""#,
@@ -97,15 +105,15 @@ fn reads_all_keys_in_both_orders(rt: HostRuntime) {
     let backwards =
         r#""scissor":[1,2,3,4],"sample_mask":9,"write":[true,false,false],"blend":"over","depth_write":true,"depth_test":"less","cull":"front""#;
     let forwards = format!(in rt.alloc();
-        r#"{{"width":3,"height":2,"samples":4,"clear":[9,8,7],"clear_depth":6,"draws":[{{{state},{VERTICES},{TRIANGLES}}}]}}"#
+        r#"{{"width":3,"height":2,"samples":4,"clear":[9,8,7],"clear_depth":6,"output":"depth","draws":[{{{state},{VERTICES},{TRIANGLES}}}]}}"#
     ).expect(&rt, "memory");
     assert_both(&rt, forwards.as_str());
     let served = format!(in rt.alloc();
-        r#"{{"height":2,"width":3,"draws":[{{{VERTICES},{TRIANGLES},{backwards}}}],"clear_depth":6,"clear":[9,8,7],"samples":4}}"#
+        r#"{{"height":2,"width":3,"draws":[{{{VERTICES},{TRIANGLES},{backwards}}}],"output":"depth","clear_depth":6,"clear":[9,8,7],"samples":4}}"#
     ).expect(&rt, "memory");
     assert_both(&rt, served.as_str());
     let text = format!(in rt.alloc();
-        r#"{{"draws":[{{{TRIANGLES},{VERTICES},{backwards}}}],"clear_depth":6,"clear":[9,8,7],"samples":4,"height":2,"width":3}}"#
+        r#"{{"draws":[{{{TRIANGLES},{VERTICES},{backwards}}}],"output":"depth","clear_depth":6,"clear":[9,8,7],"samples":4,"height":2,"width":3}}"#
     ).expect(&rt, "memory");
     assert_left_to_the_value(&rt, text.as_str());
 }
@@ -118,6 +126,8 @@ fn keeps_the_last_of_a_repeated_key(rt: HostRuntime) {
         (r#","samples":1,"samples":4"#, ""),
         (r#","clear":[1,2,3],"clear_depth":5,"clear":[4,5,6]"#, ""),
         (r#","clear_depth":1,"clear":[1,2,3],"clear_depth":2"#, ""),
+        (r#","output":"depth","output":"color""#, ""),
+        (r#","output":"color","output":"depth""#, ""),
         (r#","draws":[{"vertices":[],"triangles":[]}]"#, ""),
         ("", r#""cull":"front","cull":"back","#),
         ("", r#""depth_test":"less","depth_test":"never","#),
@@ -148,6 +158,62 @@ fn keeps_the_last_of_a_repeated_key(rt: HostRuntime) {
     }
 }
 
+/// A square of four vertices.
+const SQUARE: &str =
+    r#""vertices":[[0,0,1,2,3,4,5],[2560,0,6,7,8,9,10],[2560,2560,11,12,13,14,15],[0,2560,16,17,18,19,20]]"#;
+
+/// A list of one draw over the square with these members behind the vertices.
+fn square(rt: &(impl Abort + AllocGlobal), members: &str) -> String {
+    format!(in rt.alloc(); r#"{{"width":30,"height":20,"draws":[{{{SQUARE},{members}}}]}}"#).expect(
+        rt, "memory",
+    )
+}
+
+#[test]
+fn reads_strips_and_quads(rt: HostRuntime) {
+    for members in [
+        r#""strip":[]"#,
+        r#""strip":[0]"#,
+        r#""strip":[3,2]"#,
+        r#""strip":[0,1,2]"#,
+        r#""strip":[0,1,3,2,0,1]"#,
+        r#""str\u0069p":[0,1,3,2]"#,
+        r#""strip":[0,1,2],"strip":[3,2,1,0]"#,
+        r#""quads":[]"#,
+        r#""quads":[[0,1,2,3],[3,2,1,0]]"#,
+        r#""\u0071uads":[[1,2,3,0]]"#,
+        r#""quads":[[0,1,2,3]],"cull":"back","quads":[[3,2,1,0],[1,2,3,0]]"#,
+    ] {
+        assert_both(&rt, square(&rt, members).as_str());
+    }
+    for members in [
+        r#""strip":[0,1,4]"#,
+        r#""strip":[[0,1,2]]"#,
+        r#""quads":[[0,1,3,2]]"#,
+        r#""quads":[[0,1,2]]"#,
+        r#""quads":[[0,1,2,4]]"#,
+        r#""quads":[[0,0,1,2]]"#,
+        r#""strip":[],"quads":[]"#,
+        r#""triangles":[],"strip":[]"#,
+        r#""triangles":[],"quads":[]"#,
+        r#""cull":"none""#,
+    ] {
+        let text = square(&rt, members);
+        assert!(rt; by_tokens(&rt, text.as_str()).is_none(), "{members}");
+        assert!(rt; by_value(&rt, text.as_str()).is_none(), "{members}");
+    }
+    for key in ["strip", "quads"] {
+        let text = format!(in rt.alloc();
+            r#"{{"width":30,"height":20,"draws":[{{"{key}":[],{SQUARE}}}]}}"#
+        ).expect(&rt, "memory");
+        assert_left_to_the_value(&rt, text.as_str());
+        let text = format!(in rt.alloc();
+            r#"{{"width":30,"height":20,"draws":[{{"vertices":[],"{key}":[],{SQUARE}}}]}}"#
+        ).expect(&rt, "memory");
+        assert_left_to_the_value(&rt, text.as_str());
+    }
+}
+
 /// A key once before and once after what depends on it.
 #[test]
 fn leaves_an_order_that_it_does_not_serve(rt: HostRuntime) {
@@ -169,7 +235,7 @@ fn leaves_an_order_that_it_does_not_serve(rt: HostRuntime) {
 #[test]
 fn reads_escaped_keys_and_words(rt: HostRuntime) {
     for text in [
-        r#"{"\u0077idth":3,"heigh\u0074":2,"s\u0061mples":4,"cl\u0065ar":[1,2,3],"clear\u005fdepth":4,"\u0064raws":[]}"#,
+        r#"{"\u0077idth":3,"heigh\u0074":2,"s\u0061mples":4,"cl\u0065ar":[1,2,3],"clear\u005fdepth":4,"o\u0075tput":"dep\u0074h","\u0064raws":[]}"#,
         r#"{"width":3,"height":2,"draws":[{"c\u0075ll":"b\u0061ck","depth\u005ftest":"less\u005Fequal","depth\u005fwrite":true,
             "\u0062lend":"\u006fver","writ\u0065":[false,true,false],"sample\u005fmask":5,"s\u0063issor":[1,1,2,2],
             "v\u0065rtices":[[0,0,0,0,0,0,0]],"tri\u0061ngles":[[0,0,0]]}]}"#,
@@ -284,7 +350,7 @@ fn any_draw(rt: &(impl Abort + AllocGlobal), seed: &mut u64) -> String {
     }
     let (x, y, z, red) = (
         next(seed) % 8_000_000,
-        next(seed) % 8_000_000,
+        1 + next(seed) % 8_000_000,
         next(seed) % 65_536,
         next(seed) % 256,
     );
@@ -303,28 +369,17 @@ fn any_draw(rt: &(impl Abort + AllocGlobal), seed: &mut u64) -> String {
     text
 }
 
-/// Where one pass gives a list, the value denotes the same.
 #[test]
 fn agrees_with_the_value_on_generated_lists(rt: HostRuntime) {
     let mut seed = 2026;
-    let mut read = 0;
     for _ in 0..60 {
-        let width = next(&mut seed) % 4_100;
+        let width = 1 + next(&mut seed) % 4096;
         let first = any_draw(&rt, &mut seed);
         let second = any_draw(&rt, &mut seed);
-        let top = TOP_MEMBERS[next(&mut seed) as usize % 3];
+        let top = TOP_MEMBERS[next(&mut seed) as usize % 4];
         let text = format!(in rt.alloc();
             r#"{{"width":{width},{top},"height":9,"draws":[{first},{second}]}}"#
         ).expect(&rt, "memory");
-        match (by_tokens(&rt, text.as_str()), by_value(&rt, text.as_str())) {
-            (Some(tokens), Some(value)) => {
-                read += 1;
-                assert!(rt; are_same(&rt, &tokens, &value), "{text}");
-            }
-            (tokens, value) => {
-                assert!(rt; tokens.is_none() && value.is_none(), "{text}");
-            }
-        }
+        assert_both(&rt, text.as_str());
     }
-    assert!(rt; read >= 5);
 }

@@ -5,9 +5,11 @@ ghost use Rattle.list.specs.Took.{Took, IsObjectOf};
 ghost use Rattle.list.specs.Drafted.{HasList};
 
 use crate::draw::Draw;
+use crate::output::Output;
 use crate::tokens::array::{take_begin_object, take_colour, take_key};
 use crate::tokens::draws::take_draws;
 use crate::tokens::number::{take_depth, take_sample_count, take_size};
+use crate::tokens::word::take_output;
 use grid::{PixelBox, SampleCount};
 use json::Reader;
 use shade::Sample;
@@ -24,6 +26,8 @@ pub(super) struct ListDraft {
     pub count: SampleCount,
     /// What each sample begins with, by default where no member says it.
     pub clear: Sample,
+    /// What the picture shows, by default where no member says it.
+    pub output: Output,
     pub draws: Option<Vec<Draw>>,
 }
 
@@ -49,6 +53,7 @@ impl ListDraft {
             height: None,
             count: SampleCount::One,
             clear,
+            output: Output::Color,
             draws: None,
         }
     }
@@ -84,6 +89,7 @@ impl ListDraft {
                 };
             }
             "clear_depth" => self.clear.z = take_depth(reader)?,
+            "output" => self.output = take_output(reader)?,
             "draws" => {
                 let picture = self.picture()?;
                 self.draws = Some(take_draws(alloc, reader, picture)?);

@@ -1,8 +1,9 @@
 ghost use Rattle.std.specs.Prelude.{◌≡◌, IfSome, Some};
 ghost use Rattle.list.specs.Json.{text as text_of};
-ghost use Rattle.list.specs.Denotes.{IsCull, IsDepthTest, IsBlend, IsTruth};
+ghost use Rattle.list.specs.Denotes.{IsCull, IsDepthTest, IsBlend, IsTruth, IsOutput};
 ghost use Rattle.list.specs.Took.{Took};
 
+use crate::output::Output;
 use grid::Cull;
 use json::{Reader, Token};
 use shade::DepthTest;
@@ -63,6 +64,17 @@ pub(super) fn take_blend(reader: &mut Reader<'_>) -> Option<bool>
     match take_text(reader)? {
         "none" => Some(false),
         "over" => Some(true),
+        _ => None,
+    }
+}
+
+/// Takes what a picture shows.
+pub(super) fn take_output(reader: &mut Reader<'_>) -> Option<Output>
+    ensures { IfSome result (λ o. Took 0 (λ d o. IsOutput (Some d) o) reader.old o reader.new) }
+{
+    match take_text(reader)? {
+        "color" => Some(Output::Color),
+        "depth" => Some(Output::Depth),
         _ => None,
     }
 }

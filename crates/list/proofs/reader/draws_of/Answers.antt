@@ -35,7 +35,7 @@ loop-number-preserved c =
     ap (map draw_listing) c.push_reserved.ensures.items ∙ map-append draw_listing c.loop-number.found.items (c.in-Ok-read_draw.next ∷ []) in
     let read = one_more (IsDraw c.args.picture) vs i c.index-list-number.result _ next within c.index-list-number.is told.1 c.loop-number.invariant.read in
     let passed = draw_passes vs i c.loop-number.earlier c.index-list-number.result within c.index-list-number.is c.loop-number.invariant.passed told.0 in
-    let counted = given_is _ _ _ next.primitives told.1.primitives in
+    let counted = given_is _ _ _ _ next.primitives told.1.primitives in
     let triangles : c.triangles-earlier.result ≡ triangles_counted (view c.index-list-number.result) = omega (arith, counted) in
     let total = ap (sum_by (λ (d : DrawListing). count_of_triangles d.primitives)) listed ∙ sum_by-append (λ (d : DrawListing). count_of_triangles d.primitives) (map draw_listing c.loop-number.found.items) (next ∷ []) in
     record {

@@ -27,7 +27,7 @@ draws-preserved c =
     let same : c.take_end_array.new.self ≡ c.draws.reader = grind arith in
     let took : Took 3 Is c.draws.reader c.in_ok-draw.draw c.take_draw.new.reader = rw same at c.in_ok-draw.ensures in
     let pushed : c.push.new.self.items ≡ c.draws.found.items ++ c.in_ok-draw.draw ∷ [] = search rules in
-    let more : c.triangles.result ≡ count_of_triangles (draw_listing c.in_ok-draw.draw).primitives = search rules in
+    let more : c.triangles-triangles.result ≡ count_of_triangles (draw_listing c.in_ok-draw.draw).primitives = search rules in
     let listed = ap (map draw_listing) pushed ∙ map-append draw_listing c.draws.found.items (c.in_ok-draw.draw ∷ []) in
     let total = ap (sum_by (λ (x : DrawListing). count_of_triangles x.primitives)) listed ∙ sum_by-append (λ (x : DrawListing). count_of_triangles x.primitives) (map draw_listing c.draws.found.items) (draw_listing c.in_ok-draw.draw ∷ []) in
     record {

@@ -1,12 +1,12 @@
-use Rattle.std.proofs.Common.{◌≡◌, codes, length, Option, Some, None, is_some, false, true≢false, refl, arith}
+use Rattle.std.proofs.Common.{◌||◌, rules, ◌≡◌, codes, length, Some, is_some, false, arith}
 use Rattle.list.specs.Took.{Took}
-use Rattle.list.proofs.Drafts.{draft_vertices, draft_triangles, draft_state, draft_strip, TriangleArray, StripArray}
+use Rattle.list.proofs.Drafts.{draft_vertices, draft_triangles, draft_state, draft_strip, draft_quads, TriangleArray, StripArray, QuadArray}
 use Rattle.list.proofs.tokens.draw.DrawDraft.take_value.Goals as goal
 
 pub returns-in_ok-take_vertices-in-vertices : goal.returns-in_ok-take_vertices-in-vertices
 returns-in_ok-take_vertices-in-vertices c picture =
     let key : c.args.key.now ≡ codes "vertices" = grind arith in
-    let none : (is_some c.args.self.now.triangles || is_some c.args.self.now.strip) ≡ false = grind arith in
+    let none : (is_some c.args.self.now.triangles || (is_some c.args.self.now.strip || is_some c.args.self.now.quads)) ≡ false = grind arith in
     rw key (draft_vertices picture c.args.reader.now c.take_vertices.new.reader c.args.self.now c.in_ok-take_vertices-in-vertices.field-0 none c.in_ok-take_vertices-in-vertices.ensures)
 
 pub returns-in_ok-take_triangles-in-triangles : goal.returns-in_ok-take_triangles-in-triangles
@@ -20,10 +20,18 @@ returns-in_ok-take_triangles-in-triangles c picture =
 pub returns-in_ok-take_strip-in-strip : goal.returns-in_ok-take_strip-in-strip
 returns-in_ok-take_strip-in-strip c picture =
     let key : c.args.key.now ≡ codes "strip" = grind arith in
-    let there : c.args.self.now.vertices ≡ Some c.in-Some-2.vertices = c.in-Some-2.is in
-    let counted : c.len-2.result ≡ length c.in-Some-2.vertices.items = omega arith in
-    let took : Took 1 (StripArray (length c.in-Some-2.vertices.items)) c.args.reader.now c.in_ok-take_strip-in-strip.field-0.items c.take_strip.new.reader = rw counted at c.in_ok-take_strip-in-strip.ensures in
-    rw key (draft_strip picture c.args.reader.now c.take_strip.new.reader c.args.self.now c.in-Some-2.vertices c.in_ok-take_strip-in-strip.field-0 there took)
+    let there : c.args.self.now.vertices ≡ Some c.in-Some-vertices.vertices = c.in-Some-vertices.is in
+    let counted : c.len-in-strip.result ≡ length c.in-Some-vertices.vertices.items = omega arith in
+    let took : Took 1 (StripArray (length c.in-Some-vertices.vertices.items)) c.args.reader.now c.in_ok-take_strip-in-strip.field-0.items c.take_strip.new.reader = rw counted at c.in_ok-take_strip-in-strip.ensures in
+    rw key (draft_strip picture c.args.reader.now c.take_strip.new.reader c.args.self.now c.in-Some-vertices.vertices c.in_ok-take_strip-in-strip.field-0 there took)
+
+pub returns-in_ok-take_quads-in-quads : goal.returns-in_ok-take_quads-in-quads
+returns-in_ok-take_quads-in-quads c picture =
+    let key : c.args.key.now ≡ codes "quads" = grind arith in
+    let there : c.args.self.now.vertices ≡ Some c.in-Some-vertices-2.vertices = c.in-Some-vertices-2.is in
+    let slice : c.as_slice.result.now ≡ c.in-Some-vertices-2.vertices.items = search rules in
+    let took : Took 2 (QuadArray c.in-Some-vertices-2.vertices.items) c.args.reader.now c.in_ok-take_quads-in-quads.field-0.items c.take_quads.new.reader = rw slice at c.in_ok-take_quads-in-quads.ensures in
+    rw key (draft_quads picture c.args.reader.now c.take_quads.new.reader c.args.self.now c.in-Some-vertices-2.vertices c.in_ok-take_quads-in-quads.field-0 there took)
 
 pub returns-in_ok-take_state_value-in_default : goal.returns-in_ok-take_state_value-in_default
 returns-in_ok-take_state_value-in_default c picture =

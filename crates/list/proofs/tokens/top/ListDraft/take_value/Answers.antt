@@ -1,5 +1,5 @@
 use Rattle.std.proofs.Common.{◌≡◌, codes, Option, Some, None, is_none, true, true≢false, refl, sym, arith}
-use Rattle.list.proofs.Listings.{list_width, list_height, list_samples, list_clear, list_depth, list_draws}
+use Rattle.list.proofs.Listings.{list_width, list_height, list_samples, list_clear, list_depth, list_output, list_draws}
 use Rattle.list.specs.Drafted.{picture_of}
 use Rattle.list.proofs.tokens.top.ListDraft.take_value.Goals as goal
 
@@ -39,3 +39,8 @@ returns-in_ok-take_draws-in-draws c =
     let key : c.args.key.now ≡ codes "draws" = grind arith in
     let sides : picture_of c.args.self.now.width c.args.self.now.height ≡ Some c.in_ok-picture-in-draws.picture = grind arith in
     rw key (list_draws c.args.reader.now c.take_draws.new.reader c.args.self.now c.in_ok-picture-in-draws.picture c.in_ok-take_draws-in-draws.field-0 sides c.in_ok-take_draws-in-draws.ensures)
+
+pub returns-in_ok-self-in-output : goal.returns-in_ok-self-in-output
+returns-in_ok-self-in-output c =
+    let key : c.args.key.now ≡ codes "output" = grind arith in
+    rw key (list_output c.args.reader.now c.take_output.new.reader c.args.self.now c.in_ok-self-in-output.field-0 c.in_ok-self-in-output.ensures)
