@@ -13,6 +13,8 @@ mod lines;
 #[cfg(test)]
 mod pictures;
 #[cfg(test)]
+mod primitives;
+#[cfg(test)]
 mod support;
 #[cfg(test)]
 mod workers;

@@ -14,7 +14,7 @@ pub data PrimitiveListing : Type 0 where
   quad_list : List (List ℕ) → PrimitiveListing
 
 -- Triangle m of a strip has the indices at m, m + 1, m + 2 where m is even, and those at m, m + 2, m + 1 where m is odd, so
--- that all triangles run the same way round (Vulkan 1.3, triangle strips).
+-- that a strip keeps its orientation (Vulkan 1.3, triangle strips).
 abbrev pub strip_triangle : List ℕ → ℕ → List ℕ
 strip_triangle indices m = slice_index indices m ∷ slice_index indices (m + 1 + m % 2) ∷ slice_index indices (m + 2 - m % 2) ∷ []
 

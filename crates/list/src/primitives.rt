@@ -11,8 +11,8 @@ use grid::{Point, Quad};
 pub enum Primitives {
     /// A triangle list: triangles in draw order.
     Triangles(Vec<[u32; 3]>),
-    /// A triangle strip: each three indices in a row are a triangle. Every other triangle takes its last two in turn, so that
-    /// all run the same way round (Vulkan 1.3, triangle strips). There is none with fewer than three indices.
+    /// A triangle strip: each three indices in a row are a triangle, of which every other one swaps its last two, so that the
+    /// strip keeps its orientation (Vulkan 1.3, triangle strips). Fewer than three indices are no triangle.
     Strip(Vec<u32>),
     /// Strictly convex quads in draw order, each by its corners in order, in either orientation. The quad abcd is the triangles
     /// abc and cda.

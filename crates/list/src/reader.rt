@@ -135,10 +135,11 @@ pub(crate) fn read_by_value(alloc: Global, bytes: &[u8]) -> Result<DrawList, Rea
 /// Reads a draw list from JSON (RFC 8259, as `serde_json` reads it; the keys, ranges and defaults are this project's format).
 ///
 /// What is told is the first check that fails, in this order. Whether the bytes are JSON. The top object: its kind, a key that
-/// it should not have, a key that it lacks, then `width`, `height`, `samples`, `clear`, `clear_depth`, `output` and `draws`. Each draw in
-/// turn: its kind, a key that it should not have, a key that it lacks, a second list of primitives, then `cull`, `depth_test`, `depth_write`, `blend`,
-/// `write`, `sample_mask`, `scissor`, `vertices`, and `triangles`, `strip` or `quads`. The kind of a value comes before its range, the number of
-/// elements before the elements. A fault of a draw tells the draw's number.
+/// it should not have, a key that it lacks, then `width`, `height`, `samples`, `clear`, `clear_depth`, `output` and `draws`.
+/// Each draw in turn: its kind, a key that it should not have, a key that it lacks, a second list of primitives, then `cull`,
+/// `depth_test`, `depth_write`, `blend`, `write`, `sample_mask`, `scissor`, `vertices`, and `triangles`, `strip` or `quads`. The
+/// kind of a value comes before its range, the number of elements before the elements, the indices of a quad before its shape.
+/// A fault of a draw tells the draw's number.
 ///
 /// `OutOfMemory` is told where a growth of memory was refused, in place of whatever would have come later: with the number of
 /// the draw that was being read, and without one before the first draw and after the last. Nothing of the bytes is kept.

@@ -789,83 +789,31 @@ fn counts_triangles(rt: HostRuntime) {
     }
 }
 
-#[test]
-fn counts_two_triangles_for_each_quad(rt: HostRuntime) {
-    for (first, second, told) in [
-        (("quads", "[0,1,2,3]", 32_768), ("quads", "7", 0), None),
-        (
-            ("quads", "[0,1,2,3]", 32_769),
-            ("quads", "7", 0),
-            in_draw(TooMany, 0),
-        ),
-        (
-            ("quads", "7", 32_769),
-            ("quads", "7", 0),
-            in_draw(TooMany, 0),
-        ),
-        (("quads", "[0,1,2,3]", 32_768), ("strip", "0", 2), None),
-        (
-            ("quads", "[0,1,2,3]", 32_768),
-            ("strip", "0", 3),
-            in_draw(TooMany, 1),
-        ),
-        (
-            ("quads", "[0,1,2,3]", 32_768),
-            ("quads", "7", 1),
-            in_draw(TooMany, 1),
-        ),
-        (
-            ("quads", "[0,1,2,3]", 32_767),
-            ("triangles", "[0,0,0]", 2),
-            None,
-        ),
-        (
-            ("quads", "[0,1,2,3]", 32_767),
-            ("triangles", "[0,0,0]", 3),
-            in_draw(TooMany, 1),
-        ),
-        (
-            ("triangles", "[0,0,0]", 65_535),
-            ("quads", "7", 1),
-            in_draw(TooMany, 1),
-        ),
-        (
-            ("triangles", "[0,0,0]", 65_534),
-            ("quads", "[0,1,2,3]", 1),
-            None,
-        ),
-    ] {
-        let ones = repeated(&rt, first.1, first.2);
-        let others = repeated(&rt, second.1, second.2);
-        let (one, other) = (first.0, second.0);
-        let vertices =
-            r#""vertices":[[0,0,0,0,0,0,0],[9,0,0,0,0,0,0],[9,9,0,0,0,0,0],[0,9,0,0,0,0,0]]"#;
-        let text = format!(in rt.alloc();
-            r#"{{"width":1,"height":1,"draws":[{{{vertices},"{one}":[{ones}]}},{{{vertices},"{other}":[{others}]}}]}}"#
-        ).expect(&rt, "memory");
-        assert_eq!(rt; fault(&rt, text.as_str()), told);
-    }
+/// The fault of a list of two draws over the corners of a square, each with so many elements in one of the lists of primitives.
+fn sum_fault(
+    rt: &(impl Abort + AllocGlobal),
+    first: (&str, &str, u32),
+    second: (&str, &str, u32),
+) -> Option<ReadFault> {
+    let ones = repeated(rt, first.1, first.2);
+    let others = repeated(rt, second.1, second.2);
+    let (one, other) = (first.0, second.0);
+    let vertices =
+        r#""vertices":[[0,0,0,0,0,0,0],[9,0,0,0,0,0,0],[9,9,0,0,0,0,0],[0,9,0,0,0,0,0]]"#;
+    let text = format!(in rt.alloc();
+        r#"{{"width":1,"height":1,"draws":[{{{vertices},"{one}":[{ones}]}},{{{vertices},"{other}":[{others}]}}]}}"#
+    ).expect(rt, "memory");
+    fault(rt, text.as_str())
 }
 
-/// The sum of triangles over two draws, of which one has a triangle list, one a strip, or both a strip.
 #[test]
 fn counts_the_triangles_of_strips(rt: HostRuntime) {
     for (first, second, told) in [
         (("strip", "0", 65_538), ("strip", "0", 2), None),
         (
-            ("strip", "0", 65_539),
-            ("strip", "0", 0),
-            in_draw(TooMany, 0),
-        ),
-        (
             ("strip", "7", 65_539),
             ("strip", "0", 0),
             in_draw(TooMany, 0),
-        ),
-        (
-            ("strip", "0", 65_538),
-            ("strip", "0", 3),
-            in_draw(TooMany, 1),
         ),
         (
             ("strip", "0", 65_538),
@@ -877,41 +825,45 @@ fn counts_the_triangles_of_strips(rt: HostRuntime) {
             ("strip", "7", 2),
             in_draw(BadIndex, 1),
         ),
-        (("strip", "0", 32_770), ("strip", "0", 32_770), None),
+        (("strip", "0", 65_537), ("triangles", "[0,0,0]", 1), None),
         (
-            ("strip", "0", 32_770),
-            ("strip", "0", 32_771),
+            ("strip", "0", 65_537),
+            ("triangles", "7", 2),
             in_draw(TooMany, 1),
         ),
+        (("triangles", "[0,0,0]", 1), ("strip", "0", 65_537), None),
         (
-            ("strip", "0", 32_770),
-            ("triangles", "[0,0,0]", 32_768),
-            None,
-        ),
-        (
-            ("strip", "0", 32_770),
-            ("triangles", "[0,0,0]", 32_769),
-            in_draw(TooMany, 1),
-        ),
-        (
-            ("triangles", "[0,0,0]", 32_768),
-            ("strip", "0", 32_770),
-            None,
-        ),
-        (
-            ("triangles", "[0,0,0]", 32_768),
-            ("strip", "0", 32_771),
+            ("triangles", "[0,0,0]", 1),
+            ("strip", "7", 65_538),
             in_draw(TooMany, 1),
         ),
     ] {
-        let ones = repeated(&rt, first.1, first.2);
-        let others = repeated(&rt, second.1, second.2);
-        let (one, other) = (first.0, second.0);
-        let vertices = r#""vertices":[[0,0,0,0,0,0,0]]"#;
-        let text = format!(in rt.alloc();
-            r#"{{"width":1,"height":1,"draws":[{{{vertices},"{one}":[{ones}]}},{{{vertices},"{other}":[{others}]}}]}}"#
-        ).expect(&rt, "memory");
-        assert_eq!(rt; fault(&rt, text.as_str()), told);
+        assert_eq!(rt; sum_fault(&rt, first, second), told);
+    }
+}
+
+#[test]
+fn counts_two_triangles_for_each_quad(rt: HostRuntime) {
+    for (first, second, told) in [
+        (("quads", "[0,1,2,3]", 32_768), ("strip", "0", 2), None),
+        (
+            ("quads", "7", 32_769),
+            ("quads", "7", 0),
+            in_draw(TooMany, 0),
+        ),
+        (
+            ("quads", "[0,1,2,3]", 32_768),
+            ("quads", "7", 1),
+            in_draw(TooMany, 1),
+        ),
+        (("strip", "0", 65_536), ("quads", "[0,1,2,3]", 1), None),
+        (
+            ("strip", "0", 65_537),
+            ("quads", "7", 1),
+            in_draw(TooMany, 1),
+        ),
+    ] {
+        assert_eq!(rt; sum_fault(&rt, first, second), told);
     }
 }
 
