@@ -8,6 +8,8 @@
 #   make memory    refuse the program each growth of memory in turn
 #   make bench     time the program on generated scenes
 #   make frames    build the program that times frames by themselves, for bench/llvmpipe.py
+#   make conformance        compare the machine's OpenGL driver with the program, sample by sample; out/conformance.html
+#   make check-conformance  test that comparison without a driver, by planted faults
 #   make clean     remove what this file made; what rt keeps in crates/*/out/ stays
 
 RT ?= rt
@@ -18,7 +20,7 @@ SOURCES := crates.txt $(shell find crates -name out -prune -o -type f \( -name '
 LISTS := $(wildcard examples/*.json)
 PICTURES := $(LISTS:examples/%.json=out/%.pnm)
 
-.PHONY: all demo test compare schema memory bench frames clean
+.PHONY: all demo test compare schema memory bench frames conformance check-conformance clean
 .DELETE_ON_ERROR:
 
 all: $(PROGRAM)
@@ -55,5 +57,12 @@ frames: $(PROGRAM)
 bench: $(PROGRAM)
 	$(PYTHON) bench/run.py
 
+conformance: $(PROGRAM)
+	@mkdir -p out
+	$(PYTHON) conformance/run.py --html out/conformance.html
+
+check-conformance:
+	$(PYTHON) conformance/test_conformance.py
+
 clean:
-	rm -rf bin out bench/out
+	rm -rf bin out bench/out conformance/out

@@ -3,6 +3,8 @@
 #![tactic(auto)]
 
 #[cfg(test)]
+mod depths;
+#[cfg(test)]
 mod devices;
 #[cfg(test)]
 mod faults;
@@ -10,6 +12,8 @@ mod faults;
 mod lines;
 #[cfg(test)]
 mod pictures;
+#[cfg(test)]
+mod primitives;
 #[cfg(test)]
 mod support;
 #[cfg(test)]

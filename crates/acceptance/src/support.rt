@@ -36,11 +36,10 @@ pub(crate) fn call<R: Threads + Wait + Sync>(
     })
 }
 
-/// The file of this size with pixels in hexadecimal digits; all else in `pixels` is passed over.
-pub(crate) fn file(alloc: Global, width: u32, height: u32, pixels: &str) -> Result<Vec<u8>, Fail> {
-    let mut bytes = format!(in alloc; "P6\n{width} {height}\n255\n")?.into_bytes();
+/// Appends the bytes of hexadecimal digits; all else in `digits` is passed over.
+fn push_digits(digits: &str, bytes: &mut Vec<u8>) -> Result<(), Fail> {
     let mut upper = None;
-    for digit in pixels.chars() {
+    for digit in digits.chars() {
         let Some(value) = digit.to_digit(16) else {
             continue;
         };
@@ -52,6 +51,25 @@ pub(crate) fn file(alloc: Global, width: u32, height: u32, pixels: &str) -> Resu
             }
         }
     }
+    Ok(())
+}
+
+/// The file of colours of this size, with pixels in hexadecimal digits.
+pub(crate) fn file(alloc: Global, width: u32, height: u32, pixels: &str) -> Result<Vec<u8>, Fail> {
+    let mut bytes = format!(in alloc; "P6\n{width} {height}\n255\n")?.into_bytes();
+    push_digits(pixels, &mut bytes)?;
+    Ok(bytes)
+}
+
+/// The file of depths of this size, with pixels in hexadecimal digits.
+pub(crate) fn depth_file(
+    alloc: Global,
+    width: u32,
+    height: u32,
+    pixels: &str,
+) -> Result<Vec<u8>, Fail> {
+    let mut bytes = format!(in alloc; "P5\n{width} {height}\n65535\n")?.into_bytes();
+    push_digits(pixels, &mut bytes)?;
     Ok(bytes)
 }
 

@@ -2,7 +2,9 @@
 use crate::devices::{End, Sink, Source};
 use grid::TileSide;
 use std::test::Fail;
-use trirast::{Counted, LineFault, Options, WriteFault, options, ppm_header, ppm_rows, write_ppm};
+use trirast::{
+    Counted, LineFault, Options, WriteFault, options, pgm_header, ppm_header, ppm_rows, write_ppm,
+};
 
 #[test]
 fn writes_a_file(rt: HostRuntime) -> Result<(), Fail> {
@@ -27,6 +29,43 @@ fn writes_header_and_rows(rt: HostRuntime) -> Result<(), Fail> {
         written.as_slice(),
         b"P6\n4096 65\n255\n\x07\x08".as_slice()
     );
+    Ok(())
+}
+
+#[test]
+fn writes_the_header_of_depths_and_rows(rt: HostRuntime) -> Result<(), Fail> {
+    let mut out = Counted::new(Vec::new(rt.alloc()));
+    assert_eq!(rt; pgm_header(1, 1, &mut out), Ok(13));
+    assert_eq!(rt; ppm_rows(&[0, 95], 13, &mut out), Ok(15));
+    assert_eq!(rt; pgm_header(4096, 4095, &mut out), Ok(19));
+    assert_eq!(rt; out.failures(), 0);
+    let written: Vec<u8> = out.into_inner();
+    assert_eq!(rt;
+        written.as_slice(),
+        b"P5\n1 1\n65535\n\0\x5FP5\n4096 4095\n65535\n".as_slice()
+    );
+    Ok(())
+}
+
+#[test]
+fn tells_how_much_of_a_header_went_out(rt: HostRuntime) -> Result<(), Fail> {
+    for (room, end) in [(0, End::Fails), (5, End::TakesNothing), (16, End::Fails)] {
+        let mut out = Counted::new(Sink {
+            taken: Vec::new(rt.alloc()),
+            room,
+            a_call: 3,
+            end,
+            can_flush: true,
+        });
+        let fault = WriteFault {
+            written: room as u64,
+        };
+        assert_eq!(rt; pgm_header(4096, 65, &mut out), Err(fault));
+        assert_eq!(rt; out.failures(), 1);
+        let header = b"P5\n4096 65\n65535\n".as_slice();
+        let taken = out.into_inner().taken;
+        assert_eq!(rt; Some(taken.as_slice()), header.get(..room));
+    }
     Ok(())
 }
 

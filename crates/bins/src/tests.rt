@@ -3,7 +3,7 @@ ghost use Rattle.std.specs.Prelude.{◌≡◌, IfOk};
 use crate::{Bins, Tiling};
 use cover::{Class, Setup};
 use grid::{Cull, PixelBox, Point, SampleCount, TileSide};
-use list::{Draw, DrawList, Placed, State, Vertex};
+use list::{Draw, DrawList, Output, Placed, Primitives, State, Vertex};
 use shade::{DepthTest, Merge, Sample};
 use std::alloc::Global;
 use std::process::Abort;
@@ -56,7 +56,7 @@ fn draw(
     Ok(Draw {
         state,
         vertices,
-        triangles: vec![in alloc; [0, 1, 2]]?,
+        primitives: Primitives::Triangles(vec![in alloc; [0, 1, 2]]?),
     })
 }
 
@@ -76,7 +76,7 @@ fn list(
         draws.push(draw(rt, alloc, state, *corners)?)?;
     }
     let (width, height) = size;
-    let list = DrawList::new(alloc, width, height, count, BLACK, draws);
+    let list = DrawList::new(alloc, width, height, count, BLACK, Output::Color, draws);
     Ok(list.expect(rt, "within the limits"))
 }
 

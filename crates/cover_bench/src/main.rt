@@ -1,10 +1,12 @@
-//! The masks of the blocks on the borders of generated triangles, by `Setup::masks` and by the plain cover test at each
-//! sample. It prints a checksum of each, and with the word `--time` how long a block took.
+//! The masks of the blocks on the borders of generated triangles, by `Setup::masks`, by squares that are cut into quarters down to
+//! a block, and by the plain cover test at each sample. It prints a checksum of each, and with the word `--time` how long a block
+//! took.
 #![tactic(auto)]
 
-ghost use Rattle.std.specs.Prelude.{◌<◌};
+ghost use Rattle.std.specs.Prelude.{◌≡◌, ◌<◌};
+ghost use Rattle.grid.specs.Pixels.{side_of};
 
-use cover::{Class, Masks, Setup};
+use cover::{Class, Masks, Setup, Square};
 use grid::{Cull, Point, SampleCount, TileSide, Tri, sample_at};
 use std::alloc::{AllocError, Global};
 use std::time::Instant;
@@ -59,11 +61,11 @@ fn place(block: u32) -> (u32, u32)
     (block % COLUMNS, block / COLUMNS % COLUMNS)
 }
 
-fn border(alloc: Global, setup: &Setup) -> Result<Vec<u32>, AllocError> {
+fn border(alloc: Global, setup: &Setup, count: SampleCount) -> Result<Vec<u32>, AllocError> {
     let mut blocks = Vec::new(alloc);
     for block in 0..COLUMNS * COLUMNS {
         let (bx, by) = place(block);
-        let class = setup.classify(bx, by, TileSide::T8, SampleCount::Four);
+        let class = setup.classify(bx, by, TileSide::T8, count);
         if class == Class::Mixed {
             blocks.push(block)?;
         }
@@ -71,14 +73,14 @@ fn border(alloc: Global, setup: &Setup) -> Result<Vec<u32>, AllocError> {
     Ok(blocks)
 }
 
-fn scenes(alloc: Global) -> Result<Vec<Scene>, AllocError> {
+fn scenes(alloc: Global, count: SampleCount) -> Result<Vec<Scene>, AllocError> {
     let mut all = Vec::new(alloc);
     let mut random = Random(1);
     for _ in 0..TRIANGLES {
         if let Some(triangle) = random.triangle()
             && let Some(setup) = Setup::new(&triangle, Cull::None)
         {
-            let border = border(alloc, &setup)?;
+            let border = border(alloc, &setup, count)?;
             all.push(Scene {
                 triangle,
                 setup,
@@ -123,28 +125,78 @@ fn lane_masks(scene: &Scene, block: u32, count: SampleCount) -> Masks {
     scene.setup.masks(bx, by, count)
 }
 
-fn joined(sum: u64, masks: &Masks) -> u64 {
+/// The masks of the mixed blocks of a square of 16 by 16 pixels.
+fn masks_of_quarters(square: &Square, start: u64) -> u64
+    requires { side_of square.now.side ≡ 16 }
+{
+    let mut sum = start;
+    for q in 0..4u32 {
+        let block = square.quarter(q);
+        if block.class() == Class::Mixed {
+            sum = joined(sum, &block.masks(), block.bx(), block.by());
+        }
+    }
+    sum
+}
+
+/// The masks of the mixed blocks of a triangle, found by cutting the mixed squares of 32 pixels into quarters and these again.
+fn masks_by_squares(scene: &Scene, count: SampleCount, start: u64) -> u64 {
+    let mut sum = start;
+    for block in 0..1024u32 {
+        let whole = scene
+            .setup
+            .square(4 * (block % 32), 4 * (block / 32), TileSide::T32, count);
+        if whole.class() == Class::Mixed {
+            for q in 0..4u32 {
+                let quarter = whole.quarter(q);
+                if quarter.class() == Class::Mixed {
+                    sum = masks_of_quarters(&quarter, sum);
+                }
+            }
+        }
+    }
+    sum
+}
+
+/// A sum over blocks, in any order.
+fn joined(sum: u64, masks: &Masks, bx: u32, by: u32) -> u64
+    requires column { bx < 512 }
+    requires row { by < 512 }
+{
     let [a, b, c, d] = masks.plane;
-    sum.rotate_left(1) ^ a ^ b.rotate_left(16) ^ c.rotate_left(32) ^ d.rotate_left(48)
+    let word = a ^ b.rotate_left(16) ^ c.rotate_left(32) ^ d.rotate_left(48);
+    sum.wrapping_add(word.wrapping_mul(u64::from(2 * (512 * by + bx) + 1)))
 }
 
 /// How masks are made.
 #[derive(Clone, Copy)]
 enum Way {
     Lanes,
+    Squares,
     Plain,
 }
 
 fn checksum(all: &[Scene], way: Way, count: SampleCount, start: u64) -> u64 {
     let mut sum = start;
     for scene in all {
-        for block in &scene.border {
-            let masks = match way {
-                Way::Lanes => lane_masks(scene, *block, count),
-                Way::Plain => plain_masks(scene, *block, count),
-            };
-            sum = joined(sum, &masks);
-        }
+        sum = match way {
+            Way::Squares => masks_by_squares(scene, count, sum),
+            Way::Lanes | Way::Plain => masks_by_blocks(scene, way, count, sum),
+        };
+    }
+    sum
+}
+
+/// The masks of the blocks on a triangle's border, row by row.
+fn masks_by_blocks(scene: &Scene, way: Way, count: SampleCount, start: u64) -> u64 {
+    let mut sum = start;
+    for block in &scene.border {
+        let masks = match way {
+            Way::Plain => plain_masks(scene, *block, count),
+            Way::Lanes | Way::Squares => lane_masks(scene, *block, count),
+        };
+        let (bx, by) = place(*block);
+        sum = joined(sum, &masks, bx, by);
     }
     sum
 }
@@ -186,18 +238,22 @@ fn main(rt: HostRuntime) -> io::Result<()> {
     for word in env::args(&rt)? {
         timed |= word.as_str() == "--time";
     }
-    let all = scenes(rt.alloc())?;
-    let blocks = blocks(&all);
-    println!(rt; "{blocks} blocks")?;
     for (samples, count) in [
         ("one sample", SampleCount::One),
         ("four samples", SampleCount::Four),
     ] {
+        let all = scenes(rt.alloc(), count)?;
+        let blocks = blocks(&all);
+        println!(rt; "{samples}, {blocks} blocks")?;
         println!(rt;
             "{samples}, mixed quarters: {}",
             mixed_by_quarters(&all, count)
         )?;
-        for (name, way) in [("lanes", Way::Lanes), ("plain test", Way::Plain)] {
+        for (name, way) in [
+            ("lanes", Way::Lanes),
+            ("squares", Way::Squares),
+            ("plain test", Way::Plain),
+        ] {
             println!(rt; "{samples}, {name}: {:016x}", checksum(&all, way, count, 0))?;
             if timed {
                 let (mut least, mut sum) = (u64::MAX, 0u64);

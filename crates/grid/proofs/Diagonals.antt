@@ -110,6 +110,9 @@ across_right a b c h = rw side-reversed (omega (arith, ints))
 flipped : (a b c : Position) → side a b c <ℤ pos 0 → pos 0 <ℤ side c b a
 flipped a b c h = across b c a (turned_left a b c h)
 
+flipped_right : (a b c : Position) → pos 0 <ℤ side a b c → side c b a <ℤ pos 0
+flipped_right a b c h = across_right b c a (turned a b c h)
+
 -- ---- a quad that turns right
 rotated : (a b c d : Position) → TurnsRight a b c d → TurnsRight b c d a
 rotated a b c d h = record { abc = h.bcd; bcd = h.cda; cda = h.dab; dab = h.abc }
@@ -223,6 +226,19 @@ splits_left a b c d p h = record {
     from : Covers a b c p ⊎ Covers c d a p → QuadCovers a b c d p
     from (inl k) = quad_mirrored_back a b c d p (mirrored a b c d h) (law.same.1 (inr (covers_mirrored a b c p k)))
     from (inr k) = quad_mirrored_back a b c d p (mirrored a b c d h) (law.same.1 (inl (covers_mirrored c d a p k)))
+
+-- ---- the other direction
+mirrored_right : (a b c d : Position) → TurnsRight a b c d → TurnsLeft a d c b
+mirrored_right a b c d h =
+    record { abc = flipped_right c d a h.cda; bcd = flipped_right b c d h.bcd; cda = flipped_right a b c h.abc; dab = flipped_right d a b h.dab }
+
+pub convex_reversed : (a b c d : Position) → IsStrictlyConvex a b c d → IsStrictlyConvex a d c b
+convex_reversed a b c d (inl h) = inr (mirrored_right a b c d h)
+convex_reversed a b c d (inr h) = inl (mirrored a b c d h)
+
+pub covers_reversed : (a b c d p : Position) → IsStrictlyConvex a b c d → QuadCovers a d c b p ↔ QuadCovers a b c d p
+covers_reversed a b c d p (inl h) = (quad_mirrored a d c b p (mirrored_right a b c d h), quad_mirrored_back a d c b p h)
+covers_reversed a b c d p (inr h) = (quad_mirrored_back a b c d p (mirrored a b c d h), quad_mirrored a b c d p h)
 
 rotated_left : (a b c d : Position) → TurnsLeft a b c d → TurnsLeft b c d a
 rotated_left a b c d h = record { abc = h.bcd; bcd = h.cda; cda = h.dab; dab = h.abc }

@@ -50,3 +50,7 @@ pub record Corners : Type 0 where
   pub b : Position
   pub c : Position
   pub d : Position
+
+-- Two quads cover the same points.
+abbrev pub CoverTheSame : Corners → Corners → Type 0
+CoverTheSame q r = (p : Position) → (QuadCovers q.a q.b q.c q.d p ↔ QuadCovers r.a r.b r.c r.d p)

@@ -1,5 +1,5 @@
-ghost use Rattle.std.specs.Prelude.{◌≡◌, ◌↔◌, IsTrue, IsSome, IfSome};
-ghost use Rattle.grid.specs.Quad.{TurnsRight, TurnsLeft, IsStrictlyConvex, QuadCovers, EitherCornerServes, EitherDiagonalSplits};
+ghost use Rattle.std.specs.Prelude.{◌≡◌, ◌↔◌, IsTrue, IsSome, IfSome, MatchBool};
+ghost use Rattle.grid.specs.Quad.{TurnsRight, TurnsLeft, IsStrictlyConvex, QuadCovers, CoverTheSame, EitherCornerServes, EitherDiagonalSplits};
 
 use crate::point::{Point, is_clockwise, is_counterclockwise};
 use crate::triangle::passes_edge;
@@ -37,6 +37,67 @@ impl Quad {
             Some(Quad { a, b, c, d })
         } else {
             None
+        }
+    }
+
+    /// The first corner.
+    pub fn a(&self) -> Point
+        ensures { result ≡ self.now.a }
+    {
+        self.a
+    }
+
+    /// The second corner.
+    pub fn b(&self) -> Point
+        ensures { result ≡ self.now.b }
+    {
+        self.b
+    }
+
+    /// The third corner.
+    pub fn c(&self) -> Point
+        ensures { result ≡ self.now.c }
+    {
+        self.c
+    }
+
+    /// The fourth corner.
+    pub fn d(&self) -> Point
+        ensures { result ≡ self.now.d }
+    {
+        self.d
+    }
+
+    /// Whether the corners run clockwise on the screen; else they run counterclockwise.
+    pub fn is_clockwise(&self) -> bool
+        ensures { MatchBool result (TurnsRight self.now.a self.now.b self.now.c self.now.d) (TurnsLeft self.now.a self.now.b self.now.c self.now.d) }
+    {
+        is_clockwise(self.a, self.b, self.c)
+    }
+
+    /// The quad that begins at the second corner. It covers the same points, and so does a quad that begins at any corner.
+    pub fn turned(&self) -> Quad
+        ensures value { result ≡ record { a = self.now.b; b = self.now.c; c = self.now.d; d = self.now.a } }
+        ensures same { CoverTheSame result self.now }
+    {
+        Quad {
+            a: self.b,
+            b: self.c,
+            c: self.d,
+            d: self.a,
+        }
+    }
+
+    /// The quad of the same corners in the other direction, from the first corner on. It covers the same points.
+    pub fn reversed(&self) -> Quad
+        ensures value { result ≡ record { a = self.now.a; b = self.now.d; c = self.now.c; d = self.now.b } }
+        ensures same { CoverTheSame result self.now }
+    {
+        Quad {
+            a: self.a,
+            b: self.d,
+            c: self.c,
+            d: self.b,
         }
     }
 

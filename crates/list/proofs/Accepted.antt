@@ -1,15 +1,17 @@
 -- What denotes a draw list is within the limits of a draw list.
-use Rattle.std.proofs.Common.{◌≡◌, ℕ, ◌<◌, ◌≤◌, List, [], ◌∷◌, length, sum_by, slice_index, arith}
+use Rattle.std.proofs.Common.{◌≡◌, ℕ, ◌<◌, ◌≤◌, List, [], ◌∷◌, length, sum_by, slice_index, Option, arith}
 use Rattle.std.proofs.lemmas.Int.{ints}
 use Rattle.std.specs.List.{All}
 use Rattle.std.proofs.lemmas.List.Elements.{All-nil, All-cons}
 use Rattle.serde_json.specs.Data.{Data, Items, no_items, item}
 use Rattle.grid.specs.declared.pixels.PixelBox.{PixelBox}
+use Rattle.list.specs.Primitives.{PrimitiveListing, triangle_list, triangle_strip, quad_list, count_of_triangles, IsQuadOver, AreOver}
+use Rattle.list.specs.declared.draw.Vertex.{Vertex}
 use Rattle.list.specs.Listing.{DrawListing, Listing, IsDrawWithinLimits, IsWithinLimits}
 use Rattle.serde_json.specs.View.{items_view}
 use Rattle.list.specs.declared.reader.header.Header.{Header}
 use Rattle.list.specs.Header.{IsHeader}
-use Rattle.list.specs.Denotes.{Each, picture_box, IsTriangle, IsDraw, IsListing}
+use Rattle.list.specs.Denotes.{Each, picture_box, IsTriangle, IsStripIndex, IsQuad, IsPrimitives, IsDraw, IsListing}
 use Rattle.list.proofs.Counts.{items_len_view, items_len_each}
 
 each_all : {X : Type 0} (Is : Data → X → Type 0) (P : X → Type 0) → ((d : Data) (x : X) → Is d x → P x) → (ds : Items) (xs : List X) → Each Is ds xs → All P xs
@@ -28,10 +30,26 @@ three P (a ∷ b ∷ c ∷ d ∷ xs) e p q r = absurd (omega arith)
 triangle_within : (n : ℕ) (d : Data) (t : List ℕ) → IsTriangle n d t → All (λ k. k < n) t
 triangle_within n d t is = three (λ k. k < n) t is.indices is.first.1 is.second.1 is.third.1
 
+four : (P : ℕ → Type 0) (xs : List ℕ) → length xs ≡ 4 → P (slice_index xs 0) → P (slice_index xs 1) → P (slice_index xs 2) → P (slice_index xs 3) → All P xs
+four P [] e p q r s = absurd (omega arith)
+four P (a ∷ xs) e p q r s = All-cons P a xs p (three P xs (omega arith) q r s)
+
+quad_over : (vs : List Vertex) (d : Data) (quad : List ℕ) → IsQuad vs d quad → IsQuadOver vs quad
+quad_over vs d quad is = record {
+  indices = four (λ k. k < length vs) quad is.indices is.first.1 is.second.1 is.third.1 is.fourth.1;
+  convex = is.convex;
+}
+
+primitives_over : (vs : List Vertex) (t s q : Option Data) (p : PrimitiveListing) → IsPrimitives vs t s q p → AreOver vs p
+primitives_over vs t s q (triangle_list found) is =
+    each_all (IsTriangle (length vs)) (λ triangle. All (λ k. k < length vs) triangle) (triangle_within (length vs)) _ found is.0.parts
+primitives_over vs t s q (triangle_strip found) is = each_all (IsStripIndex (length vs)) (λ k. k < length vs) (λ d k at. at.1) _ found is.0.parts
+primitives_over vs t s q (quad_list found) is = each_all (IsQuad vs) (IsQuadOver vs) (quad_over vs) _ found is.0.parts
+
 draw_within : (picture : PixelBox) (d : Data) (draw : DrawListing) → IsDraw picture d draw → IsDrawWithinLimits draw
 draw_within picture d draw is = record {
   vertices = is.vertices.at_most;
-  indices = each_all (IsTriangle (length draw.vertices)) (λ t. All (λ k. k < length draw.vertices) t) (triangle_within (length draw.vertices)) _ draw.triangles is.triangles.parts;
+  primitives = primitives_over draw.vertices _ _ _ draw.primitives is.primitives;
 }
 
 pub listing_within : (d : Data) (l : Listing) → IsListing d l → IsWithinLimits l
@@ -49,8 +67,8 @@ listing_within d l is = record {
 
 -- a top object with its draws is a draw list
 pub headed : (d : Data) (h : Header) (draws : List DrawListing) → IsHeader d h → Each (IsDraw (picture_box h.width h.height)) (items_view h.draws.now) draws
-    → sum_by (λ d. length d.triangles) draws ≤ 65536
-    → IsListing d (record { width = h.width; height = h.height; count = h.count; clear = h.clear; draws = draws })
+    → sum_by (λ d. count_of_triangles d.primitives) draws ≤ 65536
+    → IsListing d (record { width = h.width; height = h.height; count = h.count; clear = h.clear; output = h.output; draws = draws })
 headed d h draws is parts few =
     let many = items_len_each _ _ _ parts in
     let all = items_len_view h.draws.now in
@@ -62,6 +80,7 @@ headed d h draws is parts few =
       samples = is.beginning.samples;
       clear = is.beginning.colour;
       clear_depth = is.beginning.depth;
+      output = is.beginning.output;
       draws = record { array = is.array; parts = rw is.draws at parts; at_most = omega (arith, many, all, is.at_most) };
       triangles = few;
     }

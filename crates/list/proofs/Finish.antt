@@ -2,7 +2,7 @@
 use Rattle.std.proofs.Common.{◌≡◌, ◌≢◌, ◌≤◌, ℕ, List, [], ◌∷◌, length, Bool, true, false, cond, Option, Some, None, Result, Ok, Err, IfOk, IfErr, MatchResult, refl, ap, ◌∙◌}
 use Rattle.serde_json.specs.Data.{Data}
 use Rattle.list.specs.declared.fault.ReadKind.{ReadKind}
-use Rattle.list.specs.declared.fault.ReadKind.TheVariants.{NotJson, UnknownKey, MissingKey, WrongKind, OutOfRange, BadIndex, TooMany, OutOfMemory}
+use Rattle.list.specs.declared.fault.ReadKind.TheVariants.{NotJson, UnknownKey, MissingKey, WrongKind, OutOfRange, BadIndex, TooMany, OutOfMemory, TwoLists, NotConvex}
 use Rattle.list.specs.declared.fault.ReadFault.{ReadFault}
 use Rattle.list.specs.Json.{json_of}
 use Rattle.list.specs.Scene.{Scene}
@@ -33,6 +33,8 @@ no_other OutOfRange h = absurd (h (λ e. cc))
 no_other BadIndex h = absurd (h (λ e. cc))
 no_other TooMany h = absurd (h (λ e. cc))
 no_other OutOfMemory h = refl
+no_other TwoLists h = absurd (h (λ e. cc))
+no_other NotConvex h = absurd (h (λ e. cc))
 
 some_none : {A : Type 0} (o : Option A) (a : A) → o ≡ Some a → o ≡ None → ⊥
 some_none None a e f = cc

@@ -1,5 +1,9 @@
+pub mod Triangulated
+pub mod Convex
+pub mod Corners
 pub mod Numbering
 pub mod Unique
+pub mod Pixels
 pub mod Parts
 pub mod Spans
 pub mod Starting
@@ -21,3 +25,9 @@ pub mod OneValue
 pub mod OneState
 pub mod OneDraw
 pub mod OneList
+pub mod Numbers
+pub mod Taking
+pub mod TakenArrays
+pub mod Members
+pub mod Drafts
+pub mod Listings

@@ -1,15 +1,18 @@
 -- The bytes of an input denote at most one draw list.
-use Rattle.std.proofs.Common.{◌≡◌, refl, sym, ap, ◌∙◌, subst, ℕ, List, [], ◌∷◌, codes, Option, Some, None, arith}
+use Rattle.std.proofs.Common.{◌≡◌, refl, sym, ap, ◌∙◌, subst, ℕ, List, [], ◌∷◌, codes, Option, Some, None, if◌then◌else◌, bytes_eq, arith}
 use Rattle.serde_json.specs.Data.{Data}
 use Rattle.serde_json.specs.Find.{get}
 use Rattle.grid.specs.Samples.{count_of}
 use Rattle.grid.specs.declared.sample_count.SampleCount.{SampleCount}
 use Rattle.grid.specs.declared.sample_count.SampleCount.TheVariants.{One, Four}
 use Rattle.shade.specs.declared.sample.Sample.{Sample}
-use Rattle.list.specs.Json.{json_of, whole}
+use Rattle.list.specs.Json.{json_of, whole, text}
 use Rattle.list.specs.Listing.{DrawListing, Listing, scene_of}
 use Rattle.list.specs.Scene.{Scene}
-use Rattle.list.specs.Denotes.{OrDefault, IsArrayOf, IsDepthNumber, IsSampleCount, IsClearColour, IsDraw, IsListing, Denotes, picture_box}
+use Rattle.list.specs.declared.output.Output.{Output}
+use Rattle.list.specs.declared.output.Output.TheVariants as output
+use Rattle.list.specs.Keys.{output_word}
+use Rattle.list.specs.Denotes.{OrDefault, IsArrayOf, IsDepthNumber, IsSampleCount, IsClearColour, IsOutput, IsDraw, IsListing, Denotes, picture_box}
 use Rattle.shade.proofs.Drawn.{same_sample}
 use Rattle.list.proofs.OneValue.{IsUnique, same_some, same_number, default-unique, array-unique, made_same_three}
 use Rattle.list.proofs.OneDraw.{draw-unique}
@@ -25,6 +28,17 @@ count-unique value x y h k = same_count x y (same_number (whole value) _ _ h k)
 
 depth-unique : IsUnique IsDepthNumber
 depth-unique value x y h k = same_number (whole value) x y h.0 k.0
+
+output_of : List ℕ → Output
+output_of word = if bytes_eq word (codes "color") then output.Color else output.Depth
+
+output_of_word : (o : Output) → o ≡ output_of (output_word o)
+unfolding output_of
+output_of_word output.Color = refl
+output_of_word output.Depth = refl
+
+output-unique : IsUnique IsOutput
+output-unique value x y h k = output_of_word x ∙ ap output_of (same_some (text value) _ _ h k) ∙ sym (output_of_word y)
 
 -- ---- the clear values
 
@@ -48,15 +62,15 @@ clear-unique x y e f =
 
 -- ---- the list
 
-listing : ℕ → ℕ → SampleCount → Sample → List DrawListing → Listing
-listing width height count clear draws = record { width = width; height = height; count = count; clear = clear; draws = draws }
+listing : ℕ → ℕ → SampleCount → Sample → Output → List DrawListing → Listing
+listing width height count clear output draws = record { width = width; height = height; count = count; clear = clear; output = output; draws = draws }
 
-made_same_listing : (w w' h h' : ℕ) (n n' : SampleCount) (c c' : Sample) (d d' : List DrawListing) → w ≡ w' → h ≡ h' → n ≡ n' → c ≡ c' → d ≡ d' → listing w h n c d ≡ listing w' h' n' c' d'
-made_same_listing w w' h h' n n' c c' d d' e f g k l = cc
+made_same_listing : (w w' h h' : ℕ) (n n' : SampleCount) (c c' : Sample) (o o' : Output) (d d' : List DrawListing) → w ≡ w' → h ≡ h' → n ≡ n' → c ≡ c' → o ≡ o' → d ≡ d' → listing w h n c o d ≡ listing w' h' n' c' o' d'
+made_same_listing w w' h h' n n' c c' o o' d d' e f g k m l = cc
 
-same_listing : (x y : Listing) → x.width ≡ y.width → x.height ≡ y.height → x.count ≡ y.count → x.clear ≡ y.clear → x.draws ≡ y.draws → x ≡ y
+same_listing : (x y : Listing) → x.width ≡ y.width → x.height ≡ y.height → x.count ≡ y.count → x.clear ≡ y.clear → x.output ≡ y.output → x.draws ≡ y.draws → x ≡ y
 unfolding listing
-same_listing x y e f g k l = made_same_listing x.width y.width x.height y.height x.count y.count x.clear y.clear x.draws y.draws e f g k l
+same_listing x y e f g k m l = made_same_listing x.width y.width x.height y.height x.count y.count x.clear y.clear x.output y.output x.draws y.draws e f g k m l
 
 made_same_box : (w h w' h' : ℕ) → w ≡ w' → h ≡ h' → picture_box w h ≡ picture_box w' h'
 made_same_box w h w' h' e f = rw (e, f) refl
@@ -70,6 +84,7 @@ listing-unique value x y h k =
     let draws = subst (λ p. IsArrayOf 1024 (IsDraw p) (get (codes "draws") value) y.draws) (sym picture) k.draws in
     same_listing x y width height (default-unique _ IsSampleCount count-unique _ _ _ h.samples k.samples)
     (clear-unique x.clear y.clear (colour-unique (get (codes "clear") value) x.clear y.clear h.clear k.clear) (default-unique _ IsDepthNumber depth-unique _ _ _ h.clear_depth k.clear_depth))
+    (default-unique _ IsOutput output-unique _ _ _ h.output k.output)
     (array-unique 1024 (IsDraw (picture_box x.width x.height)) (draw-unique (picture_box x.width x.height)) (get (codes "draws") value) x.draws y.draws h.draws draws)
 
 -- ---- the bytes

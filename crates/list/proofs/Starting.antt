@@ -10,7 +10,7 @@ use Rattle.std.proofs.lemmas.List.Sums.{sum_by_more}
 use Rattle.list.specs.declared.draw.Draw.{Draw}
 use Rattle.list.specs.Starts.{AreStarts}
 use Rattle.list.specs.Listing.{draw_listing, placed, placed_all}
-use Rattle.list.proofs.Numbering.{count_of, triangle_at}
+use Rattle.list.proofs.Numbering.{count_of, indices_of_draw, triangle_at}
 
 -- some draw, where there is one
 first_draw : (ds : List Draw) (k : ℕ) → k < length ds → Draw
@@ -20,7 +20,7 @@ first_draw (d ∷ ds) k h = d
 -- The triangle of a number stands in a draw that starts at another number.
 pub record StandsIn (ds : List Draw) (number start : ℕ) (d : Draw) : Type 0 where
   pub within : number - start < count_of d
-  pub found : slice_get (flat_map placed_all (map draw_listing ds)) number ≡ Some (placed (draw_listing d) (get_or d.triangles.items (number - start) []))
+  pub found : slice_get (flat_map placed_all (map draw_listing ds)) number ≡ Some (placed (draw_listing d) (get_or (indices_of_draw d) (number - start) []))
 
 module _ (ds : List Draw) (starts : List ℕ) (h : AreStarts ds starts) where
   next_start : (k : ℕ) (d : Draw) → k + 1 < length ds → slice_index starts (k + 1) ≡ slice_index starts k + count_of (get_or ds k d)

@@ -1,8 +1,6 @@
 -- A draw list has just one picture.
-use Rattle.std.proofs.Common.{◌≡◌, sym, ap, ◌∙◌, subst, ℕ, zero, suc, ◌+◌, ◌*◌, ◌/◌, ◌%◌, ◌<◌, List, length, slice_index, add-zero, arith}
+use Rattle.std.proofs.Common.{◌≡◌, refl, sym, ap, ◌∙◌, subst, ℕ, zero, suc, ◌+◌, ◌*◌, ◌/◌, ◌%◌, ◌<◌, List, [], ◌∷◌, arith}
 use Rattle.std.proofs.Math.Nat.{mod-lt, div-lt_iff_lt-mul, div-add-mod'}
-use Rattle.std.proofs.lemmas.List.{same_lists}
-use Rattle.std.proofs.lemmas.Grind.{get_or_default_zero}
 use Rattle.grid.specs.Samples.{count_of}
 use Rattle.grid.specs.declared.sample_count.SampleCount.{SampleCount}
 use Rattle.grid.specs.declared.sample_count.SampleCount.TheVariants.{One, Four}
@@ -11,7 +9,10 @@ use Rattle.shade.specs.Resolve.{IsResolved}
 use Rattle.shade.specs.Quotient.{IsQuotient}
 use Rattle.shade.proofs.Values.{quotient-unique}
 use Rattle.list.specs.Scene.{Scene}
-use Rattle.list.specs.Picture.{IsEnd, IsColour, IsPart}
+use Rattle.list.specs.declared.output.Output.{Output}
+use Rattle.list.specs.declared.output.Output.TheVariants.{Color, Depth}
+use Rattle.list.specs.Picture.{IsEnd, IsColour, IsPixel, PixelOf, IsPart, pixel_at}
+use Rattle.list.proofs.Pixels.{same_pixels}
 use Rattle.shade.proofs.Endings.{ends-unique}
 
 pub end-unique : (l : Scene) (i j s : ℕ) (x y : Sample) → IsEnd l i j s x → IsEnd l i j s y → x ≡ y
@@ -26,13 +27,32 @@ resolved-unique Four x y q r same h k =
     let sums = same_sum _ _ _ _ _ _ _ _ (same 0 (omega arith)) (same 1 (omega arith)) (same 2 (omega arith)) (same 3 (omega arith)) in
     quotient-unique _ _ _ _ h (subst (λ n. IsQuotient n 4 r) sums k)
 
-pub colour-unique : (l : Scene) (i j r g b r' g' b' : ℕ) → IsColour l i j r g b → IsColour l i j r' g' b' → (r ≡ r') × (g ≡ g') × (b ≡ b')
+colour-unique : (l : Scene) (i j r g b r' g' b' : ℕ) → IsColour l i j r g b → IsColour l i j r' g' b' → (r ≡ r') × (g ≡ g') × (b ≡ b')
 colour-unique l i j r g b r' g' b' h k =
     let same : (s : ℕ) → s < count_of l.count → h.end s ≡ k.end s = λ s below. end-unique l i j s _ _ (h.ends s below) (k.ends s below) in (
       resolved-unique l.count _ _ r r' (λ s below. ap (λ (x : Sample). x.r) (same s below)) h.red k.red,
       resolved-unique l.count _ _ g g' (λ s below. ap (λ (x : Sample). x.g) (same s below)) h.green k.green,
       resolved-unique l.count _ _ b b' (λ s below. ap (λ (x : Sample). x.b) (same s below)) h.blue k.blue,
     )
+
+same_three : (r g b r' g' b' : ℕ) → (r ≡ r') × (g ≡ g') × (b ≡ b') → r ∷ g ∷ b ∷ [] ≡ r' ∷ g' ∷ b' ∷ []
+same_three r g b r' g' b' e = rw (e.0, e.1, e.2) refl
+
+same_two : (high low high' low' z z' : ℕ) → z ≡ z' → z ≡ 256 * high + low → z' ≡ 256 * high' + low' → low < 256 → low' < 256 → high ∷ low ∷ [] ≡ high' ∷ low' ∷ []
+same_two high low high' low' z z' e h k b b' =
+    let first : high ≡ high' = omega arith in
+    let second : low ≡ low' = omega arith in
+    rw (first, second) refl
+
+unique_of : (o : Output) (l : Scene) (i j : ℕ) (a b : List ℕ) → PixelOf o l i j a → PixelOf o l i j b → a ≡ b
+unique_of Color l i j a b h k =
+    h.order ∙ same_three _ _ _ _ _ _ (colour-unique l i j _ _ _ _ _ _ h.colour k.colour) ∙ sym k.order
+unique_of Depth l i j a b h k =
+    let same : h.end.z ≡ k.end.z = ap (λ (x : Sample). x.z) (end-unique l i j 0 _ _ h.is_end k.is_end) in
+    h.order ∙ same_two _ _ _ _ _ _ same h.value k.value h.is_byte k.is_byte ∙ sym k.order
+
+pub pixel-unique : (l : Scene) (i j : ℕ) (a b : List ℕ) → IsPixel l i j a → IsPixel l i j b → a ≡ b
+pixel-unique l i j a b h k = unique_of l.output l i j a b h k
 
 -- pixel p of rows of this width
 record IsPlace (p width height : ℕ) : Type 0 where
@@ -47,27 +67,12 @@ place_of p (suc n) height h =
     record { column = mod-lt p wide; row = (div-lt_iff_lt-mul wide).1 h; place = div-add-mod' p (suc n) }
 
 module _ (l : Scene) (x y width height : ℕ) (bytes other : List ℕ) (h : IsPart l x y width height bytes) (k : IsPart l x y width height other) where
-  abbrev SameBytes : ℕ → Type 0
-  SameBytes at = (slice_index bytes at ≡ slice_index other at) × (slice_index bytes (at + 1) ≡ slice_index other (at + 1)) × (slice_index bytes (at + 2) ≡ slice_index other (at + 2))
-
-  pixel : (p : ℕ) → p < height * width → SameBytes (3 * p)
+  pixel : (p : ℕ) → p < height * width → pixel_at l.output p bytes ≡ pixel_at l.output p other
   pixel p below =
       let place = place_of p width height below in
       let i : ℕ = p % width in
       let j : ℕ = p / width in
-      subst (λ n. SameBytes (3 * n)) place.place (colour-unique l (x + i) (y + j) _ _ _ _ _ _ (h.pixels i j place.column place.row) (k.pixels i j place.column place.row))
-
-  byte : (p m : ℕ) → p < height * width → m < 3 → slice_index bytes (3 * p + m) ≡ slice_index other (3 * p + m)
-  byte p zero below is_byte = rw add-zero (pixel p below).0
-  byte p (suc zero) below is_byte = (pixel p below).1
-  byte p (suc (suc zero)) below is_byte = (pixel p below).2
-  byte p (suc (suc (suc m))) below is_byte = absurd (omega arith)
+      subst (λ n. pixel_at l.output n bytes ≡ pixel_at l.output n other) place.place (pixel-unique l (x + i) (y + j) _ _ (h.pixels i j place.column place.row) (k.pixels i j place.column place.row))
 
   pub part-unique : bytes ≡ other
-  part-unique =
-      same_lists bytes other (h.size ∙ sym k.size) (λ n d below.
-      let size = h.size in
-      let long : length other ≡ length bytes = k.size ∙ sym h.size in
-      let split : 3 * (n / 3) + n % 3 ≡ n = omega arith in
-      let same : slice_index bytes n ≡ slice_index other n = rw split at (byte (n / 3) (n % 3) (omega arith) (omega arith)) in
-      get_or_default_zero bytes n d below ∙ same ∙ sym (get_or_default_zero other n d (omega arith)))
+  part-unique = same_pixels l.output (height * width) bytes other h.size k.size pixel

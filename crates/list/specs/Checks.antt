@@ -1,14 +1,18 @@
 -- The checks of a draw list, in their order.
-use Rattle.std.specs.Prelude.{◌≡◌, ℕ, ◌+◌, ◌||◌, ◌&&◌, ◌==◌, ℤ, pos, negsuc, int_le, ◌-ℤ◌, List, [], ◌∷◌, ◌++◌, Bool, true, false, not, nat_lt, ◌<◌, IfSome, Option, Some, None, is_none, codes}
+use Rattle.std.specs.Prelude.{◌≡◌, ℕ, ◌+◌, ◌||◌, ◌&&◌, ◌==◌, ℤ, pos, negsuc, int_le, ◌-ℤ◌, List, [], ◌∷◌, ◌++◌, Bool, true, false, not, nat_lt, ◌<◌, IfSome, Option, Some, None, is_some, is_none, unwrap_or, unsigned_abs, int_lt, slice_index_or, length, map, codes}
 use Rattle.std.specs.Option.{option_map_or}
 use Rattle.std.specs.Ordering.{int_eq}
 use Rattle.serde_json.specs.Data.{Data, Items, no_items, item}
 use Rattle.serde_json.specs.Find.{get, at, as_object}
+use Rattle.list.specs.declared.draw.Vertex.{Vertex}
 use Rattle.list.specs.declared.fault.ReadKind.{ReadKind}
-use Rattle.list.specs.declared.fault.ReadKind.TheVariants.{NotJson, UnknownKey, MissingKey, WrongKind, OutOfRange, BadIndex, TooMany}
+use Rattle.list.specs.declared.fault.ReadKind.TheVariants.{NotJson, UnknownKey, MissingKey, WrongKind, OutOfRange, BadIndex, TooMany, TwoLists, NotConvex}
 use Rattle.list.specs.declared.fault.ReadFault.{ReadFault}
 use Rattle.list.specs.Json.{whole, text, truth, array_of, element, elements, count, length_of, is_among, has_other_key}
-use Rattle.list.specs.Keys.{top_keys, draw_keys, cull_words, depth_test_words, blend_words}
+use Rattle.grid.specs.Position.{Position}
+use Rattle.grid.specs.Edge.{side}
+use Rattle.list.specs.Primitives.{strip_count, quads_count}
+use Rattle.list.specs.Keys.{top_keys, draw_keys, output_words, cull_words, depth_test_words, blend_words}
 use Rattle.list.specs.Place.{Place, PassesBefore, place, told_as}
 
 abbrev pub Checks : Type 0
@@ -101,6 +105,41 @@ abbrev pub triangle_checks : ℕ → Data → Checks
 triangle_checks n value =
     length_check 3 (Some value) ∷ (index_checks n (at 0 value) ++ (index_checks n (at 1 value) ++ index_checks n (at 2 value)))
 
+-- where a vertex is written to lie
+abbrev pub position_written : Data → Position
+position_written value = record { x = unwrap_or (whole (at 0 value)) (pos 0); y = unwrap_or (whole (at 1 value)) (pos 0) }
+
+abbrev pub positions_written : Items → List Position
+positions_written no_items = []
+positions_written (item value rest) = position_written value ∷ positions_written rest
+
+-- the position that an index names
+abbrev pub corner_written : List Position → Option Data → Position
+corner_written positions index = slice_index_or positions (unsigned_abs (unwrap_or (whole index) (pos 0))) (record { x = pos 0; y = pos 0 })
+
+-- whether all four turns of the quad abcd pass the test
+abbrev pub each_turn : (ℤ → Bool) → Position → Position → Position → Position → Bool
+each_turn is_so a b c d = is_so (side a b c) && (is_so (side b c d) && (is_so (side c d a) && is_so (side d a b)))
+
+-- whether the quad abcd is strictly convex
+abbrev pub is_strictly_convex : Position → Position → Position → Position → Bool
+is_strictly_convex a b c d = each_turn (λ turn. int_lt (pos 0) turn) a b c d || each_turn (λ turn. int_lt turn (pos 0)) a b c d
+
+-- a quad over n vertices at these positions
+abbrev pub quad_checks : ℕ → List Position → Data → Checks
+quad_checks n positions value =
+    let corner : ℕ → Position = λ i. corner_written positions (at i value) in
+    length_check 4 (Some value)
+    ∷ (index_checks n (at 0 value) ++ (index_checks n (at 1 value) ++ (index_checks n (at 2 value) ++ (index_checks n (at 3 value)
+    ++ place (not (is_strictly_convex (corner 0) (corner 1) (corner 2) (corner 3))) NotConvex ∷ []))))
+
+-- the same over vertices that were read
+abbrev pub quad_checks_over : List Vertex → Data → Checks
+quad_checks_over vertices = quad_checks (length vertices) (map (λ v. v.at) vertices)
+
+abbrev pub strip_index_checks : ℕ → Data → Checks
+strip_index_checks n value = index_checks n (Some value)
+
 abbrev pub colour_checks : Option Data → Checks
 colour_checks value =
     length_check 3 value ∷ (channel_checks (element 0 value) ++ (channel_checks (element 1 value) ++ channel_checks (element 2 value)))
@@ -131,28 +170,71 @@ state_checks value =
     ++ (where_there sample_mask_checks (get (codes "sample_mask") value)
     ++ where_there scissor_checks (get (codes "scissor") value)))
 
-unfoldable pub vertices_checks : Data → Checks
-vertices_checks value = array_checks 65536 (Some value) ++ each vertex_checks (elements (Some value))
+unfoldable pub vertices_checks : Option Data → Checks
+vertices_checks value = array_checks 65536 value ++ each vertex_checks (elements value)
 
--- the triangles of a draw of n vertices, before which the draws have so many triangles
-unfoldable pub triangles_checks : ℕ → ℕ → Data → Checks
-triangles_checks earlier n value =
-    array_checks 65536 (Some value)
-    ++ place (nat_lt 65536 (earlier + count (Some value))) TooMany
-    ∷ each (triangle_checks n) (elements (Some value))
+-- so many triangles are too many where the draws before have so many
+abbrev pub sum_check : ℕ → ℕ → Place ReadKind
+sum_check earlier triangles = place (nat_lt 65536 (earlier + triangles)) TooMany
 
-abbrev pub part_checks : ℕ → Option Data → Option Data → Checks
-part_checks earlier None triangles = []
-part_checks earlier (Some vertices) None = []
-part_checks earlier (Some vertices) (Some triangles) = vertices_checks vertices ++ triangles_checks earlier (count (Some vertices)) triangles
+-- the triangle list of a draw of n vertices, before which the draws have so many triangles
+unfoldable pub triangles_checks : ℕ → ℕ → Option Data → Checks
+triangles_checks earlier n value = array_checks 65536 value ++ sum_check earlier (count value) ∷ each (triangle_checks n) (elements value)
+
+-- the triangle strip of such a draw
+unfoldable pub strip_checks : ℕ → ℕ → Option Data → Checks
+strip_checks earlier n value = array_checks 65538 value ++ sum_check earlier (strip_count (count value)) ∷ each (strip_index_checks n) (elements value)
+
+-- the quads of such a draw, whose vertices lie at these positions
+unfoldable pub quads_checks : ℕ → ℕ → List Position → Option Data → Checks
+quads_checks earlier n positions value =
+    array_checks 32768 value ++ sum_check earlier (quads_count (count value)) ∷ each (quad_checks n positions) (elements value)
+
+-- the primitives of such a draw, of which one list is there
+abbrev pub primitive_checks : ℕ → ℕ → List Position → Option Data → Option Data → Option Data → Checks
+primitive_checks earlier n positions triangles strip quads =
+    where_there (triangles_checks earlier n) triangles
+    ++ (where_there (strip_checks earlier n) strip ++ where_there (quads_checks earlier n positions) quads)
+
+abbrev pub part_checks : ℕ → Option Data → Option Data → Option Data → Option Data → Checks
+part_checks earlier vertices triangles strip quads =
+    where_there vertices_checks vertices
+    ++ primitive_checks earlier (count vertices) (positions_written (elements vertices)) triangles strip quads
+
+-- how many triangles the values of `triangles`, `strip` and `quads` are, of which one is there
+abbrev pub triangles_given : Option Data → Option Data → Option Data → ℕ
+triangles_given triangles strip quads = count triangles + strip_count (count strip) + quads_count (count quads)
+
+-- how many triangles a draw counts
+abbrev pub triangles_counted : Data → ℕ
+triangles_counted value = triangles_given (get (codes "triangles") value) (get (codes "strip") value) (get (codes "quads") value)
+
+-- whether none of the three values is there
+abbrev pub is_none_there : Option Data → Option Data → Option Data → Bool
+is_none_there triangles strip quads = is_none triangles && (is_none strip && is_none quads)
+
+-- whether more than one of the three is
+abbrev pub are_two_there : Option Data → Option Data → Option Data → Bool
+are_two_there triangles strip quads =
+    (is_some triangles && is_some strip) || ((is_some triangles && is_some quads) || (is_some strip && is_some quads))
+
+-- a draw without a list of primitives
+abbrev pub has_no_list : Data → Bool
+has_no_list value = is_none_there (get (codes "triangles") value) (get (codes "strip") value) (get (codes "quads") value)
+
+-- a draw with more than one
+abbrev pub has_two_lists : Data → Bool
+has_two_lists value = are_two_there (get (codes "triangles") value) (get (codes "strip") value) (get (codes "quads") value)
 
 -- the checks of a draw before which the draws have so many triangles
 abbrev pub draw_checks : ℕ → Data → Checks
 draw_checks earlier value =
     place (is_none (as_object value)) WrongKind
     ∷ place (has_other_key draw_keys (as_object value)) UnknownKey
-    ∷ place (is_absent (codes "vertices") value || is_absent (codes "triangles") value) MissingKey
-    ∷ (state_checks value ++ part_checks earlier (get (codes "vertices") value) (get (codes "triangles") value))
+    ∷ place (is_absent (codes "vertices") value || has_no_list value) MissingKey
+    ∷ place (has_two_lists value) TwoLists
+    ∷ (state_checks value
+    ++ part_checks earlier (get (codes "vertices") value) (get (codes "triangles") value) (get (codes "strip") value) (get (codes "quads") value))
 
 -- ---- the whole list
 
@@ -161,7 +243,8 @@ unfoldable pub clear_checks : Data → Checks
 clear_checks value =
     where_there sample_count_checks (get (codes "samples") value)
     ++ (where_there colour_checks (get (codes "clear") value)
-    ++ where_there depth_checks (get (codes "clear_depth") value))
+    ++ (where_there depth_checks (get (codes "clear_depth") value)
+    ++ where_there (word_checks output_words) (get (codes "output") value)))
 
 -- the checks of the top object, without those of the draws themselves
 unfoldable pub top_checks : Data → Checks
@@ -185,7 +268,7 @@ abbrev pub draw_places : ℕ → ℕ → Items → List (Place ReadFault)
 draw_places number earlier no_items = []
 draw_places number earlier (item value rest) =
     told_as (in_draw number) (draw_checks earlier value)
-    ++ draw_places (number + 1) (earlier + count (get (codes "triangles") value)) rest
+    ++ draw_places (number + 1) (earlier + triangles_counted value) rest
 
 abbrev pub value_places : Data → List (Place ReadFault)
 value_places value = told_as outside (top_checks value) ++ draw_places 0 0 (elements (get (codes "draws") value))

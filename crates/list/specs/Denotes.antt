@@ -14,8 +14,11 @@ use Rattle.shade.specs.declared.depth.DepthTest.TheVariants as test
 use Rattle.shade.specs.declared.sample.Merge.{Merge}
 use Rattle.shade.specs.declared.state.State.{State}
 use Rattle.list.specs.declared.draw.Vertex.{Vertex}
+use Rattle.list.specs.declared.output.Output.{Output}
+use Rattle.list.specs.declared.output.Output.TheVariants as output
 use Rattle.list.specs.Json.{json_of, whole, text, truth, array_of, element, elements, length_of, has_other_key}
-use Rattle.list.specs.Keys.{top_keys, draw_keys, cull_word, depth_test_word, blend_word}
+use Rattle.list.specs.Keys.{top_keys, draw_keys, output_word, cull_word, depth_test_word, blend_word}
+use Rattle.list.specs.Primitives.{PrimitiveListing, triangle_list, triangle_strip, quad_list, count_of_triangles, IsConvexOver}
 use Rattle.list.specs.Listing.{DrawListing, Listing, scene_of}
 use Rattle.list.specs.Scene.{Scene}
 
@@ -87,6 +90,30 @@ pub record IsTriangle (n : ℕ) (value : Data) (triangle : List ℕ) : Type 0 wh
   pub second : IsIndex n (at 1 value) (slice_index triangle 1)
   pub third : IsIndex n (at 2 value) (slice_index triangle 2)
 
+-- The value is the number of one of n vertices in a strip.
+abbrev pub IsStripIndex : ℕ → Data → ℕ → Type 0
+IsStripIndex n value k = IsIndex n (Some value) k
+
+-- The value is [a, b, c, d], the numbers of four of the vertices, which are the corners of a strictly convex quad.
+pub record IsQuad (vertices : List Vertex) (value : Data) (quad : List ℕ) : Type 0 where
+  pub array : length_of (Some value) ≡ Some 4
+  pub indices : length quad ≡ 4
+  pub first : IsIndex (length vertices) (at 0 value) (slice_index quad 0)
+  pub second : IsIndex (length vertices) (at 1 value) (slice_index quad 1)
+  pub third : IsIndex (length vertices) (at 2 value) (slice_index quad 2)
+  pub fourth : IsIndex (length vertices) (at 3 value) (slice_index quad 3)
+  pub convex : IsConvexOver vertices quad
+
+-- The primitives of a draw with these vertices, where its keys `triangles`, `strip` and `quads` have these values: one of
+-- the three is there, and it is this triangle list, triangle strip or list of quads.
+abbrev pub IsPrimitives : List Vertex → Option Data → Option Data → Option Data → PrimitiveListing → Type 0
+IsPrimitives vertices triangles strip quads (triangle_list found) =
+    IsArrayOf 65536 (IsTriangle (length vertices)) triangles found × (strip ≡ None) × (quads ≡ None)
+IsPrimitives vertices triangles strip quads (triangle_strip found) =
+    IsArrayOf 65538 (IsStripIndex (length vertices)) strip found × (triangles ≡ None) × (quads ≡ None)
+IsPrimitives vertices triangles strip quads (quad_list found) =
+    IsArrayOf 32768 (IsQuad vertices) quads found × (triangles ≡ None) × (strip ≡ None)
+
 -- ---- the state of a draw
 
 abbrev pub IsCull : Option Data → Cull → Type 0
@@ -144,7 +171,10 @@ pub record IsDraw (picture : PixelBox) (value : Data) (draw : DrawListing) : Typ
   pub keys : has_other_key draw_keys (as_object value) ≡ false
   pub state : IsState picture value draw.state
   pub vertices : IsArrayOf 65536 IsVertex (get (codes "vertices") value) draw.vertices
-  pub triangles : IsArrayOf 65536 (IsTriangle (length draw.vertices)) (get (codes "triangles") value) draw.triangles
+  pub primitives : IsPrimitives draw.vertices (get (codes "triangles") value) (get (codes "strip") value) (get (codes "quads") value) draw.primitives
+
+abbrev pub IsOutput : Option Data → Output → Type 0
+IsOutput value output = text value ≡ Some (output_word output)
 
 abbrev pub IsSampleCount : Option Data → SampleCount → Type 0
 IsSampleCount value n = whole value ≡ Some (pos (count_of n))
@@ -169,8 +199,9 @@ pub record IsListing (value : Data) (l : Listing) : Type 0 where
   pub samples : OrDefault samples.One IsSampleCount (get (codes "samples") value) l.count
   pub clear : OrDefault (0 ∷ 0 ∷ 0 ∷ []) IsClearColour (get (codes "clear") value) (l.clear.r ∷ l.clear.g ∷ l.clear.b ∷ [])
   pub clear_depth : OrDefault 65535 IsDepthNumber (get (codes "clear_depth") value) l.clear.z
+  pub output : OrDefault output.Color IsOutput (get (codes "output") value) l.output
   pub draws : IsArrayOf 1024 (IsDraw (picture_box l.width l.height)) (get (codes "draws") value) l.draws
-  pub triangles : sum_by (λ d. length d.triangles) l.draws ≤ 65536
+  pub triangles : sum_by (λ d. count_of_triangles d.primitives) l.draws ≤ 65536
 
 -- The value is the draw list of this scene: its triangles in draw order, each with the vertices that its indices name and the
 -- state of its draw.

@@ -1,7 +1,7 @@
 -- The numbers and names of the faults of a draw list.
 use Rattle.std.specs.Prelude.{ℕ, List, codes}
 use Rattle.list.specs.declared.fault.ReadKind.{ReadKind}
-use Rattle.list.specs.declared.fault.ReadKind.TheVariants.{NotJson, UnknownKey, MissingKey, WrongKind, OutOfRange, BadIndex, TooMany, OutOfMemory}
+use Rattle.list.specs.declared.fault.ReadKind.TheVariants.{NotJson, UnknownKey, MissingKey, WrongKind, OutOfRange, BadIndex, TooMany, OutOfMemory, TwoLists, NotConvex}
 
 abbrev pub number_of : ReadKind → ℕ
 number_of NotJson = 1
@@ -12,6 +12,8 @@ number_of OutOfRange = 5
 number_of BadIndex = 6
 number_of TooMany = 7
 number_of OutOfMemory = 8
+number_of TwoLists = 9
+number_of NotConvex = 10
 
 abbrev pub name_of : ReadKind → List ℕ
 name_of NotJson = codes "NotJson"
@@ -22,3 +24,5 @@ name_of OutOfRange = codes "OutOfRange"
 name_of BadIndex = codes "BadIndex"
 name_of TooMany = codes "TooMany"
 name_of OutOfMemory = codes "OutOfMemory"
+name_of TwoLists = codes "TwoLists"
+name_of NotConvex = codes "NotConvex"

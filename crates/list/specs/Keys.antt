@@ -4,14 +4,23 @@ use Rattle.grid.specs.declared.cull.Cull.{Cull}
 use Rattle.grid.specs.declared.cull.Cull.TheVariants as cull
 use Rattle.shade.specs.declared.depth.DepthTest.{DepthTest}
 use Rattle.shade.specs.declared.depth.DepthTest.TheVariants as test
+use Rattle.list.specs.declared.output.Output.{Output}
+use Rattle.list.specs.declared.output.Output.TheVariants as output
 
 abbrev pub top_keys : List (List ℕ)
-top_keys = codes "width" ∷ codes "height" ∷ codes "samples" ∷ codes "clear" ∷ codes "clear_depth" ∷ codes "draws" ∷ []
+top_keys = codes "width" ∷ codes "height" ∷ codes "samples" ∷ codes "clear" ∷ codes "clear_depth" ∷ codes "output" ∷ codes "draws" ∷ []
 
 abbrev pub draw_keys : List (List ℕ)
 draw_keys =
     codes "cull" ∷ codes "depth_test" ∷ codes "depth_write" ∷ codes "blend" ∷ codes "write" ∷ codes "sample_mask" ∷ codes "scissor"
-    ∷ codes "vertices" ∷ codes "triangles" ∷ []
+    ∷ codes "vertices" ∷ codes "triangles" ∷ codes "strip" ∷ codes "quads" ∷ []
+
+abbrev pub output_word : Output → List ℕ
+output_word output.Color = codes "color"
+output_word output.Depth = codes "depth"
+
+abbrev pub output_words : List (List ℕ)
+output_words = output_word output.Color ∷ output_word output.Depth ∷ []
 
 abbrev pub cull_word : Cull → List ℕ
 cull_word cull.None = codes "none"

@@ -1,3 +1,4 @@
+pub mod Primitives
 pub mod Listing
 pub mod Scene
 pub mod Rows
@@ -12,3 +13,6 @@ pub mod Place
 pub mod Checks
 pub mod Denotes
 pub mod Header
+pub mod Given
+pub mod Took
+pub mod Drafted

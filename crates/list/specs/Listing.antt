@@ -1,24 +1,27 @@
 -- What a draw list holds, without where it lies in memory.
-use Rattle.std.specs.Prelude.{ℕ, ◌≤◌, ◌<◌, List, [], ◌∷◌, map, length, sum_by, slice_index, slice_index_or, pos}
+use Rattle.std.specs.Prelude.{ℕ, ◌≤◌, List, [], ◌∷◌, map, length, sum_by, slice_index, slice_index_or, pos}
 use Rattle.std.specs.List.{All, flat_map}
 use Rattle.grid.specs.declared.sample_count.SampleCount.{SampleCount}
 use Rattle.shade.specs.declared.sample.Sample.{Sample}
 use Rattle.list.specs.declared.draw.Vertex.{Vertex}
 use Rattle.shade.specs.declared.state.State.{State}
 use Rattle.list.specs.declared.draw.Draw.{Draw}
+use Rattle.list.specs.declared.output.Output.{Output}
 use Rattle.shade.specs.declared.placed.Placed.{Placed}
+use Rattle.list.specs.Primitives.{PrimitiveListing, triangles_of, count_of_triangles, AreOver, primitive_listing}
 use Rattle.list.specs.Scene.{Scene}
 
 pub record DrawListing : Type 0 where
   pub state : State
   pub vertices : List Vertex
-  pub triangles : List (List ℕ)
+  pub primitives : PrimitiveListing
 
 pub record Listing : Type 0 where
   pub width : ℕ
   pub height : ℕ
   pub count : SampleCount
   pub clear : Sample
+  pub output : Output
   pub draws : List DrawListing
 
 -- The vertex of this number; the origin past the end, which no triangle of a draw list names.
@@ -40,28 +43,29 @@ placed d indices =
     triangle_of d.state (vertex_of d (slice_index indices 0)) (vertex_of d (slice_index indices 1)) (vertex_of d (slice_index indices 2))
 
 abbrev pub placed_all : DrawListing → List Placed
-placed_all d = map (placed d) d.triangles
+placed_all d = map (placed d) (triangles_of d.primitives)
 
--- The triangles of a draw list in draw order: draw by draw, and in a draw as they are listed.
+-- The triangles of a draw list in draw order: draw by draw, and in a draw as its primitives are listed.
 abbrev pub scene_of : Listing → Scene
 scene_of l = record {
   width = l.width;
   height = l.height;
   count = l.count;
   clear = l.clear;
+  output = l.output;
   triangles = flat_map placed_all l.draws;
 }
 
 -- The limits of a draw (this project's).
 pub record IsDrawWithinLimits (d : DrawListing) : Type 0 where
   pub vertices : length d.vertices ≤ 65536
-  pub indices : All (λ triangle. All (λ k. k < length d.vertices) triangle) d.triangles
+  pub primitives : AreOver d.vertices d.primitives
 
 -- The limits of the draws of a draw list (this project's). The triangles are those of all draws together, so no draw has more.
 pub record AreWithinLimits (draws : List DrawListing) : Type 0 where
   pub number : length draws ≤ 1024
   pub each : All IsDrawWithinLimits draws
-  pub triangles : sum_by (λ d. length d.triangles) draws ≤ 65536
+  pub triangles : sum_by (λ d. count_of_triangles d.primitives) draws ≤ 65536
 
 -- The limits of a draw list (this project's).
 pub record IsWithinLimits (l : Listing) : Type 0 where
@@ -73,8 +77,8 @@ pub record IsWithinLimits (l : Listing) : Type 0 where
 
 -- The listing of a draw in memory.
 abbrev pub draw_listing : Draw → DrawListing
-draw_listing d = record { state = d.state; vertices = d.vertices.items; triangles = d.triangles.items }
+draw_listing d = record { state = d.state; vertices = d.vertices.items; primitives = primitive_listing d.primitives }
 
--- The listing of draws in memory, with the picture's size, samples and clear values.
-abbrev pub listing_of : ℕ → ℕ → SampleCount → Sample → List Draw → Listing
-listing_of width height count clear draws = record { width = width; height = height; count = count; clear = clear; draws = map draw_listing draws }
+-- The listing of draws in memory, with the picture's size, samples, clear values and output.
+abbrev pub listing_of : ℕ → ℕ → SampleCount → Sample → Output → List Draw → Listing
+listing_of width height count clear output draws = record { width = width; height = height; count = count; clear = clear; output = output; draws = map draw_listing draws }

@@ -5,7 +5,7 @@ use Rattle.list.specs.Starts.{AreStarts}
 
 -- What a draw list in memory holds.
 abbrev pub listing : Inside → Listing
-listing l = listing_of l.width l.height l.count l.clear l.draws.items
+listing l = listing_of l.width l.height l.count l.clear l.output l.draws.items
 
 -- What each draw list keeps: the limits, and for the look-ups where each draw starts and the rows of each triangle.
 pub record IsKept (l : Inside) : Type 0 where

@@ -1,8 +1,10 @@
-ghost use Rattle.std.specs.Prelude.{◌≡◌, ◌↔◌, IsTrue, ◌<◌, length, vec_len, slice_index_or, []};
+ghost use Rattle.std.specs.Prelude.{◌≡◌, ◌↔◌, IsTrue, ◌<◌, vec_len, slice_index_or, []};
 ghost use Rattle.std.specs.List.{All};
+ghost use Rattle.list.specs.Primitives.{primitive_listing, triangles_of, count_of_triangles};
 ghost use Rattle.list.specs.Listing.{draw_listing, placed, IsDrawWithinLimits};
 
 use crate::limits::MOST_VERTICES;
+use crate::primitives::Primitives;
 use grid::{Point, Tri};
 use shade::{Placed, State};
 
@@ -17,45 +19,45 @@ pub struct Vertex {
     pub rgba: [u8; 4],
 }
 
-/// Triangles over common vertices, and how they are drawn.
+/// Primitives over common vertices, and how they are drawn.
 #[derive(Debug, Drop)]
 pub struct Draw {
     /// How the triangles are drawn.
     pub state: State,
     /// The vertices.
     pub vertices: Vec<Vertex>,
-    /// The triangles in draw order, each by the numbers of its vertices.
-    pub triangles: Vec<[u32; 3]>,
-}
-
-/// Whether a triangle names vertices of a draw that has so many.
-fn names_vertices(triangle: &[u32; 3], vertices: usize) -> bool
-    ensures { IsTrue result ↔ All (λ k. k < vertices) triangle.now }
-{
-    triangle.iter().all(|number| (*number as usize) < vertices)
+    /// The primitives, by the numbers of their vertices.
+    pub primitives: Primitives,
 }
 
 impl Draw {
-    /// Whether the draw is within the limits of a draw: 65,536 vertices, and triangles of these alone.
+    /// Whether the draw is within the limits of a draw: 65,536 vertices, primitives of these alone, and
+    /// strictly convex quads.
     pub(crate) fn is_within_limits(&self) -> bool
         ensures { IsTrue result ↔ IsDrawWithinLimits (draw_listing self.now) }
     {
-        let vertices = self.vertices.len();
-        if vertices > MOST_VERTICES {
+        if self.vertices.len() > MOST_VERTICES {
             return false;
         }
-        self.triangles
-            .iter()
-            .all(|triangle| names_vertices(triangle, vertices))
+        self.primitives.are_over(&self.vertices)
     }
 
     /// The triangle of this number, with its vertices and the state.
     pub(crate) fn triangle(&self, number: usize) -> Placed
-        requires number { number < vec_len self.now.triangles }
+        requires number { number < count_of_triangles (primitive_listing self.now.primitives) }
         requires limits { IsDrawWithinLimits (draw_listing self.now) }
-        ensures { result ≡ placed (draw_listing self.now) (slice_index_or self.now.triangles.items number []) }
+        ensures { let triangles = triangles_of (primitive_listing self.now.primitives) in
+            result ≡ placed (draw_listing self.now) (slice_index_or triangles number []) }
     {
-        let [a, b, c] = self.triangles[number];
+        self.place(self.primitives.triangle(number))
+    }
+
+    /// The triangle of these three vertices, with the state.
+    fn place(&self, indices: [u32; 3]) -> Placed
+        requires { All (λ k. k < vec_len self.now.vertices) indices }
+        ensures { result ≡ placed (draw_listing self.now) indices }
+    {
+        let [a, b, c] = indices;
         let a = self.vertices[a as usize];
         let b = self.vertices[b as usize];
         let c = self.vertices[c as usize];

@@ -4,6 +4,7 @@ ghost use Rattle.list.specs.Rows.{IsRowSpan};
 
 use crate::draw::Draw;
 use crate::limits::{are_within_limits, is_side};
+use crate::output::Output;
 use crate::rows::{RowSpan, rows_of};
 use crate::starts::{draw_of, starts_of};
 use grid::{OutOfMemory, SampleCount};
@@ -11,15 +12,16 @@ use shade::{Placed, Sample};
 use std::alloc::Global;
 use std::marker::Model;
 
-/// Draws in their order, and the picture's size, samples and clear values. It is within the limits of a draw list: a picture
-/// of 1 to 4096 pixels a side, at most 1,024 draws, at most 65,536 vertices a draw, at most 65,536 triangles together, and
-/// triangles that name vertices of their draw alone.
+/// Draws in their order, and the picture's size, samples, clear values and output. It is within the limits of a draw list: a
+/// picture of 1 to 4096 pixels a side, at most 1,024 draws, at most 65,536 vertices a draw, at most 65,536 triangles together,
+/// primitives that name vertices of their draw alone, and strictly convex quads.
 #[derive(Debug, Drop)]
 pub struct DrawList {
     width: u32,
     height: u32,
     count: SampleCount,
     clear: Sample,
+    output: Output,
     draws: Vec<Draw>,
     /// The number of each draw's first triangle.
     starts: Vec<u32>,
@@ -57,16 +59,17 @@ impl DrawList {
         height: u32,
         count: SampleCount,
         clear: Sample,
+        output: Output,
         draws: Vec<Draw>,
     ) -> Result<DrawList, ListFault>
-        ensures scene { IfOk result (λ list. list ≡ scene_of (listing_of width height count clear draws.items)) }
-        ensures limits { IfOk result (λ _. IsWithinLimits (listing_of width height count clear draws.items)) }
-        ensures past_limit { (result ≡ Err ListFault.PastLimit) ↔ ¬ IsWithinLimits (listing_of width height count clear draws.items) }
+        ensures scene { IfOk result (λ list. list ≡ scene_of (listing_of width height count clear output draws.items)) }
+        ensures limits { IfOk result (λ _. IsWithinLimits (listing_of width height count clear output draws.items)) }
+        ensures past_limit { (result ≡ Err ListFault.PastLimit) ↔ ¬ IsWithinLimits (listing_of width height count clear output draws.items) }
     {
         if !is_side(width) || !is_side(height) || !are_within_limits(&draws) {
             return Err(ListFault::PastLimit);
         }
-        match DrawList::within_limits(alloc, width, height, count, clear, draws) {
+        match DrawList::within_limits(alloc, width, height, count, clear, output, draws) {
             Ok(list) => Ok(list),
             Err(OutOfMemory) => Err(ListFault::OutOfMemory),
         }
@@ -79,10 +82,11 @@ impl DrawList {
         height: u32,
         count: SampleCount,
         clear: Sample,
+        output: Output,
         draws: Vec<Draw>,
     ) -> Result<DrawList, OutOfMemory>
-        requires { IsWithinLimits (listing_of width height count clear draws.items) }
-        ensures { IfOk result (λ list. list ≡ scene_of (listing_of width height count clear draws.items)) }
+        requires { IsWithinLimits (listing_of width height count clear output draws.items) }
+        ensures { IfOk result (λ list. list ≡ scene_of (listing_of width height count clear output draws.items)) }
     {
         let starts = starts_of(alloc, &draws)?;
         let rows = rows_of(alloc, &draws)?;
@@ -91,6 +95,7 @@ impl DrawList {
             height,
             count,
             clear,
+            output,
             draws,
             starts,
             rows,
@@ -129,6 +134,13 @@ impl DrawList {
         self.clear
     }
 
+    /// What the picture shows.
+    pub fn output(&self) -> Output
+        ensures { result ≡ self.now.output }
+    {
+        self.output
+    }
+
     /// How many triangles all draws have together.
     pub fn triangles(&self) -> usize
         ensures value { result ≡ length self.now.triangles }
@@ -137,8 +149,8 @@ impl DrawList {
         self.rows.len()
     }
 
-    /// The triangle of this number in draw order: draw by draw, and in a draw as they are listed. It takes a binary search
-    /// over the draws.
+    /// The triangle of this number in draw order: draw by draw, and in a draw as its primitives are listed. It takes a binary
+    /// search over the draws.
     pub fn triangle(&self, number: usize) -> Placed
         requires { number < length self.now.triangles }
         ensures { slice_get self.now.triangles number ≡ Some result }

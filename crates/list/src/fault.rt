@@ -13,12 +13,16 @@ pub enum ReadKind {
     WrongKind,
     /// A number is outside of its range, or a text is none of the words.
     OutOfRange,
-    /// A triangle names a vertex that its draw does not have.
+    /// A primitive names a vertex that its draw does not have.
     BadIndex,
     /// There are more draws, vertices or triangles than a draw list may have.
     TooMany,
     /// A growth of memory was refused.
     OutOfMemory,
+    /// A draw has more than one list of primitives.
+    TwoLists,
+    /// A quad is not strictly convex.
+    NotConvex,
 }
 
 impl ReadKind {
@@ -38,6 +42,8 @@ impl ReadKind {
             ReadKind::BadIndex => 6,
             ReadKind::TooMany => 7,
             ReadKind::OutOfMemory => 8,
+            ReadKind::TwoLists => 9,
+            ReadKind::NotConvex => 10,
         }
     }
 
@@ -54,6 +60,8 @@ impl ReadKind {
             ReadKind::BadIndex => "BadIndex",
             ReadKind::TooMany => "TooMany",
             ReadKind::OutOfMemory => "OutOfMemory",
+            ReadKind::TwoLists => "TwoLists",
+            ReadKind::NotConvex => "NotConvex",
         }
     }
 }

@@ -5,13 +5,18 @@ mod draw;
 mod draw_list;
 mod fault;
 mod limits;
+mod output;
+mod primitives;
 mod reader;
 mod rows;
 mod starts;
+mod tokens;
 
 pub use draw::{Draw, Vertex};
 pub use draw_list::{DrawList, ListFault};
 pub use fault::{ReadFault, ReadKind};
+pub use output::Output;
+pub use primitives::Primitives;
 pub use reader::{MOST_BYTES, read};
 pub use rows::RowSpan;
 pub use shade::{Placed, State};

@@ -15,6 +15,12 @@ pub(crate) const MOST_VERTICES: usize = 65_536;
 /// The most triangles of all draws together, and so of one.
 pub(crate) const MOST_TRIANGLES: usize = 65_536;
 
+/// The most indices of a strip, which has two triangles less.
+pub(crate) const MOST_STRIP_INDICES: usize = 65_538;
+
+/// The most quads, which have two triangles each.
+pub(crate) const MOST_QUADS: usize = 32_768;
+
 /// Whether so many pixels are within the limits of a side of a picture.
 pub(crate) fn is_side(pixels: u32) -> bool
     ensures { IsTrue result ↔ ((1 ≤ pixels) × (pixels ≤ 4096)) }
@@ -34,10 +40,11 @@ pub(crate) fn are_within_limits(draws: &[Draw]) -> bool
         if !draw.is_within_limits() {
             return false;
         }
-        if draw.triangles.len() > MOST_TRIANGLES - total {
+        let triangles = draw.primitives.triangles();
+        if triangles > MOST_TRIANGLES - total {
             return false;
         }
-        total += draw.triangles.len();
+        total += triangles;
     }
     true
 }

@@ -4,6 +4,7 @@ ghost use Rattle.list.specs.declared.fault.ReadKind.TheVariants.{NotJson, OutOfM
 ghost use Rattle.serde_json.specs.Errors.{IsMemory};
 ghost use Rattle.list.specs.Json.{json_of};
 ghost use Rattle.list.specs.Place.{ReadsAll, IsFirstFault, PassesBefore};
+ghost use Rattle.list.specs.Primitives.{count_of_triangles};
 ghost use Rattle.list.specs.Listing.{draw_listing};
 ghost use Rattle.list.specs.Scene.{Scene};
 ghost use Rattle.list.specs.Checks.{draw_places, value_places, places, Reaches};
@@ -12,9 +13,13 @@ ghost use Rattle.list.specs.Denotes.{Each, picture_box, IsDraw, IsDrawList, Deno
 mod array;
 mod draw;
 mod header;
+mod index;
 mod keys;
 mod number;
+mod primitives;
+mod quads;
 mod state;
+mod strip;
 #[cfg(test)]
 mod tests;
 mod triangles;
@@ -25,6 +30,7 @@ use crate::draw::Draw;
 use crate::draw_list::DrawList;
 use crate::fault::{ReadFault, ReadKind};
 use crate::limits::MOST_TRIANGLES;
+use crate::tokens::read_list;
 use draw::read_draw;
 use grid::PixelBox;
 use header::Header;
@@ -39,7 +45,7 @@ fn draws_of(alloc: Global, list: &[Value], picture: PixelBox) -> Result<Vec<Draw
     requires { length list.now ≤ 1024 }
     ensures told { let items = items_view list.now in ReadsAll (draw_places 0 0 items)
         (λ found. let draws = map draw_listing found.items in
-        Each (IsDraw picture) items draws × (sum_by (λ d. length d.triangles) draws ≤ MOST_TRIANGLES)) result }
+        Each (IsDraw picture) items draws × (sum_by (λ d. count_of_triangles d.primitives) draws ≤ MOST_TRIANGLES)) result }
     ensures reached { IfErr result (λ fault. IfSome fault.draw
         (λ n. (n < length list.now) × PassesBefore n (draw_places 0 0 (items_view list.now)))) }
 {
@@ -52,7 +58,7 @@ fn draws_of(alloc: Global, list: &[Value], picture: PixelBox) -> Result<Vec<Draw
             Ok(next) => next,
             Err(kind) => return Err(ReadFault::in_draw(kind, number as u32)),
         };
-        earlier += next.triangles.len();
+        earlier += next.primitives.triangles();
         found.push_reserved(next);
     }
     Ok(found)
@@ -84,7 +90,15 @@ fn read_value(alloc: Global, value: &Value) -> Result<DrawList, ReadFault>
     };
     let (width, height) = (header.width, header.height);
     let draws = draws_of(alloc, header.draws, picture_of(width, height))?;
-    match DrawList::within_limits(alloc, width, height, header.count, header.clear, draws) {
+    match DrawList::within_limits(
+        alloc,
+        width,
+        height,
+        header.count,
+        header.clear,
+        header.output,
+        draws,
+    ) {
         Ok(list) => Ok(list),
         Err(_) => Err(ReadFault::outside(ReadKind::OutOfMemory)),
     }
@@ -101,13 +115,31 @@ fn kind_of(error: &Error) -> ReadKind
     }
 }
 
+/// The draw list that `serde_json`'s value of the bytes denotes, or the first fault.
+pub(crate) fn read_by_value(alloc: Global, bytes: &[u8]) -> Result<DrawList, ReadFault>
+    requires { length bytes.now ≤ MOST_BYTES }
+    ensures ok { IfOk result (Denotes bytes.now) }
+    ensures only { (list : Scene) → Denotes bytes.now list
+        → MatchResult result (λ found. found ≡ list) (λ fault. fault.kind ≡ OutOfMemory) }
+    ensures first { IfErr result (λ fault. fault.kind ≢ OutOfMemory
+        → IsFirstFault (places (json_of bytes.now)) fault) }
+    ensures reached { IfErr result (Reaches (json_of bytes.now)) }
+{
+    let value = match Value::from_slice(alloc, bytes) {
+        Ok(value) => value,
+        Err(error) => return Err(ReadFault::outside(kind_of(&error))),
+    };
+    read_value(alloc, &value)
+}
+
 /// Reads a draw list from JSON (RFC 8259, as `serde_json` reads it; the keys, ranges and defaults are this project's format).
 ///
 /// What is told is the first check that fails, in this order. Whether the bytes are JSON. The top object: its kind, a key that
-/// it should not have, a key that it lacks, then `width`, `height`, `samples`, `clear`, `clear_depth` and `draws`. Each draw in
-/// turn: its kind, a key that it should not have, a key that it lacks, then `cull`, `depth_test`, `depth_write`, `blend`,
-/// `write`, `sample_mask`, `scissor`, `vertices` and `triangles`. The kind of a value comes before its range, the number of
-/// elements before the elements. A fault of a draw tells the draw's number.
+/// it should not have, a key that it lacks, then `width`, `height`, `samples`, `clear`, `clear_depth`, `output` and `draws`.
+/// Each draw in turn: its kind, a key that it should not have, a key that it lacks, a second list of primitives, then `cull`,
+/// `depth_test`, `depth_write`, `blend`, `write`, `sample_mask`, `scissor`, `vertices`, and `triangles`, `strip` or `quads`. The
+/// kind of a value comes before its range, the number of elements before the elements, the indices of a quad before its shape.
+/// A fault of a draw tells the draw's number.
 ///
 /// `OutOfMemory` is told where a growth of memory was refused, in place of whatever would have come later: with the number of
 /// the draw that was being read, and without one before the first draw and after the last. Nothing of the bytes is kept.
@@ -124,9 +156,8 @@ pub fn read(alloc: Global, bytes: &[u8]) -> Result<DrawList, ReadFault>
     // Want of memory too names a draw only where all before that draw is right.
     ensures reached { IfErr result (Reaches (json_of bytes.now)) }
 {
-    let value = match Value::from_slice(alloc, bytes) {
-        Ok(value) => value,
-        Err(error) => return Err(ReadFault::outside(kind_of(&error))),
-    };
-    read_value(alloc, &value)
+    if let Some(list) = read_list(alloc, bytes) {
+        return Ok(list);
+    }
+    read_by_value(alloc, bytes)
 }

@@ -73,8 +73,9 @@ fn push_rows(draw: &Draw, spans: &mut Vec<RowSpan>) -> Result<(), AllocError>
     requires { IsDrawWithinLimits (draw_listing draw.now) }
     ensures { (before : List Placed) → rows.AreRows before spans.old.items → OnOk result (rows.AreRows (before ++ placed_all (draw_listing draw.now)) spans.new.items) }
 {
-    spans.reserve(draw.triangles.len())?;
-    for number in 0..draw.triangles.len() {
+    let triangles = draw.primitives.triangles();
+    spans.reserve(triangles)?;
+    for number in 0..triangles {
         spans.push(RowSpan::of(&draw.triangle(number).tri))?;
     }
     Ok(())

@@ -1,5 +1,6 @@
 ghost use Rattle.std.specs.Prelude.{ℕ, ◌<◌, ◌≤◌, length, slice_index, IfOk, sum_by};
 ghost use Rattle.std.specs.List.Sorted.{IsNonDecreasing};
+ghost use Rattle.list.specs.Primitives.{primitive_listing, count_of_triangles};
 ghost use Rattle.list.specs.Starts.{AreStarts};
 
 use crate::draw::Draw;
@@ -7,14 +8,14 @@ use std::alloc::{AllocError, Global};
 
 /// The number of each draw's first triangle.
 pub(crate) fn starts_of(alloc: Global, draws: &[Draw]) -> Result<Vec<u32>, AllocError>
-    requires { sum_by (λ d. length d.triangles.items) draws.now ≤ 65536 }
+    requires { sum_by (λ d. count_of_triangles (primitive_listing d.primitives)) draws.now ≤ 65536 }
     ensures { IfOk result (λ starts. AreStarts draws.now starts.items) }
 {
     let mut starts = Vec::with_capacity(alloc, draws.len())?;
     let mut next = 0;
     for draw in draws {
         starts.push(next)?;
-        next += draw.triangles.len() as u32;
+        next += draw.primitives.triangles() as u32;
     }
     Ok(starts)
 }

@@ -1,10 +1,10 @@
-ghost use Rattle.std.specs.Prelude.{◌≡◌, ◌<◌, ◌+◌, ◌*◌, ℕ, List, [], ◌∷◌, ◌++◌, IfOk, OnOk};
-ghost use Rattle.list.specs.Begun.{IsBegun};
+ghost use Rattle.std.specs.Prelude.{◌≡◌, ◌<◌, ◌+◌, ◌*◌, ◌/◌, ◌%◌, ℕ, List, [], ◌∷◌, ◌++◌, IfOk, OnOk};
+ghost use Rattle.list.specs.Begun.{AddsPixel, IsBegun};
 ghost use Rattle.list.specs.Picture.{IsPicture};
 
-use crate::pixel::{Colour, colour_at};
+use crate::pixel::{Colour, colour_at, end_at};
 use grid::OutOfMemory;
-use list::DrawList;
+use list::{DrawList, Output};
 use std::alloc::Global;
 
 /// Appends the bytes of a colour.
@@ -15,6 +15,26 @@ fn push_colour(colour: Colour, bytes: &mut Vec<u8>) -> Result<(), OutOfMemory>
     Ok(())
 }
 
+/// Appends the bytes of a depth, the more significant one first.
+fn push_depth(depth: u16, bytes: &mut Vec<u8>) -> Result<(), OutOfMemory>
+    ensures { OnOk result (bytes.new.items ≡ bytes.old.items ++ depth / 256 ∷ depth % 256 ∷ []) }
+{
+    bytes.extend_from_slice(&depth.to_be_bytes())?;
+    Ok(())
+}
+
+/// Appends the bytes of the pixel in column `px` and row `py`.
+fn push_pixel(list: &DrawList, px: u32, py: u32, bytes: &mut Vec<u8>) -> Result<(), OutOfMemory>
+    requires column { px < 4096 }
+    requires row { py < 4096 }
+    ensures { OnOk result (AddsPixel list.now px py bytes.old.items bytes.new.items) }
+{
+    match list.output() {
+        Output::Color => push_colour(colour_at(list, px, py), bytes),
+        Output::Depth => push_depth(end_at(list, px, py, 0).z, bytes),
+    }
+}
+
 /// Appends the row of the picture with this number to the rows above it.
 fn push_row(list: &DrawList, py: u32, bytes: &mut Vec<u8>) -> Result<(), OutOfMemory>
     requires row { py < 4096 }
@@ -22,12 +42,12 @@ fn push_row(list: &DrawList, py: u32, bytes: &mut Vec<u8>) -> Result<(), OutOfMe
     ensures { OnOk result (IsBegun list.now 0 0 list.now.width ((py + 1) * list.now.width) bytes.new.items) }
 {
     for px in 0..list.width() {
-        push_colour(colour_at(list, px, py), bytes)?;
+        push_pixel(list, px, py, bytes)?;
     }
     Ok(())
 }
 
-/// The bytes of the picture's rows.
+/// The bytes of the picture's rows: its colours, or its depths.
 pub fn render(alloc: Global, list: &DrawList) -> Result<Vec<u8>, OutOfMemory>
     ensures picture { IfOk result (λ bytes. IsPicture list.now bytes.items) }
     ensures only { IfOk result (λ bytes. (other : List ℕ) → IsPicture list.now other → other ≡ bytes.items) }

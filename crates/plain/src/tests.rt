@@ -1,6 +1,6 @@
 use crate::render;
 use grid::{Cull, PixelBox, Point, SampleCount};
-use list::{Draw, DrawList, State, Vertex};
+use list::{Draw, DrawList, Output, Primitives, State, Vertex};
 use shade::{DepthTest, Merge, Sample};
 use std::alloc::Global;
 use std::process::Abort;
@@ -61,12 +61,32 @@ impl Drawn {
                 },
             },
             vertices,
-            triangles: vec![in alloc; [0, 1, 2]]?,
+            primitives: Primitives::Triangles(vec![in alloc; [0, 1, 2]]?),
         })
     }
 }
 
-/// The bytes of the picture that these draws make.
+/// The bytes of the picture of colours or of depths that these draws make.
+fn shown(
+    rt: &impl Abort,
+    alloc: Global,
+    side: u32,
+    count: SampleCount,
+    output: Output,
+    drawn: &[Drawn],
+) -> Result<Vec<u8>, Fail> {
+    let mut draws = Vec::new(alloc);
+    for one in drawn {
+        draws.push(one.place(rt, alloc)?)?;
+    }
+    let list = DrawList::new(alloc, side, side, count, BLACK, output, draws).expect(
+        rt,
+        "within the limits",
+    );
+    Ok(render(alloc, &list)?)
+}
+
+/// The bytes of the colours that these draws make.
 fn picture(
     rt: &impl Abort,
     alloc: Global,
@@ -74,15 +94,32 @@ fn picture(
     count: SampleCount,
     drawn: &[Drawn],
 ) -> Result<Vec<u8>, Fail> {
-    let mut draws = Vec::new(alloc);
-    for one in drawn {
-        draws.push(one.place(rt, alloc)?)?;
+    shown(rt, alloc, side, count, Output::Color, drawn)
+}
+
+/// The bytes of the depths that these draws make.
+fn depths(
+    rt: &impl Abort,
+    alloc: Global,
+    side: u32,
+    count: SampleCount,
+    drawn: &[Drawn],
+) -> Result<Vec<u8>, Fail> {
+    shown(rt, alloc, side, count, Output::Depth, drawn)
+}
+
+/// A white triangle whose depths are stored.
+fn stored(corners: [(i32, i32); 3], depths: [u16; 3]) -> Drawn {
+    Drawn {
+        corners,
+        depths,
+        colours: [WHITE, WHITE, WHITE],
+        merge: Merge {
+            depth_write: true,
+            ..OPAQUE
+        },
+        sample_mask: 15,
     }
-    let list = DrawList::new(alloc, side, side, count, BLACK, draws).expect(
-        rt,
-        "within the limits",
-    );
-    Ok(render(alloc, &list)?)
 }
 
 #[test]
@@ -182,5 +219,57 @@ fn repeats_a_triangle(rt: HostRuntime) -> Result<(), Fail> {
     let bytes = picture(&rt, rt.alloc(), 3, SampleCount::One, &[half(), half()])?;
     let expected = b"\xC0\xC0\xC0\xC0\xC0\xC0\0\0\0\xC0\xC0\xC0\0\0\0\0\0\0\0\0\0\0\0\0\0\0\0";
     assert_eq!(rt; bytes.as_slice(), expected.as_slice());
+    Ok(())
+}
+
+#[test]
+fn shows_depths(rt: HostRuntime) -> Result<(), Fail> {
+    let drawn = stored(CORNER, [0, 3, 0]);
+    let bytes = depths(&rt, rt.alloc(), 3, SampleCount::One, &[drawn])?;
+    let expected = b"\0\0\0\x01\xFF\xFF\0\0\xFF\xFF\xFF\xFF\xFF\xFF\xFF\xFF\xFF\xFF";
+    assert_eq!(rt; bytes.as_slice(), expected.as_slice());
+    Ok(())
+}
+
+/// The numerator of the depth at the first sample is 255 * 24576, over 65536: 95.
+#[test]
+fn shows_the_depth_of_the_first_sample(rt: HostRuntime) -> Result<(), Fail> {
+    let drawn = stored([(0, 0), (256, 0), (0, 256)], [0, 255, 0]);
+    let bytes = depths(&rt, rt.alloc(), 1, SampleCount::Four, &[drawn])?;
+    assert_eq!(rt; bytes.as_slice(), b"\0\x5F".as_slice());
+    Ok(())
+}
+
+#[test]
+fn shows_no_depth_of_a_sample_that_is_masked(rt: HostRuntime) -> Result<(), Fail> {
+    let mut drawn = stored([(0, 0), (256, 0), (0, 256)], [0, 255, 0]);
+    drawn.sample_mask = 14;
+    let bytes = depths(&rt, rt.alloc(), 1, SampleCount::Four, &[drawn])?;
+    assert_eq!(rt; bytes.as_slice(), b"\xFF\xFF".as_slice());
+    Ok(())
+}
+
+#[test]
+fn shows_no_depth_that_is_not_stored(rt: HostRuntime) -> Result<(), Fail> {
+    let mut drawn = stored(CORNER, [7, 7, 7]);
+    drawn.merge.depth_write = false;
+    let bytes = depths(&rt, rt.alloc(), 1, SampleCount::One, &[drawn])?;
+    assert_eq!(rt; bytes.as_slice(), b"\xFF\xFF".as_slice());
+    Ok(())
+}
+
+#[test]
+fn shows_the_clear_depth_without_draws(rt: HostRuntime) -> Result<(), Fail> {
+    let bytes = depths(&rt, rt.alloc(), 1, SampleCount::Four, &[])?;
+    assert_eq!(rt; bytes.as_slice(), b"\xFF\xFF".as_slice());
+    Ok(())
+}
+
+/// 258 is 1 * 256 + 2.
+#[test]
+fn shows_the_more_significant_byte_first(rt: HostRuntime) -> Result<(), Fail> {
+    let drawn = stored(CORNER, [258, 258, 258]);
+    let bytes = depths(&rt, rt.alloc(), 1, SampleCount::One, &[drawn])?;
+    assert_eq!(rt; bytes.as_slice(), b"\x01\x02".as_slice());
     Ok(())
 }

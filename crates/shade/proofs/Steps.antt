@@ -22,25 +22,25 @@ rightward a b p r e = side-right a b p ∙ ap (λ z. side a b p +ℤ z) (sym e)
 
 -- ---- the change of a weighted sum
 -- a value times the size of a number of known sign
-scaled_over : (u : ℕ) (x : ℤ) → pos 0 ≤ℤ x → pos (u * unsigned_abs x) ≡ pos u *ℤ x
+pub scaled_over : (u : ℕ) (x : ℤ) → pos 0 ≤ℤ x → pos (u * unsigned_abs x) ≡ pos u *ℤ x
 scaled_over u (pos n) h = omega (arith, ints)
 scaled_over u (negsuc n) h = absurd (omega (arith, ints))
 
-scaled_under : (u : ℕ) (x : ℤ) → x ≤ℤ pos 0 → pos (u * unsigned_abs x) ≡ neg_ℤ (pos u *ℤ x)
+pub scaled_under : (u : ℕ) (x : ℤ) → x ≤ℤ pos 0 → pos (u * unsigned_abs x) ≡ neg_ℤ (pos u *ℤ x)
 scaled_under u (pos zero) h = omega (arith, ints)
 scaled_under u (pos (suc n)) h = absurd (omega (arith, ints))
 scaled_under u (negsuc n) h = omega (arith, ints)
 
 -- the sum of the values, each times the edge function of the opposite edge
-signed_sum : Position → Position → Position → Position → ℕ → ℕ → ℕ → ℤ
+unfoldable pub signed_sum : Position → Position → Position → Position → ℕ → ℕ → ℕ → ℤ
 signed_sum a b c p u v w = pos u *ℤ side b c p +ℤ pos v *ℤ side c a p +ℤ pos w *ℤ side a b p
 
-sum_over : (a b c p : Position) (u v w : ℕ) → pos 0 ≤ℤ side b c p → pos 0 ≤ℤ side c a p → pos 0 ≤ℤ side a b p → pos (weighted_sum a b c p u v w) ≡ signed_sum a b c p u v w
+pub sum_over : (a b c p : Position) (u v w : ℕ) → pos 0 ≤ℤ side b c p → pos 0 ≤ℤ side c a p → pos 0 ≤ℤ side a b p → pos (weighted_sum a b c p u v w) ≡ signed_sum a b c p u v w
 unfolding weighted_sum signed_sum
 sum_over a b c p u v w h k l =
     omega (arith, ints, scaled_over u (side b c p) h, scaled_over v (side c a p) k, scaled_over w (side a b p) l)
 
-sum_under : (a b c p : Position) (u v w : ℕ) → side b c p ≤ℤ pos 0 → side c a p ≤ℤ pos 0 → side a b p ≤ℤ pos 0 → pos (weighted_sum a b c p u v w) ≡ neg_ℤ (signed_sum a b c p u v w)
+pub sum_under : (a b c p : Position) (u v w : ℕ) → side b c p ≤ℤ pos 0 → side c a p ≤ℤ pos 0 → side a b p ≤ℤ pos 0 → pos (weighted_sum a b c p u v w) ≡ neg_ℤ (signed_sum a b c p u v w)
 unfolding weighted_sum signed_sum
 sum_under a b c p u v w h k l =
     omega (arith, ints, scaled_under u (side b c p) h, scaled_under v (side c a p) k, scaled_under w (side a b p) l)

@@ -7,5 +7,15 @@ pub mod Blend
 pub mod Merging
 pub mod Resolve
 pub mod Placed
-pub mod Interpolants
+pub mod Block
+pub mod Lanes
+pub mod Sources
+pub mod Way
 pub mod Ending
+pub mod Candidate
+pub mod Modulo
+pub mod Reciprocal
+pub mod Plane
+pub mod Slope
+pub mod Group
+pub mod AttributePlane

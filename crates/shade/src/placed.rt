@@ -2,8 +2,8 @@ ghost use Rattle.std.specs.Prelude.{◌≡◌, ◌<◌};
 ghost use Rattle.grid.specs.Triangle.{Covers};
 
 use crate::state::State;
-use grid::{Point, Tri};
 use crate::{Sample, Shaded, Weights, over, passes};
+use grid::{Point, Tri};
 
 /// A triangle as it is drawn: what its vertices have, in their order, and its draw's state.
 #[derive(Clone, Copy, Debug, PartialEq, Eq)]

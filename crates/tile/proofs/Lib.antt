@@ -1,11 +1,10 @@
 pub mod Places
 pub mod Parts
 pub mod Bits
-pub mod Runs
+pub mod Plane
 pub mod Planes
 pub mod Whole
 pub mod Waiting
 pub mod Ends
-pub mod Rows
 pub mod Shown
-pub mod Stepped
+pub mod Runs

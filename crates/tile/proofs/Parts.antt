@@ -1,13 +1,12 @@
 -- A triangle is drawn at one part of a tile after another.
-use Rattle.std.proofs.Common.{◌≡◌, ◌⊎◌, inl, inr, refl, ◌∙◌, ℕ, ◌+◌, ◌*◌, ◌<◌, ◌≢◌, List, length, slice_set, arith}
-use Rattle.std.proofs.lemmas.List.{get_or-set_same, get_or-set_other}
+use Rattle.std.proofs.Common.{◌⊎◌, inl, inr, refl, ◌∙◌, ℕ, ◌+◌, ◌*◌, List}
 use Rattle.shade.specs.declared.sample.Sample.{Sample}
+use Rattle.shade.specs.declared.block.BlockSamples.{BlockSamples}
 use Rattle.shade.specs.declared.placed.Placed.{Placed}
 use Rattle.shade.specs.Placed.{Meets, Draws}
 use Rattle.tile.specs.declared.tile.Tile.{Tile}
-use Rattle.tile.specs.Samples.{IsSampleOf, place_of, samples_of, stored}
+use Rattle.tile.specs.Samples.{IsSampleOf, stored}
 use Rattle.tile.specs.Drawing.{DrawsPart, DrawsTile, DrawsAt, KeepsAt}
-use Rattle.tile.proofs.Places.{IsAt, within, at_place}
 
 -- a triangle that does not meet a sample leaves it
 pub draws_missed : (t : Placed) (tile : Tile) (row column s : ℕ) (x : Sample) → ¬ Meets t tile.count (8 * tile.bx + column) (8 * tile.by + row) s → Draws t tile.count (8 * tile.bx + column) (8 * tile.by + row) s x x
@@ -15,40 +14,16 @@ draws_missed t tile row column s x n = record { met = λ m. absurd (n m); missed
 
 module _ (t : Placed) (tile : Tile) where
   -- a part that the triangle does not meet
-  pub missed_part : (part : ℕ → ℕ → ℕ → Type 0) (xs : List Sample)
+  pub missed_part : (part : ℕ → ℕ → ℕ → Type 0) (xs : List BlockSamples)
       → ((row column s : ℕ) → IsSampleOf tile row column s → part row column s → ¬ Meets t tile.count (8 * tile.bx + column) (8 * tile.by + row) s)
       → DrawsPart t tile part xs xs
   missed_part part xs n = record {
-    drawn = λ row column s h p. draws_missed t tile row column s (stored xs (place_of tile row column s)) (n row column s h p);
+    drawn = λ row column s h p. draws_missed t tile row column s (stored tile xs row column s) (n row column s h p);
     kept = λ row column s h p. refl;
   }
 
-  -- one sample
-  module _ (xs : List Sample) (x : Sample) (row column s : ℕ) (h : IsSampleOf tile row column s) (long : length xs ≡ samples_of tile.side tile.count) where
-    set : List Sample
-    set = slice_set xs (place_of tile row column s) x
-
-    here : stored set (place_of tile row column s) ≡ x
-    unfolding set
-    here = let below : place_of tile row column s < length xs = omega (arith, long, within tile row column s h) in get_or-set_same xs (place_of tile row column s) x _ below
-
-    drawn_at : Draws t tile.count (8 * tile.bx + column) (8 * tile.by + row) s (stored xs (place_of tile row column s)) x
-        → (row' column' s' : ℕ) → IsAt row column s row' column' s' → DrawsAt t tile xs set row' column' s'
-    drawn_at d row' column' s' at = rw (at.same_row, at.same_column, at.same_sample, here) d
-
-    elsewhere : (row' column' s' : ℕ) → IsSampleOf tile row' column' s' → ¬ IsAt row column s row' column' s' → KeepsAt tile xs set row' column' s'
-    unfolding set
-    elsewhere row' column' s' h' n =
-        let other : place_of tile row' column' s' ≢ place_of tile row column s = λ e. n (at_place tile row column s h row' column' s' h' e) in
-        get_or-set_other xs (place_of tile row column s) (place_of tile row' column' s') x _ other
-
-    pub one_drawn : Draws t tile.count (8 * tile.bx + column) (8 * tile.by + row) s (stored xs (place_of tile row column s)) x
-        → DrawsPart t tile (IsAt row column s) xs (slice_set xs (place_of tile row column s) x)
-    unfolding set
-    one_drawn d = record { drawn = λ row' column' s' h' at. drawn_at d row' column' s' at; kept = elsewhere }
-
   -- two parts that have no sample in common
-  module _ (P Q R : ℕ → ℕ → ℕ → Type 0) (a b c : List Sample) (first : DrawsPart t tile P a b) (second : DrawsPart t tile Q b c)
+  module _ (P Q R : ℕ → ℕ → ℕ → Type 0) (a b c : List BlockSamples) (first : DrawsPart t tile P a b) (second : DrawsPart t tile Q b c)
       (apart : (row column s : ℕ) → IsSampleOf tile row column s → P row column s → Q row column s → ⊥) where
     drawn_in : (row column s : ℕ) → IsSampleOf tile row column s → P row column s ⊎ Q row column s → DrawsAt t tile a c row column s
     drawn_in row column s h (inl p) =
@@ -68,7 +43,7 @@ module _ (t : Placed) (tile : Tile) where
     }
 
   -- the same part in other words
-  pub same_part : (P R : ℕ → ℕ → ℕ → Type 0) (a b : List Sample) → DrawsPart t tile P a b
+  pub same_part : (P R : ℕ → ℕ → ℕ → Type 0) (a b : List BlockSamples) → DrawsPart t tile P a b
       → ((row column s : ℕ) → IsSampleOf tile row column s → R row column s → P row column s)
       → ((row column s : ℕ) → IsSampleOf tile row column s → P row column s → R row column s)
       → DrawsPart t tile R a b
@@ -78,9 +53,9 @@ module _ (t : Placed) (tile : Tile) where
   }
 
   -- no sample at all
-  pub no_part : (part : ℕ → ℕ → ℕ → Type 0) (xs : List Sample) → ((row column s : ℕ) → IsSampleOf tile row column s → part row column s → ⊥) → DrawsPart t tile part xs xs
+  pub no_part : (part : ℕ → ℕ → ℕ → Type 0) (xs : List BlockSamples) → ((row column s : ℕ) → IsSampleOf tile row column s → part row column s → ⊥) → DrawsPart t tile part xs xs
   no_part part xs none = missed_part part xs (λ row column s h p. absurd (none row column s h p))
 
   -- the whole tile
-  pub whole_tile : (part : ℕ → ℕ → ℕ → Type 0) (a b : List Sample) → DrawsPart t tile part a b → ((row column s : ℕ) → IsSampleOf tile row column s → part row column s) → DrawsTile t tile a b
+  pub whole_tile : (part : ℕ → ℕ → ℕ → Type 0) (a b : List BlockSamples) → DrawsPart t tile part a b → ((row column s : ℕ) → IsSampleOf tile row column s → part row column s) → DrawsTile t tile a b
   whole_tile part a b d all row column s h = d.drawn row column s h (all row column s h)

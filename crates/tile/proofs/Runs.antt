@@ -1,143 +1,141 @@
--- Runs of neighbouring samples in a row.
-use Rattle.std.proofs.Common.{◌≡◌, ◌⊎◌, inl, inr, refl, ℕ, ◌+◌, ◌-◌, ◌*◌, ◌/◌, ◌^◌, ◌<◌, ◌≤◌, List, IsBitSet, div-one, arith}
+-- The bytes of eight pixels.
+use Rattle.std.proofs.Common.{◌≡◌, inl, inr, zero, suc, refl, sym, ap, subst, ◌∙◌, ℕ, ◌+◌, ◌*◌, ◌/◌, ◌%◌, ◌<◌, ◌≤◌, List, [], ◌∷◌, ◌++◌, length, take, slice_index, slice_index_or, slice_set, get_or-set_same, get_or-set_other, Result, Ok, Err, OnOk, length-take, length-set, arith}
 use Rattle.std.proofs.lemmas.Bool.{cases_lt}
+use Rattle.grid.specs.declared.sample_count.SampleCount.{SampleCount}
+use Rattle.grid.specs.declared.sample_count.SampleCount.TheVariants.{One, Four}
+use Rattle.shade.specs.declared.block.BlockSamples.{BlockSamples}
 use Rattle.shade.specs.declared.sample.Sample.{Sample}
-use Rattle.shade.specs.declared.placed.Placed.{Placed}
-use Rattle.shade.specs.Placed.{Meets}
+use Rattle.shade.specs.Block.{stored_at}
+use Rattle.shade.specs.Quotient.{IsQuotient}
+use Rattle.shade.specs.Resolve.{IsResolved}
+use Rattle.list.specs.Begun.{IsBegun, IsRun}
+use Rattle.list.specs.Picture.{IsPixel, IsColour, IsEnd, pixel_at, pixel_bytes}
+use Rattle.list.specs.Scene.{Scene}
+use Rattle.list.specs.declared.output.Output.{Output}
+use Rattle.list.specs.declared.output.Output.TheVariants.{Color, Depth}
+use Rattle.list.proofs.Begun.{begun_run}
+use Rattle.list.proofs.Pixels.{same_pixel, pixel_of_part, pixel_of_three, pixel_of_two, pixel_of_colour, pixel_of_depth}
 use Rattle.tile.specs.declared.tile.Tile.{Tile}
-use Rattle.tile.specs.Samples.{IsSampleOf}
-use Rattle.tile.specs.Drawing.{DrawsPart, DrawsAt, IsInRun, CoversAt, CoversRun, AreBitsOf}
-use Rattle.tile.proofs.Places.{IsAt}
-use Rattle.tile.proofs.Parts.{draws_missed, no_part, joined, same_part}
-use Rattle.tile.proofs.Bits.{none_set, small_bit, from_shifted, into_shifted, shifted_more}
+use Rattle.tile.specs.Samples.{place_of, stored}
+use Rattle.tile.specs.Picture.{IsShown, AreEnds, IsColourAt, AreColoursAt, AreDepthsAt, AreInterleaved, AddsRun}
+use Rattle.tile.proofs.Shown.{colour_shown}
 
-module _ (t : Placed) (tile : Tile) (row s : ℕ) where
-  pub no_run : (first : ℕ) (xs : List Sample) → DrawsPart t tile (IsInRun row first first s) xs xs
-  no_run first xs = no_part t tile _ xs (λ row' column s' h p. omega (arith, p.from_first, p.to_end))
+-- ---- lists
+-- what holds of the first pairs of elements, and of the pair that is set behind them
+pub set_two_more : (P : ℕ → ℕ → ℕ → Type 0) (xs : List ℕ) (i x y : ℕ) → 2 * i + 1 < length xs
+    → ((k : ℕ) → k < i → P k (slice_index xs (2 * k)) (slice_index xs (2 * k + 1))) → P i x y
+    → (k : ℕ) → k < i + 1 → P k (slice_index (slice_set (slice_set xs (2 * i) x) (2 * i + 1) y) (2 * k)) (slice_index (slice_set (slice_set xs (2 * i) x) (2 * i + 1) y) (2 * k + 1))
+set_two_more P xs i x y below begun here k h =
+    let first : List ℕ = slice_set xs (2 * i) x in
+    let long : length first ≡ length xs = length-set xs (2 * i) x in
+    elim (cases_lt k i) [
+      | inl less ↦
+          rw (
+            get_or-set_other first (2 * i + 1) (2 * k) y 0 (λ e. omega (arith, e)),
+            get_or-set_other xs (2 * i) (2 * k) x 0 (λ e. omega (arith, e)),
+            get_or-set_other first (2 * i + 1) (2 * k + 1) y 0 (λ e. omega (arith, e)),
+            get_or-set_other xs (2 * i) (2 * k + 1) x 0 (λ e. omega (arith, e)),
+          ) (begun k less)
+      | inr more ↦
+          let same : k ≡ i = omega arith in
+          rw (
+            same,
+            get_or-set_other first (2 * i + 1) (2 * i) y 0 (λ e. omega (arith, e)),
+            get_or-set_same xs (2 * i) x 0 (omega (arith, below)),
+            get_or-set_same first (2 * i + 1) y 0 (omega (arith, long, below)),
+          ) here
+    ]
 
-  -- a run, and one beside it
-  module _ (first middle end : ℕ) (a b c : List Sample) (low : first ≤ middle) (high : middle ≤ end) (begun : DrawsPart t tile (IsInRun row first middle s) a b) (next : DrawsPart t tile (IsInRun row middle end s) b c) where
-    from : (row' column s' : ℕ) → IsSampleOf tile row' column s' → IsInRun row first end s row' column s' → IsInRun row first middle s row' column s' ⊎ IsInRun row middle end s row' column s'
-    from row' column s' h p =
-        elim (cases_lt column middle) [
-          | inl less ↦ inl (record { same_row = p.same_row; from_first = p.from_first; to_end = less; same_sample = p.same_sample })
-          | inr more ↦ inr (record { same_row = p.same_row; from_first = more; to_end = p.to_end; same_sample = p.same_sample })
-        ]
+pub interleaved_is : (r g b : ℕ → ℕ) (i : ℕ) → i < 8
+    → let bytes : List ℕ = r 0 ∷ g 0 ∷ b 0 ∷ r 1 ∷ g 1 ∷ b 1 ∷ r 2 ∷ g 2 ∷ b 2 ∷ r 3 ∷ g 3 ∷ b 3 ∷ r 4 ∷ g 4 ∷ b 4 ∷ r 5 ∷ g 5 ∷ b 5 ∷ r 6 ∷ g 6 ∷ b 6 ∷ r 7 ∷ g 7 ∷ b 7 ∷ [] in
+    (slice_index bytes (3 * i) ≡ r i) × (slice_index bytes (3 * i + 1) ≡ g i) × (slice_index bytes (3 * i + 2) ≡ b i)
+interleaved_is r g b zero h = (refl, refl, refl)
+interleaved_is r g b (suc zero) h = (refl, refl, refl)
+interleaved_is r g b (suc (suc zero)) h = (refl, refl, refl)
+interleaved_is r g b (suc (suc (suc zero))) h = (refl, refl, refl)
+interleaved_is r g b (suc (suc (suc (suc zero)))) h = (refl, refl, refl)
+interleaved_is r g b (suc (suc (suc (suc (suc zero))))) h = (refl, refl, refl)
+interleaved_is r g b (suc (suc (suc (suc (suc (suc zero)))))) h = (refl, refl, refl)
+interleaved_is r g b (suc (suc (suc (suc (suc (suc (suc zero))))))) h = (refl, refl, refl)
+interleaved_is r g b (suc (suc (suc (suc (suc (suc (suc (suc i)))))))) h = absurd (omega arith)
 
-    into : (row' column s' : ℕ) → IsSampleOf tile row' column s' → IsInRun row first middle s row' column s' ⊎ IsInRun row middle end s row' column s' → IsInRun row first end s row' column s'
-    into row' column s' h (inl p) = record { same_row = p.same_row; from_first = p.from_first; to_end = omega (arith, p.to_end); same_sample = p.same_sample }
-    into row' column s' h (inr q) = record { same_row = q.same_row; from_first = omega (arith, q.from_first); to_end = q.to_end; same_sample = q.same_sample }
+-- ---- eight samples in a row of a block
+module _ (tile : Tile) (samples : List BlockSamples) (row column : ℕ) where
+  abbrev plane : ℕ → BlockSamples
+  plane s = slice_index_or samples (place_of tile (row / 8) column s) (record { z = []; r = []; g = []; b = [] })
 
-    pub runs_joined : DrawsPart t tile (IsInRun row first end s) a c
-    runs_joined = joined t tile _ _ _ a b c begun next (λ row' column s' h p q. omega (arith, p.to_end, q.from_first)) from into
+  module _ (i : ℕ) (h : i < 8) where
+    abbrev k : ℕ
+    k = 8 * (row % 8) + i
 
-  -- a run, and the sample beside it
-  pub run_more : (first column : ℕ) (a b c : List Sample) → first ≤ column → DrawsPart t tile (IsInRun row first column s) a b → DrawsPart t tile (IsAt row column s) b c → DrawsPart t tile (IsInRun row first (column + 1) s) a c
-  run_more first column a b c low begun next =
-      runs_joined first column (column + 1) a b c low (omega arith) begun
-      (same_part t tile _ _ b c next
-      (λ row' column' s' h p. record { same_row = p.same_row; same_column = omega (arith, p.from_first, p.to_end); same_sample = p.same_sample })
-      (λ row' column' s' h p. record { same_row = p.same_row; from_first = omega (arith, p.same_column); to_end = omega (arith, p.same_column); same_sample = p.same_sample }))
+    block : (8 * column + i) / 8 ≡ column
+    block = omega arith
 
-  -- a run in a longer one, of which the triangle meets no other sample
-  module _ (first end first' end' : ℕ) (a b : List Sample) (part : DrawsPart t tile (IsInRun row first end s) a b)
-      (inside : (column : ℕ) → first ≤ column → column < end → (first' ≤ column) × (column < end'))
-      (met : (column : ℕ) → first' ≤ column → column < end' → IsSampleOf tile row column s → Meets t tile.count (8 * tile.bx + column) (8 * tile.by + row) s → (first ≤ column) × (column < end)) where
-    outside : (column : ℕ) → IsSampleOf tile row column s → first' ≤ column → column < end' → ¬ ((first ≤ column) × (column < end)) → DrawsAt t tile a b row column s
-    outside column h from to out =
-        let same = part.kept row column s h (λ p. out (p.from_first, p.to_end)) in
-        rw same (draws_missed t tile row column s _ (λ m. out (met column from to h m)))
+    pixel : (8 * column + i) % 8 ≡ i
+    pixel = omega arith
 
-    here : (column : ℕ) → IsSampleOf tile row column s → first' ≤ column → column < end' → DrawsAt t tile a b row column s
-    here column h from to =
-        elim (cases_lt column first) [
-          | inl less ↦ outside column h from to (λ in_run. omega (arith, in_run.0))
-          | inr low ↦
-              elim (cases_lt column end) [
-                | inl high ↦ part.drawn row column s h (record { same_row = refl; from_first = low; to_end = high; same_sample = refl })
-                | inr more ↦ outside column h from to (λ in_run. omega (arith, in_run.1))
-              ]
-        ]
-
-    drawn : (row' column s' : ℕ) → IsSampleOf tile row' column s' → IsInRun row first' end' s row' column s' → DrawsAt t tile a b row' column s'
-    drawn row' column s' h p = let h' = rw (p.same_row, p.same_sample) at h in rw (p.same_row, p.same_sample) (here column h' p.from_first p.to_end)
-
-    pub run_widened : DrawsPart t tile (IsInRun row first' end' s) a b
-    run_widened = record {
-      drawn = drawn;
-      kept = λ row' column s' h n. part.kept row' column s' h (λ p.
-          let within = inside column p.from_first p.to_end in
-          n (record { same_row = p.same_row; from_first = within.0; to_end = within.1; same_sample = p.same_sample }));
+    pub one_resolved : tile.count ≡ One → (r g b : ℕ) → r ≡ slice_index (plane 0).r k → g ≡ slice_index (plane 0).g k → b ≡ slice_index (plane 0).b k
+        → IsColourAt tile samples row (8 * column + i) r g b
+    one_resolved e r g b red green blue = record {
+      red = subst (λ n. IsResolved n (λ s. (stored tile samples row (8 * column + i) s).r) r) (sym e) (rw (block, pixel) red);
+      green = subst (λ n. IsResolved n (λ s. (stored tile samples row (8 * column + i) s).g) g) (sym e) (rw (block, pixel) green);
+      blue = subst (λ n. IsResolved n (λ s. (stored tile samples row (8 * column + i) s).b) b) (sym e) (rw (block, pixel) blue);
     }
 
--- ---- eight samples, run after run
--- the samples of the first columns have been drawn, and those whose bits are left will be
-pub record IsBegun (t : Placed) (tile : Tile) (row first s bits column left : ℕ) (old new : List Sample) : Type 0 where
-  pub rest : left ≡ bits / 2 ^ column
-  pub few : column ≤ 8
-  pub drawn : DrawsPart t tile (IsInRun row first (first + column) s) old new
+    pub four_resolved : tile.count ≡ Four → (r g b : ℕ)
+        → IsQuotient (slice_index (plane 0).r k + slice_index (plane 1).r k + slice_index (plane 2).r k + slice_index (plane 3).r k + 2) 4 r
+        → IsQuotient (slice_index (plane 0).g k + slice_index (plane 1).g k + slice_index (plane 2).g k + slice_index (plane 3).g k + 2) 4 g
+        → IsQuotient (slice_index (plane 0).b k + slice_index (plane 1).b k + slice_index (plane 2).b k + slice_index (plane 3).b k + 2) 4 b
+        → IsColourAt tile samples row (8 * column + i) r g b
+    four_resolved e r g b red green blue = record {
+      red = subst (λ n. IsResolved n (λ s. (stored tile samples row (8 * column + i) s).r) r) (sym e) (rw (block, pixel) red);
+      green = subst (λ n. IsResolved n (λ s. (stored tile samples row (8 * column + i) s).g) g) (sym e) (rw (block, pixel) green);
+      blue = subst (λ n. IsResolved n (λ s. (stored tile samples row (8 * column + i) s).b) b) (sym e) (rw (block, pixel) blue);
+    }
 
-module _ (t : Placed) (tile : Tile) (row first s bits : ℕ) (small : bits < 256) (covered : AreBitsOf t tile row first s bits) where
-  pub none_begun : (xs : List Sample) → IsBegun t tile row first s bits 0 bits xs xs
-  none_begun xs = record {
-    rest = rw (div-one bits) refl;
-    few = omega arith;
-    drawn = let none : first + 0 ≡ first = omega arith in rw none (no_run t tile row s first xs);
+    pub depth_in : (high low : ℕ) → high ≡ slice_index (plane 0).z k / 256 → low ≡ slice_index (plane 0).z k % 256
+        → (high ≡ (stored tile samples row (8 * column + i) 0).z / 256) × (low ≡ (stored tile samples row (8 * column + i) 0).z % 256)
+    depth_in high low e f = rw (block, pixel) (e, f)
+
+-- a mean of sixteen that begin elsewhere
+pub four_of_sixteen : (first second third fourth means : List ℕ) (begin skip from i q : ℕ) → begin + (skip + i) ≡ from + i
+    → IsResolved Four (slice_index (slice_index first (begin + (skip + i)) ∷ slice_index second (begin + (skip + i)) ∷ slice_index third (begin + (skip + i)) ∷ slice_index fourth (begin + (skip + i)) ∷ [])) (slice_index means (skip + i))
+    → q ≡ slice_index means (skip + i) → IsQuotient (slice_index first (from + i) + slice_index second (from + i) + slice_index third (from + i) + slice_index fourth (from + i) + 2) 4 q
+four_of_sixteen first second third fourth means begin skip from i q e h same =
+    rw same (subst (λ n. IsQuotient (slice_index first n + slice_index second n + slice_index third n + slice_index fourth n + 2) 4 (slice_index means (skip + i))) e h)
+
+-- ---- runs of pixels
+pub adds_run : {X E : Type 0} (r : Result X E) (l : Scene) (i j many : ℕ) (run old new : List ℕ) → IsRun l i j many run → OnOk r (new ≡ old ++ run) → OnOk r (AddsRun l i j many old new)
+adds_run (Ok x) l i j many run old new h behind = record { run = run; is = h; behind = behind }
+adds_run (Err e) l i j many run old new h behind = tt
+
+pub begun_more : (l : Scene) (x y width n m i j many : ℕ) (old new : List ℕ) → IsBegun l x y width n old → i + many ≤ width → n ≡ j * width + i → m ≡ n + many → AddsRun l (x + i) (y + j) many old new
+    → IsBegun l x y width m new
+begun_more l x y width n m i j many old new begun fits place more h = rw (more, h.behind) (begun_run l x y width n i j many old h.run begun fits place h.is)
+
+module _ (l : Scene) (tile : Tile) (samples : List BlockSamples) (row column many : ℕ) (ends : AreEnds l tile samples) (count : tile.count ≡ l.count) (few : many ≤ 8)
+    (shown : (i : ℕ) → i < many → IsShown l tile row (8 * column + i) 0) (bytes : List ℕ) where
+  across : (i : ℕ) → 8 * tile.bx + (8 * column + i) ≡ 8 * tile.bx + 8 * column + i
+  across i = omega arith
+
+  pub run_of_colours : l.output ≡ Color → 24 ≤ length bytes → AreColoursAt tile samples row column bytes → IsRun l (8 * tile.bx + 8 * column) (8 * tile.by + row) many (take (3 * many) bytes)
+  run_of_colours e long colours = record {
+    size = rw e (omega (arith, length-take (3 * many) bytes));
+    pixels = λ i below.
+        let here : pixel_at Color i (take (3 * many) bytes) ≡ slice_index bytes (3 * i) ∷ slice_index bytes (3 * i + 1) ∷ slice_index bytes (3 * i + 2) ∷ [] =
+        pixel_of_part Color 0 i i many 0 (3 * many) bytes refl refl (omega arith) below (omega arith) ∙ pixel_of_three i bytes (omega arith) in
+        same_pixel l (8 * tile.bx + (8 * column + i)) (8 * tile.by + row) _ _ _ _ (across i) refl (sym (ap (λ o. pixel_at o i (take (3 * many) bytes)) e ∙ here))
+        (pixel_of_colour l (8 * tile.bx + (8 * column + i)) (8 * tile.by + row) _ _ _ e (colour_shown l tile samples row (8 * column + i) _ _ _ ends count (shown i below) (colours i (omega arith))));
   }
 
-  -- a sample that is met has its bit among those that are left
-  met_bit : (column : ℕ) → first ≤ column → column < first + 8 → Meets t tile.count (8 * tile.bx + column) (8 * tile.by + row) s → IsBitSet bits (column - first)
-  met_bit column from to m =
-      let place : first + (column - first) ≡ column = omega arith in
-      (covered (column - first) (omega arith)).1 (rw place m.covered)
-
-  module _ (column left : ℕ) (a b : List Sample) (begun : IsBegun t tile row first s bits column left a b) where
-    met_left : (column' : ℕ) → first + column ≤ column' → column' < first + 8 → Meets t tile.count (8 * tile.bx + column') (8 * tile.by + row) s → IsBitSet left (column' - first - column)
-    met_left column' from to m =
-        let place : column + (column' - first - column) ≡ column' - first = omega arith in
-        rw begun.rest (into_shifted bits column (column' - first - column) (rw place (met_bit column' (omega arith) to m)))
-
-    pub left_covered : (i : ℕ) → IsBitSet left i → (column + i < 8) × CoversAt t tile row (first + column + i) s
-    left_covered i set =
-        let there : IsBitSet bits (column + i) = from_shifted bits column i (rw begun.rest at set) in
-        let below : column + i < 8 = small_bit bits 8 (column + i) small there in
-        let place : first + column + i ≡ first + (column + i) = omega arith in
-        (below, rw place ((covered (column + i) below).0 there))
-
-    pub eight_drawn : left ≡ 0 → DrawsPart t tile (IsInRun row first (first + 8) s) a b
-    eight_drawn e = run_widened t tile row s first (first + column) first (first + 8) a b begun.drawn
-        (λ column' from to. (from, omega (arith, begun.few)))
-        (λ column' from to h m. (
-          from,
-          elim (cases_lt column' (first + column)) [
-            | inl less ↦ less
-            | inr more ↦ absurd (none_set (column' - first - column) (rw e at (met_left column' more to m)))
-          ],
-        ))
-
-    module _ (begin end : ℕ) (some : begin < end) (none : (i : ℕ) → i < begin → ¬ IsBitSet left i) (set : (i : ℕ) → begin ≤ i → i < end → IsBitSet left i) where
-      pub run_within : column + end ≤ 8
-      run_within = let last = left_covered (end - 1) (set (end - 1) (omega arith) (omega arith)) in omega (arith, last.0)
-
-      pub run_covered : CoversRun t tile row (first + column + begin) (first + column + end) s
-      run_covered column' from to =
-          let place : first + column + (column' - (first + column)) ≡ column' = omega arith in
-          rw place at ((left_covered (column' - (first + column)) (set (column' - (first + column)) (omega arith) (omega arith))).1)
-
-      pub begun_more : (c : List Sample) → DrawsPart t tile (IsInRun row (first + column + begin) (first + column + end) s) b c → IsBegun t tile row first s bits (column + end) (left / 2 ^ end) a c
-      begun_more c draws =
-          let place : first + (column + end) ≡ first + column + end = omega arith in
-          let wide = run_widened t tile row s (first + column + begin) (first + column + end) (first + column) (first + column + end) b c draws
-          (λ column' from to. (omega arith, to))
-          (λ column' from to h m. (
-            elim (cases_lt column' (first + column + begin)) [
-              | inl less ↦ absurd (none (column' - first - column) (omega arith) (met_left column' from (omega (arith, run_within)) m))
-              | inr more ↦ more
-            ],
-            to,
-          )) in
-          record {
-            rest = shifted_more bits column end left begun.rest;
-            few = run_within;
-            drawn = rw place (runs_joined t tile row s first (first + column) (first + column + end) a b c (omega arith) (omega arith) begun.drawn wide);
-          }
+  pub run_of_depths : l.output ≡ Depth → 16 ≤ length bytes → AreDepthsAt tile samples row column bytes → IsRun l (8 * tile.bx + 8 * column) (8 * tile.by + row) many (take (2 * many) bytes)
+  run_of_depths e long depths = record {
+    size = rw e (omega (arith, length-take (2 * many) bytes));
+    pixels = λ i below.
+        let depth = depths i (omega arith) in
+        let here : pixel_at Depth i (take (2 * many) bytes) ≡ (stored tile samples row (8 * column + i) 0).z / 256 ∷ (stored tile samples row (8 * column + i) 0).z % 256 ∷ [] =
+        pixel_of_part Depth 0 i i many 0 (2 * many) bytes refl refl (omega arith) below (omega arith) ∙ pixel_of_two i bytes (omega arith)
+        ∙ ap (λ high. high ∷ slice_index bytes (2 * i + 1) ∷ []) depth.0 ∙ ap (λ low. (stored tile samples row (8 * column + i) 0).z / 256 ∷ low ∷ []) depth.1 in
+        same_pixel l (8 * tile.bx + (8 * column + i)) (8 * tile.by + row) _ _ _ _ (across i) refl (sym (ap (λ o. pixel_at o i (take (2 * many) bytes)) e ∙ here))
+        (pixel_of_depth l (8 * tile.bx + (8 * column + i)) (8 * tile.by + row) _ e (ends row (8 * column + i) 0 (shown i below)));
+  }

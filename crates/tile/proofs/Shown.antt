@@ -1,21 +1,24 @@
 -- The part of a tile that is in the picture.
-use Rattle.std.proofs.Common.{◌≡◌, inl, inr, ap, subst, ℕ, ◌+◌, ◌-◌, ◌*◌, ◌/◌, ◌%◌, ◌<◌, min, pos, List, arith}
+use Rattle.std.proofs.Common.{◌≡◌, inl, inr, ap, subst, ℕ, ◌+◌, ◌-◌, ◌*◌, ◌/◌, ◌%◌, ◌<◌, ◌≤◌, min, pos, List, arith}
 use Rattle.std.proofs.Math.Nat.{mod-lt, div-lt_iff_lt-mul, mul_comm, zero-mul}
 use Rattle.std.proofs.lemmas.Bool.{cases_lt}
 use Rattle.std.proofs.lemmas.Nat.{mul-add-lt}
 use Rattle.std.proofs.lemmas.Int.{ints}
 use Rattle.grid.specs.Pixels.{side_of, IsInBox}
-use Rattle.shade.specs.declared.sample.Sample.{Sample}
+use Rattle.grid.specs.Samples.{count_of}
+use Rattle.grid.specs.declared.sample_count.SampleCount.{SampleCount}
+use Rattle.grid.specs.declared.sample_count.SampleCount.TheVariants.{One, Four}
+use Rattle.shade.specs.declared.block.BlockSamples.{BlockSamples}
 use Rattle.shade.specs.Resolve.{IsResolved}
 use Rattle.list.specs.Scene.{Scene}
-use Rattle.list.specs.Picture.{IsColour}
+use Rattle.list.specs.Picture.{IsColour, IsPart}
 use Rattle.bins.specs.Grid.{TileGrid, columns_of, rows_of, tiles_of, rect_of}
 use Rattle.bins.specs.Bin.{IsBinOf}
 use Rattle.bins.proofs.Tiles.{starts_within, in_rect}
 use Rattle.bins.proofs.Drawn.{bin_at_sample}
 use Rattle.tile.specs.declared.tile.Tile.{Tile}
-use Rattle.tile.specs.Samples.{stored, place_of}
-use Rattle.tile.specs.Picture.{IsTileAt, IsPictureIn, IsShown, IsTileBin, AreEnds, IsColourAt, ArePixels}
+use Rattle.tile.specs.Samples.{stored}
+use Rattle.tile.specs.Picture.{IsTileAt, IsPictureIn, IsShown, IsTileBin, AreEnds, IsColourAt}
 
 -- tile k stands in one of the columns and rows
 module _ (g : TileGrid) (k : ℕ) (h : k < tiles_of g) where
@@ -54,24 +57,12 @@ module _ (g : TileGrid) (k : ℕ) (h : k < tiles_of g) (tile : Tile) (at : IsTil
     tile_bin count bin has row column s shown =
         bin_at_sample l (rect_of g k) (8 * tile.bx + column) (8 * tile.by + row) s bin (in_tile row column s shown) (rw count at shown.sample.is_sample) has
 
-    module _ (samples : List Sample) (ends : AreEnds l tile samples) (count : tile.count ≡ l.count) (width height : ℕ)
-        (across : width ≡ min (g.width - 8 * tile.bx) (side_of tile.side)) (along : height ≡ min (g.height - 8 * tile.by) (side_of tile.side))
-        (bytes : List ℕ) (pixels : ArePixels tile samples width (height * width) bytes) where
-      colour : (i j r b' b : ℕ) → i < width → j < height → IsColourAt tile samples j i r b' b → IsColour l (8 * tile.bx + i) (8 * tile.by + j) r b' b
-      colour i j r b' b wide' high' c = record {
-        end = λ s. stored samples (place_of tile j i s);
-        ends = λ s below. ends j i s (record {
-          sample = record { high = omega arith; wide = omega arith; is_sample = rw count below };
-          in_width = let begins = begins_in_width in omega arith;
-          in_height = let begins = begins_in_height in omega arith;
-        });
-        red = subst (λ n. IsResolved n (λ s. (stored samples (place_of tile j i s)).r) r) count c.red;
-        green = subst (λ n. IsResolved n (λ s. (stored samples (place_of tile j i s)).g) b') count c.green;
-        blue = subst (λ n. IsResolved n (λ s. (stored samples (place_of tile j i s)).b) b) count c.blue;
-      }
+    module _ (width height : ℕ) (across : width ≡ min (g.width - 8 * tile.bx) (side_of tile.side)) (along : height ≡ min (g.height - 8 * tile.by) (side_of tile.side)) where
+      pub in_picture : (8 * tile.bx + width ≤ l.width) × (8 * tile.by + height ≤ l.height)
+      in_picture = (let begins = begins_in_width in omega arith, let begins = begins_in_height in omega arith)
 
-      pub picture_in : IsPictureIn l (rect_of g k) bytes
-      picture_in = record {
+      pub picture_in : (bytes : List ℕ) → IsPart l (8 * tile.bx) (8 * tile.by) width height bytes → IsPictureIn l (rect_of g k) bytes
+      picture_in bytes part = record {
         x = 8 * tile.bx;
         y = 8 * tile.by;
         width = width;
@@ -80,8 +71,33 @@ module _ (g : TileGrid) (k : ℕ) (h : k < tiles_of g) (tile : Tile) (at : IsTil
         top = omega (arith, ints, at.top);
         right = ap pos (let begins = begins_in_width in let side : side_of tile.side ≡ side_of g.side = ap side_of at.side in omega (arith, at.left));
         bottom = ap pos (let begins = begins_in_height in let side : side_of tile.side ≡ side_of g.side = ap side_of at.side in omega (arith, at.top));
-        part = record {
-          size = pixels.size;
-          pixels = λ i j wide' high'. colour i j _ _ _ wide' high' (pixels.pixels i j wide' (omega (arith, mul-add-lt j width i height high' wide', mul_comm width height)));
-        };
+        part = part;
       }
+
+some_sample : (count : SampleCount) → 0 < count_of count
+some_sample One = omega arith
+some_sample Four = omega arith
+
+-- the first samples of a row of pixels in the picture
+pub row_shown : (l : Scene) (tile : Tile) (width height row : ℕ) → width ≤ side_of tile.side → height ≤ side_of tile.side → 8 * tile.bx + width ≤ l.width → 8 * tile.by + height ≤ l.height → row < height
+    → (column : ℕ) → column < width → IsShown l tile row column 0
+row_shown l tile width height row wide high right bottom within column below = record {
+  sample = record { high = omega arith; wide = omega arith; is_sample = some_sample tile.count };
+  in_width = omega arith;
+  in_height = omega arith;
+}
+
+-- the colour of a pixel, where its samples are their ends
+pub colour_shown : (l : Scene) (tile : Tile) (samples : List BlockSamples) (row column r g b : ℕ) → AreEnds l tile samples → tile.count ≡ l.count → IsShown l tile row column 0
+    → IsColourAt tile samples row column r g b → IsColour l (8 * tile.bx + column) (8 * tile.by + row) r g b
+colour_shown l tile samples row column r g b ends count shown c = record {
+  end = λ s. stored tile samples row column s;
+  ends = λ s below. ends row column s (record {
+    sample = record { high = shown.sample.high; wide = shown.sample.wide; is_sample = rw count below };
+    in_width = shown.in_width;
+    in_height = shown.in_height;
+  });
+  red = subst (λ n. IsResolved n (λ s. (stored tile samples row column s).r) r) count c.red;
+  green = subst (λ n. IsResolved n (λ s. (stored tile samples row column s).g) g) count c.green;
+  blue = subst (λ n. IsResolved n (λ s. (stored tile samples row column s).b) b) count c.blue;
+}

@@ -9,7 +9,7 @@ use Rattle.grid.specs.declared.pixels.TileSide.{TileSide}
 use Rattle.grid.specs.declared.pixels.TileSide.TheVariants.{T8, T16, T32, T64}
 use Rattle.grid.specs.declared.triangle.Tri.{Tri}
 use Rattle.grid.specs.declared.sample_count.SampleCount.{SampleCount}
-use Rattle.shade.specs.declared.sample.Sample.{Sample}
+use Rattle.shade.specs.declared.block.BlockSamples.{BlockSamples}
 use Rattle.cover.specs.Square.{Place, CoversNone, half_of, quarter_of}
 use Rattle.shade.specs.declared.placed.Placed.{Placed}
 use Rattle.tile.specs.declared.tile.Tile.{Tile}
@@ -220,7 +220,7 @@ pub record IsDone (tile : Tile) (items : List (Option Place)) (row column s : �
   pub none : waiting_at tile items row column ≡ 0
 
 -- the triangle has been drawn at the samples outside of the waiting squares, and each other pixel waits in just one
-pub record IsDescended (t : Placed) (tile : Tile) (items : List (Option Place)) (old new : List Sample) : Type 0 where
+pub record IsDescended (t : Placed) (tile : Tile) (items : List (Option Place)) (old new : List BlockSamples) : Type 0 where
   pub waiting : AreWaiting t tile 0 items
   pub once : (row column : ℕ) → waiting_at tile items row column ≤ 1
   pub drawn : DrawsPart t tile (IsDone tile items) old new
@@ -230,7 +230,7 @@ module _ (t : Placed) (tile : Tile) (items rest : List (Option Place)) (q : Plac
   unfolding waiting_at
   waiting_split row column = rw split (omega (arith, waiting-append tile rest (Some q ∷ []) row column))
 
-  module _ (a b : List Sample) (d : IsDescended t tile items a b) where
+  module _ (a b : List BlockSamples) (d : IsDescended t tile items a b) where
     parts : AreWaiting t tile 0 rest × AreWaiting t tile (0 + length rest) (Some q ∷ [])
     parts = waiting_parts t tile rest (Some q ∷ []) 0 (rw split at d.waiting)
 
@@ -239,7 +239,7 @@ module _ (t : Placed) (tile : Tile) (items rest : List (Option Place)) (q : Plac
     waits = let here : 0 + length rest ≡ length rest = omega arith in rw here at parts.1.0
 
     -- the square has been visited
-    module _ (c : List Sample) (square : DrawsPart t tile (IsIn tile q) b c) where
+    module _ (c : List BlockSamples) (square : DrawsPart t tile (IsIn tile q) b c) where
       from : (row column s : ℕ) → IsSampleOf tile row column s → IsDone tile rest row column s → IsDone tile items row column s ⊎ IsIn tile q row column s
       from row column s h p =
           elim (cases_eq (holds tile q row column) 0) [
@@ -296,7 +296,7 @@ module _ (t : Placed) (tile : Tile) (items rest : List (Option Place)) (q : Plac
 
 module _ (t : Placed) (tile : Tile) where
   -- no sample of a square is covered
-  pub square_missed : (q : Place) (xs : List Sample) → IsSquareIn t tile q → CoversNone q → DrawsPart t tile (IsIn tile q) xs xs
+  pub square_missed : (q : Place) (xs : List BlockSamples) → IsSquareIn t tile q → CoversNone q → DrawsPart t tile (IsIn tile q) xs xs
   square_missed q xs square none = missed_part t tile _ xs (λ row column s h i m.
       let left = i.left in
       let right = i.right in
@@ -310,7 +310,7 @@ module _ (t : Placed) (tile : Tile) where
   tile_square : Place
   tile_square = record { triangle = t.tri; bx = tile.bx; by = tile.by; side = tile.side; count = tile.count }
 
-  pub begun : (items : List (Option Place)) (xs : List Sample) → items ≡ [] ++ Some (record { triangle = t.tri; bx = tile.bx; by = tile.by; side = tile.side; count = tile.count }) ∷ [] → IsDescended t tile items xs xs
+  pub begun : (items : List (Option Place)) (xs : List BlockSamples) → items ≡ [] ++ Some (record { triangle = t.tri; bx = tile.bx; by = tile.by; side = tile.side; count = tile.count }) ∷ [] → IsDescended t tile items xs xs
   unfolding AreWaiting waiting_at tile_square
   begun items xs e =
       let all : side_of tile.side ≤ side_of tile.side = omega arith in
@@ -332,7 +332,7 @@ module _ (t : Placed) (tile : Tile) where
         ));
       }
 
-  pub done : (a b : List Sample) → IsDescended t tile [] a b → DrawsTile t tile a b
+  pub done : (a b : List BlockSamples) → IsDescended t tile [] a b → DrawsTile t tile a b
   unfolding waiting_at
   done a b d = whole_tile t tile _ a b d.drawn (λ row column s h. record { none = refl })
 

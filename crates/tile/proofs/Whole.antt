@@ -1,100 +1,119 @@
--- A square that is covered whole, row by row.
-use Rattle.std.proofs.Common.{◌≡◌, ◌⊎◌, inl, inr, ℕ, ◌+◌, ◌-◌, ◌*◌, ◌/◌, ◌%◌, ◌^◌, ◌<◌, ◌≤◌, List, arith}
+-- A square that is covered whole, block by block.
+use Rattle.std.proofs.Common.{◌≡◌, ◌⊎◌, inl, inr, zero, suc, ℕ, ◌+◌, ◌-◌, ◌*◌, ◌/◌, ◌<◌, ◌≤◌, List, [], ◌∷◌, IsBitSet, slice_index, arith}
 use Rattle.std.proofs.lemmas.Bool.{cases_lt}
 use Rattle.grid.specs.Pixels.{side_of}
 use Rattle.grid.specs.Samples.{count_of}
-use Rattle.shade.specs.declared.sample.Sample.{Sample}
+use Rattle.grid.specs.declared.sample_count.SampleCount.{SampleCount}
+use Rattle.grid.specs.declared.sample_count.SampleCount.TheVariants.{One, Four}
+use Rattle.shade.specs.declared.block.BlockSamples.{BlockSamples}
 use Rattle.cover.specs.Square.{Place, CoversAll}
 use Rattle.shade.specs.declared.placed.Placed.{Placed}
 use Rattle.tile.specs.declared.tile.Tile.{Tile}
 use Rattle.tile.specs.Samples.{IsSampleOf}
-use Rattle.tile.specs.Drawing.{DrawsPart, IsIn, IsInRun, IsInRectangle, IsSquareIn, CoversRun}
-use Rattle.tile.proofs.Parts.{no_part, missed_part, joined, same_part}
+use Rattle.tile.specs.Drawing.{DrawsPart, IsIn, IsInRow, IsInSquare, IsSquareIn, LiesIn, ArePlanesOf}
+use Rattle.std.proofs.lemmas.Nat.Bits.{bit_at_ones}
+use Rattle.tile.proofs.Bits.{is_set}
+use Rattle.tile.proofs.Parts.{no_part, joined, same_part}
+use Rattle.tile.proofs.Places.{whole_blocks}
 
--- the first n samples of the pixels in a row of the square
-pub record IsInRuns (row first end n : ℕ) (row' column s : ℕ) : Type 0 where
-  pub line : IsInRectangle first row end (row + 1) row' column s
-  pub below : s < n
+-- the pixel is in the row of blocks by of the square, before the block column `end`
+pub record IsInBlocks (tile : Tile) (q : Place) (by end : ℕ) (row column s : ℕ) : Type 0 where
+  pub line : IsInRow tile q by row column s
+  pub before : 8 * tile.bx + column < 8 * end
 
-module _ (t : Placed) (tile : Tile) (row first end : ℕ) where
-  pub no_runs : (xs : List Sample) → DrawsPart t tile (IsInRuns row first end 0) xs xs
-  no_runs xs = no_part t tile _ xs (λ row' column s h p. omega (arith, p.below))
+-- the pixel is in one of the rows of blocks before `end` of the square
+pub record IsInRows (tile : Tile) (q : Place) (end : ℕ) (row column s : ℕ) : Type 0 where
+  pub square : IsIn tile q row column s
+  pub before : 8 * tile.by + row < 8 * end
 
-  -- samples that the sample mask leaves out
-  pub unmasked : (s : ℕ) (xs : List Sample) → ¬ (t.state.sample_mask / 2 ^ s % 2 ≡ 1) → DrawsPart t tile (IsInRun row first end s) xs xs
-  unmasked s xs out = missed_part t tile _ xs (λ row' column s' h p m. out (rw p.same_sample at m.in_mask))
+four_at_most : (count : SampleCount) → count_of count ≤ 4
+four_at_most One = omega arith
+four_at_most Four = omega arith
 
-  module _ (n : ℕ) (a b c : List Sample) (begun : DrawsPart t tile (IsInRuns row first end n) a b) (run : DrawsPart t tile (IsInRun row first end n) b c) where
-    from : (row' column s : ℕ) → IsSampleOf tile row' column s → IsInRuns row first end (n + 1) row' column s → IsInRuns row first end n row' column s ⊎ IsInRun row first end n row' column s
-    from row' column s h p =
-        let line = p.line in
-        elim (cases_lt s n) [
-          | inl less ↦ inl (record { line = p.line; below = less })
-          | inr more ↦ inr (record { same_row = omega (arith, line.from_top, line.to_bottom); from_first = line.from_left; to_end = line.to_right; same_sample = omega (arith, p.below) })
-        ]
+-- four words of all bits
+all_set : (s k : ℕ) → s < 4 → k < 64 → IsBitSet (slice_index (18446744073709551615 ∷ 18446744073709551615 ∷ 18446744073709551615 ∷ 18446744073709551615 ∷ []) s) k
+all_set zero k h low = is_set _ k (bit_at_ones 64 k low)
+all_set (suc zero) k h low = is_set _ k (bit_at_ones 64 k low)
+all_set (suc (suc zero)) k h low = is_set _ k (bit_at_ones 64 k low)
+all_set (suc (suc (suc zero))) k h low = is_set _ k (bit_at_ones 64 k low)
+all_set (suc (suc (suc (suc s)))) k h low = absurd (omega arith)
 
-    into : (row' column s : ℕ) → IsSampleOf tile row' column s → IsInRuns row first end n row' column s ⊎ IsInRun row first end n row' column s → IsInRuns row first end (n + 1) row' column s
-    into row' column s h (inl p) = record { line = p.line; below = omega (arith, p.below) }
-    into row' column s h (inr q) = record {
-      line = record { from_left = q.from_first; to_right = q.to_end; from_top = omega (arith, q.same_row); to_bottom = omega (arith, q.same_row) };
-      below = omega (arith, q.same_sample);
-    }
-
-    pub runs_more : DrawsPart t tile (IsInRuns row first end (n + 1)) a c
-    runs_more = joined t tile _ _ _ a b c begun run (λ row' column s h p q. omega (arith, p.below, q.same_sample)) from into
-
-  pub row_drawn : (n : ℕ) (a b : List Sample) → n ≡ count_of tile.count → DrawsPart t tile (IsInRuns row first end n) a b → DrawsPart t tile (IsInRectangle first row end (row + 1)) a b
-  row_drawn n a b e begun =
-      same_part t tile _ _ a b begun (λ row' column s h p. record { line = p; below = omega (arith, h.is_sample, e) }) (λ row' column s h p. p.line)
-
--- rows of the square
-module _ (t : Placed) (tile : Tile) (first end top : ℕ) where
-  pub no_rows : (xs : List Sample) → DrawsPart t tile (IsInRectangle first top end top) xs xs
-  no_rows xs = no_part t tile _ xs (λ row column s h p. omega (arith, p.from_top, p.to_bottom))
-
-  module _ (n : ℕ) (a b c : List Sample) (low : top ≤ n) (begun : DrawsPart t tile (IsInRectangle first top end n) a b) (line : DrawsPart t tile (IsInRectangle first n end (n + 1)) b c) where
-    from_row : (row column s : ℕ) → IsSampleOf tile row column s → IsInRectangle first top end (n + 1) row column s → IsInRectangle first top end n row column s ⊎ IsInRectangle first n end (n + 1) row column s
-    from_row row column s h p =
-        elim (cases_lt row n) [
-          | inl less ↦ inl (record { from_left = p.from_left; to_right = p.to_right; from_top = p.from_top; to_bottom = less })
-          | inr more ↦ inr (record { from_left = p.from_left; to_right = p.to_right; from_top = more; to_bottom = p.to_bottom })
-        ]
-
-    into_rows : (row column s : ℕ) → IsSampleOf tile row column s → IsInRectangle first top end n row column s ⊎ IsInRectangle first n end (n + 1) row column s → IsInRectangle first top end (n + 1) row column s
-    into_rows row column s h (inl p) = record { from_left = p.from_left; to_right = p.to_right; from_top = p.from_top; to_bottom = omega (arith, p.to_bottom) }
-    into_rows row column s h (inr q) = record { from_left = q.from_left; to_right = q.to_right; from_top = omega (arith, q.from_top); to_bottom = q.to_bottom }
-
-    pub rows_more : DrawsPart t tile (IsInRectangle first top end (n + 1)) a c
-    rows_more = joined t tile _ _ _ a b c begun line (λ row column s h p q. omega (arith, p.to_bottom, q.from_top)) from_row into_rows
-
--- the square in the tile
 module _ (t : Placed) (tile : Tile) (q : Place) (square : IsSquareIn t tile q) where
-  abbrev left : ℕ
-  left = 8 * (q.bx - tile.bx)
+  -- a row of blocks
+  module _ (by : ℕ) (top : q.by ≤ by) (bottom : 8 * by < 8 * q.by + side_of q.side) where
+    pub block_lies : (bx : ℕ) → q.bx ≤ bx → bx < q.bx + side_of q.side / 8 → LiesIn tile bx by 8
+    block_lies bx from to =
+        let lies = square.lies in
+        let whole = whole_blocks q.side in
+        record { left = omega (arith, lies.left); right = omega (arith, lies.right, whole); top = omega (arith, lies.top); bottom = omega (arith, lies.bottom, whole) }
 
-  abbrev above : ℕ
-  above = 8 * (q.by - tile.by)
+    pub no_blocks : (xs : List BlockSamples) → DrawsPart t tile (IsInBlocks tile q by q.bx) xs xs
+    no_blocks xs = no_part t tile _ xs (λ row column s h p. let within = p.line.square in omega (arith, p.before, within.left))
 
-  pub row_covered : CoversAll q → (row : ℕ) → above ≤ row → row < above + side_of q.side → (s : ℕ) → s < count_of tile.count → CoversRun t tile row left (left + side_of q.side) s
-  row_covered covered row from to s h column begin end =
-      let lies = square.lies in
-      let across : 8 * q.bx + (column - left) ≡ 8 * tile.bx + column = omega (arith, lies.left) in
-      let down : 8 * q.by + (row - above) ≡ 8 * tile.by + row = omega (arith, lies.top) in
-      rw (across, down, square.triangle, square.count) at (covered s (row - above) (column - left) (rw square.count h) (omega arith) (omega arith))
+    module _ (bx : ℕ) (a b c : List BlockSamples) (begun : DrawsPart t tile (IsInBlocks tile q by bx) a b) (block : DrawsPart t tile (IsInSquare tile bx by 8) b c) (from : q.bx ≤ bx) (to : bx < q.bx + side_of q.side / 8) where
+      from_block : (row column s : ℕ) → IsSampleOf tile row column s → IsInBlocks tile q by (bx + 1) row column s → IsInBlocks tile q by bx row column s ⊎ IsInSquare tile bx by 8 row column s
+      from_block row column s h p =
+          let line = p.line in
+          elim (cases_lt (8 * tile.bx + column) (8 * bx)) [
+            | inl less ↦ inl (record { line = p.line; before = less })
+            | inr more ↦ inr (record { left = more; right = omega (arith, p.before); top = line.top; bottom = line.bottom })
+          ]
 
-  pub square_drawn : (bottom : ℕ) (a b : List Sample) → bottom ≡ above + side_of q.side → DrawsPart t tile (IsInRectangle left above (left + side_of q.side) bottom) a b → DrawsPart t tile (IsIn tile q) a b
-  square_drawn bottom a b e begun =
-      let lies = square.lies in
+      into_blocks : (row column s : ℕ) → IsSampleOf tile row column s → IsInBlocks tile q by bx row column s ⊎ IsInSquare tile bx by 8 row column s → IsInBlocks tile q by (bx + 1) row column s
+      into_blocks row column s h (inl p) = record { line = p.line; before = omega (arith, p.before) }
+      into_blocks row column s h (inr i) =
+          let whole = whole_blocks q.side in
+          record {
+            line = record {
+              square = record { left = omega (arith, i.left); right = omega (arith, i.right, whole); top = omega (arith, i.top); bottom = omega (arith, i.bottom, whole) };
+              top = i.top;
+              bottom = i.bottom;
+            };
+            before = omega (arith, i.right);
+          }
+
+      pub blocks_more : DrawsPart t tile (IsInBlocks tile q by (bx + 1)) a c
+      blocks_more = joined t tile _ _ _ a b c begun block (λ row column s h p i. omega (arith, p.before, i.left)) from_block into_blocks
+
+    pub row_drawn : (end : ℕ) (a b : List BlockSamples) → end ≡ q.bx + side_of q.side / 8 → DrawsPart t tile (IsInBlocks tile q by end) a b → DrawsPart t tile (IsInRow tile q by) a b
+    row_drawn end a b e begun =
+        same_part t tile _ _ a b begun
+        (λ row column s h p. record { line = p; before = let within = p.square in omega (arith, within.right, e, whole_blocks q.side) })
+        (λ row column s h p. p.line)
+
+    -- all samples of its blocks are covered
+    pub all_covered : CoversAll q → (bx : ℕ) → q.bx ≤ bx → bx < q.bx + side_of q.side / 8
+        → ArePlanesOf t.tri bx by tile.count (18446744073709551615 ∷ 18446744073709551615 ∷ 18446744073709551615 ∷ 18446744073709551615 ∷ [])
+    all_covered covered bx from to s h row column high wide =
+        let across : 8 * q.bx + (8 * (bx - q.bx) + column) ≡ 8 * bx + column = omega arith in
+        let down : 8 * q.by + (8 * (by - q.by) + row) ≡ 8 * by + row = omega arith in
+        let whole = whole_blocks q.side in
+        let few = four_at_most tile.count in (
+          (λ is. rw (across, down, square.triangle, square.count) at (covered s (8 * (by - q.by) + row) (8 * (bx - q.bx) + column) (rw square.count h) (omega (arith, whole)) (omega (arith, whole)))),
+          (λ c. all_set s (8 * row + column) (omega (arith, few)) (omega arith)),
+        )
+
+  -- the rows of blocks
+  pub no_rows : (xs : List BlockSamples) → DrawsPart t tile (IsInRows tile q q.by) xs xs
+  no_rows xs = no_part t tile _ xs (λ row column s h p. let within = p.square in omega (arith, p.before, within.top))
+
+  module _ (by : ℕ) (a b c : List BlockSamples) (begun : DrawsPart t tile (IsInRows tile q by) a b) (line : DrawsPart t tile (IsInRow tile q by) b c) where
+    from_row : (row column s : ℕ) → IsSampleOf tile row column s → IsInRows tile q (by + 1) row column s → IsInRows tile q by row column s ⊎ IsInRow tile q by row column s
+    from_row row column s h p =
+        elim (cases_lt (8 * tile.by + row) (8 * by)) [
+          | inl less ↦ inl (record { square = p.square; before = less })
+          | inr more ↦ inr (record { square = p.square; top = more; bottom = omega (arith, p.before) })
+        ]
+
+    into_rows : (row column s : ℕ) → IsSampleOf tile row column s → IsInRows tile q by row column s ⊎ IsInRow tile q by row column s → IsInRows tile q (by + 1) row column s
+    into_rows row column s h (inl p) = record { square = p.square; before = omega (arith, p.before) }
+    into_rows row column s h (inr l) = record { square = l.square; before = omega (arith, l.bottom) }
+
+    pub rows_more : DrawsPart t tile (IsInRows tile q (by + 1)) a c
+    rows_more = joined t tile _ _ _ a b c begun line (λ row column s h p l. omega (arith, p.before, l.top)) from_row into_rows
+
+  pub square_drawn : (end : ℕ) (a b : List BlockSamples) → end ≡ q.by + side_of q.side / 8 → DrawsPart t tile (IsInRows tile q end) a b → DrawsPart t tile (IsIn tile q) a b
+  square_drawn end a b e begun =
       same_part t tile _ (IsIn tile q) a b begun
-      (λ row column s h p. record {
-        from_left = omega (arith, p.left, lies.left);
-        to_right = omega (arith, p.right, lies.left);
-        from_top = omega (arith, p.top, lies.top);
-        to_bottom = omega (arith, p.bottom, lies.top);
-      })
-      (λ row column s h p. record {
-        left = omega (arith, p.from_left, lies.left);
-        right = omega (arith, p.to_right, lies.left);
-        top = omega (arith, p.from_top, lies.top);
-        bottom = omega (arith, p.to_bottom, lies.top);
-      })
+      (λ row column s h p. record { square = p; before = omega (arith, p.bottom, e, whole_blocks q.side) })
+      (λ row column s h p. p.square)

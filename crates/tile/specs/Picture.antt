@@ -1,16 +1,17 @@
 -- A tile's part of the picture.
-use Rattle.std.specs.Prelude.{◌≡◌, ℕ, ◌+◌, ◌*◌, ◌/◌, ◌%◌, ◌<◌, List, length, slice_index, pos}
+use Rattle.std.specs.Prelude.{◌≡◌, ℕ, ◌+◌, ◌*◌, ◌/◌, ◌%◌, ◌<◌, List, ◌++◌, slice_index, pos}
 use Rattle.grid.specs.Pixels.{side_of}
 use Rattle.grid.specs.declared.pixels.PixelBox.{PixelBox}
-use Rattle.shade.specs.declared.sample.Sample.{Sample}
+use Rattle.shade.specs.declared.block.BlockSamples.{BlockSamples}
 use Rattle.shade.specs.Resolve.{IsResolved}
 use Rattle.shade.specs.Placed.{Meets}
 use Rattle.list.specs.Scene.{Scene}
+use Rattle.list.specs.Begun.{IsRun}
 use Rattle.list.specs.Picture.{IsEnd, IsPart}
 use Rattle.bins.specs.Grid.{TileGrid, columns_of}
 use Rattle.bins.specs.Bin.{IsBin}
 use Rattle.tile.specs.declared.tile.Tile.{Tile}
-use Rattle.tile.specs.Samples.{IsSampleOf, place_of, stored}
+use Rattle.tile.specs.Samples.{IsSampleOf, stored}
 
 -- A tile lies where tile k of the picture does.
 pub record IsTileAt (g : TileGrid) (k : ℕ) (tile : Tile) : Type 0 where
@@ -42,19 +43,34 @@ IsTileBin l tile numbers =
     (row column s : ℕ) → IsShown l tile row column s → IsBin l (λ t. Meets t l.count (8 * tile.bx + column) (8 * tile.by + row) s) numbers
 
 -- The samples whose pixels are in the picture are their ends.
-abbrev pub AreEnds : Scene → Tile → List Sample → Type 0
+abbrev pub AreEnds : Scene → Tile → List BlockSamples → Type 0
 AreEnds l tile samples =
-    (row column s : ℕ) → IsShown l tile row column s → IsEnd l (8 * tile.bx + column) (8 * tile.by + row) s (stored samples (place_of tile row column s))
+    (row column s : ℕ) → IsShown l tile row column s → IsEnd l (8 * tile.bx + column) (8 * tile.by + row) s (stored tile samples row column s)
 
 -- The colour of the pixel in a row and a column of the tile: each channel resolved from the pixel's samples.
-pub record IsColourAt (tile : Tile) (samples : List Sample) (row column : ℕ) (r g b : ℕ) : Type 0 where
-  pub red : IsResolved tile.count (λ s. (stored samples (place_of tile row column s)).r) r
-  pub green : IsResolved tile.count (λ s. (stored samples (place_of tile row column s)).g) g
-  pub blue : IsResolved tile.count (λ s. (stored samples (place_of tile row column s)).b) b
+pub record IsColourAt (tile : Tile) (samples : List BlockSamples) (row column : ℕ) (r g b : ℕ) : Type 0 where
+  pub red : IsResolved tile.count (λ s. (stored tile samples row column s).r) r
+  pub green : IsResolved tile.count (λ s. (stored tile samples row column s).g) g
+  pub blue : IsResolved tile.count (λ s. (stored tile samples row column s).b) b
 
--- The bytes of the first n pixels of rows of this width.
-pub record ArePixels (tile : Tile) (samples : List Sample) (width n : ℕ) (bytes : List ℕ) : Type 0 where
-  pub size : length bytes ≡ 3 * n
-  pub pixels : (i j : ℕ) → i < width → j * width + i < n
-      → let k = 3 * (j * width + i) in
-      IsColourAt tile samples j i (slice_index bytes k) (slice_index bytes (k + 1)) (slice_index bytes (k + 2))
+-- The bytes of the eight pixels in a row of the tile and a column of its blocks: red, green and blue of each.
+abbrev pub AreColoursAt : Tile → List BlockSamples → ℕ → ℕ → List ℕ → Type 0
+AreColoursAt tile samples row column bytes =
+    (i : ℕ) → i < 8 → IsColourAt tile samples row (8 * column + i) (slice_index bytes (3 * i)) (slice_index bytes (3 * i + 1)) (slice_index bytes (3 * i + 2))
+
+-- Of each of them the more and the less significant byte of the depth of sample 0.
+abbrev pub AreDepthsAt : Tile → List BlockSamples → ℕ → ℕ → List ℕ → Type 0
+AreDepthsAt tile samples row column bytes =
+    (i : ℕ) → i < 8
+    → (slice_index bytes (2 * i) ≡ (stored tile samples row (8 * column + i) 0).z / 256) × (slice_index bytes (2 * i + 1) ≡ (stored tile samples row (8 * column + i) 0).z % 256)
+
+-- The first eight of three lists, one of each after another.
+abbrev pub AreInterleaved : List ℕ → List ℕ → List ℕ → List ℕ → Type 0
+AreInterleaved r g b bytes =
+    (i : ℕ) → i < 8 → (slice_index bytes (3 * i) ≡ slice_index r i) × (slice_index bytes (3 * i + 1) ≡ slice_index g i) × (slice_index bytes (3 * i + 2) ≡ slice_index b i)
+
+-- The new bytes are the old ones, and behind them those of so many pixels of one row of the picture, from pixel (i, j) on.
+pub record AddsRun (l : Scene) (i j many : ℕ) (old new : List ℕ) : Type 0 where
+  pub run : List ℕ
+  pub is : IsRun l i j many run
+  pub behind : new ≡ old ++ run

@@ -4,7 +4,7 @@ ghost use Rattle.std.specs.List.{All};
 ghost use Rattle.grid.specs.Pixels.{side_of};
 ghost use Rattle.bins.specs.Grid.{tiles_of, rect_of};
 ghost use Rattle.bins.specs.Bin.{HasTile, IsBinOf, bin_of};
-ghost use Rattle.tile.specs.Samples.{samples_of, stored};
+ghost use Rattle.tile.specs.Samples.{planes_of, AreAll};
 ghost use Rattle.tile.specs.Picture.{IsTileAt, IsPictureIn, IsTileBin, AreEnds};
 
 use crate::pixels::resolve;
@@ -14,7 +14,7 @@ use crate::tile::Tile;
 use bins::{Bins, Tiling};
 use grid::{OutOfMemory, PixelBox, SampleCount, TileSide};
 use list::DrawList;
-use shade::Sample;
+use shade::BlockSamples;
 use std::alloc::Global;
 
 /// A tile of the picture.
@@ -22,15 +22,16 @@ use std::alloc::Global;
 pub struct TilePixels {
     /// The tile's pixels, as far as they are in the picture.
     pub rect: PixelBox,
-    /// The rows of the rectangle from top to bottom, the pixels of a row from left to right, and red, green and blue of a pixel.
+    /// The rows of the rectangle from top to bottom, the pixels of a row from left to right, and of a pixel either red, green and
+    /// blue or, where the list's output is its depths, the more and the less significant byte of the depth.
     pub bytes: Vec<u8>,
 }
 
 /// Draws the triangles of the tile's bin, one after another, over cleared samples.
-fn draw_bin(list: &DrawList, numbers: &[u32], tile: &Tile, samples: &mut [Sample])
-    requires samples { length samples.old ≡ samples_of tile.now.side tile.now.count }
+fn draw_bin(list: &DrawList, numbers: &[u32], tile: &Tile, samples: &mut [BlockSamples])
+    requires samples { length samples.old ≡ planes_of tile.now.side tile.now.count }
     requires count { tile.now.count ≡ list.now.count }
-    requires cleared { (place : ℕ) → place < length samples.old → stored samples.old place ≡ list.now.clear }
+    requires cleared { AreAll samples.old list.now.clear }
     requires numbers { All (λ number. number < length list.now.triangles) numbers.now }
     requires bin { IsTileBin list.now tile.now numbers.now }
     ensures { AreEnds list.now tile.now samples.new }
@@ -67,7 +68,8 @@ fn shown(pixels: u32, block: u32, side: TileSide) -> u32
 }
 
 /// Tile `k` of the picture, drawn from its bin in a store for the tile's samples: each triangle of the bin in draw order at the
-/// samples that it meets, and at the end each pixel's colour from its samples (multisample resolve). Only the answer takes
+/// samples that it meets, and at the end each pixel's colour from its samples (multisample
+/// resolve), or the depth of its sample 0. Only the answer takes
 /// memory, and want of memory is the only error. The store may be used again for another tile, also after an error.
 pub fn render(
     alloc: Global,
@@ -94,6 +96,6 @@ pub fn render(
     draw_bin(list, bins.bin(k), &tile, samples);
     let width = shown(tiling.width(), tile.bx, tile.side);
     let height = shown(tiling.height(), tile.by, tile.side);
-    let bytes = resolve(alloc, &tile, samples, width, height)?;
+    let bytes = resolve(alloc, list, &tile, samples, width, height)?;
     Ok(TilePixels { rect, bytes })
 }

@@ -3,8 +3,9 @@
 
 mod block;
 mod drawing;
+mod eight;
 mod pixels;
-mod run;
+mod scissor;
 mod squares;
 mod store;
 mod tile;

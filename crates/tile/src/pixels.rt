@@ -1,73 +1,74 @@
 //! The bytes of a tile's pixels.
-ghost use Rattle.std.specs.Prelude.{◌≡◌, ◌+◌, ◌*◌, ◌<◌, ◌≤◌, [], ◌∷◌, ◌++◌, length, IfOk, OnOk};
+ghost use Rattle.std.specs.Prelude.{◌≡◌, ℕ, ◌+◌, ◌*◌, ◌/◌, ◌%◌, ◌<◌, ◌≤◌, ◌++◌, length, take, IfOk, OnOk};
 ghost use Rattle.grid.specs.Pixels.{side_of};
-ghost use Rattle.tile.specs.Samples.{samples_of};
-ghost use Rattle.tile.specs.Picture.{IsColourAt, ArePixels};
+ghost use Rattle.list.specs.Begun.{IsBegun};
+ghost use Rattle.list.specs.Picture.{IsPart};
+ghost use Rattle.tile.specs.Samples.{planes_of};
+ghost use Rattle.tile.specs.Picture.{IsShown, AreEnds, AddsRun};
 
+use crate::eight::{colours, depths};
 use crate::tile::Tile;
-use grid::{OutOfMemory, SampleCount};
-use shade::{Sample, mean_of_four};
+use grid::OutOfMemory;
+use list::{DrawList, Output};
+use shade::BlockSamples;
 use std::alloc::Global;
 
-/// The colour of a pixel.
-#[derive(Clone, Copy)]
-struct Colour {
-    r: u8,
-    g: u8,
-    b: u8,
-}
-
-/// The colour of the pixel in a row and a column of the tile.
-fn colour_at(tile: &Tile, samples: &[Sample], row: u32, column: u32) -> Colour
-    requires samples { length samples.now ≡ samples_of tile.now.side tile.now.count }
-    requires row { row < side_of tile.now.side }
-    requires column { column < side_of tile.now.side }
-    ensures { IsColourAt tile.now samples.now row column result.r result.g result.b }
+/// Appends so many bytes.
+fn push_first(run: &[u8], many: u32, bytes: &mut Vec<u8>) -> Result<(), OutOfMemory>
+    requires { many ≤ length run.now }
+    ensures { OnOk result (bytes.new.items ≡ bytes.old.items ++ take many run.now) }
 {
-    let first = samples[tile.place(row, column, 0)];
-    match tile.count {
-        SampleCount::One => Colour {
-            r: first.r,
-            g: first.g,
-            b: first.b,
-        },
-        SampleCount::Four => {
-            let second = samples[tile.place(row, column, 1)];
-            let third = samples[tile.place(row, column, 2)];
-            let fourth = samples[tile.place(row, column, 3)];
-            Colour {
-                r: mean_of_four(first.r, second.r, third.r, fourth.r),
-                g: mean_of_four(first.g, second.g, third.g, fourth.g),
-                b: mean_of_four(first.b, second.b, third.b, fourth.b),
-            }
-        }
-    }
-}
-
-/// Appends the bytes of a colour.
-fn push_colour(colour: Colour, bytes: &mut Vec<u8>) -> Result<(), OutOfMemory>
-    ensures { OnOk result (bytes.new.items ≡ bytes.old.items ++ colour.r ∷ colour.g ∷ colour.b ∷ []) }
-{
-    bytes.extend_from_slice(&[colour.r, colour.g, colour.b])?;
+    bytes.extend_from_slice(&run[..many as usize])?;
     Ok(())
+}
+
+/// Appends the bytes of the first pixels, so many of them, of a row of eight: those in a row of the tile, in a column of its
+/// blocks.
+fn push_run(
+    list: &DrawList,
+    tile: &Tile,
+    samples: &[BlockSamples],
+    row: u32,
+    column: u32,
+    many: u32,
+    bytes: &mut Vec<u8>,
+) -> Result<(), OutOfMemory>
+    requires samples { length samples.now ≡ planes_of tile.now.side tile.now.count }
+    requires count { tile.now.count ≡ list.now.count }
+    requires ends { AreEnds list.now tile.now samples.now }
+    requires row { row < side_of tile.now.side }
+    requires column { column < side_of tile.now.side / 8 }
+    requires many { many ≤ 8 }
+    requires shown { (i : ℕ) → i < many → IsShown list.now tile.now row (8 * column + i) 0 }
+    ensures { OnOk result (AddsRun list.now (8 * tile.now.bx + 8 * column) (8 * tile.now.by + row) many bytes.old.items bytes.new.items) }
+{
+    match list.output() {
+        Output::Color => push_first(&colours(tile, samples, row, column), 3 * many, bytes),
+        Output::Depth => push_first(&depths(tile, samples, row, column), 2 * many, bytes),
+    }
 }
 
 /// Appends a row of the tile, as far as it is in the picture, to the rows above it.
 fn push_row(
+    list: &DrawList,
     tile: &Tile,
-    samples: &[Sample],
+    samples: &[BlockSamples],
     width: u32,
     row: u32,
     bytes: &mut Vec<u8>,
 ) -> Result<(), OutOfMemory>
-    requires samples { length samples.now ≡ samples_of tile.now.side tile.now.count }
+    requires samples { length samples.now ≡ planes_of tile.now.side tile.now.count }
+    requires count { tile.now.count ≡ list.now.count }
+    requires ends { AreEnds list.now tile.now samples.now }
     requires row { row < side_of tile.now.side }
     requires width { width ≤ side_of tile.now.side }
-    requires above { ArePixels tile.now samples.now width (row * width) bytes.old.items }
-    ensures { OnOk result (ArePixels tile.now samples.now width ((row + 1) * width) bytes.new.items) }
+    requires shown { (column : ℕ) → column < width → IsShown list.now tile.now row column 0 }
+    requires above { IsBegun list.now (8 * tile.now.bx) (8 * tile.now.by) width (row * width) bytes.old.items }
+    ensures { OnOk result (IsBegun list.now (8 * tile.now.bx) (8 * tile.now.by) width ((row + 1) * width) bytes.new.items) }
 {
-    for column in 0..width {
-        push_colour(colour_at(tile, samples, row, column), bytes)?;
+    for column in 0..(width + 7) / 8 {
+        let many = (width - 8 * column).min(8);
+        push_run(list, tile, samples, row, column, many, bytes)?;
     }
     Ok(())
 }
@@ -75,19 +76,25 @@ fn push_row(
 /// The bytes of so many columns and rows of the tile, from its first pixel on.
 pub(crate) fn resolve(
     alloc: Global,
+    list: &DrawList,
     tile: &Tile,
-    samples: &[Sample],
+    samples: &[BlockSamples],
     width: u32,
     height: u32,
 ) -> Result<Vec<u8>, OutOfMemory>
-    requires samples { length samples.now ≡ samples_of tile.now.side tile.now.count }
+    requires samples { length samples.now ≡ planes_of tile.now.side tile.now.count }
+    requires count { tile.now.count ≡ list.now.count }
+    requires ends { AreEnds list.now tile.now samples.now }
     requires width { width ≤ side_of tile.now.side }
     requires height { height ≤ side_of tile.now.side }
-    ensures { IfOk result (λ bytes. ArePixels tile.now samples.now width (height * width) bytes.items) }
+    requires in_width { 8 * tile.now.bx + width ≤ list.now.width }
+    requires in_height { 8 * tile.now.by + height ≤ list.now.height }
+    ensures { IfOk result (λ bytes. IsPart list.now (8 * tile.now.bx) (8 * tile.now.by) width height bytes.items) }
 {
-    let mut bytes = Vec::with_capacity(alloc, (3 * width * height) as usize)?;
+    let size = list.output().pixel_bytes() * width * height;
+    let mut bytes = Vec::with_capacity(alloc, size as usize)?;
     for row in 0..height {
-        push_row(tile, samples, width, row, &mut bytes)?;
+        push_row(list, tile, samples, width, row, &mut bytes)?;
     }
     Ok(bytes)
 }

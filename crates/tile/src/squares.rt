@@ -2,62 +2,60 @@
 ghost use Rattle.std.specs.Prelude.{◌≡◌, ◌+◌, ◌*◌, ◌<◌, ◌≤◌, ℕ, length, [], ◌∷◌, ◌++◌, Some, IsTrue, false};
 ghost use Rattle.arrayvec.specs.ArrayVec.{array_vec_len};
 ghost use Rattle.grid.specs.Pixels.{side_of};
-ghost use Rattle.grid.specs.Samples.{count_of};
 ghost use Rattle.cover.specs.Drawn.{IsDrawn};
 ghost use Rattle.cover.specs.Square.{CoversAll, quarter_of};
-ghost use Rattle.tile.specs.Samples.{samples_of};
-ghost use Rattle.tile.specs.Drawing.{CoversRun, DrawsPart, DrawsTile, IsInRectangle, IsIn, IsSquareIn};
+ghost use Rattle.tile.specs.Samples.{planes_of};
+ghost use Rattle.tile.specs.Drawing.{DrawsPart, DrawsTile, IsIn, IsInRow, IsSquareIn};
 
 use crate::block::draw_block;
-use crate::run::{draw_run, is_in_mask};
 use crate::tile::Tile;
 use arrayvec::ArrayVec;
 use cover::{Class, Setup, Square};
 use grid::TileSide;
-use shade::{Interpolants, Placed, Sample};
+use shade::{BlockSamples, Interpolants, Placed};
+
+/// The planes of a block whose samples are all covered.
+const ALL: [u64; 4] = [u64::MAX; 4];
 
 /// The squares that wait to be visited. Ten places are enough: a tile of 64 pixels is cut three times on the way to a block, and
 /// each time three quarters wait while the fourth is visited. A place that is not used holds none.
 type Waiting<'a> = ArrayVec<Option<Square<'a>>, 10>;
 
-/// Draws the triangle at all samples of the pixels in a row of the tile, from column `first` to before `end`, each of which it
-/// covers.
+/// Draws the triangle at all samples of the blocks in a row of a square, each of which it covers.
 fn draw_row(
     triangle: &Interpolants,
     tile: &Tile,
-    row: u32,
-    first: u32,
-    end: u32,
-    samples: &mut [Sample],
+    square: &Square,
+    by: u32,
+    samples: &mut [BlockSamples],
 )
-    requires samples { length samples.old ≡ samples_of tile.now.side tile.now.count }
-    requires row { row < side_of tile.now.side }
-    requires end { end ≤ side_of tile.now.side }
+    requires samples { length samples.old ≡ planes_of tile.now.side tile.now.count }
+    requires square { IsSquareIn triangle.now tile.now square.now }
+    requires from { square.now.by ≤ by }
+    requires to { 8 * by < 8 * square.now.by + side_of square.now.side }
     requires drawn { IsDrawn triangle.now.tri triangle.now.state.cull }
-    requires covered { (s : ℕ) → s < count_of tile.now.count → CoversRun triangle.now tile.now row first end s }
-    ensures { DrawsPart triangle.now tile.now (IsInRectangle first row end (row + 1)) samples.old samples.new }
+    requires covered { CoversAll square.now }
+    ensures { DrawsPart triangle.now tile.now (IsInRow tile.now square.now by) samples.old samples.new }
 {
-    for s in 0..tile.count.count() {
-        if is_in_mask(triangle, s) {
-            draw_run(triangle, tile, row, first, end, s, samples);
-        }
+    let first = square.bx();
+    let side = square.side().pixels();
+    for bx in first..first + side / 8 {
+        draw_block(triangle, tile, bx, by, &ALL, samples);
     }
 }
 
 /// Draws the triangle at all samples of a square, each of which it covers.
-fn draw_whole(triangle: &Interpolants, tile: &Tile, square: &Square, samples: &mut [Sample])
-    requires samples { length samples.old ≡ samples_of tile.now.side tile.now.count }
+fn draw_whole(triangle: &Interpolants, tile: &Tile, square: &Square, samples: &mut [BlockSamples])
+    requires samples { length samples.old ≡ planes_of tile.now.side tile.now.count }
     requires square { IsSquareIn triangle.now tile.now square.now }
     requires drawn { IsDrawn triangle.now.tri triangle.now.state.cull }
     requires covered { CoversAll square.now }
     ensures { DrawsPart triangle.now tile.now (IsIn tile.now square.now) samples.old samples.new }
 {
-    // A copy, which a store into the samples cannot change, so that the loops below keep it at hand.
-    let tile = *tile;
+    let first = square.by();
     let side = square.side().pixels();
-    let (top, first) = (8 * (square.by() - tile.by), 8 * (square.bx() - tile.bx));
-    for row in top..top + side {
-        draw_row(triangle, &tile, row, first, first + side, samples);
+    for by in first..first + side / 8 {
+        draw_row(triangle, tile, square, by, samples);
     }
 }
 
@@ -76,13 +74,11 @@ fn push_quarters<'a>(square: &Square<'a>, waiting: &mut Waiting<'a>)
 /// Draws the triangle at the samples of a square, or answers false where the square's quarters have to be visited.
 fn draw_square(
     triangle: &Interpolants,
-    setup: &Setup,
     tile: &Tile,
     square: &Square,
-    samples: &mut [Sample],
+    samples: &mut [BlockSamples],
 ) -> bool
-    requires samples { length samples.old ≡ samples_of tile.now.side tile.now.count }
-    requires setup { setup.now ≡ triangle.now.tri }
+    requires samples { length samples.old ≡ planes_of tile.now.side tile.now.count }
     requires square { IsSquareIn triangle.now tile.now square.now }
     requires drawn { IsDrawn triangle.now.tri triangle.now.state.cull }
     ensures drawn { IsTrue result → DrawsPart triangle.now tile.now (IsIn tile.now square.now) samples.old samples.new }
@@ -98,8 +94,7 @@ fn draw_square(
         Class::Mixed => match square.side() {
             TileSide::T8 => {
                 let (bx, by) = (square.bx(), square.by());
-                let masks = setup.masks(bx, by, tile.count);
-                draw_block(triangle, tile, bx, by, &masks.plane, samples);
+                draw_block(triangle, tile, bx, by, &square.masks().plane, samples);
                 true
             }
             TileSide::T16 | TileSide::T32 | TileSide::T64 => false,
@@ -108,8 +103,8 @@ fn draw_square(
 }
 
 /// Draws the triangle at the samples of the tile that it meets, from the tile's square down to blocks.
-fn draw_squares(triangle: &Interpolants, setup: &Setup, tile: &Tile, samples: &mut [Sample])
-    requires samples { length samples.old ≡ samples_of tile.now.side tile.now.count }
+fn draw_squares(triangle: &Interpolants, setup: &Setup, tile: &Tile, samples: &mut [BlockSamples])
+    requires samples { length samples.old ≡ planes_of tile.now.side tile.now.count }
     requires setup { setup.now ≡ triangle.now.tri }
     requires drawn { IsDrawn triangle.now.tri triangle.now.state.cull }
     ensures { DrawsTile triangle.now tile.now samples.old samples.new }
@@ -117,15 +112,15 @@ fn draw_squares(triangle: &Interpolants, setup: &Setup, tile: &Tile, samples: &m
     let mut waiting: Waiting = ArrayVec::new();
     waiting.push(Some(setup.square(tile.bx, tile.by, tile.side, tile.count)));
     while let Some(square) = waiting.pop().flatten() {
-        if !draw_square(triangle, setup, tile, &square, samples) {
+        if !draw_square(triangle, tile, &square, samples) {
             push_quarters(&square, &mut waiting);
         }
     }
 }
 
 /// Draws the triangle at the samples of the tile that it meets.
-pub(crate) fn draw_triangle(triangle: &Placed, tile: &Tile, samples: &mut [Sample])
-    requires { length samples.old ≡ samples_of tile.now.side tile.now.count }
+pub(crate) fn draw_triangle(triangle: &Placed, tile: &Tile, samples: &mut [BlockSamples])
+    requires { length samples.old ≡ planes_of tile.now.side tile.now.count }
     ensures { DrawsTile triangle.now tile.now samples.old samples.new }
 {
     if let Some(setup) = Setup::new(&triangle.tri, triangle.state.cull) {

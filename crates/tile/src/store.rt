@@ -1,10 +1,9 @@
 //! The samples of one tile.
-ghost use Rattle.std.specs.Prelude.{◌≡◌, ◌<◌, ℕ, length, slice_index_or, vec_len, IfOk};
-ghost use Rattle.shade.specs.declared.sample.Sample.{Sample as Kept};
-ghost use Rattle.tile.specs.Samples.{samples_of, stored};
+ghost use Rattle.std.specs.Prelude.{◌≡◌, vec_len, IfOk};
+ghost use Rattle.tile.specs.Samples.{planes_of, AreAll};
 
 use grid::{OutOfMemory, SampleCount, TileSide};
-use shade::Sample;
+use shade::{BlockSamples, Sample};
 use std::alloc::Global;
 use std::marker::Model;
 
@@ -21,34 +20,35 @@ const BLANK: Sample = Sample {
 pub struct Store {
     side: TileSide,
     count: SampleCount,
-    pub(crate) samples: Vec<Sample>,
+    pub(crate) samples: Vec<BlockSamples>,
 }
 
 impl Model for Store {
     ghost use Rattle.std.specs.Prelude.{◌≡◌, vec_len};
-    ghost use Rattle.tile.specs.Samples.{samples_of};
+    ghost use Rattle.tile.specs.Samples.{planes_of};
     ghost use Rattle.tile.specs.Store.{Room};
 
     ghost Value = { Room };
 
     ghost view = { λ s. record { side = s.side; count = s.count } };
 
-    ghost invariant = { λ s. vec_len s.samples ≡ samples_of s.side s.count };
+    ghost invariant = { λ s. vec_len s.samples ≡ planes_of s.side s.count };
 }
 
-/// So many samples.
-fn blank(alloc: Global, number: usize) -> Result<Vec<Sample>, OutOfMemory>
+/// So many planes of samples.
+fn blank(alloc: Global, number: usize) -> Result<Vec<BlockSamples>, OutOfMemory>
     ensures { IfOk result (λ samples. vec_len samples ≡ number) }
 {
-    Ok(vec![in alloc; BLANK; number]?)
+    Ok(vec![in alloc; BlockSamples::filled(BLANK); number]?)
 }
 
 /// Makes each sample the given one.
-pub(crate) fn clear(samples: &mut [Sample], sample: Sample)
-    ensures { (place : ℕ) → place < length samples.new → stored samples.new place ≡ sample }
+pub(crate) fn clear(samples: &mut [BlockSamples], sample: Sample)
+    ensures { AreAll samples.new sample }
 {
-    for stored in samples.iter_mut() {
-        *stored = sample;
+    let cleared = BlockSamples::filled(sample);
+    for plane in samples.iter_mut() {
+        *plane = cleared;
     }
 }
 
@@ -57,11 +57,11 @@ impl Store {
     pub fn new(alloc: Global, side: TileSide, count: SampleCount) -> Result<Store, OutOfMemory>
         ensures { IfOk result (λ store. store ≡ record { side = side; count = count }) }
     {
-        let pixels = side.pixels() * side.pixels();
+        let blocks = (side.pixels() / 8) * (side.pixels() / 8);
         Ok(Store {
             side,
             count,
-            samples: blank(alloc, (pixels * count.count()) as usize)?,
+            samples: blank(alloc, (blocks * count.count()) as usize)?,
         })
     }
 

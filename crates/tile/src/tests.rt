@@ -1,9 +1,11 @@
 ghost use Rattle.std.specs.Prelude.{◌<◌};
 
+mod combinations;
+
 use crate::{Store, TilePixels, render};
 use bins::{Bins, Tiling};
 use grid::{Cull, OutOfMemory, PixelBox, Point, SampleCount, TileSide};
-use list::{Draw, DrawList, State, Vertex};
+use list::{Draw, DrawList, Output, Primitives, State, Vertex};
 use shade::{DepthTest, Merge, Sample};
 use std::alloc::Global;
 use std::process::Abort;
@@ -37,21 +39,24 @@ const PLAIN: State = State {
     },
 };
 
-/// Where a channel of a pixel stands in the picture's bytes.
-fn place(width: u32, x: i32, y: i32, channel: i64) -> Option<usize> {
+/// Where a byte of a pixel stands in the picture's bytes, where a pixel has so many.
+fn place(width: u32, pixel_bytes: u32, x: i32, y: i32, byte: u32) -> Option<usize> {
     let pixel = i64::from(y)
         .wrapping_mul(i64::from(width))
         .wrapping_add(i64::from(x));
-    usize::try_from(pixel.wrapping_mul(3).wrapping_add(channel)).ok()
+    let first = pixel.wrapping_mul(i64::from(pixel_bytes));
+    usize::try_from(first.wrapping_add(i64::from(byte))).ok()
 }
 
 /// Whether the tile's bytes are those of the picture in the tile's rectangle.
-fn is_part(tile: &TilePixels, width: u32, picture: &[u8]) -> bool {
+fn is_part(tile: &TilePixels, width: u32, pixel_bytes: u32, picture: &[u8]) -> bool {
     let mut bytes = tile.bytes.iter();
     for y in tile.rect.y0..tile.rect.y1 {
         for x in tile.rect.x0..tile.rect.x1 {
-            for channel in 0..3 {
-                let expected = place(width, x, y, channel).and_then(|place| picture.get(place));
+            for byte in 0..pixel_bytes {
+                let expected = place(width, pixel_bytes, x, y, byte).and_then(|place| picture.get(
+                    place,
+                ));
                 if expected.is_none() || bytes.next() != expected {
                     return false;
                 }
@@ -71,9 +76,10 @@ fn are_parts(
     let tiling = Tiling::new(list.width(), list.height(), side);
     let bins = Bins::build(alloc, list, &tiling, 0, tiling.rows())?;
     let mut store = Store::new(alloc, side, list.count())?;
+    let (width, pixel_bytes) = (list.width(), list.output().pixel_bytes());
     for k in 0..tiling.tiles() {
         let tile = render(alloc, list, &tiling, &bins, k, &mut store)?;
-        if tile.rect != tiling.rect(k) || !is_part(&tile, list.width(), picture) {
+        if tile.rect != tiling.rect(k) || !is_part(&tile, width, pixel_bytes, picture) {
             return Ok(false);
         }
     }
@@ -100,10 +106,13 @@ fn white(
     draws.push(Draw {
         state: PLAIN,
         vertices,
-        triangles: vec![in alloc; [0, 1, 2]]?,
+        primitives: Primitives::Triangles(vec![in alloc; [0, 1, 2]]?),
     })?;
     let (width, height) = size;
-    Ok(DrawList::new(alloc, width, height, count, BLACK, draws).expect(rt, "within the limits"))
+    Ok(DrawList::new(alloc, width, height, count, BLACK, Output::Color, draws).expect(
+        rt,
+        "within the limits",
+    ))
 }
 
 #[test]
@@ -254,7 +263,7 @@ impl Numbers {
         Ok(Draw {
             state: self.drawn(),
             vertices,
-            triangles,
+            primitives: Primitives::Triangles(triangles),
         })
     }
 
@@ -263,6 +272,7 @@ impl Numbers {
         rt: &impl Abort,
         alloc: Global,
         count: SampleCount,
+        output: Output,
     ) -> Result<DrawList, Fail> {
         let mut draws = Vec::new(alloc);
         for _ in 0..4 {
@@ -275,15 +285,24 @@ impl Numbers {
             z: self.below(65536) as u16,
         };
         let (width, height) = (1 + self.below(80), 1 + self.below(80));
-        Ok(DrawList::new(alloc, width, height, count, clear, draws).expect(rt, "within the limits"))
+        Ok(DrawList::new(alloc, width, height, count, clear, output, draws).expect(
+            rt,
+            "within the limits",
+        ))
     }
 }
 
 /// Draws so many lists tile by tile, and each sample by itself.
-fn compare(rt: &impl Abort, alloc: Global, seed: u64, count: SampleCount) -> Result<(), Fail> {
+fn compare(
+    rt: &impl Abort,
+    alloc: Global,
+    seed: u64,
+    count: SampleCount,
+    output: Output,
+) -> Result<(), Fail> {
     let mut numbers = Numbers { state: seed };
     for _ in 0..20 {
-        let list = numbers.list(rt, alloc, count)?;
+        let list = numbers.list(rt, alloc, count, output)?;
         let picture = plain::render(alloc, &list)?;
         for side in SIDES {
             assert!(rt; are_parts(alloc, &list, side, &picture)?);
@@ -294,10 +313,20 @@ fn compare(rt: &impl Abort, alloc: Global, seed: u64, count: SampleCount) -> Res
 
 #[test]
 fn draws_what_each_sample_takes_by_itself(rt: HostRuntime) -> Result<(), Fail> {
-    compare(&rt, rt.alloc(), 1, SampleCount::One)
+    compare(&rt, rt.alloc(), 1, SampleCount::One, Output::Color)
 }
 
 #[test]
 fn draws_what_each_of_four_samples_takes_by_itself(rt: HostRuntime) -> Result<(), Fail> {
-    compare(&rt, rt.alloc(), 2, SampleCount::Four)
+    compare(&rt, rt.alloc(), 2, SampleCount::Four, Output::Color)
+}
+
+#[test]
+fn draws_the_depths_of_single_samples(rt: HostRuntime) -> Result<(), Fail> {
+    compare(&rt, rt.alloc(), 3, SampleCount::One, Output::Depth)
+}
+
+#[test]
+fn draws_the_depths_of_the_first_of_four_samples(rt: HostRuntime) -> Result<(), Fail> {
+    compare(&rt, rt.alloc(), 4, SampleCount::Four, Output::Depth)
 }

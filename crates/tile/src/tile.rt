@@ -1,5 +1,5 @@
 //! Where a tile lies, and where its samples are stored.
-ghost use Rattle.std.specs.Prelude.{◌≡◌, ◌<◌};
+ghost use Rattle.std.specs.Prelude.{◌≡◌, ◌<◌, ◌*◌, ◌/◌};
 ghost use Rattle.cover.specs.Square.{IsCorner};
 
 use grid::{SampleCount, TileSide};
@@ -16,15 +16,20 @@ pub(crate) struct Tile {
 }
 
 impl Tile {
-    ghost use Rattle.tile.specs.Samples.{IsSampleOf, place_of, samples_of};
+    ghost use Rattle.grid.specs.Pixels.{side_of};
+    ghost use Rattle.grid.specs.Samples.{count_of};
+    ghost use Rattle.tile.specs.Samples.{place_of, planes_of};
 
-    /// Where sample `s` of the pixel in a row and a column of the tile is stored.
+    /// Where the samples `s` of the block in a row and a column of the tile's blocks are stored.
+    #[inline]
     pub(crate) fn place(&self, row: u32, column: u32, s: u32) -> usize
-        requires { IsSampleOf self.now row column s }
+        requires row { row < side_of self.now.side / 8 }
+        requires column { column < side_of self.now.side / 8 }
+        requires sample { s < count_of self.now.count }
         ensures value { result ≡ place_of self.now row column s }
-        ensures within { result < samples_of self.now.side self.now.count }
+        ensures within { result < planes_of self.now.side self.now.count }
     {
-        let pixel = row * self.side.pixels() + column;
-        (pixel * self.count.count() + s) as usize
+        let block = row * (self.side.pixels() / 8) + column;
+        (block * self.count.count() + s) as usize
     }
 }

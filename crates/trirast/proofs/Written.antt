@@ -6,22 +6,24 @@ use Rattle.std.proofs.KnownBytes.{Appends-trans}
 use Rattle.std.specs.Io.KnownBytes.{Appends}
 use Rattle.grid.specs.Pixels.{side_of}
 use Rattle.grid.specs.declared.pixels.TileSide.{TileSide}
+use Rattle.list.specs.declared.output.Output.{Output}
 use Rattle.list.specs.Scene.{Scene}
 use Rattle.list.specs.Picture.{IsPart}
 use Rattle.list.proofs.Exists.{part-exists}
 use Rattle.list.proofs.Parts.{part-append}
+use Rattle.list.proofs.Pixels.{bytes_of_none}
 use Rattle.bins.specs.Grid.{TileGrid, tiles_over}
 use Rattle.pool.specs.declared.fault.PoolFault.TheVariants.{NoWorker}
 use Rattle.trirast.specs.declared.fault.Fault.{Fault}
 use Rattle.trirast.specs.declared.fault.Fault.TheVariants.{OutOfMemory, Pool}
 use Rattle.trirast.specs.Band.{IsBand}
-use Rattle.trirast.specs.File.{ppm_header, ppm_file, IsPictureFile}
+use Rattle.trirast.specs.File.{header_of, file_of, IsPictureFile}
 use Rattle.trirast.specs.Runs.{ExplainsOutput, WritesAll, WritesBands, WritesFileUpTo, bytes_before}
 use Rattle.trirast.proofs.Beginnings.{Appends-front}
 use Rattle.trirast.proofs.Strips.{begins_within, strip_next, strip_before, strips_all}
 
 -- rows that are there, and the others of the picture
-pub file_with : (l : Scene) (y : ℕ) (rows : List ℕ) → 1 ≤ l.width → y ≤ l.height → IsPart l 0 0 l.width y rows → (rest : List ℕ) × IsPictureFile l (ppm_file l.width l.height (rows ++ rest))
+pub file_with : (l : Scene) (y : ℕ) (rows : List ℕ) → 1 ≤ l.width → y ≤ l.height → IsPart l 0 0 l.width y rows → (rest : List ℕ) × IsPictureFile l (file_of l.output l.width l.height (rows ++ rest))
 file_with l y rows wide within part =
     let rest = part-exists l 0 y l.width (l.height - y) wide in
     let below : IsPart l 0 (0 + y) l.width (l.height - y) rest.0 = subst (λ top. IsPart l 0 top l.width (l.height - y) rest.0) (sym (zero-add y)) rest.1 in
@@ -29,20 +31,20 @@ file_with l y rows wide within part =
     (rest.0, record { rows = rows ++ rest.0; picture = rw high at (part-append l 0 0 l.width y (l.height - y) rows rest.0 part below); whole = refl })
 
 no_rows : (l : Scene) → IsPart l 0 0 l.width 0 []
-no_rows l = record { size = omega arith; pixels = λ i j wide high. absurd (omega arith) }
+no_rows l = record { size = sym (bytes_of_none l.output (0 * l.width) (omega arith)); pixels = λ i j wide high. absurd (omega arith) }
 
 -- the header was cut short
-pub header_cut : (l : Scene) (width height n : ℕ) (held held_after : Option (List ℕ)) → width ≡ l.width → height ≡ l.height → 1 ≤ l.width → n ≤ length (ppm_header width height)
-    → Appends held held_after (take n (ppm_header width height)) → WritesFileUpTo l n held held_after
-header_cut l width height n held held_after e f wide short written =
+pub header_cut : (l : Scene) (output : Output) (width height n : ℕ) (held held_after : Option (List ℕ)) → output ≡ l.output → width ≡ l.width → height ≡ l.height → 1 ≤ l.width → n ≤ length (header_of output width height)
+    → Appends held held_after (take n (header_of output width height)) → WritesFileUpTo l n held held_after
+header_cut l output width height n held held_after d e f wide short written =
     let all = file_with l 0 [] wide (omega arith) (no_rows l) in
-    let header : ppm_header width height ≡ ppm_header l.width l.height = rw (e, f) refl in
-    let short' : n ≤ length (ppm_header l.width l.height) = subst (λ h. n ≤ length h) header short in
-    let front : take n (ppm_header l.width l.height ++ all.0) ≡ take n (ppm_header l.width l.height) = rw take-append-le refl in
+    let header : header_of output width height ≡ header_of l.output l.width l.height = rw (d, e, f) refl in
+    let short' : n ≤ length (header_of l.output l.width l.height) = subst (λ h. n ≤ length h) header short in
+    let front : take n (header_of l.output l.width l.height ++ all.0) ≡ take n (header_of l.output l.width l.height) = rw take-append-le refl in
     record {
-      file = ppm_file l.width l.height all.0;
+      file = file_of l.output l.width l.height all.0;
       picture = all.1;
-      within = omega (arith, length-append (ppm_header l.width l.height) all.0);
+      within = omega (arith, length-append (header_of l.output l.width l.height) all.0);
       written = subst (Appends held held_after) (ap (take n) header ∙ sym front) written;
     }
 
@@ -50,18 +52,18 @@ header_cut l width height n held held_after e f wide short written =
 pub record HasWritten (l : Scene) (side : TileSide) (row count : ℕ) (held held_after : Option (List ℕ)) : Type 0 where
   pub rows : List ℕ
   pub part : IsPart l 0 0 l.width (min l.height (side_of side * row)) rows
-  pub written : Appends held held_after (ppm_header l.width l.height ++ rows)
-  pub many : count ≡ length (ppm_header l.width l.height) + length rows
+  pub written : Appends held held_after (header_of l.output l.width l.height ++ rows)
+  pub many : count ≡ length (header_of l.output l.width l.height) + length rows
 
-pub header_written : (l : Scene) (side : TileSide) (width height count : ℕ) (held held_after : Option (List ℕ)) → width ≡ l.width → height ≡ l.height → count ≡ length (ppm_header width height)
-    → Appends held held_after (ppm_header width height) → HasWritten l side 0 count held held_after
-header_written l side width height count held held_after e f many written =
-    let header : ppm_header width height ≡ ppm_header l.width l.height = rw (e, f) refl in
+pub header_written : (l : Scene) (side : TileSide) (output : Output) (width height count : ℕ) (held held_after : Option (List ℕ)) → output ≡ l.output → width ≡ l.width → height ≡ l.height
+    → count ≡ length (header_of output width height) → Appends held held_after (header_of output width height) → HasWritten l side 0 count held held_after
+header_written l side output width height count held held_after d e f many written =
+    let header : header_of output width height ≡ header_of l.output l.width l.height = rw (d, e, f) refl in
     let none : min l.height (side_of side * 0) ≡ 0 = omega arith in
     record {
       rows = [];
       part = rw none (no_rows l);
-      written = subst (Appends held held_after) (header ∙ sym (append-nil (ppm_header l.width l.height))) written;
+      written = subst (Appends held held_after) (header ∙ sym (append-nil (header_of l.output l.width l.height))) written;
       many = many ∙ ap length header ∙ omega arith;
     }
 
@@ -71,7 +73,7 @@ band_of l l' g g' row row' bytes e f h band = rw (← e, ← f, ← h) band
 
 module _ (l : Scene) (g : TileGrid) (row count : ℕ) (held held' : Option (List ℕ)) (wide : 1 ≤ l.width) (same : g.height ≡ l.height) (within : row < tiles_over g.height g.side) (h : HasWritten l g.side row count held held') where
   abbrev header : List ℕ
-  header = ppm_header l.width l.height
+  header = header_of l.output l.width l.height
 
   abbrev before : List ℕ
   before = header ++ h.rows
@@ -91,9 +93,9 @@ module _ (l : Scene) (g : TileGrid) (row count : ℕ) (held held' : Option (List
       let size = part.size in
       let long : bytes_before l g.side row ≡ length before = omega (arith, length-append header h.rows) in
       let front : take (bytes_before l g.side row) (before ++ all.0) ≡ before = ap (λ n. take n (before ++ all.0)) long ∙ take-append_seam before all.0 in
-      let file : ppm_file l.width l.height (h.rows ++ all.0) ≡ before ++ all.0 = sym (append_assoc header h.rows all.0) in
+      let file : file_of l.output l.width l.height (h.rows ++ all.0) ≡ before ++ all.0 = sym (append_assoc header h.rows all.0) in
       record {
-        file = ppm_file l.width l.height (h.rows ++ all.0);
+        file = file_of l.output l.width l.height (h.rows ++ all.0);
         picture = all.1;
         band = row;
         within = below_top;
@@ -131,12 +133,12 @@ module _ (l : Scene) (g : TileGrid) (row count : ℕ) (held held' : Option (List
         let low = within'.0 in
         let high = within'.1 in
         let went = Appends-front held held' held'' before bytes n (omega arith) h.written (subst (λ k. Appends held' held'' (take (n - k) bytes)) many written) in
-        let file : ppm_file l.width l.height ((h.rows ++ bytes) ++ all.0) ≡ (before ++ bytes) ++ all.0 =
+        let file : file_of l.output l.width l.height ((h.rows ++ bytes) ++ all.0) ≡ (before ++ bytes) ++ all.0 =
         ap (λ r. header ++ r) (append_assoc h.rows bytes all.0) ∙ sym (append_assoc header h.rows (bytes ++ all.0)) ∙ sym (append_assoc before bytes all.0) in
         let short : n ≤ length (before ++ bytes) = omega (arith, length-append before bytes) in
         let front : take n ((before ++ bytes) ++ all.0) ≡ take n (before ++ bytes) = take-append-le n (before ++ bytes) all.0 short in
         record {
-          file = ppm_file l.width l.height ((h.rows ++ bytes) ++ all.0);
+          file = file_of l.output l.width l.height ((h.rows ++ bytes) ++ all.0);
           picture = all.1;
           within = subst (λ f. n ≤ length f) (sym file) (omega (arith, length-append (before ++ bytes) all.0));
           written = subst (Appends held held'') (sym (ap (take n) file ∙ front)) went;
@@ -148,9 +150,9 @@ all_written l side row count held held' past h =
     let all = strips_all row l.height side past in
     let part : IsPart l 0 0 l.width l.height h.rows = rw all at h.part in
     record {
-      file = ppm_file l.width l.height h.rows;
+      file = file_of l.output l.width l.height h.rows;
       picture = record { rows = h.rows; picture = part; whole = refl };
-      many = h.many ∙ sym (length-append (ppm_header l.width l.height) h.rows);
+      many = h.many ∙ sym (length-append (header_of l.output l.width l.height) h.rows);
       written = h.written;
     }
 

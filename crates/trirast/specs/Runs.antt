@@ -3,6 +3,7 @@ use Rattle.std.specs.Prelude.{◌≡◌, ℕ, ◌+◌, ◌*◌, ◌<◌, ◌≤�
 use Rattle.std.specs.Io.KnownBytes.{Keeps, Appends, Consumes, IsAtEnd}
 use Rattle.grid.specs.Pixels.{side_of}
 use Rattle.grid.specs.declared.pixels.TileSide.{TileSide}
+use Rattle.list.specs.Picture.{pixel_bytes}
 use Rattle.list.specs.Scene.{Scene}
 use Rattle.pool.specs.declared.fault.PoolFault.TheVariants.{NoWorker}
 use Rattle.list.specs.declared.fault.ReadFault.{ReadFault}
@@ -12,7 +13,7 @@ use Rattle.list.specs.Checks.{places}
 use Rattle.list.specs.Denotes.{Denotes}
 use Rattle.list.specs.Json.{json_of}
 use Rattle.list.specs.Place.{IsFirstFault}
-use Rattle.trirast.specs.File.{ppm_header, IsPictureFile}
+use Rattle.trirast.specs.File.{header_of, IsPictureFile}
 
 -- a reader that had `left` gave these bytes, and then was at its end
 pub record GivesAll (left left_after : Option (List ℕ)) (bytes : List ℕ) : Type 0 where
@@ -47,7 +48,7 @@ pub record WritesAll (list : Scene) (count : ℕ) (held held_after : Option (Lis
 
 -- How many bytes of the file come before the band of this number, where each band has so many rows of pixels.
 abbrev pub bytes_before : Scene → TileSide → ℕ → ℕ
-bytes_before list side band = length (ppm_header list.width list.height) + 3 * (side_of side * band * list.width)
+bytes_before list side band = length (header_of list.output list.width list.height) + pixel_bytes list.output * (side_of side * band * list.width)
 
 -- What was written is the header of that file and all bands before one of the picture's, each whole.
 pub record WritesBands (list : Scene) (side : TileSide) (held held_after : Option (List ℕ)) : Type 0 where

@@ -109,7 +109,7 @@ impl<'a> Band<'a> {
         ensures { IsRun self.now.list.now (column_left self.now.tiling.now column) (band_top self.now.tiling.now self.now.row + j)
             (width_of_column self.now.tiling.now column) result.now }
     {
-        let across = 3 * self.column_width(column) as usize;
+        let across = (self.list.output().pixel_bytes() * self.column_width(column)) as usize;
         let start = j as usize * across;
         &tile.bytes[start..start + across]
     }
@@ -156,7 +156,9 @@ impl<'a> Band<'a> {
             band: self,
             bins: &bins,
         };
-        match run::<_, Desks, _, _>(rt, alloc, self.tiling.columns(), workers, &job, gate) {
+        let columns = self.tiling.columns();
+        // A worker without a tile would be a thread started for nothing.
+        match run::<_, Desks, _, _>(rt, alloc, columns, workers.min(columns), &job, gate) {
             Ok(tiles) => Ok(tiles),
             Err(PoolFault::OutOfMemory) => Err(Fault::OutOfMemory),
             Err(PoolFault::NoWorker) => Err(Fault::Pool(PoolFault::NoWorker)),

@@ -11,9 +11,10 @@ ghost use Rattle.trirast.specs.Runs.{WritesAll, WritesFile, WritesPicture, Expla
 use crate::band::Band;
 use crate::counted::Counted;
 use crate::fault::Fault;
+use crate::header::write_header;
 use crate::input::read_input;
 use crate::line::Options;
-use crate::ppm::{ppm_header, ppm_rows};
+use crate::ppm::ppm_rows;
 use bins::Tiling;
 use list::{DrawList, MOST_BYTES, ReadFault, ReadKind, read};
 use pool::{Gate, Open};
@@ -59,8 +60,9 @@ fn write_bands<R: Threads + Wait + Sync, W: Write, G: Gate>(
 {
     let tiling = Tiling::new(list.width(), list.height(), options.tile);
     let most_rows = options.tile.pixels().min(list.height());
-    let mut bytes = Vec::with_capacity(alloc, (3 * list.width() * most_rows) as usize)?;
-    let mut written = match ppm_header(list.width(), list.height(), output) {
+    let most_bytes = list.output().pixel_bytes() * list.width() * most_rows;
+    let mut bytes = Vec::with_capacity(alloc, most_bytes as usize)?;
+    let mut written = match write_header(list.output(), list.width(), list.height(), output) {
         Ok(length) => length,
         Err(fault) => return Err(Fault::WriteFailed(fault.written)),
     };
@@ -117,6 +119,8 @@ pub fn run_with<Rt: Threads + Wait + Sync, R: Read, W: Write, G: Gate>(
 {
     let bytes = read_input(alloc, input)?;
     let list = read_list(alloc, bytes.as_slice())?;
+    // Nothing needs the text any more, so its memory is given back before drawing begins.
+    drop(bytes);
     write_picture(rt, alloc, &list, options, gate, output)
 }
 

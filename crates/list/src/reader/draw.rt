@@ -1,39 +1,44 @@
-ghost use Rattle.std.specs.Prelude.{◌≡◌, ◌≤◌, ◌+◌, vec_len, Some, IfOk};
+ghost use Rattle.std.specs.Prelude.{◌≡◌, ◌≤◌, ◌+◌, Some, IfOk};
 ghost use Rattle.serde_json.specs.View.{view};
 ghost use Rattle.list.specs.Place.{Reads};
+ghost use Rattle.list.specs.Primitives.{primitive_listing, count_of_triangles};
 ghost use Rattle.list.specs.Listing.{draw_listing};
+ghost use Rattle.list.specs.Given.{given_triangles, given_strip, given_quads};
 ghost use Rattle.list.specs.Checks.{part_checks, draw_checks};
-ghost use Rattle.list.specs.Denotes.{IsVertex, IsTriangle, IsArrayOf, IsDraw};
+ghost use Rattle.list.specs.Denotes.{IsVertex, IsPrimitives, IsArrayOf, IsDraw};
 
 use crate::draw::{Draw, Vertex};
 use crate::fault::ReadKind;
 use crate::limits::{MOST_TRIANGLES, MOST_VERTICES};
+use crate::primitives::Primitives;
 use crate::reader::keys::has_other;
+use crate::reader::primitives::{PrimitiveArray, primitive_array, read_primitives};
 use crate::reader::state::read_state;
-use crate::reader::triangles::read_triangles;
 use crate::reader::vertices::read_vertices;
 use grid::PixelBox;
 use serde_json::Value;
 use std::alloc::Global;
 
-/// The vertices and the triangles of a draw, before which the draws have `earlier` triangles.
-#[tactic(auto, using(crate::proofs::Faults::first_fault_of_both, crate::proofs::Counts::items_len_each))]
+/// The vertices and the primitives of a draw, before which the draws have `earlier` triangles.
+#[tactic(auto, using(crate::proofs::Faults::first_fault_of_both))]
 fn parts(
     alloc: Global,
     vertex_array: &Value,
-    triangle_array: &Value,
+    given: PrimitiveArray<'_>,
     earlier: usize,
-) -> Result<(Vec<Vertex>, Vec<[u32; 3]>), ReadKind>
+) -> Result<(Vec<Vertex>, Primitives), ReadKind>
     requires { earlier ≤ MOST_TRIANGLES }
-    ensures told { let first = Some (view vertex_array.now) in let second = Some (view triangle_array.now) in
-        Reads (part_checks earlier first second)
-        (λ found. IsArrayOf MOST_VERTICES IsVertex first found.0.items
-        × IsArrayOf MOST_TRIANGLES (IsTriangle (vec_len found.0)) second found.1.items) result }
-    ensures room { IfOk result (λ found. earlier + vec_len found.1 ≤ MOST_TRIANGLES) }
+    ensures told { let vertices = Some (view vertex_array.now) in
+        let triangles = given_triangles given.entry in
+        let strip = given_strip given.entry in let quads = given_quads given.entry in
+        Reads (part_checks earlier vertices triangles strip quads)
+        (λ found. IsArrayOf MOST_VERTICES IsVertex vertices found.0.items
+        × IsPrimitives found.0.items triangles strip quads (primitive_listing found.1)) result }
+    ensures room { IfOk result (λ found. earlier + count_of_triangles (primitive_listing found.1) ≤ MOST_TRIANGLES) }
 {
     let vertices = read_vertices(alloc, vertex_array)?;
-    let triangles = read_triangles(alloc, triangle_array, earlier, vertices.len())?;
-    Ok((vertices, triangles))
+    let primitives = read_primitives(alloc, given, earlier, &vertices)?;
+    Ok((vertices, primitives))
 }
 
 /// A draw on a picture of these pixels, before which the draws have `earlier` triangles.
@@ -47,7 +52,7 @@ pub(crate) fn read_draw(
     requires { earlier ≤ MOST_TRIANGLES }
     ensures told { Reads (draw_checks earlier (view value.now))
         (λ d. IsDraw picture (view value.now) (draw_listing d)) result }
-    ensures room { IfOk result (λ d. earlier + vec_len d.triangles ≤ MOST_TRIANGLES) }
+    ensures room { IfOk result (λ d. earlier + count_of_triangles (primitive_listing d.primitives) ≤ MOST_TRIANGLES) }
 {
     let Some(object) = value.as_object() else {
         return Err(ReadKind::WrongKind);
@@ -64,6 +69,8 @@ pub(crate) fn read_draw(
             "scissor",
             "vertices",
             "triangles",
+            "strip",
+            "quads",
         ],
     ) {
         return Err(ReadKind::UnknownKey);
@@ -71,14 +78,12 @@ pub(crate) fn read_draw(
     let Some(vertex_array) = value.get("vertices") else {
         return Err(ReadKind::MissingKey);
     };
-    let Some(triangle_array) = value.get("triangles") else {
-        return Err(ReadKind::MissingKey);
-    };
+    let given = primitive_array(value)?;
     let state = read_state(value, picture)?;
-    let (vertices, triangles) = parts(alloc, vertex_array, triangle_array, earlier)?;
+    let (vertices, primitives) = parts(alloc, vertex_array, given, earlier)?;
     Ok(Draw {
         state,
         vertices,
-        triangles,
+        primitives,
     })
 }

@@ -8,9 +8,11 @@ ghost use Rattle.list.specs.Denotes.{OrDefault, IsSize, IsSampleCount, IsClearCo
 
 use crate::fault::ReadKind;
 use crate::limits::MOST_DRAWS;
+use crate::output::Output;
 use crate::reader::array::{array_of, has_length};
 use crate::reader::keys::has_other;
 use crate::reader::number::{channel, depth, whole_number};
+use crate::reader::word::output;
 use grid::SampleCount;
 use serde_json::Value;
 use shade::Sample;
@@ -22,6 +24,7 @@ pub(crate) struct Header<'v> {
     pub height: u32,
     pub count: SampleCount,
     pub clear: Sample,
+    pub output: Output,
     pub draws: &'v [Value],
 }
 
@@ -76,15 +79,16 @@ fn clear_depth(value: Option<&Value>) -> Result<u16, ReadKind>
     depth(value)
 }
 
-/// How many samples a pixel has, and what each begins with.
+/// How many samples a pixel has, what each begins with, and what the picture shows.
 #[tactic(auto, using(crate::proofs::Faults::first_fault_of_both), unfolding(crate::specs::Checks::clear_checks))]
-fn beginning(value: &Value) -> Result<(SampleCount, Sample), ReadKind>
-    ensures { Tells (clear_checks (view value.now)) (λ found. IsBeginning (view value.now) found.0 found.1) result }
+fn beginning(value: &Value) -> Result<(SampleCount, Sample, Output), ReadKind>
+    ensures { Tells (clear_checks (view value.now)) (λ found. IsBeginning (view value.now) found.0 found.1 found.2) result }
 {
     let count = sample_count(value.get("samples"))?;
     let [r, g, b] = clear_colour(value.get("clear"))?;
     let z = clear_depth(value.get("clear_depth"))?;
-    Ok((count, Sample { r, g, b, z }))
+    let output = output(value.get("output"))?;
+    Ok((count, Sample { r, g, b, z }, output))
 }
 
 impl<'v> Header<'v> {
@@ -106,6 +110,7 @@ impl<'v> Header<'v> {
                 "samples",
                 "clear",
                 "clear_depth",
+                "output",
                 "draws",
             ],
         ) {
@@ -119,13 +124,14 @@ impl<'v> Header<'v> {
         };
         let width = size(value.get("width"))?;
         let height = size(value.get("height"))?;
-        let (count, clear) = beginning(value)?;
+        let (count, clear, output) = beginning(value)?;
         let draws = array_of(draw_array, MOST_DRAWS)?;
         Ok(Header {
             width,
             height,
             count,
             clear,
+            output,
             draws,
         })
     }

@@ -1,7 +1,8 @@
 use crate::ReadKind::{
-    BadIndex, MissingKey, NotJson, OutOfMemory, OutOfRange, TooMany, UnknownKey, WrongKind,
+    BadIndex, MissingKey, NotConvex, NotJson, OutOfMemory, OutOfRange, TooMany, TwoLists,
+    UnknownKey, WrongKind,
 };
-use crate::{DrawList, MOST_BYTES, ReadFault, ReadKind, State, read};
+use crate::{DrawList, MOST_BYTES, Output, ReadFault, ReadKind, State, read};
 use grid::{Cull, PixelBox, Point, SampleCount, Tri};
 use shade::{DepthTest, Merge, Sample};
 use std::alloc::AllocGlobal;
@@ -70,6 +71,26 @@ fn triangle_fault(rt: &(impl Abort + AllocGlobal), triangle: &str) -> Option<Rea
     draw_fault(rt, members.as_str())
 }
 
+/// The fault of a list of one draw of three vertices with this strip.
+fn strip_fault(rt: &(impl Abort + AllocGlobal), strip: &str) -> Option<ReadFault> {
+    let vertex = "[0,0,0,0,0,0,0]";
+    let members = format!(in rt.alloc();
+        r#""vertices":[{vertex},{vertex},{vertex}],"strip":{strip}"#
+    ).expect(rt, "memory");
+    draw_fault(rt, members.as_str())
+}
+
+/// The fault of a list of one draw with these quads, over the corners of a square, a point inside of it, one on its upper
+/// side, one at its first corner, and one outside.
+fn quad_fault(rt: &(impl Abort + AllocGlobal), quad: &str) -> Option<ReadFault> {
+    let square = "[0,0,0,0,0,0,0],[512,0,0,0,0,0,0],[512,512,0,0,0,0,0],[0,512,0,0,0,0,0]";
+    let others = "[192,192,0,0,0,0,0],[256,0,0,0,0,0,0],[0,0,0,0,0,0,0],[1024,0,0,0,0,0,0]";
+    let members = format!(in rt.alloc();
+        r#""vertices":[{square},{others}],"quads":[{quad}]"#
+    ).expect(rt, "memory");
+    draw_fault(rt, members.as_str())
+}
+
 #[test]
 fn numbers_and_names_its_faults(rt: HostRuntime) {
     for (kind, number, name) in [
@@ -81,6 +102,8 @@ fn numbers_and_names_its_faults(rt: HostRuntime) {
         (BadIndex, 6, "BadIndex"),
         (TooMany, 7, "TooMany"),
         (OutOfMemory, 8, "OutOfMemory"),
+        (TwoLists, 9, "TwoLists"),
+        (NotConvex, 10, "NotConvex"),
     ] {
         assert_eq!(rt; kind.number(), number);
         assert!(rt; kind.name() == name, "{name}");
@@ -204,6 +227,14 @@ fn checks_the_top_object(rt: HostRuntime) {
         (r#","clear_depth":65536"#, outside(OutOfRange)),
         (r#","clear_depth":-1"#, outside(OutOfRange)),
         (r#","clear_depth":null"#, outside(WrongKind)),
+        (r#","output":"color""#, None),
+        (r#","output":"depth""#, None),
+        (r#","output":"""#, outside(OutOfRange)),
+        (r#","output":"Color""#, outside(OutOfRange)),
+        (r#","output":"colour""#, outside(OutOfRange)),
+        (r#","output":null"#, outside(WrongKind)),
+        (r#","output":0"#, outside(WrongKind)),
+        (r#","output":["depth"]"#, outside(WrongKind)),
         (r#","fog":1"#, outside(UnknownKey)),
         (r#","Samples":1"#, outside(UnknownKey)),
     ] {
@@ -311,6 +342,124 @@ fn checks_triangles(rt: HostRuntime) {
 }
 
 #[test]
+fn checks_strips(rt: HostRuntime) {
+    for (strip, told) in [
+        ("[]", None),
+        ("[2]", None),
+        ("[0,1]", None),
+        ("[0,1,2]", None),
+        ("[2,2,2,0,1,1]", None),
+        ("[3]", in_draw(BadIndex, 0)),
+        ("[0,1,3]", in_draw(BadIndex, 0)),
+        ("[-1,0,1]", in_draw(BadIndex, 0)),
+        ("[0,18446744073709551615,1]", in_draw(BadIndex, 0)),
+        ("[0,1,2.0]", in_draw(WrongKind, 0)),
+        ("[0,1,[2]]", in_draw(WrongKind, 0)),
+        ("[[0,1,2]]", in_draw(WrongKind, 0)),
+        ("[null]", in_draw(WrongKind, 0)),
+        ("null", in_draw(WrongKind, 0)),
+        (r#"{"0":0}"#, in_draw(WrongKind, 0)),
+        ("7", in_draw(WrongKind, 0)),
+    ] {
+        assert_eq!(rt; strip_fault(&rt, strip), told, "{strip}");
+    }
+}
+
+#[test]
+fn checks_quads(rt: HostRuntime) {
+    for (quad, told) in [
+        ("[0,1,2,3]", None),
+        ("[1,2,3,0]", None),
+        ("[2,3,0,1]", None),
+        ("[3,0,1,2]", None),
+        ("[3,2,1,0]", None),
+        ("[0,3,2,1]", None),
+        // a dent
+        ("[0,1,4,3]", in_draw(NotConvex, 0)),
+        ("[4,3,0,1]", in_draw(NotConvex, 0)),
+        // crossed
+        ("[0,2,1,3]", in_draw(NotConvex, 0)),
+        ("[0,1,3,2]", in_draw(NotConvex, 0)),
+        // three corners on a line
+        ("[0,1,2,4]", in_draw(NotConvex, 0)),
+        ("[0,5,1,2]", in_draw(NotConvex, 0)),
+        ("[5,1,2,0]", in_draw(NotConvex, 0)),
+        ("[1,2,0,5]", in_draw(NotConvex, 0)),
+        ("[2,0,5,1]", in_draw(NotConvex, 0)),
+        // two equal corners, by their number and by their place
+        ("[0,0,1,2]", in_draw(NotConvex, 0)),
+        ("[0,1,2,0]", in_draw(NotConvex, 0)),
+        ("[0,1,0,2]", in_draw(NotConvex, 0)),
+        ("[0,6,1,2]", in_draw(NotConvex, 0)),
+        ("[4,4,4,4]", in_draw(NotConvex, 0)),
+        ("[0,1,2,8]", in_draw(BadIndex, 0)),
+        ("[8,1,2,3]", in_draw(BadIndex, 0)),
+        ("[0,0,0,-1]", in_draw(BadIndex, 0)),
+        ("[0,0,18446744073709551615,0]", in_draw(BadIndex, 0)),
+        ("[0,0,0,3.0]", in_draw(WrongKind, 0)),
+        ("[8,0,0,null]", in_draw(BadIndex, 0)),
+        ("[0,1,2]", in_draw(WrongKind, 0)),
+        ("[0,1,2,3,0]", in_draw(WrongKind, 0)),
+        ("[]", in_draw(WrongKind, 0)),
+        ("7", in_draw(WrongKind, 0)),
+    ] {
+        assert_eq!(rt; quad_fault(&rt, quad), told, "{quad}");
+    }
+}
+
+#[test]
+fn tells_the_first_of_two_quads(rt: HostRuntime) {
+    for (quads, told) in [
+        ("[0,1,2,8],[0,2,1,3]", BadIndex),
+        ("[0,2,1,3],[0,1,2,8]", NotConvex),
+        ("[0,1,2,3],[0,2,1,3],[0,1,2]", NotConvex),
+        ("[0,1,2,3],[0,1,2],[0,2,1,3]", WrongKind),
+        ("[0,0,0,0],[7]", NotConvex),
+    ] {
+        assert_eq!(rt; quad_fault(&rt, quads), in_draw(told, 0), "{quads}");
+    }
+}
+
+#[test]
+fn needs_one_list_of_primitives(rt: HostRuntime) {
+    for (members, told) in [
+        (r#""vertices":[],"triangles":[]"#, None),
+        (r#""vertices":[],"strip":[]"#, None),
+        (r#""vertices":[]"#, in_draw(MissingKey, 0)),
+        (r#""strip":[]"#, in_draw(MissingKey, 0)),
+        (r#""triangles":[],"strip":[]"#, in_draw(MissingKey, 0)),
+        (
+            r#""vertices":[],"triangles":[],"strip":[]"#,
+            in_draw(TwoLists, 0),
+        ),
+        (
+            r#""vertices":[],"triangles":null,"strip":null"#,
+            in_draw(TwoLists, 0),
+        ),
+        (r#""vertices":[],"quads":[]"#, None),
+        (r#""quads":[]"#, in_draw(MissingKey, 0)),
+        (
+            r#""triangles":[],"strip":[],"quads":[]"#,
+            in_draw(MissingKey, 0),
+        ),
+        (
+            r#""vertices":[],"triangles":[],"quads":[]"#,
+            in_draw(TwoLists, 0),
+        ),
+        (
+            r#""vertices":[],"strip":[],"quads":[]"#,
+            in_draw(TwoLists, 0),
+        ),
+        (
+            r#""vertices":[],"triangles":[],"strip":[],"quads":[]"#,
+            in_draw(TwoLists, 0),
+        ),
+    ] {
+        assert_eq!(rt; draw_fault(&rt, members), told, "{members}");
+    }
+}
+
+#[test]
 fn tells_the_first_of_two_faults_of_the_top_object(rt: HostRuntime) {
     for (text, told) in [
         (r#"{"width":"x","draws":[]}"#, outside(MissingKey)),
@@ -335,6 +484,23 @@ fn tells_the_first_of_two_faults_of_the_top_object(rt: HostRuntime) {
             r#"{"width":1,"height":1,"clear_depth":-1,"draws":{}}"#,
             outside(OutOfRange),
         ),
+        (
+            r#"{"width":1,"height":1,"output":7,"clear_depth":-1,"draws":[]}"#,
+            outside(OutOfRange),
+        ),
+        (
+            r#"{"width":1,"height":1,"output":"x","clear_depth":null,"draws":[]}"#,
+            outside(WrongKind),
+        ),
+        (
+            r#"{"width":1,"height":1,"output":"x","draws":7}"#,
+            outside(OutOfRange),
+        ),
+        (
+            r#"{"width":1,"height":1,"output":7,"draws":[7]}"#,
+            outside(WrongKind),
+        ),
+        (r#"{"width":1,"output":7,"draws":[]}"#, outside(MissingKey)),
         (
             r#"{"width":1,"height":1,"clear_depth":-1,"draws":[7]}"#,
             outside(OutOfRange),
@@ -388,6 +554,21 @@ fn tells_the_first_of_two_faults_of_a_draw(rt: HostRuntime) {
         (
             r#""vertices":[[0,0,0,0,0,0,256]],"triangles":7"#,
             OutOfRange,
+        ),
+        (r#""vertices":[[0,0,0,0,0,0,256]],"strip":7"#, OutOfRange),
+        (r#""fog":1,"triangles":[],"strip":[]"#, UnknownKey),
+        (r#""triangles":[],"strip":[]"#, MissingKey),
+        (
+            r#""cull":1,"vertices":[],"triangles":[],"strip":[]"#,
+            TwoLists,
+        ),
+        (r#""vertices":7,"triangles":[],"strip":[]"#, TwoLists),
+        (r#""vertices":[],"triangles":7,"strip":8"#, TwoLists),
+        (r#""vertices":[],"strip":7,"quads":8"#, TwoLists),
+        (r#""vertices":[[0,0,0,0,0,0,256]],"quads":7"#, OutOfRange),
+        (
+            r#""scissor":7,"vertices":[],"quads":[[0,0,0,0]]"#,
+            WrongKind,
         ),
     ] {
         assert_eq!(rt; draw_fault(&rt, members), in_draw(told, 0), "{members}");
@@ -482,6 +663,14 @@ fn tells_the_first_of_two_neighbouring_elements(rt: HostRuntime) {
             3,
             "0",
             ("null", in_draw(WrongKind, 0)),
+            ("1", in_draw(BadIndex, 0)),
+        ),
+        (
+            r#""draws":[{"vertices":[[0,0,0,0,0,0,0]],"strip":"#,
+            "}]",
+            5,
+            "0",
+            ("[0]", in_draw(WrongKind, 0)),
             ("1", in_draw(BadIndex, 0)),
         ),
         (
@@ -600,6 +789,84 @@ fn counts_triangles(rt: HostRuntime) {
     }
 }
 
+/// The fault of a list of two draws over the corners of a square, each with so many elements in one of the lists of primitives.
+fn sum_fault(
+    rt: &(impl Abort + AllocGlobal),
+    first: (&str, &str, u32),
+    second: (&str, &str, u32),
+) -> Option<ReadFault> {
+    let ones = repeated(rt, first.1, first.2);
+    let others = repeated(rt, second.1, second.2);
+    let (one, other) = (first.0, second.0);
+    let vertices =
+        r#""vertices":[[0,0,0,0,0,0,0],[9,0,0,0,0,0,0],[9,9,0,0,0,0,0],[0,9,0,0,0,0,0]]"#;
+    let text = format!(in rt.alloc();
+        r#"{{"width":1,"height":1,"draws":[{{{vertices},"{one}":[{ones}]}},{{{vertices},"{other}":[{others}]}}]}}"#
+    ).expect(rt, "memory");
+    fault(rt, text.as_str())
+}
+
+#[test]
+fn counts_the_triangles_of_strips(rt: HostRuntime) {
+    for (first, second, told) in [
+        (("strip", "0", 65_538), ("strip", "0", 2), None),
+        (
+            ("strip", "7", 65_539),
+            ("strip", "0", 0),
+            in_draw(TooMany, 0),
+        ),
+        (
+            ("strip", "0", 65_538),
+            ("strip", "7", 3),
+            in_draw(TooMany, 1),
+        ),
+        (
+            ("strip", "0", 65_538),
+            ("strip", "7", 2),
+            in_draw(BadIndex, 1),
+        ),
+        (("strip", "0", 65_537), ("triangles", "[0,0,0]", 1), None),
+        (
+            ("strip", "0", 65_537),
+            ("triangles", "7", 2),
+            in_draw(TooMany, 1),
+        ),
+        (("triangles", "[0,0,0]", 1), ("strip", "0", 65_537), None),
+        (
+            ("triangles", "[0,0,0]", 1),
+            ("strip", "7", 65_538),
+            in_draw(TooMany, 1),
+        ),
+    ] {
+        assert_eq!(rt; sum_fault(&rt, first, second), told);
+    }
+}
+
+#[test]
+fn counts_two_triangles_for_each_quad(rt: HostRuntime) {
+    for (first, second, told) in [
+        (("quads", "[0,1,2,3]", 32_768), ("strip", "0", 2), None),
+        (
+            ("quads", "7", 32_769),
+            ("quads", "7", 0),
+            in_draw(TooMany, 0),
+        ),
+        (
+            ("quads", "[0,1,2,3]", 32_768),
+            ("quads", "7", 1),
+            in_draw(TooMany, 1),
+        ),
+        (("strip", "0", 65_536), ("quads", "[0,1,2,3]", 1), None),
+        (
+            ("strip", "0", 65_537),
+            ("quads", "7", 1),
+            in_draw(TooMany, 1),
+        ),
+    ] {
+        assert_eq!(rt; sum_fault(&rt, first, second), told);
+    }
+}
+
 fn point(rt: &impl Abort, x: i32, y: i32) -> Point {
     Point::new(x, y).expect(rt, "inside of the guard band")
 }
@@ -610,6 +877,7 @@ fn takes_what_is_absent_by_default(rt: HostRuntime) {
         r#"{"width":3,"height":2,"draws":[{"vertices":[[128,129,7,1,2,3,4],[640,130,8,5,6,7,8],[131,640,9,9,10,11,12]],"triangles":[[2,0,1]]}]}"#;
     let list = answer(&rt, text).expect(&rt, "a draw list");
     assert_eq!(rt; (list.width(), list.height()), (3, 2));
+    assert_eq!(rt; list.output(), Output::Color);
     assert_eq!(rt; list.count(), SampleCount::One);
     let clear = Sample {
         r: 0,
@@ -649,12 +917,14 @@ fn takes_what_is_absent_by_default(rt: HostRuntime) {
 
 #[test]
 fn takes_what_each_key_says(rt: HostRuntime) {
-    let text = r#"{"width":4096,"height":1,"samples":4,"clear":[1,2,3],"clear_depth":4,"draws":[
+    let text =
+        r#"{"width":4096,"height":1,"samples":4,"clear":[1,2,3],"clear_depth":4,"output":"depth","draws":[
         {"vertices":[[0,0,0,0,0,0,0]],"triangles":[[0,0,0],[0,0,0]]},
         {"cull":"back","depth_test":"less_equal","depth_write":true,"blend":"over","write":[false,true,false],"sample_mask":5,
          "scissor":[9,8,7,6],"vertices":[[-8388608,8388607,65535,255,0,0,0]],"triangles":[[0,0,0]]}]}"#;
     let list = answer(&rt, text).expect(&rt, "a draw list");
     assert_eq!(rt; (list.width(), list.height()), (4096, 1));
+    assert_eq!(rt; list.output(), Output::Depth);
     assert_eq!(rt; list.count(), SampleCount::Four);
     let clear = Sample {
         r: 1,
@@ -706,4 +976,35 @@ fn knows_each_depth_test(rt: HostRuntime) {
         assert!(rt; list.triangles() == 1);
         assert_eq!(rt; list.triangle(0).state.merge.test, test, "{word}");
     }
+}
+
+#[test]
+fn reads_a_strip(rt: HostRuntime) {
+    let text =
+        r#"{"width":3,"height":3,"draws":[{"vertices":[[1,0,0,0,0,0,0],[2,0,0,0,0,0,0],[3,0,0,0,0,0,0],[4,0,0,0,0,0,0]],"strip":[0,1,2,3,3]}]}"#;
+    let list = answer(&rt, text).expect(&rt, "a draw list");
+    assert!(rt; list.triangles() == 3);
+    let corners = |number: usize| {
+        let tri = list.triangle(number).tri;
+        (tri.a.x(), tri.b.x(), tri.c.x())
+    };
+    assert_eq!(rt; corners(0), (1, 2, 3));
+    assert_eq!(rt; corners(1), (2, 4, 3));
+    assert_eq!(rt; corners(2), (3, 4, 4));
+}
+
+#[test]
+fn reads_quads(rt: HostRuntime) {
+    let text =
+        r#"{"width":3,"height":3,"draws":[{"vertices":[[1,0,0,0,0,0,0],[9,1,0,0,0,0,0],[8,9,0,0,0,0,0],[0,8,0,0,0,0,0]],"quads":[[1,2,3,0],[3,2,1,0]]}]}"#;
+    let list = answer(&rt, text).expect(&rt, "a draw list");
+    assert!(rt; list.triangles() == 4);
+    let corners = |number: usize| {
+        let tri = list.triangle(number).tri;
+        (tri.a.x(), tri.b.x(), tri.c.x())
+    };
+    assert_eq!(rt; corners(0), (9, 8, 0));
+    assert_eq!(rt; corners(1), (0, 1, 9));
+    assert_eq!(rt; corners(2), (0, 8, 9));
+    assert_eq!(rt; corners(3), (9, 1, 0));
 }

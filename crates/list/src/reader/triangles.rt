@@ -1,24 +1,15 @@
-ghost use Rattle.std.specs.Prelude.{◌≡◌, ◌≤◌, ◌+◌, Some, IfOk, vec_len, option_map};
+ghost use Rattle.std.specs.Prelude.{◌≡◌, ◌≤◌, ◌+◌, Some, IfOk, vec_len};
 ghost use Rattle.serde_json.specs.View.{view, items_view};
 ghost use Rattle.list.specs.Place.{Tells, Reads};
-ghost use Rattle.list.specs.Checks.{index_checks, triangle_checks, triangles_checks, each};
-ghost use Rattle.list.specs.Denotes.{IsIndex, IsTriangle, IsArrayOf, Each};
+ghost use Rattle.list.specs.Checks.{triangle_checks, triangles_checks, each};
+ghost use Rattle.list.specs.Denotes.{IsTriangle, IsArrayOf, Each};
 
 use crate::fault::ReadKind;
 use crate::limits::{MOST_TRIANGLES, MOST_VERTICES};
 use crate::reader::array::{array_of, has_length};
-use crate::reader::number::whole_number;
+use crate::reader::index::index;
 use serde_json::Value;
 use std::alloc::Global;
-
-/// The number of one of `count` vertices.
-fn index(value: Option<&Value>, count: usize) -> Result<u32, ReadKind>
-    requires { count ≤ MOST_VERTICES }
-    ensures { let seen = option_map (λ v. view v.now) value.entry in
-        Tells (index_checks count seen) (IsIndex count seen) result }
-{
-    Ok(whole_number(value, 0, count as i64 - 1, ReadKind::BadIndex)? as u32)
-}
 
 /// A triangle, by the numbers of three of `count` vertices.
 fn triangle(value: &Value, count: usize) -> Result<[u32; 3], ReadKind>
@@ -57,9 +48,9 @@ pub(crate) fn read_triangles(
 ) -> Result<Vec<[u32; 3]>, ReadKind>
     requires earlier { earlier ≤ MOST_TRIANGLES }
     requires count { count ≤ MOST_VERTICES }
-    ensures told { let seen = view value.now in
+    ensures told { let seen = Some (view value.now) in
         Reads (triangles_checks earlier count seen)
-        (λ found. IsArrayOf MOST_TRIANGLES (IsTriangle count) (Some seen) found.items) result }
+        (λ found. IsArrayOf MOST_TRIANGLES (IsTriangle count) seen found.items) result }
     ensures room { IfOk result (λ found. earlier + vec_len found ≤ MOST_TRIANGLES) }
 {
     let list = array_of(value, MOST_TRIANGLES)?;

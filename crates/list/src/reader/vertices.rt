@@ -49,8 +49,8 @@ fn vertices_of(alloc: Global, list: &[Value]) -> Result<Vec<Vertex>, ReadKind>
 /// The vertices of a draw.
 #[tactic(auto, using(crate::proofs::Counts::items_len_each), unfolding(crate::specs::Checks::vertices_checks))]
 pub(crate) fn read_vertices(alloc: Global, value: &Value) -> Result<Vec<Vertex>, ReadKind>
-    ensures { let seen = view value.now in
-        Reads (vertices_checks seen) (λ found. IsArrayOf MOST_VERTICES IsVertex (Some seen) found.items) result }
+    ensures { let seen = Some (view value.now) in
+        Reads (vertices_checks seen) (λ found. IsArrayOf MOST_VERTICES IsVertex seen found.items) result }
 {
     vertices_of(alloc, array_of(value, MOST_VERTICES)?)
 }

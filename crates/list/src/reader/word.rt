@@ -2,15 +2,33 @@ ghost use Rattle.std.specs.Prelude.{◌≡◌, option_map, false};
 ghost use Rattle.serde_json.specs.View.{view};
 ghost use Rattle.grid.specs.declared.cull.Cull.TheVariants as cull_of;
 ghost use Rattle.shade.specs.declared.depth.DepthTest.TheVariants as test_of;
-ghost use Rattle.list.specs.Keys.{cull_words, depth_test_words, blend_words};
+ghost use Rattle.list.specs.declared.output.Output.TheVariants as output_of;
+ghost use Rattle.list.specs.Keys.{output_words, cull_words, depth_test_words, blend_words};
 ghost use Rattle.list.specs.Place.{Tells};
 ghost use Rattle.list.specs.Checks.{where_there, word_checks};
-ghost use Rattle.list.specs.Denotes.{OrDefault, IsCull, IsDepthTest, IsBlend};
+ghost use Rattle.list.specs.Denotes.{OrDefault, IsOutput, IsCull, IsDepthTest, IsBlend};
 
 use crate::fault::ReadKind;
+use crate::output::Output;
 use grid::Cull;
 use serde_json::Value;
 use shade::DepthTest;
+
+/// What the picture shows; colours where the key is absent.
+pub(crate) fn output(value: Option<&Value>) -> Result<Output, ReadKind>
+    ensures { let seen = option_map (λ v. view v.now) value.entry in
+        Tells (where_there (word_checks output_words) seen) (OrDefault output_of.Color IsOutput seen) result }
+{
+    let Some(value) = value else {
+        return Ok(Output::Color);
+    };
+    match value.as_str() {
+        Some("color") => Ok(Output::Color),
+        Some("depth") => Ok(Output::Depth),
+        Some(_) => Err(ReadKind::OutOfRange),
+        None => Err(ReadKind::WrongKind),
+    }
+}
 
 /// The culling of a draw; none where the key is absent.
 pub(crate) fn cull(value: Option<&Value>) -> Result<Cull, ReadKind>

@@ -15,7 +15,7 @@ loop-draw-preserved c =
     let same : count_of (get_or draws c.loop-draw.draw-index d) ≡ count_of d = sym (ap count_of c.draw-item.is) in
     record {
       each = All-more (λ d. IsDrawWithinLimits (draw_listing d)) draws c.loop-draw.draw-index d c.loop-draw-test.true c.loop-draw.invariant.each here;
-      total = omega (arith, sum_by_more count_of draws c.loop-draw.draw-index d c.loop-draw-test.true, d.triangles.ok.0);
+      total = omega (arith, sum_by_more count_of draws c.loop-draw.draw-index d c.loop-draw-test.true);
       most = omega arith;
     }
 

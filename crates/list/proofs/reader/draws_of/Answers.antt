@@ -1,15 +1,14 @@
-use Rattle.std.proofs.Common.{◌≡◌, ◌<◌, ◌≤◌, [], ◌∷◌, ◌++◌, length, map, sum_by, codes, arith, sym, ap, ◌∙◌}
+use Rattle.std.proofs.Common.{◌≡◌, ◌<◌, ◌≤◌, [], ◌∷◌, ◌++◌, length, map, sum_by, arith, sym, ap, ◌∙◌}
 use Rattle.std.proofs.lemmas.List.{map-append, drop_all}
 use Rattle.std.proofs.lemmas.List.Sums.{sum_by-append}
-use Rattle.serde_json.specs.Find.{get}
 use Rattle.serde_json.specs.View.{view, items_view}
 use Rattle.list.specs.declared.fault.ReadFault.{ReadFault}
-use Rattle.list.specs.Json.{count}
 use Rattle.list.specs.Place.{first_fault}
-use Rattle.list.specs.Checks.{draw_places}
+use Rattle.list.specs.Checks.{draw_places, triangles_counted}
 use Rattle.list.specs.Denotes.{IsDraw}
+use Rattle.list.specs.Primitives.{count_of_triangles}
 use Rattle.list.specs.Listing.{draw_listing, DrawListing}
-use Rattle.list.proofs.Counts.{items_len_each}
+use Rattle.list.proofs.Counts.{given_is}
 use Rattle.list.proofs.Draws.{draw_fails, draw_passes}
 use Rattle.list.proofs.Elements.{one_more, all_read}
 use Rattle.list.proofs.Reached.{one_more_passed, reached_here}
@@ -36,9 +35,9 @@ loop-number-preserved c =
     ap (map draw_listing) c.push_reserved.ensures.items ∙ map-append draw_listing c.loop-number.found.items (c.in-Ok-read_draw.next ∷ []) in
     let read = one_more (IsDraw c.args.picture) vs i c.index-list-number.result _ next within c.index-list-number.is told.1 c.loop-number.invariant.read in
     let passed = draw_passes vs i c.loop-number.earlier c.index-list-number.result within c.index-list-number.is c.loop-number.invariant.passed told.0 in
-    let denoted = items_len_each _ _ _ told.1.triangles.parts in
-    let triangles : c.len-earlier.result ≡ count (get (codes "triangles") (view c.index-list-number.result)) = omega (arith, denoted) in
-    let total = ap (sum_by (λ (d : DrawListing). length d.triangles)) listed ∙ sum_by-append (λ (d : DrawListing). length d.triangles) (map draw_listing c.loop-number.found.items) (next ∷ []) in
+    let counted = given_is _ _ _ _ next.primitives told.1.primitives in
+    let triangles : c.triangles-earlier.result ≡ triangles_counted (view c.index-list-number.result) = omega (arith, counted) in
+    let total = ap (sum_by (λ (d : DrawListing). count_of_triangles d.primitives)) listed ∙ sum_by-append (λ (d : DrawListing). count_of_triangles d.primitives) (map draw_listing c.loop-number.found.items) (next ∷ []) in
     record {
       passed = rw triangles passed;
       before = rw triangles (one_more_passed vs i c.loop-number.earlier c.index-list-number.result within c.index-list-number.is c.loop-number.invariant.before told.0);

@@ -1,5 +1,6 @@
 use Rattle.std.proofs.Common.{◌≡◌, ◌≤◌, length, map, sum_by, vec_len, vec_capacity}
 use Rattle.list.specs.Denotes.{IsDraw}
+use Rattle.list.specs.Primitives.{count_of_triangles}
 use Rattle.list.specs.Listing.{draw_listing}
 use Rattle.list.proofs.Draws.{DrawsPassed}
 use Rattle.list.proofs.Elements.{Continues}
@@ -11,7 +12,7 @@ invariant-loop-number l = record {
   passed : DrawsPassed l.list l.number l.earlier;
   before : AllPassedTo l.list l.number l.earlier;
   read : Continues (IsDraw l.picture) l.list l.number (map draw_listing l.found.items);
-  counted : l.earlier ≡ sum_by (λ d. length d.triangles) (map draw_listing l.found.items);
+  counted : l.earlier ≡ sum_by (λ d. count_of_triangles d.primitives) (map draw_listing l.found.items);
   room : l.earlier ≤ 65536;
   held : vec_len l.found ≡ l.number;
   reserved : vec_capacity l.found ≡ length l.list;

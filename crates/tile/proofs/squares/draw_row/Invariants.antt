@@ -1,6 +1,6 @@
 use Rattle.tile.specs.Drawing.{DrawsPart}
-use Rattle.tile.proofs.Whole.{IsInRuns}
+use Rattle.tile.proofs.Whole.{IsInBlocks}
 use Rattle.tile.proofs.squares.draw_row.Given as goal
 
-abbrev pub invariant-loop-s : goal.invariant-loop-s
-invariant-loop-s l = DrawsPart l.triangle l.tile (IsInRuns l.row l.first l.end l.s) l.initial.samples l.samples
+abbrev pub invariant-loop-bx : goal.invariant-loop-bx
+invariant-loop-bx l = DrawsPart l.triangle l.tile (IsInBlocks l.tile l.square l.by l.bx) l.initial.samples l.samples

@@ -1,6 +1,6 @@
-use Rattle.std.proofs.Common.{◌+◌}
-use Rattle.tile.specs.Drawing.{DrawsPart, IsInRectangle}
+use Rattle.tile.specs.Drawing.{DrawsPart}
+use Rattle.tile.proofs.Whole.{IsInRows}
 use Rattle.tile.proofs.squares.draw_whole.Given as goal
 
-abbrev pub invariant-loop-row : goal.invariant-loop-row
-invariant-loop-row l = DrawsPart l.triangle l.tile (IsInRectangle l.first l.initial.row (l.first + l.side) l.row) l.initial.samples l.samples
+abbrev pub invariant-loop-by : goal.invariant-loop-by
+invariant-loop-by l = DrawsPart l.triangle l.tile (IsInRows l.tile l.square l.by) l.initial.samples l.samples

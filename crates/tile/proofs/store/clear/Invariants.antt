@@ -1,6 +1,5 @@
-use Rattle.std.proofs.Common.{◌≡◌, ℕ, ◌<◌}
-use Rattle.tile.specs.Samples.{stored}
+use Rattle.std.proofs.Common.{◌≡◌, ℕ, ◌<◌, [], slice_index_or}
 use Rattle.tile.proofs.store.clear.Given as goal
 
-abbrev pub invariant-loop-stored : goal.invariant-loop-stored
-invariant-loop-stored l = (place : ℕ) → place < l.stored-index → stored l.samples place ≡ l.sample
+abbrev pub invariant-loop-plane : goal.invariant-loop-plane
+invariant-loop-plane l = (place : ℕ) → place < l.plane-index → slice_index_or l.samples place (record { z = []; r = []; g = []; b = [] }) ≡ l.cleared

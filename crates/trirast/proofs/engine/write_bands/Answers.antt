@@ -6,7 +6,7 @@ use Rattle.trirast.proofs.engine.write_bands.Goals as goal
 
 pub returns-in-Err-clause-fault : goal.returns-in-Err-clause-fault
 returns-in-Err-clause-fault g c =
-    header_cut c.args.list.now c.width-3.result c.height-3.result _ _ _ c.width-3.ensures.value c.height-3.ensures.value (rw (← c.width.ensures.value) c.width.ensures.least) c.in-Err.ensures.written c.in-Err.ensures.beginning
+    header_cut c.args.list.now c.output-2.result c.width-3.result c.height-3.result _ _ _ c.output-2.ensures c.width-3.ensures.value c.height-3.ensures.value (rw (← c.width.ensures.value) c.width.ensures.least) c.in-Err.ensures.written c.in-Err.ensures.beginning
 
 pub returns-in_err-render-clause-fault : goal.returns-in_err-render-clause-fault
 returns-in_err-render-clause-fault g c =

@@ -20,7 +20,7 @@ pub triangle-requires-clause-number : goal.triangle-requires-clause-number
 triangle-requires-clause-number c =
     let draw = c.draw_of-draw.ensures in
     let stands = there c.self.inside c.args.number _ _ _ _ c.self.invariant (rw (← c.self.view_is) at c.requires) c.deref.ensures.value draw.draw draw.start draw.last c.index.ensures c.index-2.ensures in
-    omega (arith, stands.within, c.index.result.now.triangles.ok.0)
+    omega (arith, stands.within)
 
 pub triangle-requires-clause-limits : goal.triangle-requires-clause-limits
 triangle-requires-clause-limits c =

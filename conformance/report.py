@@ -1,0 +1,210 @@
+"""What was measured, as text and as one HTML file."""
+
+import html
+from dataclasses import dataclass
+from typing import Callable
+
+from neighbourhood import as_characters, coverage_panels, value_panels
+from suites import LEFT_OUT
+
+STYLE = """
+body { font: 15px/1.45 system-ui, sans-serif; margin: 2em auto; max-width: 72em; padding: 0 1em; color: #222; }
+table { border-collapse: collapse; margin: 0.6em 0 1.6em; }
+th, td { text-align: left; padding: 0.25em 0.9em 0.25em 0; border-bottom: 1px solid #ddd; vertical-align: top; }
+td.number { text-align: right; font-variant-numeric: tabular-nums; }
+.agrees { color: #17692b; } .differs { color: #b3140f; }
+p.differs { font-weight: 600; } tr.differs { background: #fdeceb; }
+.figures { display: flex; flex-wrap: wrap; gap: 1.2em; } figure { margin: 0; } figcaption { color: #555; }
+svg { border: 1px solid #999; background: #fff; max-width: 100%; } code { font-size: 0.93em; }
+.scissor { fill: none; stroke: #00796b; stroke-width: 1.5; stroke-dasharray: 5 3; }
+.key span { display: inline-block; width: 0.8em; height: 0.8em; border-radius: 50%; margin: 0 0.3em 0 1em; }
+"""
+KEY = """<p class="key"><span style="background:#d62728"></span>drawn by the driver alone
+<span style="background:#1f3fd6"></span>missing <span style="background:#c21fd6"></span>of another triangle
+<span style="background:#bbbbbb"></span>equal. Lines are the list's triangles, dashed boxes its scissors, and the framed
+pixel is the worst.</p>"""
+
+
+@dataclass
+class Report:
+    """All that was measured of a driver."""
+
+    said: list
+    findings: list
+    tallies: list
+    files: dict  # the file of the first list that differs, by a tally's name
+
+    def exact(self):
+        return [tally for tally in self.tallies if tally.suite.exact]
+
+    def near(self):
+        return [tally for tally in self.tallies if not tally.suite.exact]
+
+    def differing(self):
+        return [tally for tally in self.exact() if not tally.agrees]
+
+    def samples_compared(self):
+        return sum(tally.compared for tally in self.exact())
+
+    def coverage_agrees(self):
+        return self.samples_compared() > 0 and not self.differing()
+
+    def summary(self):
+        differing = self.differing()
+        compared = f"{self.samples_compared():,} samples compared"
+        left_out = sum(sum(tally.left_out.values()) for tally in self.tallies)
+        if left_out:
+            compared += f", {left_out} lists left out"
+        if not self.samples_compared():
+            return f"Coverage was not tried: {compared}."
+        if not differing:
+            return f"Coverage agrees: {compared}, none differs."
+        count = sum(tally.differ for tally in differing)
+        samples = {}
+        for tally in differing:
+            samples.setdefault(tally.suite.title, []).append(str(tally.samples))
+        names = "; ".join(f"{title} ({' and '.join(counts)})" for title, counts in samples.items())
+        return f"Coverage differs: {compared}, {count:,} differ, by subject and samples a pixel: {names}."
+
+    def left_out(self):
+        """What was not asked: of OpenGL at all, and of this driver."""
+        refused = {}
+        for tally in self.tallies:
+            for why, count in tally.left_out.items():
+                refused.setdefault(why, []).append(f"{tally.name} ({count})")
+        return [*LEFT_OUT, *((f"lists of {', '.join(names)}", why) for why, names in refused.items())]
+
+
+def share(tally):
+    """The part that differs, in percent with two digits that count."""
+    return f"{100 * tally.differ / tally.compared:.2g} %" if tally.differ else "0"
+
+
+def exact_rows(report):
+    for tally in report.exact():
+        first = f"{tally.first.title} ({report.files[tally.name]})" if tally.first else "-"
+        numbers = (str(tally.samples), str(tally.lists), f"{tally.compared:,}", f"{tally.differ:,}", share(tally))
+        yield (tally.suite.title, *numbers, first)
+
+
+BINS = ((0, 0), (1, 1), (2, 2), (3, 3), (4, 15), (16, 63), (64, 255))
+
+
+def histogram(tally):
+    """The number of channels by the size of their difference, without the bins that have none."""
+    counts = ((low, high, sum(tally.errors[size] for size in range(low, high + 1))) for low, high in BINS)
+    named = ((f"{low}" if low == high else f"{low} to {high}", count) for low, high, count in counts if count)
+    return ", ".join(f"{size}: {count:,}" for size, count in named)
+
+
+def near_rows(report):
+    for tally in report.near():
+        greatest = str(max(tally.errors, default=0))
+        yield tally.suite.title, str(tally.samples), str(tally.lists), f"{tally.compared:,}", greatest, histogram(tally)
+
+
+EXACT_HEAD = ("subject", "samples a pixel", "lists", "compared", "differ", "share", "first list that differs")
+NEAR_HEAD = ("subject", "samples a pixel", "lists", "channels", "greatest difference", "channels by difference")
+FINDINGS_HEAD = ("read from pictures", "the program", "the driver")
+
+
+@dataclass
+class Section:
+    """A table of the report. A row of which `departs` is true is marked: there the driver does otherwise."""
+
+    title: str
+    head: tuple
+    rows: Callable
+    departs: Callable = lambda row: False
+
+
+SECTIONS = (
+    Section("What the driver says of itself", (), lambda report: report.said),
+    Section("What its pictures tell", FINDINGS_HEAD, lambda report: report.findings, lambda row: row[1] != row[2]),
+    Section("Coverage, sample by sample", EXACT_HEAD, exact_rows, lambda row: row[4] != "0"),
+    Section("Colours and depths, in 1/255 of a channel", NEAR_HEAD, near_rows),
+    Section("Not asked", (), Report.left_out),
+)
+
+
+# ---- Text ----------------------------------------------------------------------------------------------------------
+
+
+def text_table(section, rows):
+    """The lines of a table. A star stands before a row where the driver does otherwise."""
+    marks = [*([" "] if section.head else []), *("*" if section.departs(row) else " " for row in rows)]
+    rows = [*([section.head] if section.head else []), *rows]
+    widths = [max(map(len, column)) for column in zip(*rows)]
+    lines = ("  ".join(cell.ljust(width) for cell, width in zip(row, widths)) for row in rows)
+    return [f"{mark} {line}".rstrip() for mark, line in zip(marks, lines)]
+
+
+def text_example(tally, file):
+    first = tally.first
+    row, column = divmod(first.pixel, first.scene["width"])
+    yield f"{tally.name}: {first.title}, sample {first.sample}, around pixel ({column}, {row}); list {file}"
+    yield "   # equal   . not drawn   + by the driver alone   - missing   * of another triangle"
+    for line in as_characters(first):
+        yield f"   {line}"
+    yield ""
+
+
+def text(report):
+    lines = [report.summary(), ""]
+    for section in SECTIONS:
+        rows = list(section.rows(report))
+        if rows:
+            lines += [section.title, "-" * len(section.title), *text_table(section, rows), ""]
+    for tally in report.differing():
+        lines += text_example(tally, report.files[tally.name])
+    return "\n".join(lines)
+
+
+# ---- HTML ----------------------------------------------------------------------------------------------------------
+
+
+def cell(value, tag="td"):
+    kind = ' class="number"' if tag == "td" and value.replace(",", "").isdigit() else ""
+    return f"<{tag}{kind}>{html.escape(value)}</{tag}>"
+
+
+def html_table(section, rows):
+    lines = ["<table>"]
+    if section.head:
+        lines.append(f"<tr>{''.join(cell(name, 'th') for name in section.head)}</tr>")
+    for row in rows:
+        mark = ' class="differs"' if section.departs(row) else ""
+        lines.append(f"<tr{mark}>{''.join(map(cell, row))}</tr>")
+    return "\n".join([*lines, "</table>"])
+
+
+def html_example(tally, file, panels):
+    first = tally.first
+    row, column = divmod(first.pixel, first.scene["width"])
+    told = f"{first.title}, around pixel ({column}, {row}): "
+    command = f"bin/trirast < {file}"
+    return (
+        f'<h3 id="{tally.name}">{html.escape(tally.suite.title)}, samples a pixel: {tally.samples}</h3>'
+        f"<p>{html.escape(told)}<code>{html.escape(command)}</code></p>"
+        f'<div class="figures">{panels}</div>'
+    )
+
+
+def page(report):
+    """The report as one HTML file that needs no other."""
+    kind = "agrees" if report.coverage_agrees() else "differs"
+    name = dict(report.said).get("renderer", "driver")
+    parts = [f"<h1>{html.escape(name)}, sample by sample</h1>"]
+    parts.append(f'<p class="{kind}">{html.escape(report.summary())}</p>')
+    for section in SECTIONS:
+        rows = list(section.rows(report))
+        if rows:
+            parts += [f"<h2>{section.title}</h2>", html_table(section, rows)]
+    examples = [(tally, coverage_panels) for tally in report.differing()]
+    examples += [(tally, value_panels) for tally in report.near() if tally.first]
+    if examples:
+        parts += ["<h2>Where they differ</h2>", KEY]
+    for tally, panels in examples:
+        parts.append(html_example(tally, report.files[tally.name], panels(tally.first)))
+    head = f'<meta charset="utf-8"><title>{html.escape(name)}</title><style>{STYLE}</style>'
+    return "\n".join([f'<!doctype html><html lang="en"><head>{head}</head><body>', *parts, "</body></html>", ""])

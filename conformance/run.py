@@ -1,0 +1,84 @@
+#!/usr/bin/env python3
+"""Draws suites of draw lists through the machine's OpenGL driver and through the program, and tells where they differ.
+
+    conformance/run.py [--driver llvmpipe|zink|default] [--suite NAME ..] [--bits N] [--html report.html]
+
+The report goes to standard output, and the first list of each subject that differs to conformance/out.
+docs/conformance.md says what is asked and what equal means. Python 3.8 or later, standard library alone; EGL and OpenGL
+by ctypes.
+
+Exit status 0: coverage agreed. 1: a sample differed. 2: no sample was compared, as where there is no such driver or no
+program.
+"""
+
+import argparse
+import os
+import sys
+
+import suites
+from comparison import compare_suite, only_sample
+from driver import MESA, Driver
+from findings import findings
+from gl import Unavailable
+from program import Program, Refused, as_bytes
+from report import Report, page, text
+
+HERE = os.path.dirname(os.path.abspath(__file__))
+TOP = os.path.dirname(HERE)
+BITS_HELP = "round the lists' positions to N subpixel bits first, for a driver that keeps fewer than 8 (default 8)"
+
+
+def write_list(folder, tally):
+    """Writes the list of a tally's example, of the one sample index that differs, and gives the file's name."""
+    first = tally.first
+    scene = only_sample(first.scene, first.sample) if tally.suite.exact else first.scene
+    os.makedirs(folder, exist_ok=True)
+    path = os.path.join(folder, f"{tally.name}.json")
+    with open(path, "wb") as file:
+        file.write(as_bytes(scene))
+    near = os.path.relpath(path)
+    return path if near.startswith(os.pardir) else near
+
+
+def measure(program, driver, chosen, folder, bits=8):
+    """The report of a driver over these suites."""
+    tallies = [compare_suite(suite, samples, program, driver, bits) for suite in chosen for samples in suite.samples]
+    files = {tally.name: write_list(folder, tally) for tally in tallies if tally.first}
+    return Report(driver.said(), findings(program, driver.through(None)), tallies, files)
+
+
+def arguments():
+    names = [suite.name for suite in suites.ALL]
+    parser = argparse.ArgumentParser(description="Compares a driver's samples with the program's.")
+    parser.add_argument("--driver", choices=("default", *MESA), default="default", help="default: EGL's choice")
+    parser.add_argument("--suite", nargs="+", choices=names, default=names, metavar="NAME", help=", ".join(names))
+    parser.add_argument("--bits", type=int, choices=range(9), default=8, metavar="N", help=BITS_HELP)
+    parser.add_argument("--html", metavar="FILE", help="write the report as one HTML file too")
+    parser.add_argument("--program", default=os.path.join(TOP, "bin", "trirast"), help="default bin/trirast")
+    parser.add_argument("--lists", default=os.path.join(HERE, "out"), metavar="FOLDER", help="default conformance/out")
+    return parser.parse_args()
+
+
+def main():
+    words = arguments()
+    if not os.access(words.program, os.X_OK):
+        print(f"run.py: no program at {words.program}; run make first", file=sys.stderr)
+        return 2
+    chosen = [suite for suite in suites.ALL if suite.name in words.suite]
+    try:
+        program, driver = Program(os.path.abspath(words.program)), Driver(words.driver)
+        report = measure(program, driver, chosen, words.lists, words.bits)
+    except (Unavailable, Refused) as fault:
+        print(f"run.py: {fault}", file=sys.stderr)
+        return 2
+    print(text(report))
+    if words.html:
+        with open(words.html, "w", encoding="utf-8") as file:
+            file.write(page(report))
+    if not report.samples_compared():
+        return 2
+    return 0 if report.coverage_agrees() else 1
+
+
+if __name__ == "__main__":
+    sys.exit(main())

@@ -1,0 +1,67 @@
+"""Colours, blending, depths and resolve: what drivers hold in floating point, and so near the rules and not equal."""
+
+from .shapes import PIXEL, SIDE, box_of_pixels, draw, rectangle, scene, vertex
+
+LAYERS = 256
+LADDER_SIDE = 64
+
+
+def any_colour(rng):
+    return tuple(rng.getrandbits(8) for _ in range(3))
+
+
+def any_shaded(rng, alpha=None):
+    """A triangle with another colour at each vertex, some of them far larger than the picture."""
+    reach = rng.choice((0, 0, 64, 512))
+    low, high = -PIXEL * reach, PIXEL * (SIDE + reach)
+    corners = [(rng.randrange(low, high), rng.randrange(low, high)) for _ in range(3)]
+    return [vertex(p, any_colour(rng), alpha=rng.getrandbits(8) if alpha is None else alpha) for p in corners]
+
+
+def colours(rng, samples):
+    for n in range(24):
+        yield f"colours, {n}", scene([draw([any_shaded(rng, 255) for _ in range(8)])], samples)
+
+
+def blending(rng, samples):
+    for n in range(8):
+        triangles = []
+        for _ in range(16):
+            triangles += rectangle(*box_of_pixels(rng), any_colour(rng), alpha=rng.choice((0, 1, 127, 128, 254, 255)))
+        yield f"flat alpha, {n}", scene([draw(triangles, blend="over")], samples, clear=list(any_colour(rng)))
+    for n in range(8):
+        triangles = [any_shaded(rng) for _ in range(8)]
+        yield f"any alpha, {n}", scene([draw(triangles, blend="over")], samples, clear=list(any_colour(rng)))
+
+
+def ladder(first, stride):
+    """Layers over the whole picture at rising depths; the last one that is not behind a stored depth stays, so that the
+    picture tells the depth."""
+    draws = []
+    for layer in range(LAYERS):
+        triangles = rectangle(0, 0, LADDER_SIDE, LADDER_SIDE, (layer,) * 3, first + layer * stride)
+        draws.append(draw(triangles, depth_test="less_equal"))
+    return draws
+
+
+def depths(rng, samples):
+    """A slanted plane of depths, and a ladder of flat layers that makes its depths visible as shades of grey."""
+    for first, stride in ((0, 1), (32000, 1), (65280, 1), (0, 256)):
+        for n in range(3):
+            corners = ((-PIXEL * 8, -PIXEL * 8), (PIXEL * 140, -PIXEL * 8), (-PIXEL * 8, PIXEL * 140))
+            plane = [vertex(p, (0, 0, 0), first + stride * rng.getrandbits(8)) for p in corners]
+            draws = [draw([plane], depth_write=True), *ladder(first, stride)]
+            name = f"depths from {first} in steps of {stride}, {n}"
+            yield name, scene(draws, samples, LADDER_SIDE, LADDER_SIDE, clear_depth=first)
+
+
+def resolve(rng, samples):
+    """Whole pixels, each of whose samples has a colour of its own."""
+    for n in range(12):
+        draws = []
+        for sample in range(samples):
+            triangles = []
+            for _ in range(200):
+                triangles += rectangle(*box_of_pixels(rng), any_colour(rng))
+            draws.append(draw(triangles, sample_mask=1 << sample))
+        yield f"own colours, {n}", scene(draws, samples)

@@ -1,0 +1,271 @@
+#!/usr/bin/env python3
+"""Tests of the comparison with a driver, without a driver: scripts/reference.py stands on both sides, and on the
+driver's side with a fault planted in it. Each fault must be told under its own subject, and only where it can be seen.
+
+    conformance/test_conformance.py
+"""
+
+import hashlib
+import json
+import os
+import subprocess
+import sys
+import tempfile
+import unittest
+
+import suites
+from comparison import CannotAsk, Tally, compare_suite, compare_values, only_sample, pixels_that_differ, planes
+from findings import QUESTIONS, findings
+from model import FAULTS, Model
+from neighbourhood import as_characters
+from program import as_bytes
+from report import page, text
+from run import measure
+from suites.shapes import coarser, draw, rectangle, scene
+
+import reference  # found by way of model
+
+HERE = os.path.dirname(os.path.abspath(__file__))
+
+# Their first lists are small enough for the reference renderer. The last four have whole-pixel rectangles alone.
+ABOUT_EDGES = ("top-left", "shared-edges", "slivers", "sample-positions", "subpixel-bits")
+ABOUT_STATES = ("scissor", "sample-mask", "depth-tests", "write-mask")
+TRIED = tuple(suite for suite in suites.ALL if suite.name in ABOUT_EDGES + ABOUT_STATES)
+EDGES, BITS, PLACE_OF_ONE, PLACES_OF_FOUR = (question for question, _ask in QUESTIONS)
+
+
+class Remembering:
+    """A renderer that draws each list once."""
+
+    def __init__(self, renderer):
+        self.renderer, self.name, self.said, self.drawn = renderer, renderer.name, renderer.said, {}
+
+    def through(self, _viewport_side):
+        return self
+
+    def picture(self, scene):
+        key = as_bytes(scene)
+        if key not in self.drawn:
+            self.drawn[key] = self.renderer.picture(scene)
+        return self.drawn[key]
+
+
+class Painted(Model):
+    """The model with each byte of its pictures changed."""
+
+    def __init__(self, change):
+        super().__init__()
+        self.change = change
+
+    def picture(self, scene):
+        return bytes(map(self.change, super().picture(scene)))
+
+
+class Refusing(Model):
+    """The model, which cannot be asked for this number of samples."""
+
+    def __init__(self, samples):
+        super().__init__()
+        self.samples = samples
+
+    def picture(self, scene):
+        if scene["samples"] == self.samples:
+            raise CannotAsk(f"{self.samples} samples")
+        return super().picture(scene)
+
+
+RULES = Remembering(Model())
+
+
+def differing(renderer):
+    """The names of the tried subjects under which a renderer is told to differ from the rules."""
+    tallies = (compare_suite(suite, n, RULES, renderer, limit=1) for suite in TRIED for n in suite.samples)
+    return {tally.name for tally in tallies if not tally.agrees}
+
+
+def readings(renderer):
+    """What pictures tell of a renderer where they tell something else of the rules."""
+    return {question: told for question, rules, told in findings(RULES, renderer) if rules != told}
+
+
+def digest():
+    """A digest of all lists of all suites."""
+    sum_of_lists = hashlib.sha256()
+    for suite in suites.ALL:
+        for samples in suite.samples:
+            for title, listed in suite.lists(samples):
+                sum_of_lists.update(title.encode() + as_bytes(listed))
+    return sum_of_lists.hexdigest()
+
+
+class Lists(unittest.TestCase):
+    def test_the_same_bytes_in_another_process(self):
+        told = {digest()}
+        for seed in ("1", "2"):
+            words = [sys.executable, "-c", "import test_conformance as t; print(t.digest())"]
+            run = subprocess.run(words, cwd=HERE, env=dict(os.environ, PYTHONHASHSEED=seed), stdout=subprocess.PIPE)
+            told.add(run.stdout.decode().strip())
+        self.assertEqual(len(told), 1)
+
+    def test_no_list_is_refused(self):
+        for suite in suites.ALL:
+            for samples in suite.samples:
+                for title, listed in suite.lists(samples):
+                    with self.subTest(suite=suite.name, title=title):
+                        self.assertEqual(reference.read(as_bytes(listed)).samples, samples)
+
+    def test_positions_of_fewer_bits(self):
+        points = [(0, 7), (8, -8), (-9, 24), (8388607, -8388608)]
+        listed = scene([draw([[[x, y, 0, 1, 2, 3, 4] for x, y in points[:3]], [[*points[3], 0, 1, 2, 3, 4]] * 3])], 1)
+        rounded = [tuple(v[:2]) for v in coarser(listed, 4)["draws"][0]["vertices"][:4]]
+        # To multiples of 16, halves up; the last one in the band where the nearest one is outside of it.
+        self.assertEqual(rounded, [(0, 0), (16, 0), (-16, 32), (8388592, -8388608)])
+        self.assertEqual(coarser(listed, 8), listed)
+
+    def test_colours_of_exact_lists_survive_the_resolve(self):
+        for suite in suites.ALL:
+            if suite.exact and 4 in suite.samples:
+                colours = {tuple(v[3:6]) for _, l in suite.lists(4) for d in l["draws"] for v in d["vertices"]}
+                self.assertEqual({channel % 4 for colour in colours for channel in colour}, {0})
+                self.assertNotIn((0, 0, 0), colours)
+
+
+class PlantedFaults(unittest.TestCase):
+    """What is told of each fault, and that nothing else is."""
+
+    def test_the_rules_themselves_agree(self):
+        self.assertEqual(differing(Model()), set())
+        self.assertEqual(readings(Model()), {})
+
+    def test_turned_pattern(self):
+        renderer = Remembering(Model("turned pattern"))
+        told = differing(renderer)
+        self.assertIn("sample-positions-4", told)
+        self.assertEqual({name for name in told if name.endswith("-1")}, set())
+        self.assertEqual({name for name in told if name.startswith(ABOUT_STATES)}, set())
+        # A quarter of a turn takes (x, y) to (256 - y, x).
+        self.assertEqual(readings(renderer), {PLACES_OF_FOUR: "(224, 96), (160, 224), (96, 32), (32, 160)"})
+
+    def test_bottom_right_rule(self):
+        renderer = Remembering(Model("bottom-right rule"))
+        told = differing(renderer)
+        self.assertLessEqual({"top-left-1", "top-left-4"}, told)
+        self.assertEqual({name for name in told if name.startswith(ABOUT_STATES)}, set())
+        told = readings(renderer)
+        self.assertEqual(told[EDGES], "right, bottom")
+        self.assertNotIn(BITS, told)
+
+    def test_seven_subpixel_bits(self):
+        renderer = Remembering(Model("seven subpixel bits"))
+        told = differing(renderer)
+        self.assertIn("subpixel-bits-1", told)
+        self.assertEqual({name for name in told if name.startswith(ABOUT_STATES)}, set())
+        told = readings(renderer)
+        self.assertTrue(told[BITS].startswith("7 "), told)
+        self.assertNotIn(EDGES, told)
+
+    def test_moved_scissor(self):
+        renderer = Remembering(Model("moved scissor"))
+        self.assertEqual(differing(renderer), {"scissor-1", "scissor-4"})
+        self.assertEqual(readings(renderer), {})
+
+    def test_each_fault_is_tried(self):
+        tried = {name[5:].replace("_", " ") for name in dir(self) if name.startswith("test_")}
+        self.assertLessEqual({fault.replace("-", " ") for fault in FAULTS}, tried)
+
+
+class Counting(unittest.TestCase):
+    def test_pixels_that_differ(self):
+        one = bytes(3 * 200)
+        for pixels in ([], [0], [63, 64], [199], [1, 130]):
+            other = bytearray(one)
+            for pixel in pixels:
+                other[3 * pixel + pixel % 3] = 1
+            self.assertEqual(pixels_that_differ(one, bytes(other)), pixels)
+
+    def test_one_sample_of_a_list(self):
+        listed = scene([draw(rectangle(0, 0, 1, 1), sample_mask=6)], 4, 2, 1, clear=[9, 9, 9])
+        self.assertEqual([only_sample(listed, n)["draws"][0]["sample_mask"] for n in range(4)], [0, 2, 4, 0])
+        drawn = bytes((63, 63, 63, 0, 0, 0))  # a quarter of 252, then nothing
+        self.assertEqual(planes(Model(), listed), [bytes(6), drawn, drawn, bytes(6)])
+
+    def test_differences_of_values_by_size(self):
+        listed = scene([draw(rectangle(0, 0, 1, 1, (10, 20, 255)))], 1, 2, 2)
+        for change, errors in ((lambda v: v, {0: 12}), (lambda v: min(255, v + 2), {0: 1, 2: 11})):
+            tally = Tally(suites.ALL[-1], 1)
+            compare_values(tally, "two more", listed, Model(), Painted(change))
+            self.assertEqual(tally.errors, errors)
+            self.assertEqual((tally.compared, tally.differ), (12, 12 - errors[0]))
+
+    def test_lists_that_cannot_be_asked(self):
+        tally = compare_suite(suites.ALL[0], 1, RULES, Refusing(1), limit=3)
+        self.assertEqual((tally.lists, tally.compared, sum(tally.left_out.values())), (0, 0, 3))
+
+
+def one_scissor(_rng, samples):
+    yield "a scissor of 3 by 3 pixels", scene([draw(rectangle(0, 0, 8, 8), scissor=[2, 2, 5, 5])], samples, 8, 8)
+
+
+class Reports(unittest.TestCase):
+    SUITE = suites.Suite("one-scissor", "One <scissor>", one_scissor)
+    NEAR = suites.Suite("near", "Near", one_scissor, (1,), exact=False)
+
+    def report(self, renderer, folder):
+        return measure(RULES, renderer, [self.SUITE, self.NEAR], folder)
+
+    def test_agreement(self):
+        with tempfile.TemporaryDirectory() as folder:
+            report = self.report(Model(), folder)
+            self.assertTrue(report.coverage_agrees())
+            self.assertEqual(os.listdir(folder), [])
+            self.assertIn("Coverage agrees: 320 samples compared, none differs.", text(report))
+
+    def test_a_moved_scissor_is_shown(self):
+        with tempfile.TemporaryDirectory() as folder:
+            report = self.report(Model("moved scissor"), folder)
+            self.assertFalse(report.coverage_agrees())
+            # By the rules columns 2 to 4 of rows 2 to 4 are drawn, by the fault columns 3 to 5: 6 pixels differ.
+            self.assertEqual([tally.differ for tally in report.tallies], [6, 24, 18])
+            shown = as_characters(report.tallies[0].first)
+            self.assertEqual(shown, ["......."] * 2 + ["..-##+."] * 3 + ["......."] * 2)
+            self.assertIn("* One <scissor>", text(report))
+
+    def test_the_list_of_a_difference_shows_it(self):
+        with tempfile.TemporaryDirectory() as folder:
+            report = self.report(Model("moved scissor"), folder)
+            for name in ("one-scissor-1", "one-scissor-4"):
+                with open(report.files[name], encoding="utf-8") as file:
+                    listed = json.load(file)
+                pictures = Model().picture(listed), Model("moved scissor").picture(listed)
+                self.assertEqual(len(pixels_that_differ(*pictures)), 6)
+
+    def test_the_page_needs_no_other_file(self):
+        with tempfile.TemporaryDirectory() as folder:
+            told = page(self.report(Model("moved scissor"), folder))
+        for word in ("http:", "https:", "src=", "href=", "@import", "url(", "<script"):
+            self.assertNotIn(word, told)
+        self.assertIn("One &lt;scissor&gt;", told)
+        self.assertNotIn("One <scissor>", told)
+        self.assertEqual(told.count("<svg"), 9)  # three pictures of each of three subjects that differ
+
+    def test_no_list_compared_is_no_agreement(self):
+        with tempfile.TemporaryDirectory() as folder:
+            report = measure(RULES, Model(), [self.NEAR], folder)
+            self.assertFalse(report.coverage_agrees())
+            self.assertEqual(report.summary(), "Coverage was not tried: 0 samples compared.")
+
+    def test_lists_left_out_are_told(self):
+        with tempfile.TemporaryDirectory() as folder:
+            report = self.report(Refusing(4), folder)
+            self.assertEqual(report.summary(), "Coverage agrees: 64 samples compared, 1 lists left out, none differs.")
+            self.assertIn("one-scissor-4 (1)", text(report))
+
+    def test_no_program(self):
+        words = [sys.executable, os.path.join(HERE, "run.py"), "--program", os.path.join(HERE, "no-program")]
+        run = subprocess.run(words, stdout=subprocess.PIPE, stderr=subprocess.PIPE)
+        self.assertEqual((run.returncode, run.stdout), (2, b""))
+        self.assertIn(b"no program", run.stderr)
+
+
+if __name__ == "__main__":
+    unittest.main()

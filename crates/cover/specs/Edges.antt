@@ -1,0 +1,36 @@
+-- The three functions of a triangle's edges.
+use Rattle.std.specs.Prelude.{◌≡◌, ℕ, pos, ◌≤ℤ◌}
+use Rattle.grid.specs.Position.{Position}
+use Rattle.cover.specs.declared.edges.Edges.{Edges}
+use Rattle.cover.specs.declared.edges.Values.{Values}
+use Rattle.cover.specs.Block.{IsOnScreen}
+use Rattle.cover.specs.Edge.{value_at, grown}
+
+-- None of the three functions is negative at p.
+pub record IsInside (e : Edges) (p : Position) : Type 0 where
+  pub ab : pos 0 ≤ℤ value_at e.ab p
+  pub bc : pos 0 ≤ℤ value_at e.bc p
+  pub ca : pos 0 ≤ℤ value_at e.ca p
+
+-- The three functions so far from a position where they are `at`.
+pub record AreGrown (e : Edges) (at : Values) (m n : ℕ) (v : Values) : Type 0 where
+  pub ab : v.ab ≡ grown e.ab at.ab m n
+  pub bc : v.bc ≡ grown e.bc at.bc m n
+  pub ca : v.ca ≡ grown e.ca at.ca m n
+
+pub record AreValuesAt (e : Edges) (p : Position) (v : Values) : Type 0 where
+  pub ab : v.ab ≡ value_at e.ab p
+  pub bc : v.bc ≡ value_at e.bc p
+  pub ca : v.ca ≡ value_at e.ca p
+
+-- None of the three functions is negative there.
+pub record IsInsideAfter (e : Edges) (at : Values) (m n : ℕ) : Type 0 where
+  pub ab : pos 0 ≤ℤ grown e.ab at.ab m n
+  pub bc : pos 0 ≤ℤ grown e.bc at.bc m n
+  pub ca : pos 0 ≤ℤ grown e.ca at.ca m n
+
+-- The three functions are as small as on the screen.
+pub record AreOnScreen (v : Values) : Type 0 where
+  pub ab : IsOnScreen v.ab
+  pub bc : IsOnScreen v.bc
+  pub ca : IsOnScreen v.ca

@@ -1,0 +1,113 @@
+//! The edges of a triangle and of a quad.
+ghost use Rattle.std.specs.Prelude.{◌≡◌, ◌≢◌, ◌↔◌, ℕ, ◌^◌, ◌<◌, pos, ◌≤◌, IsTrue};
+ghost use Rattle.grid.specs.Triangle.{doubled_area};
+
+use crate::edge::Edge;
+use crate::masks::Masks;
+use grid::{SampleCount, Tri};
+
+/// The edges of a triangle.
+#[derive(Drop)]
+pub(crate) struct Edges {
+    pub(crate) ab: Edge,
+    pub(crate) bc: Edge,
+    pub(crate) ca: Edge,
+}
+
+/// What the three functions are at one position.
+#[derive(Clone, Copy, Drop)]
+pub(crate) struct Values {
+    pub(crate) ab: i64,
+    pub(crate) bc: i64,
+    pub(crate) ca: i64,
+}
+
+impl Edges {
+    ghost use Rattle.cover.specs.Edges.{AreValuesAt, AreOnScreen, AreGrown, IsInsideAfter};
+    ghost use Rattle.cover.specs.Masks.{AreMasksWhere, to_column, to_row};
+    ghost use Rattle.cover.specs.Setup.{AreEdgesOf};
+
+    /// The edges of a triangle whose area is not zero, each turned so that the triangle lies where its edge function is over
+    /// zero.
+    pub(crate) fn of(t: &Tri) -> Edges
+        requires { doubled_area t.now.a t.now.b t.now.c ≢ pos 0 }
+        ensures { AreEdgesOf t.now result }
+    {
+        if t.area2() > 0 {
+            Edges {
+                ab: Edge::new(t.a, t.b),
+                bc: Edge::new(t.b, t.c),
+                ca: Edge::new(t.c, t.a),
+            }
+        } else {
+            Edges {
+                ab: Edge::new(t.b, t.a),
+                bc: Edge::new(t.c, t.b),
+                ca: Edge::new(t.a, t.c),
+            }
+        }
+    }
+
+    /// The three functions at a position of the screen.
+    pub(crate) fn on_screen(&self, x: u32, y: u32) -> Values
+        requires x { x < 2 ^ 20 }
+        requires y { y < 2 ^ 20 }
+        ensures { AreValuesAt self.now (record { x = pos x; y = pos y }) result }
+    {
+        Values {
+            ab: self.ab.on_screen(x, y),
+            bc: self.bc.on_screen(x, y),
+            ca: self.ca.on_screen(x, y),
+        }
+    }
+
+    /// The three functions so far to the right and down in 1/256 pixel.
+    #[inline(always)]
+    pub(crate) fn further(&self, at: &Values, right: u32, down: u32) -> Values
+        requires at { AreOnScreen at.now }
+        requires right { right < 2 ^ 15 }
+        requires down { down < 2 ^ 15 }
+        ensures { AreGrown self.now at.now right down result }
+    {
+        Values {
+            ab: self.ab.further(at.ab, right, down),
+            bc: self.bc.further(at.bc, right, down),
+            ca: self.ca.further(at.ca, right, down),
+        }
+    }
+
+    /// Whether none of the functions is negative within `reach` to the right and down.
+    pub(crate) fn pass_everywhere(&self, at: &Values, reach: u32) -> bool
+        requires at { AreOnScreen at.now }
+        requires reach { reach < 2 ^ 15 }
+        ensures { IsTrue result ↔ ((m n : ℕ) → m ≤ reach → n ≤ reach → IsInsideAfter self.now at.now m n) }
+    {
+        self.ab.passes_all(at.ab, reach)
+            && self.bc.passes_all(at.bc, reach)
+            && self.ca.passes_all(at.ca, reach)
+    }
+
+    /// Whether one of the functions is negative all over that box.
+    pub(crate) fn pass_nowhere(&self, at: &Values, reach: u32) -> bool
+        requires at { AreOnScreen at.now }
+        requires reach { reach < 2 ^ 15 }
+        ensures { IsTrue result → (m n : ℕ) → m ≤ reach → n ≤ reach → ¬ IsInsideAfter self.now at.now m n }
+    {
+        self.ab.passes_none(at.ab, reach)
+            || self.bc.passes_none(at.bc, reach)
+            || self.ca.passes_none(at.ca, reach)
+    }
+
+    /// The samples of a block where none of the functions is negative, which are `at` at the first position of the box round the
+    /// block's samples.
+    #[inline(always)]
+    pub(crate) fn masks(&self, at: &Values, count: SampleCount) -> Masks
+        requires { AreOnScreen at.now }
+        ensures { AreMasksWhere (λ s row column. IsInsideAfter self.now at.now (to_column count s column) (to_row count s row)) count result }
+    {
+        self.ab
+            .masks(at.ab, count)
+            .both(self.bc.masks(at.bc, count))
+            .both(self.ca.masks(at.ca, count))
+    }
+}

@@ -1,0 +1,66 @@
+//! One pass over the tokens of a JSON text, which builds the list with no tree of values between.
+ghost use Rattle.std.specs.Prelude.{◌≡◌, ◌≤◌, length, Some, IfSome};
+ghost use Rattle.serde_json.specs.Data.{Data};
+ghost use Rattle.list.specs.Json.{json_of};
+ghost use Rattle.list.specs.Keys.{top_keys};
+ghost use Rattle.list.specs.Denotes.{Denotes};
+ghost use Rattle.list.specs.Took.{IsObjectOf};
+ghost use Rattle.list.specs.Drafted.{HasList};
+
+mod array;
+mod draw;
+mod draws;
+mod number;
+mod quads;
+mod state;
+mod strip;
+#[cfg(test)]
+mod tests;
+mod top;
+mod triangles;
+mod vertices;
+mod word;
+
+use crate::draw_list::DrawList;
+use crate::reader::MOST_BYTES;
+use json::{Reader, Scratch};
+use std::alloc::Global;
+use top::{ListDraft, take_list};
+
+/// What a JSON text says of a draw list. Nothing of the reader's memory is kept.
+fn read_draft(alloc: Global, bytes: &[u8]) -> Option<ListDraft>
+    ensures { IfSome result (λ draft. (d : Data) × (json_of bytes.now ≡ Some d) × IsObjectOf top_keys HasList d draft) }
+{
+    let Ok(text) = simdutf8::compat::from_utf8(bytes) else {
+        return None;
+    };
+    let mut scratch = Scratch::new(alloc);
+    let Ok(mut reader) = Reader::new(text, &mut scratch) else {
+        return None;
+    };
+    let draft = take_list(alloc, &mut reader)?;
+    if reader.next().is_some() {
+        return None;
+    }
+    Some(draft)
+}
+
+/// Reads a draw list in one pass over its tokens. None tells nothing: of a fault, of keys in an order where one needs a later
+/// one, of a repeated key whose earlier value is no value of the key, and of want of memory.
+pub(crate) fn read_list(alloc: Global, bytes: &[u8]) -> Option<DrawList>
+    requires { length bytes.now ≤ MOST_BYTES }
+    ensures { IfSome result (Denotes bytes.now) }
+{
+    let draft = read_draft(alloc, bytes)?;
+    let (width, height) = (u32::from(draft.width?), u32::from(draft.height?));
+    DrawList::within_limits(
+        alloc,
+        width,
+        height,
+        draft.count,
+        draft.clear,
+        draft.output,
+        draft.draws?,
+    )
+    .ok()
+}

@@ -1,0 +1,121 @@
+-- The plane of a slope, as the code forms it.
+use Rattle.std.proofs.Common.{◌≡◌, refl, inl, inr, [], ◌∷◌, List, get_or, arith, ℕ, ◌+◌, ◌-◌, ◌*◌, ◌/◌, ◌%◌, ◌<◌, ◌^◌, FitsSigned, w32, w64, to_z, of_z, ℤ, pos, ◌*ℤ◌, ◌+ℤ◌, ◌-ℤ◌}
+use Rattle.std.proofs.lemmas.Int.{ints, to_z-of_z}
+use Rattle.std.proofs.lemmas.Bool.{cases_lt}
+use Rattle.grid.proofs.Sign.{mul_null}
+use Rattle.grid.proofs.Ring.{var, lit, plus, times, ring}
+use Rattle.shade.specs.declared.plane.Plane.{Plane}
+use Rattle.shade.specs.declared.slope.Slope.{Slope}
+use Rattle.shade.specs.Reciprocal.{IsGradient}
+use Rattle.shade.specs.Modulo.{IsModulo}
+use Rattle.shade.specs.Plane.{IsPlane, IsNumeratorPlane, IsPart, IsHighPart}
+use Rattle.shade.proofs.Modulos.{modulo_self, modulo_rest, wrapped_sum, wrapped_difference}
+
+pub plane_of : (bits area : ℕ) (s : Slope) (a d : ℤ) (from m n : ℕ)
+    → FitsSigned w32 s.x → FitsSigned w32 s.y → FitsSigned w64 s.across → FitsSigned w64 s.down → FitsSigned w64 a → FitsSigned w64 d → m < 2 ^ 64 → n < 2 ^ 64 → from ≡ s.first
+    → IsGradient bits area (to_z w64 (of_z w64 s.across)) a → IsGradient bits area (to_z w64 (of_z w64 s.down)) d
+    → IsModulo (to_z w32 (of_z w32 s.x) *ℤ to_z w64 (of_z w64 a)) m → IsModulo (to_z w32 (of_z w32 s.y) *ℤ to_z w64 (of_z w64 d)) n
+    → IsPlane bits area s (record {
+      start = (((from * 2 ^ bits % 2 ^ 64 + (2 ^ 64 - m)) % 2 ^ 64 + (2 ^ 64 - n)) % 2 ^ 64 + (2 ^ 33 + 2 ^ 28)) % 2 ^ 64;
+      across = to_z w64 (of_z w64 a);
+      down = to_z w64 (of_z w64 d);
+    })
+plane_of bits area s a d from m n fx fy fs ft fa fd m_fits n_fits e h k right below =
+    let across = rw (to_z-of_z w64 s.across fs) at h in
+    let down = rw (to_z-of_z w64 s.down ft) at k in
+    let first = rw (to_z-of_z w32 s.x fx, to_z-of_z w64 a fa) at right in
+    let second = rw (to_z-of_z w32 s.y fy, to_z-of_z w64 d fd) at below in
+    let start : IsModulo (pos (s.first * 2 ^ bits)) (from * 2 ^ bits) = rw e (modulo_self (s.first * 2 ^ bits)) in
+    let moved = wrapped_difference _ _ _ n n_fits (wrapped_difference _ _ _ m m_fits (modulo_rest _ _ start) first) second in
+    rw (to_z-of_z w64 a fa, to_z-of_z w64 d fd) (record { across = across; down = down; above = 2 ^ 33 + 2 ^ 28; margin = inl refl; start = wrapped_sum _ _ _ _ moved (modulo_self (2 ^ 33 + 2 ^ 28)) })
+
+pub part_of : (x y a d : ℤ) (m n : ℕ) → FitsSigned w32 x → FitsSigned w32 y → FitsSigned w64 a → FitsSigned w64 d
+    → IsModulo (to_z w32 (of_z w32 x) *ℤ to_z w64 (of_z w64 a)) m → IsModulo (to_z w32 (of_z w32 y) *ℤ to_z w64 (of_z w64 d)) n
+    → IsModulo (x *ℤ a +ℤ y *ℤ d) ((m + n) % 2 ^ 64)
+part_of x y a d m n fx fy fa fd right below =
+    let first = rw (to_z-of_z w32 x fx, to_z-of_z w64 a fa) at right in
+    let second = rw (to_z-of_z w32 y fy, to_z-of_z w64 d fd) at below in
+    wrapped_sum _ _ _ _ first second
+
+pub height_of : (x y a d : ℤ) (start m : ℕ) → FitsSigned w32 x → FitsSigned w32 y
+    → IsModulo (to_z w32 (of_z w32 x) *ℤ a +ℤ to_z w32 (of_z w32 y) *ℤ d) m
+    → IsModulo (pos start +ℤ (x *ℤ a +ℤ y *ℤ d)) ((start + m) % 2 ^ 64)
+height_of x y a d start m fx fy h =
+    let part = rw (to_z-of_z w32 x fx, to_z-of_z w32 y fy) at h in
+    wrapped_sum _ _ _ _ (modulo_self start) part
+
+-- ---- lanes, which are stepped by additions
+part_next : (a d n : ℤ) → n *ℤ a +ℤ pos 0 *ℤ d +ℤ pos 256 *ℤ a ≡ (n +ℤ pos 256) *ℤ a +ℤ pos 0 *ℤ d
+part_next a d n =
+    ring (a ∷ d ∷ n ∷ []) (plus (plus (times (var 2) (var 0)) (times (lit (pos 0)) (var 1))) (times (lit (pos 256)) (var 0)))
+    (plus (times (plus (var 2) (lit (pos 256))) (var 0)) (times (lit (pos 0)) (var 1))) refl
+
+part_below : (a d n : ℤ) → n *ℤ a +ℤ pos 0 *ℤ d +ℤ pos 256 *ℤ d ≡ n *ℤ a +ℤ pos 256 *ℤ d
+part_below a d n =
+    ring (a ∷ d ∷ n ∷ []) (plus (plus (times (var 2) (var 0)) (times (lit (pos 0)) (var 1))) (times (lit (pos 256)) (var 1)))
+    (plus (times (var 2) (var 0)) (times (lit (pos 256)) (var 1))) refl
+
+pub part_none : (p : Plane) → IsPart p (pos 0) (pos 0) 0
+part_none p =
+    let none : pos 0 *ℤ p.across +ℤ pos 0 *ℤ p.down ≡ pos 0 = ring (p.across ∷ p.down ∷ []) (plus (times (lit (pos 0)) (var 0)) (times (lit (pos 0)) (var 1))) (lit (pos 0)) refl in
+    rw none (modulo_self 0)
+
+passed : (g : ℤ) (n : ℕ) → FitsSigned w64 g → IsModulo (pos 256 *ℤ to_z w64 (of_z w64 g)) n → IsModulo (pos 256 *ℤ g) n
+passed g n fits h = rw (to_z-of_z w64 g fits) at h
+
+pub part_stepped : (p : Plane) (n m across : ℕ) → FitsSigned w64 p.across → IsPart p (pos n) (pos 0) m → IsModulo (pos 256 *ℤ to_z w64 (of_z w64 p.across)) across → IsPart p (pos (n + 256)) (pos 0) ((m + across) % 2 ^ 64)
+part_stepped p n m across fits h k =
+    let sum = wrapped_sum _ _ _ _ h (passed p.across across fits k) in
+    rw (part_next p.across p.down (pos n)) at sum
+
+pub part_lower : (p : Plane) (n m down : ℕ) → FitsSigned w64 p.down → IsPart p (pos n) (pos 0) m → IsModulo (pos 256 *ℤ to_z w64 (of_z w64 p.down)) down → IsPart p (pos n) (pos 256) ((m + down) % 2 ^ 64)
+part_lower p n m down fits h k =
+    let sum = wrapped_sum _ _ _ _ h (passed p.down down fits k) in
+    rw (part_below p.across p.down (pos n)) at sum
+
+pub half_of : (p : Plane) (x y : ℤ) (m : ℕ) → m < 2 ^ 64 → IsPart p x y m → IsHighPart p x y (m / 2 ^ 32)
+half_of p x y m fits h = record { part = m; fits = fits; is_part = h; is = refl }
+
+-- both rows of eight columns are the sixteen lanes
+pub row_of : (p : Plane) (halves : List ℕ) → ((k : ℕ) → k < 8 → IsHighPart p (pos (256 * k)) (pos 0) (get_or halves k 0)) → ((k : ℕ) → k < 8 → IsHighPart p (pos (256 * k)) (pos 256) (get_or halves (k + 8) 0))
+    → (i : ℕ) → i < 16 → IsHighPart p (pos (256 * (i % 8))) (pos (256 * (i / 8))) (get_or halves i 0)
+row_of p halves first second i less =
+    elim (cases_lt i 8) [
+      | inl l ↦
+          let column : 256 * (i % 8) ≡ 256 * i = omega (arith, l) in
+          let row : 256 * (i / 8) ≡ 0 = omega (arith, l) in
+          rw (column, row) (first i l)
+      | inr l ↦
+          let column : 256 * (i % 8) ≡ 256 * (i - 8) = omega (arith, l, less) in
+          let row : 256 * (i / 8) ≡ 256 = omega (arith, l, less) in
+          let place : i - 8 + 8 ≡ i = omega (arith, l) in
+          let half = second (i - 8) (omega (arith, l, less)) in
+          rw (column, row) (rw place at half)
+    ]
+
+-- the plane of a slope that does not grow
+pub level_of : (bits area : ℕ) (s : Slope) (from : ℕ) → 0 < area → from ≡ s.first → s.across ≡ pos 0 → s.down ≡ pos 0
+    → IsPlane bits area s (record { start = (from * 2 ^ bits % 2 ^ 64 + 3 * 2 ^ 32) % 2 ^ 64; across = pos 0; down = pos 0 })
+level_of bits area s from some e h k =
+    let none : (n : ℤ) → n ≡ pos 0 → IsGradient bits area n (pos 0) = λ n f. rw f (record { low = omega (arith, ints); high = omega (arith, ints) }) in
+    let start : IsModulo (pos (s.first * 2 ^ bits)) (from * 2 ^ bits) = rw e (modulo_self (s.first * 2 ^ bits)) in
+    let sum = wrapped_sum _ _ _ _ (modulo_rest _ _ start) (modulo_self (3 * 2 ^ 32)) in
+    let right = mul_null s.x (pos 0) refl in
+    let below = mul_null s.y (pos 0) refl in
+    let same : pos (s.first * 2 ^ bits) -ℤ s.x *ℤ pos 0 -ℤ s.y *ℤ pos 0 +ℤ pos (3 * 2 ^ 32) ≡ pos (s.first * 2 ^ bits) +ℤ pos (3 * 2 ^ 32) = omega (arith, ints, right, below) in
+    record { across = none s.across h; down = none s.down k; above = 3 * 2 ^ 32; margin = inr (refl, h, k, refl, refl); start = rw same sum }
+
+-- the numerator as a plane
+pub numerator_of : (area : ℕ) (s : Slope) (from m n : ℕ) → FitsSigned w32 s.x → FitsSigned w32 s.y → FitsSigned w64 s.across → FitsSigned w64 s.down → m < 2 ^ 64 → n < 2 ^ 64 → from ≡ s.first
+    → IsModulo (to_z w32 (of_z w32 s.x) *ℤ to_z w64 (of_z w64 s.across)) m → IsModulo (to_z w32 (of_z w32 s.y) *ℤ to_z w64 (of_z w64 s.down)) n
+    → IsNumeratorPlane area s (record {
+      start = ((from * area % 2 ^ 64 + (2 ^ 64 - m)) % 2 ^ 64 + (2 ^ 64 - n)) % 2 ^ 64;
+      across = to_z w64 (of_z w64 s.across);
+      down = to_z w64 (of_z w64 s.down);
+    })
+numerator_of area s from m n fx fy fs ft m_fits n_fits e right below =
+    let first = rw (to_z-of_z w32 s.x fx, to_z-of_z w64 s.across fs) at right in
+    let second = rw (to_z-of_z w32 s.y fy, to_z-of_z w64 s.down ft) at below in
+    let start : IsModulo (pos (s.first * area)) (from * area) = rw e (modulo_self (s.first * area)) in
+    let moved = wrapped_difference _ _ _ n n_fits (wrapped_difference _ _ _ m m_fits (modulo_rest _ _ start) first) second in
+    rw (to_z-of_z w64 s.across fs, to_z-of_z w64 s.down ft) (record { across = refl; down = refl; start = moved })

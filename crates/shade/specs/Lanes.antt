@@ -1,0 +1,16 @@
+-- Sixteen lanes.
+use Rattle.std.specs.Prelude.{◌≡◌, ◌⊎◌, ℕ, ◌<◌, List, length, slice_index}
+
+-- v has sixteen lanes, and lane k holds f k.
+pub record HasLanes (v : List ℕ) (f : ℕ → ℕ) : Type 0 where
+  pub long : length v ≡ 16
+  pub each : (k : ℕ) → k < 16 → slice_index v k ≡ f k
+
+-- A lane of a mask says whether P holds: all its bits are set where it does, and none where it does not.
+abbrev pub Tells : ℕ → Type 0 → Type 0
+Tells lane P = ((lane ≡ 65535) × P) ⊎ ((lane ≡ 0) × (¬ P))
+
+-- m has sixteen lanes, and lane k says whether P k holds.
+pub record IsMask (m : List ℕ) (P : ℕ → Type 0) : Type 0 where
+  pub long : length m ≡ 16
+  pub each : (k : ℕ) → k < 16 → Tells (slice_index m k) (P k)

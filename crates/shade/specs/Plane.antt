@@ -1,0 +1,49 @@
+use Rattle.std.specs.Prelude.{ℕ, ℤ, pos, ◌≡◌, ◌⊎◌, ◌≤◌, ◌<◌, ◌+◌, ◌*◌, ◌^◌, ◌/◌, ◌+ℤ◌, ◌-ℤ◌, ◌*ℤ◌}
+use Rattle.grid.specs.Bounds.{IsWithin}
+use Rattle.shade.specs.declared.plane.Plane.{Plane}
+use Rattle.shade.specs.declared.slope.Slope.{Slope}
+use Rattle.shade.specs.Slope.{numerator}
+use Rattle.shade.specs.Reciprocal.{IsGradient}
+use Rattle.shade.specs.Modulo.{IsModulo}
+
+-- How far a plane lies above its slope: two units of 2^32 and a sixteenth, so that no error takes it under the slope, and three
+-- units where neither grows.
+abbrev pub IsMargin : Slope → Plane → ℕ → Type 0
+IsMargin s p above =
+    (above ≡ 2 ^ 33 + 2 ^ 28) ⊎ ((above ≡ 3 * 2 ^ 32) × (s.across ≡ pos 0) × (s.down ≡ pos 0) × (p.across ≡ pos 0) × (p.down ≡ pos 0))
+
+-- The plane of a slope with so many fractional bits: its gradients are near the exact ones, and it starts at the slope's vertex,
+-- by its margin above the attribute there.
+pub record IsPlane (bits area : ℕ) (s : Slope) (p : Plane) : Type 0 where
+  pub across : IsGradient bits area s.across p.across
+  pub down : IsGradient bits area s.down p.down
+  pub above : ℕ
+  pub margin : IsMargin s p above
+  pub start : IsModulo (pos (s.first * 2 ^ bits) -ℤ s.x *ℤ p.across -ℤ s.y *ℤ p.down +ℤ pos above) p.start
+
+-- The numerator itself as a plane, with no fractional bits.
+pub record IsNumeratorPlane (area : ℕ) (s : Slope) (p : Plane) : Type 0 where
+  pub across : p.across ≡ s.across
+  pub down : p.down ≡ s.down
+  pub start : IsModulo (pos (s.first * area) -ℤ s.x *ℤ s.across -ℤ s.y *ℤ s.down) p.start
+
+-- The plane's growth over a way, and its height at a point, modulo 2^64.
+abbrev pub IsPart : Plane → ℤ → ℤ → ℕ → Type 0
+IsPart p x y n = IsModulo (x *ℤ p.across +ℤ y *ℤ p.down) n
+
+abbrev pub IsHeight : Plane → ℤ → ℤ → ℕ → Type 0
+IsHeight p x y n = IsModulo (pos p.start +ℤ (x *ℤ p.across +ℤ y *ℤ p.down)) n
+
+-- A point near the slope's vertex where the numerator is n, of an attribute of at most 32 - k bits.
+pub record IsReached (k area : ℕ) (s : Slope) (x y : ℤ) (n : ℕ) : Type 0 where
+  pub value : numerator s area x y ≡ pos n
+  pub most : n * 2 ^ (32 + k) + 2 ^ 48 * area ≤ 2 ^ 64 * area
+  pub near_x : IsWithin (2 ^ 23 + 2 ^ 20) (x -ℤ s.x)
+  pub near_y : IsWithin (2 ^ 23 + 2 ^ 20) (y -ℤ s.y)
+
+-- h is the high half of the plane's growth over a way.
+pub record IsHighPart (p : Plane) (x y : ℤ) (h : ℕ) : Type 0 where
+  pub part : ℕ
+  pub fits : part < 2 ^ 64
+  pub is_part : IsPart p x y part
+  pub is : h ≡ part / 2 ^ 32

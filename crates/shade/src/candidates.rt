@@ -1,0 +1,83 @@
+//! Candidates of sixteen values, and what is done with them.
+ghost use Rattle.std.specs.Prelude.{ℕ, ℤ, pos, ◌≡◌, ◌⊎◌, ◌-◌, ◌*◌, ◌<◌, ◌≤◌, ◌/◌, ◌%◌, ◌^◌, ◌+◌, ◌+ℤ◌, ◌-ℤ◌, IsTrue, min, length, slice_index};
+ghost use Rattle.std.specs.Simd.Lanes.{Each1};
+ghost use Rattle.shade.specs.declared.plane.Plane.{Plane};
+ghost use Rattle.shade.specs.declared.slope.Slope.{Slope};
+ghost use Rattle.shade.specs.Quotient.{IsQuotient};
+ghost use Rattle.shade.specs.Modulo.{IsModulo};
+ghost use Rattle.shade.specs.Candidate.{IsCandidate, IsNear};
+ghost use Rattle.shade.specs.Plane.{IsPlane, IsHeight, IsHighPart, IsReached};
+
+use std::simd::prelude::*;
+
+/// The candidates at sixteen points, from the high halves of a plane's growth to each and of its height.
+#[inline(always)]
+pub(crate) fn candidates(lanes: u32x16, height: u64) -> u32x16
+    requires { length lanes ≡ 16 }
+    ensures length { length result ≡ 16 }
+    ensures each { (i k area n : ℕ) (s : Slope) (p : Plane) (x y right below : ℤ) → i < 16 → IsPlane (32 + k) area s p → IsHeight p x y height → IsHighPart p right below (slice_index lanes i) → IsReached k area s (x +ℤ right) (y +ℤ below) n → IsCandidate k n area (slice_index result i) }
+{
+    lanes + u32x16::splat((height >> 32) as u32)
+}
+
+/// The whole parts of sixteen candidates with so many fractional bits.
+#[inline(always)]
+pub(crate) fn wholes(candidates: u32x16, bits: u32) -> u16x16
+    requires { (bits ≡ 16) ⊎ (bits ≡ 24) }
+    ensures length { length result ≡ 16 }
+    ensures each { (i : ℕ) → i < 16 → slice_index result i ≡ slice_index candidates i / 2 ^ bits }
+    ensures bytes { bits ≡ 24 → Each1 (λ n. n ≤ 255) result }
+{
+    (candidates >> u32x16::splat(bits)).cast::<u16>()
+}
+
+/// The fractions of sixteen candidates, in units of their last bit. `mask` has a bit for each fractional one.
+#[inline(always)]
+pub(crate) fn fractions(candidates: u32x16, mask: u32) -> u32x16
+    ensures length { length result ≡ 16 }
+    ensures each { (i k : ℕ) → i < 16 → mask ≡ 2 ^ k - 1 → slice_index result i ≡ slice_index candidates i % 2 ^ k }
+{
+    candidates & u32x16::splat(mask)
+}
+
+/// The lesser of the two, lane by lane.
+#[inline(always)]
+pub(crate) fn least(a: u32x16, b: u32x16) -> u32x16
+    ensures length { length result ≡ 16 }
+    ensures each { (i : ℕ) → i < 16 → slice_index result i ≡ min (slice_index a i) (slice_index b i) }
+{
+    a.simd_lt(b).select(a, b)
+}
+
+/// The least fraction, in units of the last bit, with which the whole part of a candidate is surely the value.
+const SURE: u32 = 3;
+
+/// Whether the whole parts of candidates with these fractions are surely the values.
+#[inline(always)]
+pub(crate) fn are_sure(fractions: u32x16) -> bool
+    ensures { IsTrue result → (i : ℕ) → i < 16 → 3 ≤ slice_index fractions i }
+{
+    fractions.simd_lt(u32x16::splat(SURE)).to_bitmask() == 0
+}
+
+/// What is left of a numerator without so many times the area, where it is less than the area in size.
+pub(crate) fn rest(numerator: u64, value: u16, area: u64) -> i64
+    ensures { (n : ℕ) → area ≤ 2 ^ 48 → IsModulo (pos n) numerator → IsNear n area value → result ≡ pos n -ℤ pos (value * area) }
+{
+    numerator
+        .wrapping_sub(u64::from(value).wrapping_mul(area))
+        .cast_signed()
+}
+
+/// The quotient, from it or the number after it, by the sign of what is left.
+#[inline(always)]
+pub(crate) fn corrected(value: u16, left: i64) -> u16
+    ensures value { (n s : ℕ) → IsNear n s value → left ≡ pos n -ℤ pos (value * s) → IsQuotient n s result }
+    ensures at_most { result ≤ value }
+{
+    if left < 0 {
+        value.saturating_sub(1)
+    } else {
+        value
+    }
+}

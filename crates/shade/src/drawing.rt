@@ -1,0 +1,217 @@
+//! How a triangle is drawn at the samples of a block.
+ghost use Rattle.std.specs.Prelude.{◌≡◌, ℕ, ◌+◌, ◌*◌, ◌<◌, IsBitSet, IsTrue, false};
+ghost use Rattle.grid.specs.Triangle.{Covers};
+ghost use Rattle.shade.specs.Placed.{IsDrawnAt};
+ghost use Rattle.shade.specs.declared.placed.Placed.{Placed as Triangle};
+ghost use Rattle.shade.specs.Block.{stored_at, position_in, IsOnScreen, CoversMask, AreDrawn};
+ghost use Rattle.shade.specs.Lanes.{IsMask};
+ghost use Rattle.shade.specs.Way.{AreSourcesOf};
+
+use crate::block::BlockSamples;
+use crate::group::draw_group;
+use crate::interpolants::Interpolants;
+use crate::lane_mask::lanes_of_mask;
+use crate::placed::Placed;
+use crate::sample::Merge;
+use crate::sources::{ColourSource, DepthSource};
+use crate::way::Way;
+use grid::Point;
+use std::simd::prelude::*;
+
+/// The sample of pixel `k` of a block whose first sample is at `p`.
+pub(crate) fn sample_position(p: Point, k: u32) -> Point
+    requires on_screen { IsOnScreen p }
+    requires pixel { k < 64 }
+    ensures { result ≡ position_in p k }
+{
+    let x = p.x() + (256 * (k % 8)) as i32;
+    let y = p.y() + (256 * (k / 8)) as i32;
+    Point::new(x, y).unwrap()
+}
+
+impl Placed {
+    /// Draws the triangle at samples of a block, one after another: the plain way, by the definition. Bit k of `mask` tells
+    /// whether pixel k is drawn, and the first pixel's sample is at `p`.
+    pub(crate) fn draw_each(&self, p: Point, mask: u64, samples: &mut BlockSamples)
+        requires on_screen { IsOnScreen p }
+        requires covered { (k : ℕ) → k < 64 → IsBitSet mask k → Covers self.now.tri.a self.now.tri.b self.now.tri.c (position_in p k) }
+        ensures drawn { (k : ℕ) → k < 64 → IsBitSet mask k → IsDrawnAt self.now (position_in p k) (stored_at samples.old k) (stored_at samples.new k) }
+        ensures kept { (k : ℕ) → k < 64 → ¬ IsBitSet mask k → stored_at samples.new k ≡ stored_at samples.old k }
+    {
+        for k in 0..64u32 {
+            if (mask >> k) % 2 == 1 {
+                let stored = samples.sample(k as usize);
+                samples.set(k as usize, self.drawn_at(sample_position(p, k), stored));
+            }
+        }
+    }
+}
+
+/// Whether some pixel of a group of two rows is in the mask.
+#[inline(always)]
+fn has_some(mask: u64, group: u64) -> bool
+    requires { group < 4 }
+    ensures { result ≡ false → (i : ℕ) → i < 16 → ¬ IsBitSet mask (16 * group + i) }
+{
+    (mask >> (16 * group)) % 65536 != 0
+}
+
+/// The lanes of a group in the mask; all of them where the mask is said to be whole.
+#[inline(always)]
+fn lanes_of(whole: bool, mask: u64, group: u64) -> u16x16
+    requires group { group < 4 }
+    requires whole { IsTrue whole → (k : ℕ) → k < 64 → IsBitSet mask k }
+    ensures { IsMask result (λ i. IsBitSet mask (16 * group + i)) }
+{
+    if whole {
+        u16x16::splat(65535)
+    } else {
+        lanes_of_mask(mask, group)
+    }
+}
+
+/// Draws two rows of a block, where the mask is set.
+#[inline(always)]
+fn draw_rows(
+    merge: &Merge,
+    depth: &DepthSource,
+    colour: &ColourSource,
+    whole: bool,
+    p: Point,
+    mask: u64,
+    group: u64,
+    samples: &mut BlockSamples,
+)
+    requires group { group < 4 }
+    requires on_screen { IsOnScreen p }
+    requires whole { IsTrue whole → (k : ℕ) → k < 64 → IsBitSet mask k }
+    ensures { (t : Triangle) → AreSourcesOf t merge.now depth.now colour.now → CoversMask t p mask → AreDrawn t p mask samples.old samples.new (16 * group) 16 }
+{
+    if !whole && !has_some(mask, group) {
+        return;
+    }
+    let covered = lanes_of(whole, mask, group);
+    let (x, y) = (p.x(), p.y() + 512 * group as i32);
+    draw_group(
+        merge,
+        depth,
+        colour,
+        covered,
+        x,
+        y,
+        samples,
+        16 * group as usize,
+    );
+}
+
+/// Draws a block by two rows at once.
+#[inline(always)]
+fn draw_block(
+    merge: &Merge,
+    depth: &DepthSource,
+    colour: &ColourSource,
+    whole: bool,
+    p: Point,
+    mask: u64,
+    samples: &mut BlockSamples,
+)
+    requires on_screen { IsOnScreen p }
+    requires whole { IsTrue whole → (k : ℕ) → k < 64 → IsBitSet mask k }
+    ensures { (t : Triangle) → AreSourcesOf t merge.now depth.now colour.now → CoversMask t p mask → AreDrawn t p mask samples.old samples.new 0 64 }
+{
+    for group in 0..4u64 {
+        draw_rows(merge, depth, colour, whole, p, mask, group, samples);
+    }
+}
+
+/// Whether all pixels of a block are in the mask.
+#[inline(always)]
+fn is_whole(mask: u64) -> bool
+    ensures { IsTrue result → (k : ℕ) → k < 64 → IsBitSet mask k }
+{
+    mask == u64::MAX
+}
+
+/// The same with code of its own for a block that is drawn whole, where masks are left out.
+#[inline(always)]
+fn draw_by_mask(
+    merge: &Merge,
+    depth: &DepthSource,
+    colour: &ColourSource,
+    p: Point,
+    mask: u64,
+    samples: &mut BlockSamples,
+)
+    requires { IsOnScreen p }
+    ensures { (t : Triangle) → AreSourcesOf t merge.now depth.now colour.now → CoversMask t p mask → AreDrawn t p mask samples.old samples.new 0 64 }
+{
+    if is_whole(mask) {
+        draw_block(merge, depth, colour, true, p, mask, samples);
+    } else {
+        draw_block(merge, depth, colour, false, p, mask, samples);
+    }
+}
+
+/// The same with code of its own for each source of colour. A value that is made again is known where the code is inlined, and
+/// planes are not copied.
+#[inline(always)]
+fn draw_by_colour(
+    merge: &Merge,
+    depth: &DepthSource,
+    colour: &ColourSource,
+    p: Point,
+    mask: u64,
+    samples: &mut BlockSamples,
+)
+    requires { IsOnScreen p }
+    ensures { (t : Triangle) → AreSourcesOf t merge.now depth.now colour.now → CoversMask t p mask → AreDrawn t p mask samples.old samples.new 0 64 }
+{
+    match colour {
+        ColourSource::Flat(rgba) => {
+            draw_by_mask(merge, depth, &ColourSource::Flat(*rgba), p, mask, samples);
+        }
+        ColourSource::Planes(_) => draw_by_mask(merge, depth, colour, p, mask, samples),
+    }
+}
+
+/// The same with code of its own for each source of depth.
+fn draw_by_depth(
+    merge: &Merge,
+    depth: &DepthSource,
+    colour: &ColourSource,
+    p: Point,
+    mask: u64,
+    samples: &mut BlockSamples,
+)
+    requires { IsOnScreen p }
+    ensures { (t : Triangle) → AreSourcesOf t merge.now depth.now colour.now → CoversMask t p mask → AreDrawn t p mask samples.old samples.new 0 64 }
+{
+    match depth {
+        DepthSource::Unused => {
+            draw_by_colour(merge, &DepthSource::Unused, colour, p, mask, samples);
+        }
+        DepthSource::Flat(z) => {
+            draw_by_colour(merge, &DepthSource::Flat(*z), colour, p, mask, samples);
+        }
+        DepthSource::Plane(_) => draw_by_colour(merge, depth, colour, p, mask, samples),
+    }
+}
+
+impl Interpolants {
+    /// Draws the triangle at samples of a block whose first sample is at `p`; bit k of `mask` tells whether pixel k (row k / 8,
+    /// column k % 8) is drawn.
+    pub fn draw(&self, p: Point, mask: u64, samples: &mut BlockSamples)
+        requires on_screen { IsOnScreen p }
+        requires covered { (k : ℕ) → k < 64 → IsBitSet mask k → Covers self.now.tri.a self.now.tri.b self.now.tri.c (position_in p k) }
+        ensures drawn { (k : ℕ) → k < 64 → IsBitSet mask k → IsDrawnAt self.now (position_in p k) (stored_at samples.old k) (stored_at samples.new k) }
+        ensures kept { (k : ℕ) → k < 64 → ¬ IsBitSet mask k → stored_at samples.new k ≡ stored_at samples.old k }
+    {
+        match &self.way {
+            Way::Each => self.placed.draw_each(p, mask, samples),
+            Way::Groups(depth, colour) => {
+                let merge = self.placed.state.merge;
+                draw_by_depth(&merge, depth, colour, p, mask, samples);
+            }
+        }
+    }
+}

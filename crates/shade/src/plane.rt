@@ -1,0 +1,113 @@
+ghost use Rattle.std.specs.Prelude.{ℕ, ℤ, pos, ◌≡◌, ◌≤◌, ◌<◌, ◌+◌, ◌*◌, ◌-◌, ◌/◌, ◌%◌, ◌^◌, ◌+ℤ◌, ◌*ℤ◌, ◌-ℤ◌, length, slice_index};
+ghost use Rattle.std.specs.Int.RustNames.{unsigned_abs};
+ghost use Rattle.shade.specs.Modulo.{IsModulo};
+
+use crate::reciprocal::Reciprocal;
+use crate::slope::Slope;
+use std::simd::prelude::*;
+
+/// An attribute in fixed point, modulo 2^64, as a plane over x and y.
+#[derive(Clone, Copy, Debug)]
+pub(crate) struct Plane {
+    start: u64,
+    across: i64,
+    down: i64,
+}
+
+/// How far a plane lies above its attribute: two units of the high half, so that no error takes it under the attribute, and a
+/// sixteenth for the gradients' errors.
+const ABOVE: u64 = (2 << 32) + (1 << 28);
+
+/// The same where nothing grows and there is no error: three units, so that each candidate is sure.
+const ABOVE_LEVEL: u64 = 3 << 32;
+
+/// A coordinate times a gradient, modulo 2^64.
+#[inline(always)]
+fn scaled(way: i32, gradient: i64) -> u64
+    ensures { IsModulo (way *ℤ gradient) result }
+{
+    i64::from(way)
+        .cast_unsigned()
+        .wrapping_mul(gradient.cast_unsigned())
+}
+
+impl Plane {
+    ghost use Rattle.shade.specs.Plane.{IsPlane, IsNumeratorPlane, IsPart, IsHeight, IsHighPart};
+
+    /// The plane of a slope that is not steep, with so many fractional bits.
+    pub(crate) fn new(slope: Slope, reciprocal: Reciprocal, bits: u32) -> Plane
+        requires bits { bits ≤ 56 }
+        requires across_bound { unsigned_abs slope.across < 2 ^ 41 }
+        requires across_level { unsigned_abs slope.across < reciprocal.area * 2 ^ (63 - bits) }
+        requires down_bound { unsigned_abs slope.down < 2 ^ 41 }
+        requires down_level { unsigned_abs slope.down < reciprocal.area * 2 ^ (63 - bits) }
+        ensures { IsPlane bits reciprocal.area slope result }
+    {
+        let first = u64::from(slope.first) << bits;
+        if slope.across == 0 && slope.down == 0 {
+            return Plane {
+                start: first.wrapping_add(ABOVE_LEVEL),
+                across: 0,
+                down: 0,
+            };
+        }
+        let across = reciprocal.gradient(slope.across, bits);
+        let down = reciprocal.gradient(slope.down, bits);
+        let start = first
+            .wrapping_sub(scaled(slope.x, across))
+            .wrapping_sub(scaled(slope.y, down))
+            .wrapping_add(ABOVE);
+        Plane {
+            start,
+            across,
+            down,
+        }
+    }
+
+    /// The numerator of a slope as a plane.
+    pub(crate) fn of_numerator(slope: Slope, area: u64) -> Plane
+        ensures { IsNumeratorPlane area slope result }
+    {
+        let start = u64::from(slope.first)
+            .wrapping_mul(area)
+            .wrapping_sub(scaled(slope.x, slope.across))
+            .wrapping_sub(scaled(slope.y, slope.down));
+        Plane {
+            start,
+            across: slope.across,
+            down: slope.down,
+        }
+    }
+
+    /// The growth over a way, modulo 2^64.
+    #[inline(always)]
+    pub(crate) fn part(&self, x: i32, y: i32) -> u64
+        ensures { IsPart self.now x y result }
+    {
+        scaled(x, self.across).wrapping_add(scaled(y, self.down))
+    }
+
+    /// The height at a point, modulo 2^64.
+    #[inline(always)]
+    pub(crate) fn height(&self, x: i32, y: i32) -> u64
+        ensures { IsHeight self.now x y result }
+    {
+        self.start.wrapping_add(self.part(x, y))
+    }
+
+    /// The high halves of the growth to each of sixteen pixels, eight columns by two rows.
+    pub(crate) fn lanes(&self) -> u32x16
+        ensures length { length result ≡ 16 }
+        ensures each { (i : ℕ) → i < 16 → IsHighPart self.now (pos (256 * (i % 8))) (pos (256 * (i / 8))) (slice_index result i) }
+    {
+        let (across, down) = (scaled(256, self.across), scaled(256, self.down));
+        let mut halves = [0; 16];
+        let mut part: u64 = 0;
+        for i in 0..8 {
+            halves[i] = (part >> 32) as u32;
+            halves[i + 8] = (part.wrapping_add(down) >> 32) as u32;
+            part = part.wrapping_add(across);
+        }
+        u32x16::from_array(halves)
+    }
+}

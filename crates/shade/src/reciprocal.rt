@@ -1,0 +1,52 @@
+ghost use Rattle.std.specs.Prelude.{◌≡◌, ◌≤◌, ◌<◌, ◌*◌, ◌-◌, ◌^◌, ◌↔◌, IsTrue};
+ghost use Rattle.std.specs.Int.RustNames.{unsigned_abs};
+ghost use Rattle.shade.specs.Reciprocal.{IsReciprocal, IsGradient};
+
+/// A doubled area with its reciprocal: `value` by 2 to the power of `127 - shift`.
+#[derive(Clone, Copy, Debug)]
+pub(crate) struct Reciprocal {
+    pub(crate) area: u64,
+    /// How far the area is shifted, so that it has just 64 bits.
+    shift: u32,
+    /// 2^127 - 1 by the shifted area, rounded down.
+    value: u64,
+    pub ghost exact: { IsReciprocal area shift value },
+    pub ghost small: { area ≤ 2 ^ 48 },
+}
+
+impl Reciprocal {
+    /// The reciprocal of an area, by one division.
+    pub(crate) fn of(area: u64) -> Reciprocal
+        requires some { 0 < area }
+        requires bound { area ≤ 2 ^ 48 }
+        ensures { result.area ≡ area }
+    {
+        let shift = area.leading_zeros();
+        let divisor = area << shift;
+        let value = (u128::MAX >> 1) / divisor as u128;
+        Reciprocal {
+            area,
+            shift,
+            value: value as u64,
+        }
+    }
+
+    /// Whether `number` by the area is less than 2^(63 - bits), so that it has a gradient.
+    pub(crate) fn is_level(self, number: i64, bits: u32) -> bool
+        requires low { 48 ≤ bits }
+        requires high { bits ≤ 56 }
+        ensures { IsTrue result ↔ unsigned_abs number < self.area * 2 ^ (63 - bits) }
+    {
+        number.unsigned_abs() < self.area << (63 - bits)
+    }
+
+    /// `number` by the area with `bits` fractional bits, where it is not steep: off by less than two units of the last bit.
+    pub(crate) fn gradient(self, number: i64, bits: u32) -> i64
+        requires bits { bits ≤ 56 }
+        requires bound { unsigned_abs number < 2 ^ 41 }
+        requires level { unsigned_abs number < self.area * 2 ^ (63 - bits) }
+        ensures { IsGradient bits self.area number result }
+    {
+        ((number as i128 * self.value as i128) >> (127 - self.shift - bits)) as i64
+    }
+}

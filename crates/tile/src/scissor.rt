@@ -1,0 +1,63 @@
+//! The pixels of a block that are in the scissor.
+ghost use Rattle.std.specs.Prelude.{◌≡◌, ◌↔◌, ℕ, ◌+◌, ◌-◌, ◌*◌, ◌^◌, ◌<◌, ◌≤◌, ◌<ℤ◌, ◌≤ℤ◌, pos, IsBitSet};
+ghost use Rattle.grid.specs.Pixels.{IsInBox};
+
+use grid::PixelBox;
+
+/// The lowest bit of each row of a block.
+const FIRST_COLUMN: u64 = 0x0101_0101_0101_0101;
+
+/// How many of the eight pixels from pixel `first` on, in a row or a column, lie before a side of the scissor.
+#[inline]
+fn before(side: i32, first: u32) -> u32
+    requires { first < 4096 }
+    ensures few { result ≤ 8 }
+    ensures before { (i : ℕ) → i < result → pos (first + i) <ℤ side }
+    ensures beyond { (i : ℕ) → i < 8 → result ≤ i → side ≤ℤ pos (first + i) }
+{
+    let way = i64::from(side) - i64::from(first);
+    if way <= 0 {
+        0
+    } else if way < 8 {
+        way as u32
+    } else {
+        8
+    }
+}
+
+/// The lowest bits of a word, so many of them.
+#[inline]
+fn lowest(many: u32) -> u64
+    requires { many ≤ 64 }
+    ensures { result ≡ 2 ^ many - 1 }
+{
+    if many == 0 {
+        0
+    } else {
+        u64::MAX >> (64 - many)
+    }
+}
+
+/// The bits of a word from bit `first` to before bit `end`.
+#[inline]
+fn between(first: u32, end: u32) -> u64
+    requires { end ≤ 64 }
+    ensures bits { (i : ℕ) → (IsBitSet result i ↔ ((first ≤ i) × (i < end))) }
+    ensures below { result < 2 ^ end }
+{
+    lowest(end) - lowest(first.min(end))
+}
+
+/// Which pixels of block (bx, by) are in the scissor: bit 8 * row + column for the pixel in that row and column of the block.
+#[inline]
+pub(crate) fn in_scissor(scissor: &PixelBox, bx: u32, by: u32) -> u64
+    requires column { bx < 512 }
+    requires row { by < 512 }
+    ensures { (row column : ℕ) → row < 8 → column < 8 → (IsBitSet result (8 * row + column) ↔ IsInBox scissor.now (8 * bx + column) (8 * by + row)) }
+{
+    let (left, right) = (before(scissor.x0, 8 * bx), before(scissor.x1, 8 * bx));
+    let (top, bottom) = (before(scissor.y0, 8 * by), before(scissor.y1, 8 * by));
+    let columns = between(left, right);
+    let rows = between(8 * top, 8 * bottom);
+    columns * FIRST_COLUMN & rows
+}

@@ -1,0 +1,124 @@
+//! The headers of picture files.
+ghost use Rattle.std.specs.Prelude.{◌≡◌, ◌+◌, ◌*◌, ◌<◌, ◌≤◌, ◌++◌, length, take, decimal, codes, OnOk, IfOk, IfErr, MatchResult};
+ghost use Rattle.std.specs.Io.KnownBytes.{Appends};
+ghost use Rattle.arrayvec.specs.ArrayVec.{array_vec_len};
+ghost use Rattle.trirast.specs.File.{ppm_header as header_of_colours, pgm_header as header_of_depths, header_of};
+
+use crate::counted::Counted;
+use crate::sending::{WriteFault, send};
+use arrayvec::ArrayVec;
+use list::Output;
+use std::io::Write;
+
+/// The longest header, that of depths of 4096 by 4096.
+const HEADER_BYTES: usize = 19;
+
+/// Appends a number in digits.
+#[tactic(auto, using(std::proofs::lemmas::Fmt::decimal_digit))]
+fn push_decimal(number: u32, text: &mut ArrayVec<u8, HEADER_BYTES>)
+    requires { array_vec_len text.old + length (decimal number) ≤ 19 }
+    ensures items { text.new.items ≡ text.old.items ++ decimal number }
+    ensures len { array_vec_len text.new ≡ array_vec_len text.old + length (decimal number) }
+{
+    if number < 10 {
+        text.push(b'0' + number as u8);
+    } else {
+        push_decimal(number / 10, text);
+        text.push(b'0' + (number % 10) as u8);
+    }
+}
+
+/// Appends a text.
+fn push_text(more: &[u8], text: &mut ArrayVec<u8, HEADER_BYTES>)
+    requires { array_vec_len text.old + length more.now ≤ 19 }
+    ensures items { text.new.items ≡ text.old.items ++ more.now }
+    ensures len { array_vec_len text.new ≡ array_vec_len text.old + length more.now }
+{
+    for byte in more {
+        text.push(*byte);
+    }
+}
+
+/// A header from the line with the magic number to the one with the greatest value.
+#[tactic(auto, using(crate::proofs::Beginnings::decimal_short))]
+fn header_text(magic: &[u8], width: u32, height: u32, greatest: &[u8]) -> ArrayVec<u8, HEADER_BYTES>
+    requires size { (width ≤ 4096) × (height ≤ 4096) }
+    requires magic { length magic.now ≤ 3 }
+    requires greatest { length greatest.now ≤ 7 }
+    ensures { result.items ≡ magic.now ++ decimal width ++ codes " " ++ decimal height ++ greatest.now }
+{
+    let mut text = ArrayVec::new();
+    push_text(magic, &mut text);
+    push_decimal(width, &mut text);
+    push_text(b" ", &mut text);
+    push_decimal(height, &mut text);
+    push_text(greatest, &mut text);
+    text
+}
+
+/// The header of a picture of this size that shows colours or depths.
+fn picture_header(output: Output, width: u32, height: u32) -> ArrayVec<u8, HEADER_BYTES>
+    requires { (width ≤ 4096) × (height ≤ 4096) }
+    ensures { result.items ≡ header_of output width height }
+{
+    match output {
+        Output::Color => header_text(b"P6\n", width, height, b"\n255\n"),
+        Output::Depth => header_text(b"P5\n", width, height, b"\n65535\n"),
+    }
+}
+
+/// Writes the header of a picture that shows colours or depths, and answers its length.
+pub(crate) fn write_header<W: Write>(
+    output: Output,
+    width: u32,
+    height: u32,
+    out: &mut Counted<W>,
+) -> Result<u64, WriteFault>
+    requires size { (1 ≤ width) × (width ≤ 4096) × (1 ≤ height) × (height ≤ 4096) }
+    requires failures { out.old.failures < u64.MAX }
+    ensures count { IfOk result (λ n. n ≡ length (header_of output width height)) }
+    ensures short { IfOk result (λ n. n ≤ 19) }
+    ensures all { OnOk result (Appends (W.contents out.old.inner) (W.contents out.new.inner) (header_of output width height)) }
+    ensures beginning { IfErr result (λ e. Appends (W.contents out.old.inner) (W.contents out.new.inner) (take e.written (header_of output width height))) }
+    ensures written { IfErr result (λ e. e.written ≤ length (header_of output width height)) }
+    ensures failures { MatchResult result (λ _. out.new.failures ≡ out.old.failures) (λ _. out.new.failures ≡ out.old.failures + 1) }
+{
+    let header = picture_header(output, width, height);
+    send(header.as_slice(), 0, out)
+}
+
+/// Writes the header of a picture of colours (binary PPM: Netpbm, ppm(5)), and answers its length.
+pub fn ppm_header<W: Write>(
+    width: u32,
+    height: u32,
+    out: &mut Counted<W>,
+) -> Result<u64, WriteFault>
+    requires size { (1 ≤ width) × (width ≤ 4096) × (1 ≤ height) × (height ≤ 4096) }
+    requires failures { out.old.failures < u64.MAX }
+    ensures count { IfOk result (λ n. n ≡ length (header_of_colours width height)) }
+    ensures short { IfOk result (λ n. n ≤ 17) }
+    ensures all { OnOk result (Appends (W.contents out.old.inner) (W.contents out.new.inner) (header_of_colours width height)) }
+    ensures beginning { IfErr result (λ e. Appends (W.contents out.old.inner) (W.contents out.new.inner) (take e.written (header_of_colours width height))) }
+    ensures written { IfErr result (λ e. e.written ≤ length (header_of_colours width height)) }
+    ensures failures { MatchResult result (λ _. out.new.failures ≡ out.old.failures) (λ _. out.new.failures ≡ out.old.failures + 1) }
+{
+    write_header(Output::Color, width, height, out)
+}
+
+/// Writes the header of a picture of depths (binary PGM: Netpbm, pgm(5)), and answers its length.
+pub fn pgm_header<W: Write>(
+    width: u32,
+    height: u32,
+    out: &mut Counted<W>,
+) -> Result<u64, WriteFault>
+    requires size { (1 ≤ width) × (width ≤ 4096) × (1 ≤ height) × (height ≤ 4096) }
+    requires failures { out.old.failures < u64.MAX }
+    ensures count { IfOk result (λ n. n ≡ length (header_of_depths width height)) }
+    ensures short { IfOk result (λ n. n ≤ 19) }
+    ensures all { OnOk result (Appends (W.contents out.old.inner) (W.contents out.new.inner) (header_of_depths width height)) }
+    ensures beginning { IfErr result (λ e. Appends (W.contents out.old.inner) (W.contents out.new.inner) (take e.written (header_of_depths width height))) }
+    ensures written { IfErr result (λ e. e.written ≤ length (header_of_depths width height)) }
+    ensures failures { MatchResult result (λ _. out.new.failures ≡ out.old.failures) (λ _. out.new.failures ≡ out.old.failures + 1) }
+{
+    write_header(Output::Depth, width, height, out)
+}
