@@ -236,8 +236,26 @@ def broken(pick, scene):
     return scene
 
 
+def with_wrong_faces(pick, draw):
+    """A draw with quads of any four vertices, convex or not, or with more than one list of faces, or without vertices."""
+    vertices = draw["vertices"]
+    changed = {key: element for key, element in draw.items() if key not in reference.FACE_KEYS}
+    if pick.random() < 0.6 and vertices:
+        changed["quads"] = [[pick.randrange(len(vertices)) for _ in range(4)] for _ in range(pick.randint(1, 2))]
+    else:
+        for key in pick.sample(reference.FACE_KEYS, pick.randint(0, 3)):
+            changed[key] = draw.get(key, [])
+        if pick.random() < 0.4:
+            del changed["vertices"]
+    return changed
+
+
 def a_broken_text(pick):
     value = a_list(pick)
+    if value["draws"] and pick.random() < 0.3:
+        place = pick.randrange(len(value["draws"]))
+        value["draws"][place] = with_wrong_faces(pick, value["draws"][place])
+        return json.dumps(value).encode()
     for _ in range(pick.choice((1, 1, 2, 3))):
         value = broken(pick, value) if isinstance(value, (dict, list)) else value
     text = json.dumps(value).encode()
