@@ -1,7 +1,7 @@
 #!/usr/bin/env python3
 """Times the program on the scenes of bench/scenes.py and prints one table.
 
-    bench/run.py [--program bin/trirast] [--runs 3] [--scenes tiny mesh ..]
+    bench/run.py [--program bin/trirast] [--runs 3] [--scenes tiny mesh ..] [--tiles 32 ..]
 
 For each scene and tile side it gives the wall time with 1, 2 and 4 workers, the ratio to the time with one worker, the
 processor time, and the peak memory, all from this one call; times are the best of a few runs with the output thrown
@@ -24,8 +24,10 @@ TOP = os.path.dirname(BENCH)
 OUT = os.path.join(BENCH, "out")
 SCENES = (
     "tiny", "empty", "smooth", "small", "mesh", "slivers", "blended", "flat", "flat_depth", "flat_blended", "large_mesh",
-    "whole_values", "thin_slivers", "level_rows", "long_list",
+    "whole_values", "thin_slivers", "level_rows", "long_list", "refused_list",
 )
+# Lists that are refused: the program ends with status 1 and no picture.
+REFUSED = ("refused_list",)
 TILES = (8, 16, 32, 64)
 WORKERS = (1, 2, 4)
 ENOUGH_SECONDS = 6.0
@@ -108,8 +110,8 @@ def megabytes(number):
 class Table:
     """The rows of one scene, and what went wrong in any."""
 
-    def __init__(self, program, plain, runs):
-        self.program, self.plain, self.runs = program, plain, runs
+    def __init__(self, program, plain, runs, tiles):
+        self.program, self.plain, self.runs, self.tiles = program, plain, runs, tiles
         self.wrong = []
 
     def head(self):
@@ -121,12 +123,12 @@ class Table:
     def scene(self, name):
         source = os.path.join(OUT, f"{name}.json")
         wanted, plain_time = None, "-"
-        if self.plain:
+        if self.plain and name not in REFUSED:
             wanted = os.path.join(OUT, f"{name}.plain.ppm")
             self.must_end(Run([self.plain], source, wanted), f"{name}, plain")
             found = best([self.plain], source, self.runs)
             plain_time = milliseconds(found.wall)
-        for tile in TILES:
+        for tile in self.tiles:
             self.row(name, tile, source, wanted, plain_time)
         for path in (wanted, os.path.join(OUT, "picture.ppm")):
             if path and os.path.exists(path):
@@ -152,7 +154,8 @@ class Table:
         print(f"| {' | '.join(cells)} |", flush=True)
 
     def must_end(self, run, title):
-        if run.status != 0:
+        wanted = 1 << 8 if title.startswith(REFUSED) else 0
+        if run.status != wanted:
             self.wrong.append(f"{title}: ended with wait status {run.status}")
 
 
@@ -161,6 +164,7 @@ def main():
     parser.add_argument("--program", default=os.path.join(TOP, "bin", "trirast"), help="default bin/trirast")
     parser.add_argument("--runs", type=int, default=3, help="runs of which the best counts (default 3)")
     parser.add_argument("--scenes", nargs="+", choices=SCENES, default=SCENES, metavar="NAME", help=", ".join(SCENES))
+    parser.add_argument("--tiles", nargs="+", type=int, choices=TILES, default=TILES, help="tile sides (default all)")
     words = parser.parse_args()
     if not os.access(words.program, os.X_OK):
         print(f"run.py: no program at {words.program}; run make first", file=sys.stderr)
@@ -182,7 +186,7 @@ def main():
     else:
         print("There is no g++, so the plain program was not run and no picture was compared.")
     print()
-    table = Table(os.path.abspath(words.program), plain, words.runs)
+    table = Table(os.path.abspath(words.program), plain, words.runs, words.tiles)
     table.head()
     for name in words.scenes:
         table.scene(name)

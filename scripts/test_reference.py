@@ -350,14 +350,14 @@ class Documents(unittest.TestCase):
 
     def test_refused_examples(self):
         rows = re.findall(r"^\| `(.*?)` \| `trirast: list fault (.*?)` \|", self.page, re.MULTILINE)
-        self.assertEqual(len(rows), 16)
+        self.assertEqual(len(rows), 25)
         for text, told in rows:
             self.assertEqual(fault(text), told, text)
 
     def test_accepted_examples(self):
         rows = re.findall(r"^\| `({.*?})` \| (?!`trirast)", self.page, re.MULTILINE)
         rows += re.findall(r"^```json\n(.*?)\n```$", self.page, re.MULTILINE | re.DOTALL)
-        self.assertEqual(len(rows), 6)
+        self.assertEqual(len(rows), 10)
         for text in rows:
             self.assertIsNone(fault(text), text)
 
