@@ -3,7 +3,7 @@ ghost use Rattle.std.specs.Prelude.{◌<◌};
 
 use super::{Numbers, SIDES, are_parts};
 use grid::{Cull, PixelBox, Point, SampleCount};
-use list::{Draw, DrawList, Output, State, Vertex};
+use list::{Draw, DrawList, Output, Primitives, State, Vertex};
 use shade::{DepthTest, Merge, Sample};
 use std::alloc::Global;
 use std::process::Abort;
@@ -99,7 +99,7 @@ impl Numbers {
         Ok(Draw {
             state,
             vertices,
-            triangles: vec![in alloc; [0, 1, 2], [0, 3, 4], [2, 4, 3]]?,
+            primitives: Primitives::Triangles(vec![in alloc; [0, 1, 2], [0, 3, 4], [2, 4, 3]]?),
         })
     }
 
