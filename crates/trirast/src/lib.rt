@@ -3,6 +3,7 @@
 
 mod band;
 mod counted;
+mod drawing;
 mod engine;
 mod fault;
 mod header;
@@ -14,9 +15,10 @@ mod sending;
 mod words;
 
 pub use counted::Counted;
+pub use drawing::{draw, draw_rows};
 pub use engine::{run, run_with, write_picture};
 pub use fault::Fault;
-pub use header::{pgm_header, ppm_header};
+pub use header::{HEADER_BYTES, file_header, pgm_header, ppm_header};
 pub use line::{LineFault, Options};
 pub use ppm::{ppm_rows, write_ppm};
 pub use program::{command, refuse};
