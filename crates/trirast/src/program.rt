@@ -8,20 +8,12 @@ use crate::engine::run;
 use crate::fault::Fault;
 use crate::line::LineFault;
 use crate::sending::send;
+use crate::telling::{FaultLine, fault_line};
 use crate::words::options;
-use arrayvec::ArrayString;
-use list::ReadFault;
 use std::alloc::Global;
-use std::fmt;
-use std::fmt::Write as _;
 use std::io::{Read, Write};
 use std::sync::Wait;
 use std::thread::Threads;
-
-/// Room for the line of a fault, in bytes.
-const LINE_BYTES: usize = 96;
-
-type Line = ArrayString<LINE_BYTES>;
 
 /// What `--help` prints.
 const USAGE: &[u8] =
@@ -89,53 +81,8 @@ pub fn refuse<W: Write, E: Write>(
 }
 
 /// Writes a line, or what of it can be written.
-fn tell<E: Write>(line: &Line, errors: &mut Counted<E>)
+fn tell<E: Write>(line: &FaultLine, errors: &mut Counted<E>)
     requires { errors.old.failures < u64.MAX }
 {
     let _ = send(line.as_str().as_bytes(), 0, errors);
-}
-
-/// The line of a fault.
-fn fault_line(fault: &Fault) -> Line {
-    let mut line = Line::new();
-    let _ = write_fault(fault, &mut line);
-    line
-}
-
-fn write_fault(fault: &Fault, line: &mut Line) -> fmt::Result {
-    match fault {
-        Fault::List(ReadFault { kind, draw: None }) => {
-            writeln!(
-                line,
-                "trirast: list fault {} {}",
-                kind.number(),
-                kind.name()
-            )
-        }
-        Fault::List(
-            ReadFault {
-                kind,
-                draw: Some(draw),
-            },
-        ) => {
-            writeln!(
-                line,
-                "trirast: list fault {} {} in draw {draw}",
-                kind.number(),
-                kind.name()
-            )
-        }
-        Fault::Pool(fault) => {
-            writeln!(
-                line,
-                "trirast: pool fault {} {}",
-                fault.number(),
-                fault.name()
-            )
-        }
-        Fault::InputFailed => writeln!(line, "trirast: input failed"),
-        Fault::InputTooLong => writeln!(line, "trirast: input too long"),
-        Fault::WriteFailed(count) => writeln!(line, "trirast: write failed after {count} bytes"),
-        Fault::OutOfMemory => writeln!(line, "trirast: out of memory"),
-    }
 }
