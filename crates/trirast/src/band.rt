@@ -8,7 +8,7 @@ use crate::fault::Fault;
 use bins::{Bins, Tiling};
 use grid::OutOfMemory;
 use list::DrawList;
-use pool::{Desks, Gate, Job, PoolFault, run};
+use pool::{Desks, Gate, Job, Open, PoolFault, run};
 use std::alloc::Global;
 use std::sync::Wait;
 use std::thread::Threads;
@@ -149,22 +149,33 @@ impl<'a> Band<'a> {
         ensures tiles { IfOk result (λ tiles. AreColumns self.now.list.now self.now.tiling.now self.now.row tiles.items) }
         ensures fault { IfErr result (λ e. (e ≡ fault.OutOfMemory) ⊎ (e ≡ fault.Pool PoolFault.NoWorker)) }
     {
+        let columns = self.tiling.columns();
+        // A worker without a tile would be a thread started for nothing, and so would one that nobody works beside.
+        let workers = workers.min(columns);
+        if workers == 1 {
+            let mut store = Store::new(alloc, self.tiling.side(), self.list.count())?;
+            return Ok(self.draw_alone(alloc, &mut store, gate)?);
+        }
         let bins = Bins::build(alloc, self.list, self.tiling, self.row, 1)?;
         let job = BandJob {
             band: self,
             bins: &bins,
         };
-        let columns = self.tiling.columns();
-        // A worker without a tile would be a thread started for nothing.
-        match run::<_, Desks, _, _>(rt, alloc, columns, workers.min(columns), &job, gate) {
+        match run::<_, Desks, _, _>(rt, alloc, columns, workers, &job, gate) {
             Ok(tiles) => Ok(tiles),
             Err(PoolFault::OutOfMemory) => Err(Fault::OutOfMemory),
             Err(PoolFault::NoWorker) => Err(Fault::Pool(PoolFault::NoWorker)),
         }
     }
 
-    /// Has the tiles of the band drawn one after another on the calling thread, in this store.
-    fn draw_alone(&self, alloc: Global, store: &mut Store) -> Result<Vec<TilePixels>, OutOfMemory>
+    /// Has the tiles of the band drawn one after another on the calling thread, in this store. It passes through the gate as the
+    /// worker with number 0 would.
+    fn draw_alone<G: Gate>(
+        &self,
+        alloc: Global,
+        store: &mut Store,
+        gate: &G,
+    ) -> Result<Vec<TilePixels>, OutOfMemory>
         requires { store.old ≡ record { side = self.now.tiling.now.side; count = self.now.list.now.count } }
         ensures tiles { IfOk result (λ tiles. AreColumns self.now.list.now self.now.tiling.now self.now.row tiles.items) }
         ensures store { store.new ≡ store.old }
@@ -177,6 +188,7 @@ impl<'a> Band<'a> {
         let columns = self.tiling.columns();
         let mut tiles = Vec::with_capacity(alloc, columns as usize)?;
         for column in 0..columns {
+            gate.enter(0, column);
             tiles.push_reserved(job.work(alloc, column, store)?);
         }
         Ok(tiles)
@@ -212,7 +224,7 @@ impl<'a> Band<'a> {
         ensures band { OnOk result (AddsBand self.now.list.now self.now.tiling.now self.now.row bytes.old.items bytes.new.items) }
         ensures store { store.new ≡ store.old }
     {
-        let tiles = self.draw_alone(alloc, store)?;
+        let tiles = self.draw_alone(alloc, store, &Open)?;
         self.join(&tiles, bytes)
     }
 }
