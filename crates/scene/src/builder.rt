@@ -1,4 +1,5 @@
-ghost use Rattle.std.specs.Prelude.{◌≡◌, ◌≢◌, ◌≤◌, length, map, IfOk, IfErr};
+ghost use Rattle.std.specs.Prelude.{◌≡◌, ◌≢◌, ◌≤◌, length, map, IfOk, IfErr, MatchResult};
+ghost use Rattle.list.specs.Scene.{Scene};
 ghost use Rattle.list.specs.Listing.{draw_listing};
 ghost use Rattle.list.specs.declared.fault.ReadKind.TheVariants.{OutOfMemory};
 ghost use Rattle.scene.specs.Listed.{draws_listed};
@@ -80,6 +81,9 @@ pub fn build(
 ) -> Result<DrawList, ReadFault>
     // What is made is listed.
     ensures ok { IfOk result (IsListOf head.now draws.now vertices.now indices.now) }
+    // Where the arrays list a scene, that very one is made, or memory ran out.
+    ensures only { (list : Scene) → IsListOf head.now draws.now vertices.now indices.now list
+        → MatchResult result (λ found. found ≡ list) (λ fault. fault.kind ≡ OutOfMemory) }
     // A fault is the first one, unless memory ran out.
     ensures first { IfErr result (λ fault. fault.kind ≢ OutOfMemory
         → IsFirstFault head.now draws.now vertices.now indices.now fault) }

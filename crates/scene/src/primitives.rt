@@ -1,6 +1,6 @@
 ghost use Rattle.std.specs.Prelude.{◌≡◌, ◌↔◌, ◌<◌, ◌≤◌, IsTrue, IfOk, length};
 ghost use Rattle.std.specs.List.{All};
-ghost use Rattle.list.specs.Primitives.{primitive_listing};
+ghost use Rattle.list.specs.Primitives.{primitive_listing, count_of_triangles};
 ghost use Rattle.scene.specs.Listed.{corners_of, primitives_listed};
 ghost use Rattle.scene.specs.Checking.{Reads};
 ghost use Rattle.scene.specs.Checks.{primitives_checks};
@@ -20,6 +20,18 @@ fn corners(kind: u32) -> usize
         0 => 3,
         1 => 1,
         _ => 4,
+    }
+}
+
+/// How many triangles the primitives of this kind with these indices are.
+#[tactic(auto, using(crate::proofs::Chunks::count_of_chunks))]
+fn triangles(kind: u32, indices: &[u32]) -> usize
+    ensures { result ≡ count_of_triangles (primitives_listed kind indices.now) }
+{
+    match kind {
+        0 => indices.len() / 3,
+        1 => indices.len().saturating_sub(2),
+        _ => 2 * (indices.len() / 4),
     }
 }
 
@@ -56,13 +68,13 @@ pub(crate) fn primitives_of(
     if indices.len() % corners(kind) != 0 {
         return Err(ReadKind::WrongKind);
     }
-    let primitives = listed(alloc, kind, indices)?;
-    if primitives.triangles() > MOST_TRIANGLES - earlier {
+    if triangles(kind, indices) > MOST_TRIANGLES - earlier {
         return Err(ReadKind::TooMany);
     }
     if !name_vertices(indices, vertices.len()) {
         return Err(ReadKind::BadIndex);
     }
+    let primitives = listed(alloc, kind, indices)?;
     if !primitives.are_over(vertices) {
         return Err(ReadKind::NotConvex);
     }
