@@ -1,5 +1,5 @@
 -- Where a check fails, the arrays list nothing.
-use Rattle.std.proofs.Common.{◌≡◌, ◌≢◌, ℕ, List, [], ◌∷◌, ◌⊎◌, inl, inr, drop}
+use Rattle.std.proofs.Common.{◌≡◌, ◌≢◌, ℕ, List, [], ◌∷◌, inl, inr}
 use Rattle.list.specs.declared.fault.ReadKind.{ReadKind}
 use Rattle.list.specs.declared.fault.ReadKind.TheVariants.{OutOfMemory}
 use Rattle.list.specs.declared.fault.ReadFault.{ReadFault}

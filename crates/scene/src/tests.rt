@@ -1,3 +1,5 @@
+ghost use Rattle.std.specs.Prelude.{◌≤◌};
+
 use crate::{SceneDraw, SceneHead, SceneVertex, build};
 use list::ReadKind::{BadIndex, NotConvex, OutOfRange, TooMany, WrongKind};
 use list::{DrawList, MOST_BYTES, ReadFault, ReadKind, read};
@@ -65,7 +67,9 @@ const QUAD: SceneDraw = SceneDraw {
 const DRAWS: [SceneDraw; 3] = [TRIANGLES, STRIP, QUAD];
 
 /// A vertex at (x, y) whose other numbers are this one and the next four.
-fn vertex(x: i32, y: i32, number: u32) -> SceneVertex {
+fn vertex(x: i32, y: i32, number: u32) -> SceneVertex
+    requires { number ≤ 65536 }
+{
     SceneVertex {
         x,
         y,
