@@ -4,7 +4,7 @@
 #   make demo      draw every list of examples/ to out/*.pnm, and to out/*.png where pnmtopng is installed
 #   make test      the merge gate: every proof from nothing, the must-fail edits, all tests, and the checks below to hostile
 #   make compare   draw generated lists, and compare each byte with the reference renderer
-#   make check-compare      test that comparison, by faults planted in the reference's rules
+#   make check-compare      test that comparison: what its lists cover, and faults planted in the reference's rules
 #   make schema    try the JSON Schema of the draw list
 #   make memory    refuse the program each growth of memory in turn
 #   make hostile   run the program where devices, threads and lists fail
@@ -53,6 +53,7 @@ compare: $(PROGRAM)
 	$(PYTHON) scripts/compare.py
 
 check-compare: $(PROGRAM)
+	$(PYTHON) scripts/test_compare.py
 	$(PYTHON) scripts/plant_faults.py
 
 schema:
