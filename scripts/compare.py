@@ -282,11 +282,26 @@ def broken(pick, scene):
     return scene
 
 
+def a_dented_quad(pick):
+    """The corners of a square, one of which lies on the diagonal of its neighbours, beyond it, or just before it."""
+    (x, y), side = (pick.randint(-300, 900) for _ in "xy"), 2 * pick.randint(1, 300)
+    corners = [[x, y], [x + side, y], [x + side, y + side], [x, y + side]]
+    moved, inwards = pick.randrange(4), pick.choice((side // 2 - 1, side // 2, side // 2 + 1, side - 1, side))
+    corners[moved] = [z - inwards if z > low else z + inwards for z, low in zip(corners[moved], (x, y))]
+    return [corner + some_values(pick, [0]) for corner in corners]
+
+
 def with_wrong_faces(pick, draw):
     """A draw with quads of any four vertices, convex or not, or with more than one list of faces, or without vertices."""
     vertices = draw["vertices"]
     changed = {key: element for key, element in draw.items() if key not in reference.FACE_KEYS}
-    if pick.random() < 0.6 and vertices:
+    kind = pick.random()
+    if kind < 0.3:
+        first, turn = len(vertices), pick.randrange(4)
+        quad = [first + (k + turn) % 4 for k in range(4)]
+        changed["vertices"] = vertices + a_dented_quad(pick)
+        changed["quads"] = [quad[::-1] if pick.random() < 0.5 else quad]
+    elif kind < 0.6 and vertices:
         changed["quads"] = [[pick.randrange(len(vertices)) for _ in range(4)] for _ in range(pick.randint(1, 2))]
     else:
         for key in pick.sample(reference.FACE_KEYS, pick.randint(0, 3)):
@@ -296,11 +311,26 @@ def with_wrong_faces(pick, draw):
     return changed
 
 
+def with_wrong_index(pick, draw):
+    """A draw with an index near the number of its vertices, or under zero."""
+    changed = copy.deepcopy(draw)
+    count = len(draw["vertices"])
+    wrong = pick.choice((-1, count - 1, count, count, count + 1, 65535))
+    key = next(key for key in reference.FACE_KEYS if key in draw)
+    if not changed[key]:
+        return changed
+    indices = changed[key] if key == "strip" else pick.choice(changed[key])
+    indices[pick.randrange(len(indices))] = wrong
+    return changed
+
+
 def a_broken_text(pick):
     value = a_list(pick)
-    if value["draws"] and pick.random() < 0.3:
+    kind = pick.random()
+    if value["draws"] and kind < 0.4:
         place = pick.randrange(len(value["draws"]))
-        value["draws"][place] = with_wrong_faces(pick, value["draws"][place])
+        change = with_wrong_faces if kind < 0.3 else with_wrong_index
+        value["draws"][place] = change(pick, value["draws"][place])
         return json.dumps(value).encode()
     for _ in range(pick.choice((1, 1, 2, 3))):
         value = broken(pick, value) if isinstance(value, (dict, list)) else value
