@@ -4,7 +4,7 @@
     scripts/check_schema.py
 
 It needs python's package jsonschema with draft 2020-12 (4.0 or later). Exit status 0 where everything is as said, 1
-where something is not, 2 where the package is missing. What the reader tells of each list is checked against
+where something is not, 77 where the package is missing. What the reader tells of each list is checked against
 scripts/reference.py, so that the tables below stay true of the rules.
 """
 
@@ -16,6 +16,7 @@ import sys
 sys.path.insert(0, os.path.dirname(os.path.abspath(__file__)))
 
 import reference
+from counts import MISSING
 
 TOP = os.path.dirname(os.path.dirname(os.path.abspath(__file__)))
 
@@ -191,9 +192,8 @@ def main():
     try:
         from jsonschema import Draft202012Validator
     except ImportError:
-        missing = "needs python's package jsonschema, 4.0 or later (pip install jsonschema)"
-        print(f"check_schema.py: {missing}", file=sys.stderr)
-        return 2
+        print("python's package jsonschema, 4.0 or later, is not there", file=sys.stderr)
+        return MISSING
     with open(os.path.join(TOP, "docs", "draw-list.schema.json"), encoding="utf-8") as file:
         schema = json.load(file)
     Draft202012Validator.check_schema(schema)

@@ -1,12 +1,12 @@
 #!/usr/bin/env python3
 """Compares the program with the slow reference renderer on generated draw lists.
 
-    scripts/compare.py [--lists 300] [--refused 300] [--seed 1] [--program bin/trirast]
+    scripts/compare.py [--lists 1000] [--refused 1000] [--seed 1] [--program bin/trirast]
 
 Each list is drawn with every tile side and several numbers of workers, and every byte is compared with the reference.
-The lists are small and look for trouble: triangles without area, edges and corners on sample positions, shared edges,
-ends of the guard band, every state, both sample counts, scissors past the picture. Lists that are broken in one or more
-places follow: there the line on standard error, the status and the empty output are compared. The same seed gives the
+The lists are small and look for trouble: triangles without area, slivers, edges and corners on sample positions, shared
+edges, ends of the guard band, every state, both sample counts, scissors past the picture. A few lists at the ends of their
+ranges come first. scripts/test_compare.py shows what the lists cover. Lists that are broken in one or more places follow: there the line on standard error, the status and the empty output are compared. The same seed gives the
 same lists. Exit status 1 on any difference; the list is then left in out/compare/. Python 3.8 or later, standard
 library alone.
 """
@@ -28,6 +28,7 @@ TILES = (8, 16, 32, 64)
 WORKERS = (1, 2, 7, 16)
 LOW, HIGH = reference.BAND
 MOST_PIXELS = 4500
+LISTS = 1000
 MOST_SECONDS = 60
 
 
@@ -35,17 +36,24 @@ MOST_SECONDS = 60
 
 
 def a_size(pick):
-    """A width and a height: often a few pixels, sometimes past a tile's side, never many pixels together."""
+    """A width and a height: often a few pixels, sometimes past a tile's side or at the end, never many pixels together."""
+    if pick.random() < 0.03:
+        return pick.choice(((4096, 1), (1, 4096)))
     while True:
         width, height = (pick.choice((pick.randint(1, 12), pick.randint(13, 34), pick.randint(62, 131))) for _ in "wh")
         if width * height <= MOST_PIXELS:
             return width, height
 
 
+def a_sample_place(pick, pixels, samples, axis):
+    """A column or a row in which samples lie."""
+    return 256 * pick.randint(-1, pixels) + pick.choice(reference.SAMPLES[samples])[axis]
+
+
 def a_coordinate(pick, pixels, samples, axis):
     kind = pick.random()
-    if kind < 0.40:  # at the height or place of a sample
-        return 256 * pick.randint(-1, pixels) + pick.choice(reference.SAMPLES[samples])[axis]
+    if kind < 0.40:
+        return a_sample_place(pick, pixels, samples, axis)
     if kind < 0.55:  # on the border of a pixel
         return 256 * pick.randint(-1, pixels + 1)
     if kind < 0.85:
@@ -79,9 +87,26 @@ def corners_of_the_band(pick, depths):
     return vertices
 
 
+def a_sliver(pick, width, height, samples, depths):
+    """Three or more vertices along a line through two places of samples, at most a pixel beside it."""
+    ends = [(a_sample_place(pick, width, samples, 0), a_sample_place(pick, height, samples, 1)) for _ in "ab"]
+    beside = pick.choice((0, 1, 1, 2, pick.randint(3, 256)))
+    vertices = [list(end) + some_values(pick, depths) for end in ends]
+    for _ in range(pick.randint(1, 3)):
+        x, y = pick.choice(ends)
+        near = (x + beside, y) if pick.random() < 0.5 else (x, y + beside)
+        vertices.append([*near] + some_values(pick, depths))
+    return vertices
+
+
 def some_vertices(pick, width, height, samples, depths):
-    if pick.random() < 0.12:
+    kind = pick.random()
+    if kind < 0.12:
         return corners_of_the_band(pick, depths)
+    if kind < 0.22:
+        return a_sliver(pick, width, height, samples, depths)
+    if kind < 0.23:
+        return []
     vertices = []
     for _ in range(pick.randint(3, 8)):
         x = a_coordinate(pick, width, samples, 0)
@@ -101,6 +126,8 @@ def some_vertices(pick, width, height, samples, depths):
 
 def some_triangles(pick, vertices):
     last = len(vertices) - 1
+    if last < 0:
+        return []
     triangles = [[pick.randint(0, last) for _ in range(3)] for _ in range(pick.randint(0, 3))]
     if pick.random() < 0.7:  # neighbours that share an edge
         triangles += [[k, k + 1, k + 2] for k in range(len(vertices) - 2)]
@@ -113,7 +140,7 @@ def some_triangles(pick, vertices):
 def some_places(pick, vertices):
     """The places of a strip: often the vertices in their order, sometimes any, and some of them twice."""
     places = list(range(len(vertices)))
-    if pick.random() < 0.3:
+    if places and pick.random() < 0.3:
         places = [pick.randrange(len(vertices)) for _ in range(pick.randint(0, 9))]
     if places and pick.random() < 0.4:
         again = pick.randrange(len(places))
@@ -131,6 +158,8 @@ def add_a_quad(pick, vertices):
 
 def some_quads(pick, vertices):
     """Strictly convex quads over the vertices, in either direction and from any corner, to which some may be added."""
+    if not vertices:
+        return []
     for _ in range(pick.randint(0, 3)):
         add_a_quad(pick, vertices)
     last = len(vertices) - 1
@@ -200,6 +229,23 @@ def a_list(pick):
     return scene
 
 
+def at_the_ends():
+    """Lists with as many draws, vertices, triangles, places of a strip and quads as there may be."""
+    pick = random.Random("ends")
+    corners = [[0, 0], [700, 0], [700, 700], [0, 700]]
+    square = [corner + some_values(pick, [0, 65535]) for corner in corners]
+    many = [pick.choice(square) for _ in range(65536)]
+    first = {"blend": "over", "vertices": square}
+    for number in (1023, 1024):
+        yield {"width": 3, "height": 2, "draws": [{**first, "triangles": [[0, 1, 2]]}] * number}
+    for number in (65535, 65536):
+        named = [[number - 1 - pick.randrange(9) for _ in range(3)] for _ in range(40)]
+        yield {"width": 3, "height": 2, "draws": [{**first, "vertices": many[:number], "triangles": named}]}
+        yield {"width": 3, "height": 2, "draws": [{**first, "triangles": [[0, 1, 2], [2, 3, 0]] * (number // 2)}]}
+    yield {"width": 3, "height": 2, "draws": [{**first, "strip": [0, 1, 3, 2] * 16384 + [0, 1]}]}
+    yield {"width": 3, "height": 2, "samples": 4, "draws": [{**first, "quads": [[0, 1, 2, 3]] * 32768}]}
+
+
 # ---- Lists that are broken -----------------------------------------------------------------------------------------
 
 WRONG = (None, True, 1.0, 0.5, "x", "none", [], {}, -1, 3, 17, 256, 4097, 65536)
@@ -236,11 +282,26 @@ def broken(pick, scene):
     return scene
 
 
+def a_dented_quad(pick):
+    """The corners of a square, one of which lies on the diagonal of its neighbours, beyond it, or just before it."""
+    (x, y), side = (pick.randint(-300, 900) for _ in "xy"), 2 * pick.randint(1, 300)
+    corners = [[x, y], [x + side, y], [x + side, y + side], [x, y + side]]
+    moved, inwards = pick.randrange(4), pick.choice((side // 2 - 1, side // 2, side // 2 + 1, side - 1, side))
+    corners[moved] = [z - inwards if z > low else z + inwards for z, low in zip(corners[moved], (x, y))]
+    return [corner + some_values(pick, [0]) for corner in corners]
+
+
 def with_wrong_faces(pick, draw):
     """A draw with quads of any four vertices, convex or not, or with more than one list of faces, or without vertices."""
     vertices = draw["vertices"]
     changed = {key: element for key, element in draw.items() if key not in reference.FACE_KEYS}
-    if pick.random() < 0.6 and vertices:
+    kind = pick.random()
+    if kind < 0.3:
+        first, turn = len(vertices), pick.randrange(4)
+        quad = [first + (k + turn) % 4 for k in range(4)]
+        changed["vertices"] = vertices + a_dented_quad(pick)
+        changed["quads"] = [quad[::-1] if pick.random() < 0.5 else quad]
+    elif kind < 0.6 and vertices:
         changed["quads"] = [[pick.randrange(len(vertices)) for _ in range(4)] for _ in range(pick.randint(1, 2))]
     else:
         for key in pick.sample(reference.FACE_KEYS, pick.randint(0, 3)):
@@ -250,11 +311,26 @@ def with_wrong_faces(pick, draw):
     return changed
 
 
+def with_wrong_index(pick, draw):
+    """A draw with an index near the number of its vertices, or under zero."""
+    changed = copy.deepcopy(draw)
+    count = len(draw["vertices"])
+    wrong = pick.choice((-1, count - 1, count, count, count + 1, 65535))
+    key = next(key for key in reference.FACE_KEYS if key in draw)
+    if not changed[key]:
+        return changed
+    indices = changed[key] if key == "strip" else pick.choice(changed[key])
+    indices[pick.randrange(len(indices))] = wrong
+    return changed
+
+
 def a_broken_text(pick):
     value = a_list(pick)
-    if value["draws"] and pick.random() < 0.3:
+    kind = pick.random()
+    if value["draws"] and kind < 0.4:
         place = pick.randrange(len(value["draws"]))
-        value["draws"][place] = with_wrong_faces(pick, value["draws"][place])
+        change = with_wrong_faces if kind < 0.3 else with_wrong_index
+        value["draws"][place] = change(pick, value["draws"][place])
         return json.dumps(value).encode()
     for _ in range(pick.choice((1, 1, 2, 3))):
         value = broken(pick, value) if isinstance(value, (dict, list)) else value
@@ -327,8 +403,8 @@ class Comparison:
 
 def main():
     parser = argparse.ArgumentParser(description="Compares the program with the reference renderer.")
-    parser.add_argument("--lists", type=int, default=300, help="how many accepted lists (default 300)")
-    parser.add_argument("--refused", type=int, default=300, help="how many broken lists (default 300)")
+    parser.add_argument("--lists", type=int, default=LISTS, help=f"how many accepted lists (default {LISTS})")
+    parser.add_argument("--refused", type=int, default=LISTS, help=f"how many broken lists (default {LISTS})")
     parser.add_argument("--seed", type=int, default=1, help="where the lists begin (default 1)")
     parser.add_argument("--program", default=os.path.join(TOP, "bin", "trirast"), help="default bin/trirast")
     words = parser.parse_args()
@@ -337,6 +413,9 @@ def main():
         return 2
     comparison = Comparison(os.path.abspath(words.program))
     every = [(tile, workers) for tile in TILES for workers in WORKERS]
+    ends = list(at_the_ends())
+    for k, scene in enumerate(ends):
+        comparison.compare(json.dumps(scene).encode(), f"end-{k}", every)
     for k in range(words.lists):
         text = json.dumps(a_list(random.Random(f"list {words.seed} {k}"))).encode()
         comparison.compare(text, f"list-{words.seed}-{k}", every)
@@ -345,7 +424,7 @@ def main():
         text, one = a_broken_text(pick), (pick.choice(TILES), pick.choice(WORKERS))
         comparison.compare(text, f"broken-{words.seed}-{k}", [one])
     print(
-        f"{words.lists} lists and {words.refused} broken ones, {comparison.runs} runs; {comparison.pixels} pixels, "
+        f"{len(ends) + words.lists} lists and {words.refused} broken ones, {comparison.runs} runs; {comparison.pixels} pixels, "
         f"{comparison.drawn} of them unlike the last pixel; {comparison.refused} refused with the right line; "
         f"{comparison.differences} differences"
     )

@@ -1,98 +1,204 @@
 #!/usr/bin/env python3
-"""Runs bin/trirast with each of its growths of memory refused in turn, until so many runs in a row meet no refusal.
+"""Runs bin/trirast with each of its growths of memory refused in turn, until no round meets a refusal any more.
 
-The picture is 65 by 65 pixels in tiles of 32, so it has three bands. Each run has to end in one of two ways: status 0 and
-the whole file, or status 1, one line (`trirast: out of memory`, or a worker that was not started) and a beginning of the
-file that ends where a band ends: nothing, the header, or the header and one or two bands. Each of these ends has to be met
-with one worker, which a program that holds the whole picture would not do. A refusal may also be made good, as where a list
-that could grow ahead of need grows by less; then the file is whole. Needs gcc.
+A run whose growth was refused ends in one of three ways: as it would have without (a list that could grow ahead of need
+grows by less), or with status 1, the line `trirast: out of memory` and a beginning of the file that ends where a band
+ends, or, where the refused growth is the toolchain's own record of a thread that is to be started, with `trirast: pool
+fault 2 NoWorker`: a thread was not started then, and the toolchain does not say why. There is one such place in the
+program, and no other growth may be told so. Needs gcc. The last line is 'N passed, M failed'.
 """
 
 import json
 import os
+import shutil
 import subprocess
 import sys
 import tempfile
+import unittest
+from dataclasses import dataclass
+
+import counts
 
 HERE = os.path.dirname(os.path.abspath(__file__))
-PROGRAM = os.path.join(HERE, "..", "bin", "trirast")
-QUIET = 60
+PROGRAM = os.path.join(os.path.dirname(HERE), "bin", "trirast")
+# With several workers two runs can ask for memory in another order, so one round that meets none is not the end.
+ROUNDS_THAT_MEET_NONE = 10
 
 WHITE = [255, 255, 255, 255]
-LIST = json.dumps({
-    "width": 65,
-    "height": 65,
-    "draws": [{
-        "vertices": [[0, 0, 0, *WHITE], [16640, 0, 0, *WHITE], [0, 16640, 0, *WHITE]],
-        "triangles": [[0, 1, 2]],
-    }],
-}).encode()
 
+
+def vertex(x, y):
+    return [x, y, 0, *WHITE]
+
+
+def scene(width, height, *draws):
+    return {"width": width, "height": height, "draws": list(draws)}
+
+
+FIRST = [vertex(128, 128), vertex(640, 128), vertex(128, 640)]
+SQUARE = [*FIRST[:2], vertex(640, 640), FIRST[2]]
+FIRST_PICTURE = b"P6\n3 3\n255\n" + b"".join(b"\xff\xff\xff" if k in (0, 1, 3) else b"\0\0\0" for k in range(9))
+SQUARE_PICTURE = b"P6\n3 3\n255\n" + b"".join(b"\xff\xff\xff" if k in (0, 1, 3, 4) else b"\0\0\0" for k in range(9))
+
+# Three rows of tiles of 32 pixels: the pixels of the upper left half are white.
+LARGE = scene(65, 65, {"vertices": [vertex(0, 0), vertex(16640, 0), vertex(0, 16640)], "triangles": [[0, 1, 2]]})
 HEADER = b"P6\n65 65\n255\n"
-PICTURE = b"".join(
-    (b"\xff" if column + row <= 63 else b"\0") * 3 for row in range(65) for column in range(65)
+LARGE_PICTURE = HEADER + b"".join(
+    b"\xff\xff\xff" if column + row <= 63 else b"\0\0\0" for row in range(65) for column in range(65)
 )
-FILE = HEADER + PICTURE
-# Where a run may stop: nothing, the header, and whole bands of 32 rows.
+# Where a run may stop: before the header, after it, and after whole bands of 32 rows.
 ENDS = [0, 13, 13 + 32 * 65 * 3, 13 + 64 * 65 * 3]
-LINES = [b"trirast: out of memory\n", b"trirast: pool fault 2 NoWorker\n"]
+OUT_OF_MEMORY = b"trirast: out of memory\n"
+NO_WORKER = b"trirast: pool fault 2 NoWorker\n"
 
 
-def build(folder):
-    """The shim that refuses memory, built into the folder."""
-    shim = os.path.join(folder, "refuse_memory.so")
-    source = os.path.join(HERE, "refuse_memory.c")
-    subprocess.run(["gcc", "-O2", "-shared", "-fPIC", "-o", shim, source, "-ldl"], check=True)
-    return shim
+@dataclass(frozen=True)
+class Run:
+    """A run with one growth refused: where it was asked for (None: the run met no refusal), and how the run ended."""
+
+    place: object
+    output: bytes
+    line: bytes
+    status: int
 
 
-def run(shim, number, workers):
-    """One run with this growth refused."""
-    environment = dict(os.environ, LD_PRELOAD=shim, REFUSE_MEMORY=str(number))
-    words = [PROGRAM, "--tile", "32", "--workers", str(workers)]
-    return subprocess.run(words, input=LIST, capture_output=True, env=environment, timeout=60)
+@unittest.skipUnless(shutil.which("gcc"), "gcc is not there")
+class Refusals(unittest.TestCase):
+    @classmethod
+    def setUpClass(cls):
+        folder = tempfile.TemporaryDirectory()
+        cls.addClassCleanup(folder.cleanup)
+        cls.shim = os.path.join(folder.name, "refuse_memory.so")
+        source = os.path.join(HERE, "refuse_memory.c")
+        subprocess.run(["gcc", "-O2", "-Wall", "-shared", "-fPIC", "-o", cls.shim, source, "-ldl"], check=True)
+
+    def run_once(self, number, words, text):
+        read_end, write_end = os.pipe()
+        with open(read_end, "rb") as told:
+            refused = {"LD_PRELOAD": self.shim, "REFUSE_MEMORY": str(number), "REFUSE_MEMORY_TELL": str(write_end)}
+            how = {"capture_output": True, "timeout": 60, "env": {**os.environ, **refused}, "pass_fds": [write_end]}
+            try:
+                done = subprocess.run([PROGRAM, *words], input=text, **how)
+            finally:
+                os.close(write_end)
+            return Run(told.read().decode() or None, done.stdout, done.stderr, done.returncode)
+
+    def runs(self, words, text):
+        """A run for each growth, from the first on, that met its refusal."""
+        found, number, met_none = [], 0, 0
+        while met_none < ROUNDS_THAT_MEET_NONE:
+            number += 1
+            run = self.run_once(number, words, text)
+            if run.place is None:
+                met_none += 1
+            else:
+                met_none = 0
+                found.append(run)
+        self.assertTrue(found, "no growth was refused")
+        return found
+
+    def cut_runs(self, words, text, status, output, line=b""):
+        """The runs that were cut short; all others ended as they would have without a refusal."""
+        whole = (output, line, status)
+        cut = [run for run in self.runs(words, text) if (run.output, run.line, run.status) != whole]
+        for run in cut:
+            self.assertEqual(run.status, 1, run)
+            self.assertIn(run.line, (OUT_OF_MEMORY, NO_WORKER), run)
+            self.assertTrue(output.startswith(run.output), run)
+        self.assertTrue(any(run.line == OUT_OF_MEMORY for run in cut), "no run was out of memory")
+        return cut
+
+    def threads(self, cut):
+        """How many runs told that a worker was not started. Only the start of a thread may, and it tells nothing else."""
+        places = {run.place for run in cut if run.line == NO_WORKER}
+        self.assertLessEqual(len(places), 1, "growths at several places were told as a worker that was not started")
+        told = [run.line for run in cut if run.place in places]
+        self.assertTrue(all(line == NO_WORKER for line in told), "a growth of the program's own was told as no worker")
+        return len(told)
 
 
-def check_first_band(number, done):
-    """The first growth of one worker that is refused after more than the header went out: it is one of the second band."""
-    if len(done.stdout) != ENDS[2] or done.stderr != LINES[0]:
-        sys.exit(f"growth {number}, the first of the second band: {len(done.stdout)} bytes, {done.stderr!r}")
-    print(f"growth {number} is the first of the second band: out of memory after {ENDS[2]} bytes")
+class Pictures(Refusals):
+    """A picture of three bands."""
+
+    def cut_pictures(self, workers):
+        words = ["--tile", "32", "--workers", str(workers)]
+        cut = self.cut_runs(words, json.dumps(LARGE).encode(), 0, LARGE_PICTURE)
+        for run in cut:
+            self.assertIn(len(run.output), ENDS, run)
+        return cut
+
+    def test_one_worker(self):
+        cut = self.cut_pictures(1)
+        lengths = [len(run.output) for run in cut]
+        self.assertEqual(lengths, sorted(lengths))
+        # A program that holds the whole picture would not stop at each of them.
+        self.assertEqual(sorted(set(lengths)), ENDS)
+        self.assertEqual(self.threads(cut), 3, "one thread is started for each band")
+
+    def test_the_second_band_of_one_worker(self):
+        second = next(run for run in self.cut_pictures(1) if len(run.output) > len(HEADER))
+        self.assertEqual((second.line, len(second.output)), (OUT_OF_MEMORY, 6253))
+
+    def test_three_workers(self):
+        cut = self.cut_pictures(3)
+        self.assertEqual(sorted({len(run.output) for run in cut}), ENDS)
+        self.assertGreaterEqual(self.threads(cut), 3)
 
 
-def check(shim, workers):
-    """How many runs ended after so many bytes, by their number."""
-    ended = {}
-    number = 0
-    whole_in_a_row = 0
-    while whole_in_a_row < QUIET:
-        number += 1
-        done = run(shim, number, workers)
-        length = len(done.stdout)
-        whole = done.returncode == 0 and done.stdout == FILE and not done.stderr
-        cut = done.returncode == 1 and done.stderr in LINES and length in ENDS and FILE.startswith(done.stdout)
-        if not (whole or cut):
-            sys.exit(f"growth {number}, {workers} workers: status {done.returncode}, {length} bytes, {done.stderr!r}")
-        whole_in_a_row = whole_in_a_row + 1 if whole else 0
-        if cut:
-            if workers == 1 and length > len(HEADER) and max(ended, default=0) <= len(HEADER):
-                check_first_band(number, done)
-            ended[length] = ended.get(length, 0) + 1
-    if workers == 1 and sorted(ended) != ENDS:
-        sys.exit(f"one worker: the runs ended after {sorted(ended)} bytes, and not after {ENDS}")
-    return ended
+class Lists(Refusals):
+    """A list is read, or memory is told; a refusal is never told as a fault of the list."""
+
+    def check_picture(self, value, picture):
+        cut = self.cut_runs(["--workers", "1"], json.dumps(value).encode(), 0, picture)
+        self.threads(cut)
+
+    def check_fault(self, text, line):
+        for run in self.cut_runs(["--workers", "1"], text, 1, b"", line):
+            self.assertEqual((run.output, run.line), (b"", OUT_OF_MEMORY))
+
+    def test_first_triangle(self):
+        self.check_picture(scene(3, 3, {"vertices": FIRST, "triangles": [[0, 1, 2]]}), FIRST_PICTURE)
+
+    def test_keys_in_another_order(self):
+        draw = {"triangles": [[0, 1, 2]], "vertices": FIRST}
+        self.check_picture({"draws": [draw], "height": 3, "width": 3}, FIRST_PICTURE)
+
+    def test_two_draws(self):
+        draw = {"vertices": FIRST, "triangles": [[0, 1, 2]]}
+        self.check_picture(scene(3, 3, draw, draw), FIRST_PICTURE)
+
+    def test_strip(self):
+        self.check_picture(scene(3, 3, {"vertices": FIRST, "strip": [0, 1, 2]}), FIRST_PICTURE)
+
+    def test_quad(self):
+        self.check_picture(scene(3, 3, {"vertices": SQUARE, "quads": [[0, 1, 2, 3]]}), SQUARE_PICTURE)
+
+    def test_no_json(self):
+        self.check_fault(b'{"width":1', b"trirast: list fault 1 NotJson\n")
+
+    def test_fault_of_the_second_draw(self):
+        draws = ({"vertices": [], "triangles": []}, {"vertices": [], "triangles": [[0, 0, 0]]})
+        self.check_fault(json.dumps(scene(1, 1, *draws)).encode(), b"trirast: list fault 6 BadIndex in draw 1\n")
+
+    def test_too_many_draws(self):
+        draws = [{"vertices": [], "triangles": []}] * 1025
+        self.check_fault(json.dumps(scene(1, 1, *draws)).encode(), b"trirast: list fault 7 TooMany\n")
 
 
-def main():
-    if not os.path.exists(PROGRAM):
-        sys.exit("bin/trirast is not there: run make first")
-    with tempfile.TemporaryDirectory() as folder:
-        shim = build(folder)
-        for workers in (1, 3):
-            ended = check(shim, workers)
-            places = ", ".join(f"{many} after {length} bytes" for length, many in sorted(ended.items()))
-            print(f"{workers} workers, each growth refused in turn: {places}; each a beginning of the file")
+class Words(Refusals):
+    def check_words(self, words, status, output, line):
+        for run in self.cut_runs(words, b"", status, output, line):
+            self.assertEqual((run.output, run.line), (b"", OUT_OF_MEMORY))
+
+    def test_help(self):
+        usage = b"usage: trirast [--tile 8|16|32|64] [--workers 1..16] < list.json > picture.ppm\n"
+        self.check_words(["--help"], 0, usage, b"")
+
+    def test_refused_words(self):
+        self.check_words(["--tile", "7"], 2, b"", b"trirast: command line refused\n")
 
 
 if __name__ == "__main__":
-    main()
+    if not os.access(PROGRAM, os.X_OK):
+        sys.exit("refuse_memory.py: bin/trirast is not there; run make first")
+    counts.run_tests()

@@ -12,6 +12,7 @@ import unittest
 
 sys.path.insert(0, os.path.dirname(os.path.abspath(__file__)))
 
+import counts
 import reference
 
 WHITE = "ff ff ff"
@@ -371,4 +372,4 @@ class Comparing(unittest.TestCase):
 
 
 if __name__ == "__main__":
-    unittest.main()
+    counts.run_tests()

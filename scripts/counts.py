@@ -1,0 +1,39 @@
+"""How many checks passed, failed and were skipped: the line in which the gate and its scripts end."""
+
+import re
+import sys
+import unittest
+from dataclasses import dataclass
+
+# The exit status of a script that could try nothing, since something of the system that it needs is missing.
+MISSING = 77
+
+LINE = re.compile(r"(\d+) passed, (\d+) failed(?:, (\d+) skipped)?")
+
+
+@dataclass(frozen=True)
+class Counts:
+    passed: int = 0
+    failed: int = 0
+    skipped: int = 0
+
+    def __add__(self, other):
+        return Counts(self.passed + other.passed, self.failed + other.failed, self.skipped + other.skipped)
+
+    def __str__(self):
+        return f"{self.passed} passed, {self.failed} failed" + (f", {self.skipped} skipped" if self.skipped else "")
+
+    @staticmethod
+    def in_line(line):
+        """The counts that a line tells, or None where it is no such line."""
+        found = LINE.fullmatch(line.strip())
+        return Counts(*(int(number or 0) for number in found.groups())) if found else None
+
+
+def run_tests():
+    """Runs the tests of the script that was started, and ends in the line of their counts; status 1 where one failed."""
+    result = unittest.main(exit=False, verbosity=2).result
+    failed, skipped = len(result.failures) + len(result.errors), len(result.skipped)
+    counts = Counts(max(0, result.testsRun - failed - skipped), failed, skipped)
+    print(counts, flush=True)
+    sys.exit(1 if failed else 0)

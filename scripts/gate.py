@@ -1,0 +1,183 @@
+#!/usr/bin/env python3
+"""The merge gate: `rt ci`, and then the checks that it cannot hold, each for a bounded time.
+
+    scripts/gate.py [--rt rt] [--without-proofs]
+
+`rt ci` proves every crate from nothing and leaves the program that it built, which the checks then run, so nothing is
+proved twice. The last line is `N passed, M failed`, or `N passed, M failed, K skipped`, over all of them: what rt ci
+counts, and for each check the counts of its own last line, or one. A check is skipped where something of the system is
+missing, which it names; nothing is installed. Exit status 0 where nothing failed. With --without-proofs the checks run
+bin/trirast as it is. Python 3.8 or later, standard library alone.
+"""
+
+import argparse
+import os
+import shutil
+import signal
+import subprocess
+import sys
+import threading
+import time
+from dataclasses import dataclass
+
+sys.path.insert(0, os.path.dirname(os.path.abspath(__file__)))
+
+from counts import MISSING, Counts
+
+TOP = os.path.dirname(os.path.dirname(os.path.abspath(__file__)))
+BUILT = os.path.join("crates", "trirast_cli", "out", "trirast_cli")
+PROGRAM = os.path.join("bin", "trirast")
+MINUTE = 60
+
+
+@dataclass(frozen=True)
+class Check:
+    name: str
+    words: tuple
+    seconds: int
+    runs_program: bool = True
+
+
+def script(name):
+    return (sys.executable, os.path.join("scripts", name))
+
+
+CHECKS = (
+    Check("the gate's counts", script("test_gate.py"), 2 * MINUTE, runs_program=False),
+    Check("worked values of the reference", script("test_reference.py"), 5 * MINUTE, runs_program=False),
+    Check("the schema", script("check_schema.py"), 10 * MINUTE, runs_program=False),
+    Check("what generated lists cover", script("test_compare.py"), 5 * MINUTE, runs_program=False),
+    Check("generated lists", script("compare.py"), 20 * MINUTE),
+    Check("faults planted in the rules", script("plant_faults.py"), 20 * MINUTE),
+    Check("refused memory", script("refuse_memory.py"), 10 * MINUTE),
+    Check("hostile use", script("hostile.py"), 20 * MINUTE),
+)
+
+
+def say(text):
+    print(f"gate: {text}", flush=True)
+
+
+@dataclass
+class Ended:
+    """How a command ended: its status, None where its time was over, and its last line that is not blank."""
+
+    status: object
+    last_line: str
+
+
+def stop(child):
+    try:
+        os.killpg(child.pid, signal.SIGKILL)
+    except ProcessLookupError:
+        pass
+
+
+def run(words, top, seconds=None):
+    """Runs a command, and passes its output on line by line."""
+    environment = dict(os.environ, PYTHONUNBUFFERED="1")
+    how = {"stdin": subprocess.DEVNULL, "stdout": subprocess.PIPE, "stderr": subprocess.STDOUT}
+    late = threading.Event()
+    last_line = ""
+    with subprocess.Popen(words, cwd=top, env=environment, start_new_session=True, **how) as child:
+
+        def end():
+            late.set()
+            stop(child)
+
+        timer = threading.Timer(seconds, end) if seconds else None
+        try:
+            if timer:
+                timer.start()
+            for line in child.stdout:
+                sys.stdout.buffer.write(line)
+                sys.stdout.flush()
+                last_line = line.decode(errors="replace").strip() or last_line
+            status = child.wait()
+        except BaseException:
+            # Asked to end, so that it can put back what it set aside.
+            child.terminate()
+            child.wait()
+            raise
+        finally:
+            if timer:
+                timer.cancel()
+            stop(child)
+    return Ended(None if late.is_set() else status, last_line)
+
+
+def prove(rt, top):
+    """Runs rt ci. Its counts; a run that tells none, or a status against them, is a failure."""
+    ended = run((rt, "ci"), top)
+    counts = Counts.in_line(ended.last_line)
+    if counts is None:
+        say("rt ci told no counts")
+        return Counts(failed=1)
+    if ended.status != 0 and counts.failed == 0:
+        say(f"rt ci ended with status {ended.status}")
+        return counts + Counts(failed=1)
+    return counts
+
+
+def take_program(top, since):
+    """Puts the program that rt ci built where the checks look for it; whether it has built one since that time."""
+    built, program = os.path.join(top, BUILT), os.path.join(top, PROGRAM)
+    if not os.path.isfile(built) or os.path.getmtime(built) < since:
+        return False
+    os.makedirs(os.path.dirname(program), exist_ok=True)
+    shutil.copy(built, program)
+    return True
+
+
+def try_check(check, top, has_program):
+    """Runs a check. Its counts: those of its last line, or one."""
+    say(f"{check.name}: {' '.join(check.words)}")
+    if check.runs_program and not has_program:
+        say(f"{check.name} FAILED: there is no program to run")
+        return Counts(failed=1)
+    ended = run(check.words, top, check.seconds)
+    if ended.status is None:
+        say(f"{check.name} FAILED: it had not ended after {check.seconds} seconds")
+        return Counts(failed=1)
+    if ended.status == MISSING:
+        say(f"{check.name} SKIPPED: {ended.last_line}")
+        return Counts(skipped=1)
+    counts = Counts.in_line(ended.last_line)
+    if ended.status != 0:
+        say(f"{check.name} FAILED: status {ended.status}")
+        return counts if counts and counts.failed else (counts or Counts()) + Counts(failed=1)
+    return Counts(passed=1) if counts is None else counts
+
+
+def pass_gate(top, rt, checks, with_proofs=True):
+    """The counts of the whole gate."""
+    total = Counts()
+    # Some file systems keep whole seconds.
+    since = int(time.time())
+    if with_proofs:
+        total += prove(rt, top)
+        has_program = take_program(top, since)
+    else:
+        has_program = os.access(os.path.join(top, PROGRAM), os.X_OK)
+    for check in checks:
+        begun = time.monotonic()
+        counts = try_check(check, top, has_program)
+        say(f"{check.name}: {counts}, in {time.monotonic() - begun:.0f} s")
+        total += counts
+    return total
+
+
+def main():
+    parser = argparse.ArgumentParser(description="The merge gate: every proof, and the checks that rt ci cannot hold.")
+    parser.add_argument("--rt", default="rt", help="the toolchain's command (default rt)")
+    parser.add_argument("--without-proofs", action="store_true", help="the checks alone, over bin/trirast as it is")
+    words = parser.parse_args()
+    # An asked end is one like Ctrl-C, so that what runs is ended too.
+    signal.signal(signal.SIGTERM, lambda *_: sys.exit(143))
+    total = pass_gate(TOP, words.rt, CHECKS, with_proofs=not words.without_proofs)
+    print(total, flush=True)
+    return 1 if total.failed else 0
+
+
+if __name__ == "__main__":
+    sys.exit(main())

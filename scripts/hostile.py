@@ -1,0 +1,369 @@
+#!/usr/bin/env python3
+"""Runs bin/trirast where things go wrong: devices that fail, limits of the system, lists at the ends of their limits.
+
+    scripts/hostile.py [NAME ..]
+
+Each run ends by itself, with the picture or with one line and its status. What the system here does not give is named and
+skipped. The last line is 'N passed, M failed', or 'N passed, M failed, K skipped'. Linux, Python 3.8 or later, standard
+library alone.
+"""
+
+import json
+import os
+import resource
+import shutil
+import subprocess
+import sys
+import tempfile
+import unittest
+
+sys.path.insert(0, os.path.dirname(os.path.abspath(__file__)))
+
+import counts
+import reference
+
+TOP = os.path.dirname(os.path.dirname(os.path.abspath(__file__)))
+PROGRAM = os.path.join(TOP, "bin", "trirast")
+MOST_SECONDS = 120
+MOST_BYTES = 67_108_864
+# No user of this number has a process, so a limit of one process leaves room for the program's first thread alone.
+LONELY_USER = 54_321
+
+WHITE = [255, 255, 255, 255]
+RED = [255, 0, 0, 255]
+
+
+def vertex(x, y, colour=WHITE):
+    return [x, y, 0, *colour]
+
+
+def scene(width, height, *draws, **top):
+    return {"width": width, "height": height, "draws": list(draws), **top}
+
+
+def triangle(*corners, **state):
+    return {"vertices": [vertex(*corner) for corner in corners], "triangles": [[0, 1, 2]], **state}
+
+
+CORNERS = ((128, 128), (640, 128), (128, 640))
+FIRST = json.dumps(scene(3, 3, triangle(*CORNERS)), separators=(",", ":")).encode()
+FIRST_PICTURE = b"P6\n3 3\n255\n" + b"".join(b"\xff\xff\xff" if k in (0, 1, 3) else b"\0\0\0" for k in range(9))
+RED_PICTURE = FIRST_PICTURE.replace(b"\xff\xff\xff", b"\xff\0\0")
+
+# Three rows of tiles of 32 pixels: the pixels of the upper left half are white.
+LARGE = json.dumps(scene(65, 65, triangle((0, 0), (16640, 0), (0, 16640)))).encode()
+LARGE_PICTURE = b"P6\n65 65\n255\n" + b"".join(
+    b"\xff\xff\xff" if column + row <= 63 else b"\0\0\0" for row in range(65) for column in range(65)
+)
+ONE_WORKER = ("--tile", "32", "--workers", "1")
+
+# A picture of more bytes than a pipe holds: black, since nothing is drawn.
+WIDE = json.dumps(scene(1024, 1024)).encode()
+WIDE_PICTURE = b"P6\n1024 1024\n255\n" + bytes(3 * 1024 * 1024)
+
+NO_JSON = b"trirast: list fault 1 NotJson\n"
+NO_WORKER = b"trirast: pool fault 2 NoWorker\n"
+OUT_OF_MEMORY = b"trirast: out of memory\n"
+
+
+def run(text, *words, program=PROGRAM, **how):
+    """Status, output and line of a run on this list."""
+    how = {"input": text, "stdout": subprocess.PIPE, "stderr": subprocess.PIPE, "timeout": MOST_SECONDS, **how}
+    done = subprocess.run([program, *words], **how)
+    return done.returncode, done.stdout, done.stderr
+
+
+def run_by_shell(redirection, text):
+    """The same of a run whose streams the shell redirects."""
+    how = {"input": text, "capture_output": True, "timeout": MOST_SECONDS}
+    done = subprocess.run(["sh", "-c", f'exec "$0" {redirection}', PROGRAM], **how)
+    return done.returncode, done.stdout, done.stderr
+
+
+def written(count):
+    return f"trirast: write failed after {count} bytes\n".encode()
+
+
+class Inputs(unittest.TestCase):
+    def test_closed_input_failed(self):
+        self.assertEqual(run_by_shell("<&-", b""), (1, b"", b"trirast: input failed\n"))
+
+    def test_directory_as_input_failed(self):
+        self.assertEqual(run_by_shell("< /", b""), (1, b"", b"trirast: input failed\n"))
+
+    def test_input_of_one_byte_at_a_time(self):
+        with subprocess.Popen([PROGRAM], stdin=subprocess.PIPE, stdout=subprocess.PIPE, bufsize=0) as child:
+            for byte in FIRST:
+                child.stdin.write(bytes([byte]))
+            child.stdin.close()
+            self.assertEqual((child.stdout.read(), child.wait()), (FIRST_PICTURE, 0))
+
+    def test_refused_words_leave_the_input_unread(self):
+        for words in (["--tile", "7"], ["--workers", "17"], ["--fast"], ["list.json"], [b"\xff"]):
+            with tempfile.TemporaryFile() as file:
+                file.write(FIRST)
+                file.seek(0)
+                found = run(None, *words, input=None, stdin=file)
+                self.assertEqual(found, (2, b"", b"trirast: command line refused\n"), words)
+                self.assertEqual(os.lseek(file.fileno(), 0, os.SEEK_CUR), 0)
+
+
+class Outputs(unittest.TestCase):
+    def test_full_device_takes_nothing(self):
+        with open("/dev/full", "wb") as full:
+            status, _output, line = run(FIRST, stdout=full)
+        self.assertEqual((status, line), (1, written(0)))
+
+    def test_closed_output_takes_nothing(self):
+        self.assertEqual(run_by_shell(">&-", FIRST), (1, b"", written(0)))
+
+    def test_file_that_takes_each_number_of_bytes(self):
+        """A file that may grow to so many bytes takes them, and refuses the next one; so for each number with one worker."""
+        with tempfile.TemporaryFile() as list_file, tempfile.TemporaryFile() as file:
+            list_file.write(LARGE)
+            list_file.flush()
+            for length in range(len(LARGE_PICTURE)):
+                list_file.seek(0)
+                file.seek(0)
+                file.truncate()
+                self.assertEqual(self.run_limited(length, list_file, file), (1, None, written(length)))
+                file.seek(0)
+                self.assertEqual(file.read(), LARGE_PICTURE[:length])
+
+    def run_limited(self, length, list_file, file):
+        def limit():
+            resource.setrlimit(resource.RLIMIT_FSIZE, (length, length))
+
+        # Python ignores the signal of a file that is too large, and so does then the program.
+        how = {"input": None, "stdin": list_file, "stdout": file, "preexec_fn": limit, "restore_signals": False}
+        return run(None, *ONE_WORKER, **how)
+
+    def test_file_that_takes_the_whole_picture(self):
+        with tempfile.TemporaryFile() as list_file, tempfile.TemporaryFile() as file:
+            list_file.write(LARGE)
+            list_file.seek(0)
+            self.assertEqual(self.run_limited(len(LARGE_PICTURE), list_file, file), (0, None, b""))
+            file.seek(0)
+            self.assertEqual(file.read(), LARGE_PICTURE)
+
+    def test_pipe_that_is_full(self):
+        """A pipe that nobody reads and that does not wait holds what the line says, a beginning of the file."""
+        read_end, write_end = os.pipe()
+        os.set_blocking(write_end, False)
+        with open(read_end, "rb") as pipe:
+            try:
+                status, _output, line = run(WIDE, stdout=write_end)
+            finally:
+                os.close(write_end)
+            held = pipe.read()
+        self.assertLess(0, len(held))
+        self.assertLess(len(held), len(WIDE_PICTURE))
+        self.assertEqual((status, line), (1, written(len(held))))
+        self.assertTrue(WIDE_PICTURE.startswith(held))
+
+    def test_reader_that_goes_away(self):
+        streams = {"stdin": subprocess.PIPE, "stdout": subprocess.PIPE, "stderr": subprocess.PIPE}
+        with subprocess.Popen([PROGRAM], **streams) as child:
+            child.stdin.write(WIDE)
+            child.stdin.close()
+            self.assertEqual(child.stdout.read(100), WIDE_PICTURE[:100])
+            child.stdout.close()
+            self.assertRegex(child.stderr.read(), rb"\Atrirast: write failed after \d+ bytes\n\Z")
+            self.assertEqual(child.wait(), 1)
+
+
+class Errors(unittest.TestCase):
+    """Where the line cannot be written, status and output are what they are with it."""
+
+    def test_picture_beside_closed_errors(self):
+        self.assertEqual(run_by_shell("2>&-", FIRST), (0, FIRST_PICTURE, b""))
+
+    def test_picture_beside_full_errors(self):
+        self.assertEqual(run_by_shell("2>/dev/full", FIRST), (0, FIRST_PICTURE, b""))
+
+    def test_fault_beside_closed_errors(self):
+        self.assertEqual(run_by_shell("2>&-", b"[]"), (1, b"", b""))
+
+    def test_fault_beside_full_errors(self):
+        self.assertEqual(run_by_shell("2>/dev/full", b"[]"), (1, b"", b""))
+
+    def test_failed_input_beside_closed_errors(self):
+        self.assertEqual(run_by_shell("<&- 2>&-", b""), (1, b"", b""))
+
+    def test_failed_write_beside_full_errors(self):
+        self.assertEqual(run_by_shell(">/dev/full 2>/dev/full", FIRST), (1, b"", b""))
+
+    def test_refused_words_beside_closed_errors(self):
+        self.assertEqual(run_by_shell("--tile 7 2>&-", FIRST), (2, b"", b""))
+
+
+class Threads(unittest.TestCase):
+    """A thread that the system does not start is told, and what went out is a beginning of the file."""
+
+    def setUp(self):
+        # A user of another number has to reach the program.
+        folder = tempfile.TemporaryDirectory()
+        self.addCleanup(folder.cleanup)
+        os.chmod(folder.name, 0o711)
+        self.program = shutil.copy(PROGRAM, os.path.join(folder.name, "trirast"))
+        os.chmod(self.program, 0o755)
+
+    def run_with_processes(self, most, *words):
+        """A run of a user who may have so many processes, threads counted in."""
+
+        def limit():
+            if os.geteuid() == 0:
+                os.setgroups([])
+                os.setgid(LONELY_USER)
+                resource.setrlimit(resource.RLIMIT_NPROC, (most, most))
+                os.setuid(LONELY_USER)
+            else:
+                resource.setrlimit(resource.RLIMIT_NPROC, (1, 1))
+
+        try:
+            return run(LARGE, "--tile", "32", *words, program=self.program, preexec_fn=limit)
+        except subprocess.SubprocessError:
+            self.skipTest("this system lets no process take another user's number")
+
+    def test_no_thread_at_all(self):
+        status, output, line = self.run_with_processes(1, "--workers", "1")
+        if status == 0:
+            self.skipTest("this system does not count threads against the limit on processes")
+        self.assertEqual((status, output, line), (1, LARGE_PICTURE[:13], NO_WORKER))
+
+    def test_some_threads_of_three(self):
+        if os.geteuid() != 0:
+            self.skipTest("only root can take a user's number that has no other process")
+        if self.run_with_processes(1, "--workers", "1")[0] == 0:
+            self.skipTest("this system does not count threads against the limit on processes")
+        for most in (1, 2, 3):
+            status, output, line = self.run_with_processes(most, "--workers", "3")
+            self.assertEqual((status, output, line), (1, LARGE_PICTURE[:13], NO_WORKER), most)
+        self.assertEqual(self.run_with_processes(4, "--workers", "3"), (0, LARGE_PICTURE, b""))
+
+    def test_each_size_of_the_address_space(self):
+        """With too little of it the program is not loaded, or memory or a thread's stack is refused."""
+        lines = set()
+        for size in range(2 << 20, 160 << 20, 2 << 20):
+
+            def limit(size=size):
+                resource.setrlimit(resource.RLIMIT_AS, (size, size))
+                resource.setrlimit(resource.RLIMIT_CORE, (0, 0))
+
+            status, output, line = run(LARGE, "--tile", "32", program=self.program, preexec_fn=limit)
+            if line in (OUT_OF_MEMORY, NO_WORKER):
+                self.assertEqual(status, 1)
+                self.assertIn(len(output), (0, 13, 6253, 12493))
+                self.assertTrue(LARGE_PICTURE.startswith(output))
+                lines.add(line)
+            elif status == 0:
+                self.assertEqual((output, line), (LARGE_PICTURE, b""))
+            else:
+                # The system could not load it.
+                self.assertFalse(output)
+                self.assertFalse(line.startswith(b"trirast: "), line)
+        self.assertEqual((status, line), (0, b""))
+        self.assertIn(NO_WORKER, lines)
+
+
+class Lists(unittest.TestCase):
+    def check_fault(self, text, fault):
+        self.assertEqual(run(text), (1, b"", f"trirast: list fault {fault}\n".encode()))
+
+    def test_longest_list(self):
+        longest = FIRST + b" " * (MOST_BYTES - len(FIRST))
+        self.assertEqual(run(longest), (0, FIRST_PICTURE, b""))
+        self.assertEqual(run(b" " * (MOST_BYTES - len(FIRST)) + FIRST), (0, FIRST_PICTURE, b""))
+        self.assertEqual(run(longest + b" "), (1, b"", b"trirast: input too long\n"))
+
+    def test_longest_fault(self):
+        self.assertEqual(run(b"[" * MOST_BYTES), (1, b"", NO_JSON))
+        self.assertEqual(run(b"[" * (MOST_BYTES + 1)), (1, b"", b"trirast: input too long\n"))
+
+    def test_every_proper_beginning(self):
+        self.assertEqual(run(FIRST), (0, FIRST_PICTURE, b""))
+        for length in range(len(FIRST)):
+            self.assertEqual(run(FIRST[:length]), (1, b"", NO_JSON), length)
+
+    def test_bytes_that_are_no_text(self):
+        for text in (b"\xff", b"\xff" + FIRST, FIRST + b"\xff", FIRST + b"\0", b"\xef\xbb\xbf" + FIRST, FIRST + FIRST):
+            self.assertEqual(run(text), (1, b"", NO_JSON), text)
+
+    def test_brackets(self):
+        for open_brackets in (100, 200):
+            self.check_fault(b"[" * open_brackets, "1 NotJson")
+        for nested, fault in ((100, "4 WrongKind"), (127, "4 WrongKind"), (128, "1 NotJson"), (200, "1 NotJson")):
+            self.check_fault(b"[" * nested + b"]" * nested, fault)
+
+    def test_most_triangles(self):
+        def drawn(number):
+            return json.dumps(scene(3, 3, {**triangle(*CORNERS), "triangles": [[0, 1, 2]] * number})).encode()
+
+        self.assertEqual(run(drawn(65536)), (0, FIRST_PICTURE, b""))
+        self.check_fault(drawn(65537), "7 TooMany in draw 0")
+
+    def test_most_triangles_of_two_draws(self):
+        def drawn(first, second):
+            draws = ((first, WHITE), (second, RED))
+            listed = ({**triangle(*((*at, colour) for at in CORNERS)), "triangles": [[0, 1, 2]] * number} for number, colour in draws)
+            return json.dumps(scene(3, 3, *listed)).encode()
+
+        self.assertEqual(run(drawn(40000, 25536)), (0, RED_PICTURE, b""))
+        self.check_fault(drawn(40000, 25537), "7 TooMany in draw 1")
+
+    def test_most_vertices(self):
+        def drawn(number):
+            """The last three vertices are the triangle's."""
+            vertices = [vertex(0, 0)] * (number - 3) + [vertex(*at) for at in CORNERS]
+            triangles = [[number - 3, number - 2, number - 1]]
+            return json.dumps(scene(3, 3, {"vertices": vertices, "triangles": triangles})).encode()
+
+        self.assertEqual(run(drawn(65536)), (0, FIRST_PICTURE, b""))
+        self.check_fault(drawn(65537), "7 TooMany in draw 0")
+
+    def test_most_draws(self):
+        white, red = triangle(*CORNERS), triangle(*((*at, RED) for at in CORNERS))
+        self.assertEqual(run(json.dumps(scene(3, 3, *[white] * 1023, red)).encode()), (0, RED_PICTURE, b""))
+        self.check_fault(json.dumps(scene(3, 3, *[white] * 1024, red)).encode(), "7 TooMany")
+
+    def test_most_places_of_a_strip_and_most_quads(self):
+        square = [vertex(*at) for at in (*CORNERS[:2], (640, 640), CORNERS[2])]
+        picture = reference.render(reference.read(json.dumps(scene(3, 3, {"vertices": square, "quads": [[0, 1, 2, 3]]})).encode()))
+        for faces in ({"strip": [0, 1] + [3, 2] * 32768}, {"quads": [[0, 1, 2, 3]] * 32768}):
+            self.assertEqual(run(json.dumps(scene(3, 3, {"vertices": square, **faces})).encode()), (0, picture, b""))
+        for faces in ({"strip": [0] * 65539}, {"quads": [[0, 1, 2, 3]] * 32769}):
+            self.check_fault(json.dumps(scene(3, 3, {"vertices": square, **faces})).encode(), "7 TooMany in draw 0")
+
+    def test_largest_picture(self):
+        corners = ((0, 0), (2 * 4096 * 256, 0), (0, 2 * 4096 * 256))
+        for samples in (1, 4):
+            text = json.dumps(scene(4096, 4096, triangle(*corners), samples=samples)).encode()
+            # Every pixel's samples lie left of and above the slanted edge.
+            self.assertEqual(run(text), (0, b"P6\n4096 4096\n255\n" + b"\xff" * (3 * 4096 * 4096), b""))
+
+    def test_slivers_along_a_row_of_centres(self):
+        for far in (4194303, 8388607):
+            below = triangle((0, 128), (far, 128), (far, 129))
+            above = triangle((0, 128), (far, 128), (far, 127))
+            self.assertEqual(run(json.dumps(scene(4, 1, below)).encode()), (0, b"P6\n4 1\n255\n" + b"\xff" * 12, b""))
+            self.assertEqual(run(json.dumps(scene(4, 1, above)).encode()), (0, b"P6\n4 1\n255\n" + bytes(12), b""))
+
+    def test_coordinates_at_the_ends_of_the_band(self):
+        low, high = reference.BAND
+        white = b"P6\n2 2\n255\n" + b"\xff" * 12
+        for near, far in ((low, high), (-4194305, 4194304)):
+            text = json.dumps(scene(2, 2, triangle((near, near), (far, near), (near, far)))).encode()
+            found = run(text)
+            self.assertEqual(found, (0, reference.render(reference.read(text)), b""))
+            whole = [triangle((near, near), (far, near), (far, far)), triangle((near, near), (far, far), (near, far))]
+            self.assertEqual(run(json.dumps(scene(2, 2, *whole)).encode()), (0, white, b""))
+        for outside in (low - 1, high + 1):
+            for corner in ((outside, 0), (0, outside)):
+                text = json.dumps(scene(2, 2, triangle(corner, (0, 0), (256, 0)))).encode()
+                self.check_fault(text, "5 OutOfRange in draw 0")
+
+
+if __name__ == "__main__":
+    if not os.access(PROGRAM, os.X_OK):
+        sys.exit("hostile.py: bin/trirast is not there; run make first")
+    counts.run_tests()

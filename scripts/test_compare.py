@@ -1,0 +1,198 @@
+#!/usr/bin/env python3
+"""Tests of what the generated lists of scripts/compare.py cover, as `make compare` draws them.
+
+    python3 scripts/test_compare.py
+"""
+
+import itertools
+import json
+import math
+import os
+import random
+import sys
+import unittest
+from unittest import mock
+
+sys.path.insert(0, os.path.dirname(os.path.abspath(__file__)))
+
+import compare
+import counts
+import reference
+from reference import side
+
+LISTS = [compare.a_list(random.Random(f"list 1 {k}")) for k in range(compare.LISTS)]
+ENDS = list(compare.at_the_ends())
+SCENES = [reference.read(json.dumps(value).encode()) for value in LISTS]
+
+
+def draws():
+    return [draw for value in LISTS + ENDS for draw in value["draws"]]
+
+
+def vertices():
+    return [vertex for draw in draws() for vertex in draw["vertices"]]
+
+
+def named(key):
+    return {json.dumps(draw[key]) for draw in draws() if key in draw}
+
+
+def samples_between(low, high, offsets):
+    """The coordinates of samples above low and under high."""
+    return (256 * k + offset for k in range(low // 256, high // 256 + 1) for offset in offsets if low < 256 * k + offset < high)
+
+
+def has_sample_inside(a, b, count):
+    """Whether a sample lies on the edge ab, between its ends."""
+    (ax, ay), (bx, by) = sorted((a, b))
+    if bx - ax > 40_000 or abs(by - ay) > 40_000:
+        return False
+    for dx, dy in reference.SAMPLES[count]:
+        if ax == bx:
+            if (ax - dx) % 256 == 0 and any(True for _ in samples_between(min(ay, by), max(ay, by), [dy])):
+                return True
+        elif any(((x - ax) * (by - ay)) % (bx - ax) == 0 and (ay + (x - ax) * (by - ay) // (bx - ax) - dy) % 256 == 0
+                 for x in samples_between(ax, bx, [dx])):
+            return True
+    return False
+
+
+def on_opposite_sides(one, other):
+    """The edge that two triangles share, where they lie on opposite sides of it."""
+    shared = set(one) & set(other)
+    if len(shared) == 2 and len(set(one)) == len(set(other)) == 3:
+        a, b = shared
+        (c,), (d,) = set(one) - shared, set(other) - shared
+        if side(a, b, c) * side(a, b, d) < 0:
+            return a, b
+    return None
+
+
+def corners(triangle):
+    return [vertex[:2] for vertex in triangle.vertices]
+
+
+class Keys(unittest.TestCase):
+    def test_every_key(self):
+        self.assertEqual({key for value in LISTS for key in value}, set(reference.TOP_KEYS))
+        self.assertEqual({key for value in LISTS for draw in value["draws"] for key in draw}, set(reference.DRAW_KEYS))
+
+    def test_every_word_and_truth_value(self):
+        self.assertEqual(named("cull"), {'"none"', '"front"', '"back"'})
+        self.assertEqual(named("depth_test"), {json.dumps(word) for word in reference.DEPTH_TESTS})
+        self.assertEqual(named("depth_write"), {"true", "false"})
+        self.assertEqual(named("blend"), {'"none"', '"over"'})
+        self.assertEqual({value.get("output") for value in LISTS}, {None, "color", "depth"})
+        every_mask = {json.dumps(list(mask)) for mask in itertools.product((True, False), repeat=3)}
+        self.assertEqual(named("write"), every_mask)
+        self.assertEqual(named("sample_mask"), {str(mask) for mask in range(16)})
+
+    def test_absent_keys(self):
+        for key in ("samples", "clear", "clear_depth", "output"):
+            self.assertTrue(any(key not in value for value in LISTS), key)
+        for key in reference.STATE_KEYS:
+            self.assertTrue(any(key not in draw for draw in draws()), key)
+
+
+class Ranges(unittest.TestCase):
+    def check_ends(self, numbers, low, high):
+        numbers = set(numbers)
+        self.assertEqual((min(numbers), max(numbers)), (low, high))
+
+    def test_top_object(self):
+        self.check_ends((value["width"] for value in LISTS), 1, 4096)
+        self.check_ends((value["height"] for value in LISTS), 1, 4096)
+        self.assertEqual({value.get("samples", 1) for value in LISTS}, {1, 4})
+        self.check_ends((channel for value in LISTS for channel in value.get("clear", [])), 0, 255)
+        self.check_ends((value["clear_depth"] for value in LISTS if "clear_depth" in value), 0, 65535)
+
+    def test_vertices(self):
+        for place in (0, 1):
+            self.check_ends((vertex[place] for vertex in vertices()), *reference.BAND)
+        self.check_ends((vertex[2] for vertex in vertices()), 0, 65535)
+        for place in range(3, 7):
+            self.check_ends((vertex[place] for vertex in vertices()), 0, 255)
+
+    def test_scissors(self):
+        for place in range(4):
+            self.check_ends((draw["scissor"][place] for draw in draws() if "scissor" in draw), 0, 4096)
+
+    def test_counts(self):
+        self.check_ends((len(value["draws"]) for value in LISTS + ENDS), 0, 1024)
+        for key, most in (("vertices", 65536), ("triangles", 65536), ("strip", 65538), ("quads", 32768)):
+            self.check_ends((len(draw[key]) for draw in draws() if key in draw), 0, most)
+
+
+class Shapes(unittest.TestCase):
+    def test_shared_edges_through_samples(self):
+        found = {1: 0, 4: 0}
+        for scene in SCENES:
+            for one, other in zip(scene.triangles, scene.triangles[1:]):
+                edge = on_opposite_sides(corners(one), corners(other))
+                found[scene.samples] += edge is not None and has_sample_inside(*edge, scene.samples)
+        self.assertGreater(min(found.values()), 20, found)
+
+    def test_areas_of_zero(self):
+        flat = [corners(t) for scene in SCENES for t in scene.triangles if side(*corners(t)) == 0]
+        self.assertGreater(sum(len(set(points)) == 3 for points in flat), 50)
+        self.assertGreater(sum(len(set(points)) < 3 for points in flat), 50)
+
+    def test_slivers(self):
+        """Triangles over a pixel long and under a pixel wide; and under 2/256 pixel, which are drawn in another way."""
+        def widths():
+            for scene in SCENES:
+                for triangle in scene.triangles:
+                    points = corners(triangle)
+                    longest = max(math.dist(a, b) for a, b in itertools.combinations(points, 2))
+                    if longest > 256 and side(*points) != 0:
+                        yield abs(side(*points)) / longest
+
+        thin = [width for width in widths() if width < 256]
+        self.assertGreater(len(thin), 100)
+        self.assertGreater(sum(width < 2 for width in thin), 50)
+
+
+class Overdraw(unittest.TestCase):
+    """What is drawn over samples that an earlier triangle changed."""
+
+    @classmethod
+    def setUpClass(cls):
+        cls.met = set()
+        shade = reference.shade
+
+        def noting(triangle, weights, size, old):
+            new = shade(triangle, weights, size, old)
+            if old != cls.clear:
+                state = triangle.state
+                cls.met |= {("blend", state.blend), ("write", state.write), ("sample mask", cls.samples, state.sample_mask)}
+                cls.met |= {("test", state.depth_test, new != old), ("stored", state.depth_write, new[3] != old[3])}
+                cls.met |= {("both", state.blend, state.depth_test)}
+            return new
+
+        with mock.patch.object(reference, "shade", noting):
+            for scene in SCENES:
+                cls.clear, cls.samples = scene.clear, scene.samples
+                reference.render(scene)
+
+    def test_every_blend_with_every_depth_test(self):
+        wanted = {("both", blend, test) for blend in ("none", "over") for test in reference.DEPTH_TESTS}
+        self.assertLessEqual(wanted, self.met)
+
+    def test_every_depth_test_changes_and_keeps_samples(self):
+        wanted = {("test", test, True) for test in reference.DEPTH_TESTS if test != "never"}
+        wanted |= {("test", test, False) for test in reference.DEPTH_TESTS}
+        self.assertLessEqual(wanted, self.met)
+
+    def test_depths_are_stored(self):
+        self.assertIn(("stored", True, True), self.met)
+
+    def test_every_write_mask(self):
+        self.assertLessEqual({("write", mask) for mask in itertools.product((True, False), repeat=3)}, self.met)
+
+    def test_every_sample_mask(self):
+        self.assertLessEqual({("sample mask", 4, mask) for mask in range(1, 16)}, self.met)
+        self.assertLessEqual({("sample mask", 1, mask) for mask in range(1, 16, 2)}, self.met)
+
+
+if __name__ == "__main__":
+    counts.run_tests()

@@ -1,0 +1,142 @@
+#!/usr/bin/env python3
+"""Tests of scripts/gate.py with commands of their own in place of rt ci and of the checks.
+
+    python3 scripts/test_gate.py
+"""
+
+import contextlib
+import io
+import os
+import sys
+import tempfile
+import textwrap
+import unittest
+
+sys.path.insert(0, os.path.dirname(os.path.abspath(__file__)))
+
+import counts
+import gate
+from counts import Counts
+
+
+def check(text, seconds=60, runs_program=False):
+    """A check that runs this python text."""
+    return gate.Check("a check", (sys.executable, "-c", text), seconds, runs_program)
+
+
+PASSES = check("print('all is well')")
+FAILS = check("raise SystemExit(1)")
+IS_MISSING = check(f"print('needs a thing that is not here'); raise SystemExit({counts.MISSING})")
+
+
+class Lines(unittest.TestCase):
+    def test_counts_are_read_and_written(self):
+        for line in ("3 passed, 0 failed", "12 passed, 1 failed, 2 skipped"):
+            self.assertEqual(str(Counts.in_line(line)), line)
+        self.assertEqual(Counts.in_line("3 passed, 0 failed\n"), Counts(3, 0, 0))
+
+    def test_other_lines_tell_no_counts(self):
+        for line in ("", "passed", "3 passed", "1 passed, 2 failed, and more", "rt: 3 passed, 0 failed"):
+            self.assertIsNone(Counts.in_line(line), line)
+
+    def test_counts_are_added(self):
+        self.assertEqual(Counts(1, 2, 3) + Counts(10, 20, 30), Counts(11, 22, 33))
+
+
+class Gate(unittest.TestCase):
+    """Runs of the gate in a folder of their own, over a command that stands for rt."""
+
+    def setUp(self):
+        folder = tempfile.TemporaryDirectory()
+        self.addCleanup(folder.cleanup)
+        self.top = folder.name
+        os.makedirs(os.path.join(self.top, os.path.dirname(gate.BUILT)))
+
+    def rt(self, *lines, status=0, builds=True):
+        """A command that prints these lines and, as rt ci does, leaves a program."""
+        path = os.path.join(self.top, "rt")
+        built = f"print('the program', file=open({os.path.join(self.top, gate.BUILT)!r}, 'w'))" if builds else ""
+        text = f"""\
+            #!{sys.executable}
+            import sys
+            assert sys.argv[1:] == ["ci"]
+            {built}
+            print({chr(10).join(lines)!r})
+            sys.exit({status})
+            """
+        with open(path, "w", encoding="utf-8") as file:
+            file.write(textwrap.dedent(text))
+        os.chmod(path, 0o755)
+        return path
+
+    def total(self, rt, *checks, **how):
+        """What the gate counts, and what it printed."""
+        printed = io.TextIOWrapper(io.BytesIO(), encoding="utf-8")
+        with contextlib.redirect_stdout(printed):
+            total = gate.pass_gate(self.top, rt, checks, **how)
+        printed.seek(0)
+        self.printed = printed.read()
+        return total
+
+    def test_proofs_and_checks_are_counted_together(self):
+        rt = self.rt("rt: ok", "12 passed, 0 failed")
+        self.assertEqual(self.total(rt, PASSES, PASSES), Counts(14, 0, 0))
+        self.assertIn("rt: ok", self.printed)
+
+    def test_a_failed_proof_is_a_failure(self):
+        rt = self.rt("rt: FAILED: grid", "11 passed, 1 failed", status=1)
+        self.assertEqual(self.total(rt, PASSES), Counts(12, 1, 0))
+
+    def test_a_run_of_rt_without_counts_is_a_failure(self):
+        self.assertEqual(self.total(self.rt("killed", status=1), PASSES), Counts(1, 1, 0))
+        self.assertEqual(self.total(self.rt("5 passed, 0 failed", "and more"), PASSES), Counts(1, 1, 0))
+
+    def test_a_status_against_the_counts_is_a_failure(self):
+        self.assertEqual(self.total(self.rt("5 passed, 0 failed", status=2)), Counts(5, 1, 0))
+
+    def test_a_failed_check_is_a_failure(self):
+        self.assertEqual(self.total(self.rt("5 passed, 0 failed"), FAILS, PASSES), Counts(6, 1, 0))
+
+    def test_a_missing_thing_is_named_and_skipped(self):
+        self.assertEqual(self.total(self.rt("5 passed, 0 failed"), IS_MISSING), Counts(5, 0, 1))
+        self.assertIn("SKIPPED: needs a thing that is not here", self.printed)
+
+    def test_a_check_with_counts_of_its_own(self):
+        several = check("print('7 passed, 0 failed, 2 skipped')")
+        self.assertEqual(self.total(self.rt("5 passed, 0 failed"), several), Counts(12, 0, 2))
+        failing = check("print('7 passed, 2 failed'); raise SystemExit(1)")
+        self.assertEqual(self.total(self.rt("5 passed, 0 failed"), failing), Counts(12, 2, 0))
+        unsaid = check("print('7 passed, 0 failed'); raise SystemExit(1)")
+        self.assertEqual(self.total(self.rt("5 passed, 0 failed"), unsaid), Counts(12, 1, 0))
+
+    def test_a_check_that_does_not_end_is_stopped(self):
+        endless = check("import subprocess, sys; subprocess.run([sys.executable, '-c', 'while True: pass'])", seconds=1)
+        self.assertEqual(self.total(self.rt("5 passed, 0 failed"), endless, PASSES), Counts(6, 1, 0))
+        self.assertIn("had not ended after 1 seconds", self.printed)
+
+    def test_checks_run_the_program_that_rt_built(self):
+        reads = check(f"assert open({gate.PROGRAM!r}).read() == 'the program\\n'", runs_program=True)
+        self.assertEqual(self.total(self.rt("5 passed, 0 failed"), reads), Counts(6, 0, 0))
+
+    def test_a_program_of_another_run_is_not_taken(self):
+        built = os.path.join(self.top, gate.BUILT)
+        with open(built, "w", encoding="utf-8") as file:
+            file.write("an older program")
+        os.utime(built, (1, 1))
+        needs = check("pass", runs_program=True)
+        self.assertEqual(self.total(self.rt("5 passed, 1 failed", status=1, builds=False), needs, PASSES), Counts(6, 2, 0))
+        self.assertIn("there is no program to run", self.printed)
+
+    def test_without_proofs_the_program_is_taken_as_it_is(self):
+        needs = check("pass", runs_program=True)
+        self.assertEqual(self.total("no such rt", needs, PASSES, with_proofs=False), Counts(1, 1, 0))
+        program = os.path.join(self.top, gate.PROGRAM)
+        os.makedirs(os.path.dirname(program))
+        with open(program, "w", encoding="utf-8"):
+            pass
+        os.chmod(program, 0o755)
+        self.assertEqual(self.total("no such rt", needs, PASSES, with_proofs=False), Counts(2, 0, 0))
+
+
+if __name__ == "__main__":
+    counts.run_tests()
