@@ -2,6 +2,10 @@
 #
 #   make           prove what the program needs, and leave it at bin/trirast
 #   make demo      draw every list of examples/ to out/*.pnm, and to out/*.png where pnmtopng is installed
+#   make library   prove and build the core for other programs: lib/libtrirast.a, lib/libtrirast.so and lib/trirast.pc
+#   make check-library      run the library, its header, python/trirast.py and their examples against the program
+#   make install   program, manual page, header, libraries, pkg-config file and schema below PREFIX (an absolute path,
+#                  /usr/local if not given), behind DESTDIR where that is given; make uninstall takes them away
 #   make test      the merge gate: every proof from nothing, the must-fail edits, all tests
 #   make compare   draw generated lists, and compare each byte with the reference renderer
 #   make schema    try the JSON Schema of the draw list
@@ -14,13 +18,18 @@
 
 RT ?= rt
 PYTHON ?= python3
+PREFIX ?= /usr/local
 
 PROGRAM := bin/trirast
 SOURCES := crates.txt $(shell find crates -name out -prune -o -type f \( -name '*.rt' -o -name '*.antt' \) -print)
 LISTS := $(wildcard examples/*.json)
 PICTURES := $(LISTS:examples/%.json=out/%.pnm)
+LIBRARY_VERSION := $(shell sed -n 's/^\#define TRIRAST_VERSION //p' include/trirast.h)
+SHARED := libtrirast.so.$(LIBRARY_VERSION)
+INSTALLED := bin/trirast share/man/man1/trirast.1 share/trirast/draw-list.schema.json include/trirast.h \
+    lib/libtrirast.a lib/$(SHARED) lib/libtrirast.so lib/pkgconfig/trirast.pc
 
-.PHONY: all demo test compare schema memory bench frames conformance check-conformance clean
+.PHONY: all library check-library install uninstall demo test compare schema memory bench frames conformance check-conformance clean
 .DELETE_ON_ERROR:
 
 all: $(PROGRAM)
@@ -28,6 +37,59 @@ all: $(PROGRAM)
 $(PROGRAM): $(SOURCES)
 	cd crates/trirast_cli && $(RT) run < "$(CURDIR)/examples/triangle.json" > /dev/null
 	install -D -m 755 crates/trirast_cli/out/trirast_cli $@
+
+library: lib/libtrirast.a lib/libtrirast.so lib/trirast.pc
+
+# The library's code and the heap of the toolchain, over malloc, realloc and free. Only trirast_* is left to be seen.
+lib/trirast.o: $(SOURCES)
+	cd crates/trirast_c && $(RT) lib
+	@mkdir -p lib
+	$(LD) -r -o $@ --whole-archive crates/trirast_c/out/libtrirast_c.a "$$(dirname "$$($(RT) doc)")/c/liblibc_c.a"
+	objcopy --wildcard --keep-global-symbol='trirast_*' $@
+
+lib/libtrirast.a: lib/trirast.o
+	rm -f $@
+	$(AR) rcs $@ $<
+
+lib/$(SHARED): lib/trirast.o
+	$(CC) -shared -s -Wl,-soname,$(SHARED) -Wl,--gc-sections -Wl,-z,defs -o $@ $<
+
+lib/libtrirast.so: lib/$(SHARED)
+	ln -sf $(SHARED) $@
+
+lib/trirast.pc: Makefile include/trirast.h
+	@mkdir -p lib
+	$(file >$@,$(PACKAGE))
+
+define PACKAGE
+prefix=$(CURDIR)
+includedir=$${prefix}/include
+libdir=$${prefix}/lib
+
+Name: trirast
+Description: lists of triangles drawn to PPM and PGM pictures, proved byte for byte
+Version: $(LIBRARY_VERSION)
+Cflags: -I$${includedir}
+Libs: -L$${libdir} -ltrirast
+endef
+
+check-library: $(PROGRAM) library
+	$(PYTHON) scripts/check_library.py
+
+install: $(PROGRAM) library
+	install -D -m 755 $(PROGRAM) "$(DESTDIR)$(PREFIX)/bin/trirast"
+	install -D -m 644 docs/trirast.1 "$(DESTDIR)$(PREFIX)/share/man/man1/trirast.1"
+	install -D -m 644 docs/draw-list.schema.json "$(DESTDIR)$(PREFIX)/share/trirast/draw-list.schema.json"
+	install -D -m 644 include/trirast.h "$(DESTDIR)$(PREFIX)/include/trirast.h"
+	install -D -m 644 lib/libtrirast.a "$(DESTDIR)$(PREFIX)/lib/libtrirast.a"
+	install -D -m 755 lib/$(SHARED) "$(DESTDIR)$(PREFIX)/lib/$(SHARED)"
+	ln -sf $(SHARED) "$(DESTDIR)$(PREFIX)/lib/libtrirast.so"
+	install -d "$(DESTDIR)$(PREFIX)/lib/pkgconfig"
+	sed 's|^prefix=.*|prefix=$(PREFIX)|' lib/trirast.pc > "$(DESTDIR)$(PREFIX)/lib/pkgconfig/trirast.pc"
+
+uninstall:
+	@for name in $(INSTALLED); do rm -fv "$(DESTDIR)$(PREFIX)/$$name"; done
+	@rmdir "$(DESTDIR)$(PREFIX)/share/trirast" 2> /dev/null || true
 
 out/%.pnm: examples/%.json $(PROGRAM)
 	@mkdir -p out
@@ -65,4 +127,4 @@ check-conformance:
 	$(PYTHON) conformance/test_conformance.py
 
 clean:
-	rm -rf bin out bench/out conformance/out
+	rm -rf bin lib out bench/out conformance/out
