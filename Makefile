@@ -29,7 +29,8 @@ SHARED := libtrirast.so.$(LIBRARY_VERSION)
 INSTALLED := bin/trirast share/man/man1/trirast.1 share/trirast/draw-list.schema.json include/trirast.h \
     lib/libtrirast.a lib/$(SHARED) lib/libtrirast.so lib/pkgconfig/trirast.pc
 
-.PHONY: all library check-library install uninstall demo test compare schema memory bench frames conformance check-conformance clean
+.PHONY: all library check-library install uninstall demo test compare schema memory bench frames conformance \
+    check-conformance clean
 .DELETE_ON_ERROR:
 
 all: $(PROGRAM)

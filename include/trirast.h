@@ -30,6 +30,10 @@ extern "C" {
 /* The version that this header describes; trirast_version() tells that of the library. */
 #define TRIRAST_VERSION 1
 
+/* Bytes of stack that are enough for each call, for a thread that is given a small one. Measured, with room to spare, and
+ * not proved: docs/library.md. */
+#define TRIRAST_STACK 262144
+
 /* The answer of a call, and the `kind` of a fault. */
 enum {
     TRIRAST_OK = 0,               /* done */
@@ -79,8 +83,8 @@ uint32_t trirast_version(void);
 uint32_t trirast_size(const uint8_t *list, size_t length, trirast_picture *picture, trirast_fault *fault);
 
 /* Draws a list's picture: the whole file, header and pixels, goes to the buffer's first `file_bytes` bytes. `tile` is
- * the side of a tile in pixels, 8, 16, 32 or 64; it changes no byte. Drawing keeps one row of tiles beside the buffer,
- * so a smaller side takes less memory.
+ * the side of a tile in pixels, 8, 16, 32 or 64; it changes no byte, and 32 is a good one. So that the buffer is as it was
+ * after a fault, the file is drawn beside it and copied: drawing takes as much memory again as is written.
  * Faults: all but TRIRAST_NO_SUCH_ROWS. */
 uint32_t trirast_draw(const uint8_t *list, size_t length, uint32_t tile, uint8_t *buffer, size_t room,
                       trirast_fault *fault);
