@@ -41,11 +41,13 @@ $(PROGRAM): $(SOURCES)
 
 library: lib/libtrirast.a lib/libtrirast.so lib/trirast.pc
 
-# The library's code and the heap of the toolchain, over malloc, realloc and free. Only trirast_* is left to be seen.
+# The library's code with what it calls: the toolchain's heap over malloc, realloc and free, and of the compiler's own
+# library the division of 128 bits. Only trirast_* is left to be seen.
 lib/trirast.o: $(SOURCES)
 	cd crates/trirast_c && $(RT) lib
 	@mkdir -p lib
-	$(LD) -r -o $@ --whole-archive crates/trirast_c/out/libtrirast_c.a "$$(dirname "$$($(RT) doc)")/c/liblibc_c.a"
+	$(LD) -r -o $@ --whole-archive crates/trirast_c/out/libtrirast_c.a --no-whole-archive \
+	    "$$(dirname "$$($(RT) doc)")/c/liblibc_c.a" "$$($(CC) -print-libgcc-file-name)"
 	objcopy --wildcard --keep-global-symbol='trirast_*' $@
 
 lib/libtrirast.a: lib/trirast.o

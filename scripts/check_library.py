@@ -120,12 +120,20 @@ class Lists:
         texts = [b'{"width":1,"height":1,"draws":[]}']
         texts += [json.dumps(compare.a_list(pick)).encode() for _ in range(24)]
         texts += [json.dumps(value).encode() for _, value, _ in REFUSED]
-        texts += [compare.a_broken_text(pick) for _ in range(40)] + [b"{", b"\xff", b"[" * 127 + b"]" * 127]
+        texts += [compare.a_broken_text(pick) for _ in range(40)] + [b"{", b"\xff"] + self.deep()
         texts += self.backwards(texts)
         self.small = self.manifest("small", [text for text in texts if len(text) < SMALL_LIST])
         examples = sorted(glob.glob(os.path.join(TOP, "examples", "*.json")))
         self.all = self.manifest("all", [open(path, "rb").read() for path in examples], self.small)
         self.few = self.manifest("few", texts[:5] + texts[30:60:10] + texts[-2:])
+
+    @staticmethod
+    def deep():
+        """Texts that are nested as deeply as JSON is read, and deeper: they take the most stack."""
+        pairs = [(b"[", b"]"), (b'{"a":', b"}"), (b'[{"a":', b"}]"), (b'{"a":[', b"]}")]
+        inmost = [b"0", b"1." + 90 * b"123456789" + b"e-300", b'"\\ud83d\\ude00"', b"?"]
+        depths = (63, 127, 128, 500)
+        return [begin * depth + text + end * depth for begin, end in pairs for depth in depths for text in inmost]
 
     @staticmethod
     def backwards(texts):
