@@ -43,9 +43,8 @@ library: lib/libtrirast.a lib/libtrirast.so lib/trirast.pc
 
 # The library's code with what it calls: the toolchain's heap over malloc, realloc and free, and of the compiler's own
 # library the division of 128 bits. Only trirast_* is left to be seen.
-lib/trirast.o: $(SOURCES)
+lib/trirast.o: $(SOURCES) | lib
 	cd crates/trirast_c && $(RT) lib
-	@mkdir -p lib
 	$(LD) -r -o $@ --whole-archive crates/trirast_c/out/libtrirast_c.a --no-whole-archive \
 	    "$$(dirname "$$($(RT) doc)")/c/liblibc_c.a" "$$($(CC) -print-libgcc-file-name)"
 	objcopy --wildcard --keep-global-symbol='trirast_*' $@
@@ -60,9 +59,11 @@ lib/$(SHARED): lib/trirast.o
 lib/libtrirast.so: lib/$(SHARED)
 	ln -sf $(SHARED) $@
 
-lib/trirast.pc: Makefile include/trirast.h
-	@mkdir -p lib
+lib/trirast.pc: Makefile include/trirast.h | lib
 	$(file >$@,$(PACKAGE))
+
+lib:
+	mkdir lib
 
 define PACKAGE
 prefix=$(CURDIR)
