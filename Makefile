@@ -25,7 +25,7 @@ SOURCES := crates.txt $(shell find crates -name out -prune -o -type f \( -name '
 LISTS := $(wildcard examples/*.json)
 PICTURES := $(LISTS:examples/%.json=out/%.pnm)
 LIBRARY_VERSION := $(shell sed -n 's/^\#define TRIRAST_VERSION //p' include/trirast.h)
-SHARED := libtrirast.so.$(LIBRARY_VERSION)
+SHARED := libtrirast.so.1
 INSTALLED := bin/trirast share/man/man1/trirast.1 share/trirast/draw-list.schema.json include/trirast.h \
     lib/libtrirast.a lib/$(SHARED) lib/libtrirast.so lib/pkgconfig/trirast.pc
 

@@ -6,13 +6,14 @@
  * What holds of every call:
  *
  * - Memory. The caller owns all that it passes. Nothing that is passed is kept, and nothing has to be freed: what a call
- *   takes from malloc it gives back before it returns. No pointer may be NULL.
+ *   takes from malloc it gives back before it returns. No pointer may be NULL, not even one to no bytes.
  * - A list is `length` bytes at `list`, with no byte of zero at their end. They are read and not changed.
  * - A buffer is `room` bytes at `buffer`. Where a call answers 0 it wrote as many bytes as its text says at the buffer's
  *   beginning, and the rest is as it was. After a fault the whole buffer is as it was.
  * - What is written (`buffer`, `picture`, `fault`) must not overlap with each other nor with the list.
  * - The answer is 0 or the kind of the fault, TRIRAST_LIST_FAULT to TRIRAST_NO_SUCH_ROWS. `fault` is written in either
- *   case, and its `kind` is the answer.
+ *   case, and its `kind` is the answer. Of several faults the first is told: the side of a tile, the list, the rows, the
+ *   buffer; and want of memory where it is met.
  * - Threads. No call keeps a state or starts a thread, so any number of threads may call at once, with the same list too,
  *   as long as what one of them writes is not touched by another. Not to be called from a signal handler.
  * - Each call reads its list anew. A list may be changed or freed as soon as the call returns.
@@ -27,7 +28,7 @@
 extern "C" {
 #endif
 
-/* The version that this header describes; trirast_version() tells that of the library. */
+/* The version that this header describes. A library of a greater one has all of it, in the same form. */
 #define TRIRAST_VERSION 1
 
 /* Bytes of stack that are enough for each call, for a thread that is given a small one. Measured, with room to spare, and
@@ -42,7 +43,7 @@ enum {
     TRIRAST_OUT_OF_MEMORY = 3,    /* malloc or realloc refused */
     TRIRAST_BUFFER_TOO_SHORT = 4, /* `room` is less than what would be written */
     TRIRAST_NO_TILE_SIDE = 5,     /* `tile` is none of 8, 16, 32 and 64 */
-    TRIRAST_NO_SUCH_ROWS = 6      /* `first` lies after `end`, or `end` after the picture's last row of tiles */
+    TRIRAST_NO_SUCH_ROWS = 6      /* `first` is not before `end`, or the picture has fewer rows of tiles than `end` */
 };
 
 /* The `list_kind` of a fault whose kind is TRIRAST_LIST_FAULT: the numbers of docs/draw-list.md. */
@@ -75,7 +76,7 @@ typedef struct {
     uint64_t file_bytes;   /* bytes of the whole file */
 } trirast_picture;
 
-/* The version of the library: 1. A library of another number has other calls. */
+/* The version of the library: 1. */
 uint32_t trirast_version(void);
 
 /* Reads a list and tells what its picture takes. After a fault `*picture` is as it was.
@@ -91,17 +92,17 @@ uint32_t trirast_draw(const uint8_t *list, size_t length, uint32_t tile, uint8_t
 
 /* Draws the rows of tiles from `first` to before `end`, counted from 0 at the top. A picture has
  * (height + tile - 1) / tile of them, and row r holds the rows of pixels from r * tile to before (r + 1) * tile, the last
- * one as many as are left. Their pixels go to the buffer's beginning without a header: (bottom - top) * width *
- * pixel_bytes bytes, where top = min(first * tile, height) and bottom = min(end * tile, height). With first = end there
- * are none, and nothing is written.
+ * one as many as are left. `first` is before `end`. Their pixels go to the buffer's beginning without a header:
+ * (bottom - top) * width * pixel_bytes bytes, where top = first * tile and bottom = min(end * tile, height).
  * So several threads share one picture, each with a range of its own and the part of one buffer that begins at
  * top * width * pixel_bytes. Only the range is drawn, but each call reads the whole list.
  * Faults: all. */
 uint32_t trirast_draw_rows(const uint8_t *list, size_t length, uint32_t tile, uint32_t first, uint32_t end,
                            uint8_t *buffer, size_t room, trirast_fault *fault);
 
-/* Writes the line that the program trirast has for a fault, as "trirast: list fault 6 BadIndex in draw 1", and gives the
- * number of its bytes, without a byte of zero at their end. Where `room` is less nothing is written. */
+/* Writes the line that the program trirast has for a fault, as "trirast: list fault 6 BadIndex in draw 1\n", or as much of
+ * it as there is room for, and gives the length of the whole line, which is at most 96 bytes, without a byte of zero at its
+ * end. Of what no call tells, as of a fault of kind 0, there is no line: nothing is written, and the answer is 0. */
 size_t trirast_fault_line(const trirast_fault *fault, uint8_t *buffer, size_t room);
 
 #ifdef __cplusplus

@@ -223,8 +223,8 @@ def _raise(fault: _Fault) -> None:
     """Raises the exception of a fault; returns where there is none."""
     if fault.kind == 0:
         return
-    room = (ctypes.c_uint8 * 256)()
-    line = bytes(room[: _library.trirast_fault_line(fault, room, len(room))]).decode()
+    room = (ctypes.c_uint8 * 96)()
+    line = bytes(room[: _library.trirast_fault_line(fault, room, len(room))]).decode().rstrip("\n")
     if fault.kind == _LIST_FAULT:
         raise ListFault(fault.kind, line, fault.list_kind, fault.draw if fault.in_draw else None)
     raise _FAULTS.get(fault.kind, Fault)(fault.kind, line)
@@ -233,7 +233,7 @@ def _raise(fault: _Fault) -> None:
 def _load() -> ctypes.CDLL:
     """The library, with the types of its calls. ctypes lets go of python's lock while one runs."""
     beside = os.path.join(os.path.dirname(os.path.dirname(os.path.abspath(__file__))), "lib", "libtrirast.so")
-    path = os.environ.get("TRIRAST_LIBRARY") or (beside if os.path.exists(beside) else f"libtrirast.so.{VERSION}")
+    path = os.environ.get("TRIRAST_LIBRARY") or (beside if os.path.exists(beside) else "libtrirast.so.1")
     library = ctypes.CDLL(path)
     the_list = [ctypes.c_char_p, ctypes.c_size_t]
     buffer = [ctypes.POINTER(ctypes.c_uint8), ctypes.c_size_t]
@@ -248,8 +248,8 @@ def _load() -> ctypes.CDLL:
     ):
         call = getattr(library, name)
         call.argtypes, call.restype = takes, gives
-    if library.trirast_version() != VERSION:
-        raise ImportError(f"{path} has version {library.trirast_version()}, and this module is for {VERSION}")
+    if library.trirast_version() < VERSION:
+        raise ImportError(f"{path} has version {library.trirast_version()}, and this module needs {VERSION}")
     return library
 
 

@@ -150,7 +150,7 @@ class Lists:
         for number, text in enumerate(texts):
             file, line, status = drawn_by_program(text)
             self.keep(f"{name}-{number}.json", text)
-            kind, ending, answer = ("drawn", "file", file) if status == 0 else ("refused", "line", line.rstrip(b"\n"))
+            kind, ending, answer = ("drawn", "file", file) if status == 0 else ("refused", "line", line)
             self.keep(f"{name}-{number}.{ending}", answer)
             (self.drawn if status == 0 else self.refused).append((text, answer))
             lines.append(f"{kind} lists/{name}-{number}.json lists/{name}-{number}.{ending}\n")
@@ -366,7 +366,7 @@ def check_python_faults(lists):
     for text, line in lists.refused:
         for threads in (1, 4):
             fault = raised(trirast.draw, text, threads=threads)
-            must(isinstance(fault, trirast.ListFault) and str(fault) == line.decode(), f"{line}: {fault!r}")
+            must(isinstance(fault, trirast.ListFault) and f"{fault}\n" == line.decode(), f"{line}: {fault!r}")
         words = line.decode().split()
         place = int(words[-1]) if "draw" in words else None
         must((fault.number, fault.name, fault.draw) == (int(words[3]), words[4], place), f"{line}: {vars(fault)}")

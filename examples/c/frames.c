@@ -104,20 +104,22 @@ static void *draw_part(void *argument) {
 }
 
 static void stop_at(const trirast_fault *fault) {
-    uint8_t line[256];
+    uint8_t line[96];
     size_t length = trirast_fault_line(fault, line, sizeof line);
     if (fault->kind != TRIRAST_OK) {
-        fprintf(stderr, "%.*s\n", (int)length, (const char *)line);
+        fwrite(line, 1, length, stderr);
         exit(1);
     }
 }
 
-/* Draws the list's pixels. The size is the program's own, so trirast_size need not be asked. */
+/* Draws the list's pixels by so many threads, or one for each row of tiles where these are fewer. The size is the program's
+ * own, so trirast_size need not be asked. */
 static void draw(const text *list, uint8_t *pixels, int threads) {
     part parts[MOST_THREADS];
     pthread_t ids[MOST_THREADS];
     uint32_t rows = (HEIGHT + TILE - 1) / TILE;
     size_t row_bytes = 3 * WIDTH;
+    if ((uint32_t)threads > rows) threads = (int)rows;
     for (int k = 0; k < threads; k++) {
         uint32_t first = rows * (uint32_t)k / (uint32_t)threads, end = rows * (uint32_t)(k + 1) / (uint32_t)threads;
         size_t top = (size_t)first * TILE, bottom = end == rows ? HEIGHT : (size_t)end * TILE;
@@ -154,7 +156,7 @@ int main(int count, char **words) {
         else if (!strcmp(words[k], "--threads")) threads = number(words[++k], MOST_THREADS);
         else folder = words[k];
     }
-    if (trirast_version() != TRIRAST_VERSION) stop("the library is of another version than its header");
+    if (trirast_version() < TRIRAST_VERSION) stop("the library is older than its header");
     size_t length = (size_t)3 * WIDTH * HEIGHT;
     uint8_t *pixels = malloc(length);
     if (!pixels) stop("out of memory");

@@ -10,12 +10,12 @@
 
 #include "trirast.h"
 
-// The line of a fault as an exception.
+// The line of a fault as an exception, without its end.
 static void check(const trirast_fault &fault) {
     if (fault.kind == TRIRAST_OK) return;
-    std::uint8_t line[256];
+    std::uint8_t line[96];
     const std::size_t length = trirast_fault_line(&fault, line, sizeof line);
-    throw std::runtime_error(std::string(line, line + length));
+    throw std::runtime_error(std::string(line, line + length - 1));
 }
 
 static std::vector<std::uint8_t> draw(const std::string &list) {

@@ -74,9 +74,9 @@ static void look_at_rows(void) {
     for (int k = 0; k < drawn_count; k++)
         for (int s = 0; s < 4; s++) {
             uint32_t rows = rows_of(&drawn[k], SIDES[s]);
-            for (uint32_t first = 0; first <= rows; first++)
-                for (uint32_t end = first; end <= rows; end++)
-                    if (rows <= 5 || end - first <= 1 || end - first == rows)
+            for (uint32_t first = 0; first < rows; first++)
+                for (uint32_t end = first + 1; end <= rows; end++)
+                    if (rows <= 5 || end - first == 1 || end - first == rows)
                         draw_rows_case(&drawn[k], SIDES[s], first, end, 0, TRIRAST_OK);
         }
     tell("trirast_draw_rows writes the pixels of its rows of tiles and nothing else");
@@ -84,6 +84,8 @@ static void look_at_rows(void) {
         uint32_t rows = rows_of(&drawn[k], 32);
         draw_rows_case(&drawn[k], 32, 0, rows + 1, 0, TRIRAST_NO_SUCH_ROWS);
         draw_rows_case(&drawn[k], 32, 1, 0, 0, TRIRAST_NO_SUCH_ROWS);
+        draw_rows_case(&drawn[k], 32, 0, 0, 0, TRIRAST_NO_SUCH_ROWS);
+        draw_rows_case(&drawn[k], 32, rows, rows, 0, TRIRAST_NO_SUCH_ROWS);
         draw_rows_case(&drawn[k], 32, rows + 1, rows + 1, 0, TRIRAST_NO_SUCH_ROWS);
         draw_rows_case(&drawn[k], 32, 0, UINT32_MAX, 0, TRIRAST_NO_SUCH_ROWS);
         draw_rows_case(&drawn[k], 64, 1u << 26, 1u << 26, 0, TRIRAST_NO_SUCH_ROWS);
@@ -149,15 +151,25 @@ static void look_at_refused(void) {
     tell("a refused list gives the program's line, and leaves the buffer as it was");
     for (size_t room = 0; room < 64; room++) {
         trirast_fault fault = {TRIRAST_LIST_FAULT, TRIRAST_BAD_INDEX, 1, 4294967295u};
-        const char *wanted = "trirast: list fault 6 BadIndex in draw 4294967295";
+        const char *wanted = "trirast: list fault 6 BadIndex in draw 4294967295\n";
         marked line = mark(room);
         size_t length = strlen(wanted);
         expect(trirast_fault_line(&fault, line.bytes, room) == length &&
-                   holds_just(&line, (const uint8_t *)wanted, room < length ? 0 : length),
+                   holds_just(&line, (const uint8_t *)wanted, room < length ? room : length),
                "room for %zu bytes", room);
         free(line.all);
     }
-    tell("a line goes to a buffer that is long enough, and to no other");
+    tell("of a line there comes as much as there is room for");
+    for (uint32_t kind = 0; kind < 20; kind++) {
+        trirast_fault fault = {kind, kind ? 0 : TRIRAST_BAD_INDEX, 0, 0};
+        marked line = mark(96);
+        size_t length = trirast_fault_line(&fault, line.bytes, line.room);
+        int has_line = kind >= TRIRAST_TOO_LONG && kind <= TRIRAST_NO_SUCH_ROWS;
+        expect(has_line ? length > 10 && length <= 96 && line.bytes[length - 1] == '\n' : !length && holds_just(&line, NULL, 0),
+               "kind %u: a line of %zu bytes", kind, length);
+        free(line.all);
+    }
+    tell("of what no call tells there is no line");
 }
 
 static void look_at_odd_lists(void) {
@@ -213,8 +225,10 @@ static void *draw_share(void *argument) {
     uint32_t rows = rows_of(own->one, 8);
     uint32_t first = rows * (uint32_t)own->number / THREADS, end = rows * (uint32_t)(own->number + 1) / THREADS;
     size_t begin = offset_of(own->one, 8, first), stop_at = offset_of(own->one, 8, end);
-    trirast_draw_rows(own->one->list.bytes, own->one->list.length, 8, first, end, own->pixels + begin, stop_at - begin,
-                      &own->fault);
+    own->fault.kind = 0;
+    if (first < end)
+        trirast_draw_rows(own->one->list.bytes, own->one->list.length, 8, first, end, own->pixels + begin, stop_at - begin,
+                          &own->fault);
     return NULL;
 }
 
