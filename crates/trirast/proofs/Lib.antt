@@ -3,3 +3,4 @@ pub mod Files
 pub mod Strips
 pub mod Columns
 pub mod Written
+pub mod Lines
