@@ -4,3 +4,4 @@ pub mod Strips
 pub mod Columns
 pub mod Written
 pub mod Bands
+pub mod Lines
