@@ -7,6 +7,8 @@ mod depths;
 #[cfg(test)]
 mod devices;
 #[cfg(test)]
+mod drawing;
+#[cfg(test)]
 mod faults;
 #[cfg(test)]
 mod lines;

@@ -60,22 +60,11 @@ impl CallFault {
         ensures kind { result.kind ≡ number_of self }
     {
         match self {
-            CallFault::List(ReadFault { kind, draw: None }) => LibraryFault {
+            CallFault::List(ReadFault { kind, draw }) => LibraryFault {
                 kind: 1,
                 list_kind: kind.number(),
-                in_draw: 0,
-                draw: 0,
-            },
-            CallFault::List(
-                ReadFault {
-                    kind,
-                    draw: Some(draw),
-                },
-            ) => LibraryFault {
-                kind: 1,
-                list_kind: kind.number(),
-                in_draw: 1,
-                draw,
+                in_draw: u32::from(draw.is_some()),
+                draw: draw.unwrap_or(0),
             },
             CallFault::InputTooLong => alone(2),
             CallFault::OutOfMemory => alone(3),
