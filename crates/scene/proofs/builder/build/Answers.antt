@@ -11,10 +11,10 @@ within_limits-requires c =
     let head : IsHeadInRange c.args.head.now = search rules in
     let found = c.in_ok-found.ensures.ok in
     record {
-      wide = head.wide;
-      width = head.width;
-      high = head.high;
-      height = head.height;
+      wide = omega (arith, head.wide, head.high);
+      width = omega (arith, head.width, head.height);
+      high = omega (arith, head.wide, head.high);
+      height = omega (arith, head.width, head.height);
       draws = rw found.1 (draws_within c.args.draws.now c.args.vertices.now c.args.indices.now (omega arith) found.0);
     }
 
