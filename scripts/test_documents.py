@@ -14,6 +14,7 @@ sys.path.insert(0, os.path.dirname(os.path.abspath(__file__)))
 
 import counts
 import plant_faults
+import reference
 
 TOP = os.path.dirname(os.path.dirname(os.path.abspath(__file__)))
 PATH = re.compile(r"`((?:[a-z_.]+/)+[\w.-]+\.(?:antt|rt|md|py|json|png|1|c|cpp|txt))`")
@@ -87,6 +88,21 @@ class Names(unittest.TestCase):
             for name in re.findall(r"`(\w+)`", paragraph):
                 stands = re.compile(rf"^(?:(?:pub|abbrev|record|data|opaque|unfoldable) )*{name} (?:.*)?:", re.MULTILINE)
                 self.assertTrue(any(stands.search(text) for text in files), f"{name}: {paragraph}")
+
+    def test_faults_of_lists(self):
+        kinds = [kind for kind in vars(reference).values() if isinstance(kind, tuple) and isinstance(kind[-1], str) and len(kind) == 2]
+        self.assertEqual([number for number, _name in kinds], [1, 2, 3, 4, 5, 6, 7, 9, 10])
+        for number, name in kinds:
+            self.assertIn(f"| {number} | `{name}` |", text_of("docs/draw-list.md"))
+            self.assertIn(f"{number} {name}", text_of("docs/trirast.1"))
+
+    def test_lines_of_the_program(self):
+        page = text_of("docs/trirast.1")
+        lines = re.findall(r'"(trirast: [a-z ]+)', "".join(sources("src/**/*.rt").values()))
+        lines = {line.rstrip() for line in lines}
+        self.assertLessEqual({"trirast: list fault", "trirast: pool fault", "trirast: out of memory"}, lines)
+        for line in lines:
+            self.assertIn(line, page)
 
     def test_number_of_planted_faults(self):
         self.assertIn(f"that {len(plant_faults.FAULTS)} wrong rules", text_of("docs/proofs.md"))
