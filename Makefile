@@ -3,6 +3,10 @@
 #   make           prove what the program needs, and leave it at bin/trirast
 #   make demo      draw every list of examples/ to out/*.pnm, and to out/*.png where pnmtopng is installed
 #   make test      the merge gate: every proof from nothing, the must-fail edits, all tests, and the checks below to hostile
+#   make library   prove and build the core for other programs: lib/libtrirast.a, lib/libtrirast.so and lib/trirast.pc
+#   make check-library      run the library, its header, python/trirast.py and their examples against the program
+#   make install   program, manual page, header, libraries, pkg-config file and schema below PREFIX (an absolute path,
+#                  /usr/local if not given), behind DESTDIR where that is given; make uninstall takes them away
 #   make compare   draw generated lists, and compare each byte with the reference renderer
 #   make check-compare      test that comparison: what its lists cover, and faults planted in the reference's rules
 #   make schema    try the JSON Schema of the draw list
@@ -18,13 +22,19 @@
 
 RT ?= rt
 PYTHON ?= python3
+PREFIX ?= /usr/local
 
 PROGRAM := bin/trirast
 SOURCES := crates.txt $(shell find crates -name out -prune -o -type f \( -name '*.rt' -o -name '*.antt' \) -print)
 LISTS := $(wildcard examples/*.json)
 PICTURES := $(LISTS:examples/%.json=out/%.pnm)
+LIBRARY_VERSION := $(shell sed -n 's/^\#define TRIRAST_VERSION //p' include/trirast.h)
+SHARED := libtrirast.so.1
+INSTALLED := bin/trirast share/man/man1/trirast.1 share/trirast/draw-list.schema.json include/trirast.h \
+    lib/libtrirast.a lib/$(SHARED) lib/libtrirast.so lib/pkgconfig/trirast.pc
 
-.PHONY: all demo test checks compare check-compare schema memory hostile races bench frames conformance check-conformance clean
+.PHONY: all library check-library install uninstall demo test checks compare check-compare schema memory hostile races \
+    bench frames conformance check-conformance clean
 .DELETE_ON_ERROR:
 
 all: $(PROGRAM)
@@ -32,6 +42,62 @@ all: $(PROGRAM)
 $(PROGRAM): $(SOURCES)
 	cd crates/trirast_cli && $(RT) run < "$(CURDIR)/examples/triangle.json" > /dev/null
 	install -D -m 755 crates/trirast_cli/out/trirast_cli $@
+
+library: lib/libtrirast.a lib/libtrirast.so lib/trirast.pc
+
+# The library's code with what it calls: the toolchain's heap over malloc, realloc and free, and of the compiler's own
+# library the division of 128 bits. Only trirast_* is left to be seen.
+lib/trirast.o: $(SOURCES) | lib
+	cd crates/trirast_c && $(RT) lib
+	$(LD) -r -o $@ --whole-archive crates/trirast_c/out/libtrirast_c.a --no-whole-archive \
+	    "$$(dirname "$$($(RT) doc)")/c/liblibc_c.a" "$$($(CC) -print-libgcc-file-name)"
+	objcopy --wildcard --keep-global-symbol='trirast_*' $@
+
+lib/libtrirast.a: lib/trirast.o
+	rm -f $@
+	$(AR) rcs $@ $<
+
+lib/$(SHARED): lib/trirast.o
+	$(CC) -shared -s -Wl,-soname,$(SHARED) -Wl,--gc-sections -Wl,-z,defs -o $@ $<
+
+lib/libtrirast.so: lib/$(SHARED)
+	ln -sf $(SHARED) $@
+
+lib/trirast.pc: Makefile include/trirast.h | lib
+	$(file >$@,$(PACKAGE))
+
+lib:
+	mkdir lib
+
+define PACKAGE
+prefix=$(CURDIR)
+includedir=$${prefix}/include
+libdir=$${prefix}/lib
+
+Name: trirast
+Description: lists of triangles drawn to PPM and PGM pictures, proved byte for byte
+Version: $(LIBRARY_VERSION)
+Cflags: -I$${includedir}
+Libs: -L$${libdir} -ltrirast
+endef
+
+check-library: $(PROGRAM) library
+	$(PYTHON) scripts/check_library.py
+
+install: $(PROGRAM) library
+	install -D -m 755 $(PROGRAM) "$(DESTDIR)$(PREFIX)/bin/trirast"
+	install -D -m 644 docs/trirast.1 "$(DESTDIR)$(PREFIX)/share/man/man1/trirast.1"
+	install -D -m 644 docs/draw-list.schema.json "$(DESTDIR)$(PREFIX)/share/trirast/draw-list.schema.json"
+	install -D -m 644 include/trirast.h "$(DESTDIR)$(PREFIX)/include/trirast.h"
+	install -D -m 644 lib/libtrirast.a "$(DESTDIR)$(PREFIX)/lib/libtrirast.a"
+	install -D -m 755 lib/$(SHARED) "$(DESTDIR)$(PREFIX)/lib/$(SHARED)"
+	ln -sf $(SHARED) "$(DESTDIR)$(PREFIX)/lib/libtrirast.so"
+	install -d "$(DESTDIR)$(PREFIX)/lib/pkgconfig"
+	sed 's|^prefix=.*|prefix=$(PREFIX)|' lib/trirast.pc > "$(DESTDIR)$(PREFIX)/lib/pkgconfig/trirast.pc"
+
+uninstall:
+	@for name in $(INSTALLED); do rm -fv "$(DESTDIR)$(PREFIX)/$$name"; done
+	@rmdir "$(DESTDIR)$(PREFIX)/share/trirast" 2> /dev/null || true
 
 out/%.pnm: examples/%.json $(PROGRAM)
 	@mkdir -p out
@@ -82,4 +148,4 @@ check-conformance:
 	$(PYTHON) conformance/test_conformance.py
 
 clean:
-	rm -rf bin out bench/out conformance/out
+	rm -rf bin lib out bench/out conformance/out

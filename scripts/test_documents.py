@@ -69,8 +69,10 @@ class Names(unittest.TestCase):
     def test_files(self):
         for name, text in documents().items():
             for path in set(PATH.findall(text)):
-                # A file is named from the top, from crates/ or from a crate; one that a command makes is not there before it.
-                places = [os.path.join(TOP, *folder, path) for folder in ((), ("crates",), ("crates", "*"), ("crates", "*", "src"))]
+                # A file is named from the top, from the document's folder, from crates/ or from a crate; one that a command makes
+                # is not there before it.
+                folders = ((), (os.path.dirname(name),), ("crates",), ("crates", "*"), ("crates", "*", "src"))
+                places = [os.path.join(TOP, *folder, path) for folder in folders]
                 if not path.startswith(("out/", "conformance/out/", "crates/NAME/")):
                     self.assertTrue(any(map(glob.glob, places)), f"{name}: {path}")
 
@@ -98,8 +100,8 @@ class Names(unittest.TestCase):
 
     def test_lines_of_the_program(self):
         page = text_of("docs/trirast.1")
-        lines = re.findall(r'"(trirast: [a-z ]+)', "".join(sources("src/**/*.rt").values()))
-        lines = {line.rstrip() for line in lines}
+        texts = [text for path, text in sources("src/**/*.rt").items() if path.split(os.sep)[1] == "trirast"]
+        lines = {line.rstrip() for line in re.findall(r'"(trirast: [a-z ]+)', "".join(texts))}
         self.assertLessEqual({"trirast: list fault", "trirast: pool fault", "trirast: out of memory"}, lines)
         for line in lines:
             self.assertIn(line, page)

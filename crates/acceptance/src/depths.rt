@@ -3,14 +3,14 @@
 ghost use Rattle.std.specs.Prelude.{◌≤◌};
 
 use crate::devices::{End, Sink};
-use crate::support::depth_file;
+use crate::support::{depth_file, run_into, was_cut_short};
 use grid::TileSide;
 use std::alloc::{AllocError, Global};
 use std::process::Abort;
 use std::sync::Wait;
 use std::test::Fail;
 use std::thread::Threads;
-use trirast::{Counted, Fault, Options, run};
+use trirast::{Counted, Options, run};
 
 /// Pixels (0, 0), (1, 0) and (0, 1) under depths 0, 3 and 0 at the corners: at the second centre 3 by half is 1.
 const CORNER: &str = "0000 0001 FFFF  0000 FFFF FFFF  FFFF FFFF FFFF";
@@ -101,8 +101,8 @@ fn shows_no_depth_of_the_other_samples(rt: HostRuntime) -> Result<(), Fail> {
 }
 
 /// 65 by 65 pixels, and depth 258 in the pixels of a triangle over the upper left half of 64 by 64 of them and a little more.
-const HALF: &[u8] =
-    br#"{"width":65,"height":65,"output":"depth","draws":[{"depth_write":true,"vertices":[[0,0,258,0,0,0,0],[16640,0,258,0,0,0,0],[0,16640,258,0,0,0,0]],"triangles":[[0,1,2]]}]}"#;
+const HALF: &str =
+    r#"{"width":65,"height":65,"output":"depth","draws":[{"depth_write":true,"vertices":[[0,0,258,0,0,0,0],[16640,0,258,0,0,0,0],[0,16640,258,0,0,0,0]],"triangles":[[0,1,2]]}]}"#;
 
 /// Its file: row j has depth 258 in pixels 0 to 63 - j, and else the clear depth.
 fn half(alloc: Global) -> Result<Vec<u8>, AllocError> {
@@ -120,25 +120,6 @@ fn half(alloc: Global) -> Result<Vec<u8>, AllocError> {
     Ok(bytes)
 }
 
-/// Draws `HALF` with tiles of 32 pixels over this writer, and gives the writer back.
-fn cut_short<R: Threads + Wait + Sync>(
-    rt: &R,
-    alloc: Global,
-    sink: Sink,
-    workers: u32,
-) -> (Result<(), Fault>, Sink)
-    requires { (1 ≤ workers) × (workers ≤ 16) }
-{
-    let mut input = Counted::new(HALF);
-    let mut output = Counted::new(sink);
-    let options = Options {
-        tile: TileSide::T32,
-        workers,
-    };
-    let result = run(rt, alloc, &mut input, &mut output, options);
-    (result, output.into_inner())
-}
-
 /// The header has 15 bytes, and each of the first two bands 32 * 65 * 2 = 4,160.
 #[test]
 fn tells_how_many_bytes_of_depths_went_out(rt: HostRuntime) -> Result<(), Fail> {
@@ -146,28 +127,15 @@ fn tells_how_many_bytes_of_depths_went_out(rt: HostRuntime) -> Result<(), Fail> 
     assert_eq!(rt; expected.len(), 8465);
     for room in [0, 5, 14, 15, 16, 4174, 4175, 4176, 8335, 8464usize] {
         for end in [End::Fails, End::TakesNothing] {
-            let sink = Sink {
-                taken: Vec::new(rt.alloc()),
-                room,
-                a_call: 4096,
-                end,
-                can_flush: true,
-            };
-            let (result, sink) = cut_short(&rt, rt.alloc(), sink, 7);
-            assert_eq!(rt; result, Err(Fault::WriteFailed(room as u64)), "{room}");
-            assert!(rt; expected.starts_with(&sink.taken), "{room}");
-            assert_eq!(rt; sink.taken.len(), room);
+            let sink = Sink::in_pieces(rt.alloc(), room, 4096, end);
+            let (result, sink) = run_into(&rt, rt.alloc(), HALF, sink, 7);
+            was_cut_short(&rt, result, &sink, &expected, room);
         }
     }
-    let whole = Sink {
-        taken: Vec::new(rt.alloc()),
-        room: 8465,
-        a_call: 7,
-        end: End::Fails,
-        can_flush: true,
-    };
-    let (result, sink) = cut_short(&rt, rt.alloc(), whole, 1);
+    let whole = Sink::in_pieces(rt.alloc(), 8465, 7, End::Fails);
+    let (result, sink) = run_into(&rt, rt.alloc(), HALF, whole, 1);
     assert_eq!(rt; result, Ok(()));
+    assert_eq!(rt; sink.flushes, 1);
     assert_eq!(rt; sink.taken.as_slice(), expected.as_slice());
     Ok(())
 }

@@ -1,6 +1,7 @@
 //! Readers and writers over memory that give and take little at a time, and fail.
 ghost use Rattle.std.specs.Prelude.{◌≤◌};
 
+use std::alloc::Global;
 use std::io;
 use std::io::{ErrorKind, Read, Write};
 
@@ -21,13 +22,50 @@ pub(crate) struct Sink {
     pub(crate) a_call: usize,
     pub(crate) end: End,
     pub(crate) can_flush: bool,
+    /// How often it was flushed.
+    pub(crate) flushes: u64,
+    /// How often a call came to it after it had taken all that it takes and said so.
+    pub(crate) late_calls: u64,
+    has_ended: bool,
+}
+
+impl Sink {
+    /// Takes so many bytes, each call as many as there is room for, and flushes.
+    pub(crate) fn new(alloc: Global, room: usize, end: End) -> Sink {
+        Sink {
+            taken: Vec::new(alloc),
+            room,
+            a_call: room,
+            end,
+            can_flush: true,
+            flushes: 0,
+            late_calls: 0,
+            has_ended: false,
+        }
+    }
+
+    /// The same, taking at most so many bytes a call.
+    pub(crate) fn in_pieces(alloc: Global, room: usize, a_call: usize, end: End) -> Sink {
+        let mut sink = Sink::new(alloc, room, end);
+        sink.a_call = a_call;
+        sink
+    }
+
+    /// Counts a call where it comes too late.
+    fn count_call(&mut self) {
+        if self.has_ended {
+            self.late_calls = self.late_calls.wrapping_add(1);
+        }
+    }
 }
 
 impl Write for Sink {
     fn write(&mut self, bytes: &[u8]) -> io::Result<usize> {
+        self.count_call();
         let left = self.room.saturating_sub(self.taken.len());
         let count = bytes.len().min(self.a_call).min(left);
         if count == 0 {
+            self.has_ended = true;
             return match self.end {
                 End::Fails => Err(io::Error::from(ErrorKind::BrokenPipe)),
                 End::TakesNothing => Ok(0),
@@ -38,11 +76,13 @@ impl Write for Sink {
     }
 
     fn flush(&mut self) -> io::Result<()> {
+        self.count_call();
+        self.flushes = self.flushes.wrapping_add(1);
         if self.can_flush {
-            Ok(())
-        } else {
-            Err(io::Error::from(ErrorKind::BrokenPipe))
+            return Ok(());
         }
+        self.has_ended = true;
+        Err(io::Error::from(ErrorKind::BrokenPipe))
     }
 }
 
@@ -53,6 +93,28 @@ pub(crate) struct Source<'a> {
     pub(crate) spaces: usize,
     pub(crate) a_call: usize,
     pub(crate) calls_left: u64,
+}
+
+impl<'a> Source<'a> {
+    /// Gives the text and then so many spaces, a megabyte a call, and never fails.
+    pub(crate) fn padded(text: &'a [u8], spaces: usize) -> Source<'a> {
+        Source {
+            text,
+            spaces,
+            a_call: 1_000_000,
+            calls_left: 1_000_000,
+        }
+    }
+
+    /// Gives the text so many bytes a call, and fails after so many calls.
+    pub(crate) fn failing(text: &'a [u8], a_call: usize, calls_left: u64) -> Source<'a> {
+        Source {
+            text,
+            spaces: 0,
+            a_call,
+            calls_left,
+        }
+    }
 }
 
 impl Read for Source<'_> {

@@ -1,23 +1,7 @@
-//! Lists that are refused, inputs that fail, and lists at their limits.
-use crate::devices::Source;
-use crate::support::{call, file, refuses};
-use grid::TileSide;
+//! Lists that are refused, and lists at their limits.
+use crate::support::{PIXELS, TRIANGLE, call, draws, refuses};
 use std::alloc::{AllocError, Global};
-use std::process::Abort;
-use std::sync::Wait;
 use std::test::Fail;
-use std::thread::Threads;
-use trirast::{Counted, Fault, Options, run};
-
-const TRIANGLE: &str =
-    r#"{"width":3,"height":3,"draws":[{"vertices":[[128,128,0,255,255,255,255],[640,128,0,255,255,255,255],[128,640,0,255,255,255,255]],"triangles":[[0,1,2]]}]}"#;
-
-const PIXELS: &str = "FFFFFF FFFFFF 000000  FFFFFF 000000 000000  000000 000000 000000";
-
-const OPTIONS: Options = Options {
-    tile: TileSide::T32,
-    workers: 2,
-};
 
 #[test]
 fn tells_the_first_fault_of_a_list(rt: HostRuntime) -> Result<(), Fail> {
@@ -127,16 +111,20 @@ fn listed(alloc: Global, text: &str, count: usize) -> Result<String, AllocError>
     Ok(all)
 }
 
+// `serde_json` nests at most 127 deep.
 #[test]
 fn refuses_brackets(rt: HostRuntime) -> Result<(), Fail> {
-    let open = times(rt.alloc(), "[", 100)?;
-    let close = times(rt.alloc(), "]", 100)?;
-    let list = format!(in rt.alloc(); "{open}{close}")?;
-    refuses(&rt, rt.alloc(), list.as_bytes(), "list fault 4 WrongKind")?;
-    let list = format!(in rt.alloc(); "{open}{open}{close}{close}")?;
-    let called = call(&rt, rt.alloc(), &[], list.as_bytes())?;
-    assert_eq!(rt; called.status, 1);
-    assert_eq!(rt; called.output.as_slice(), b"".as_slice());
+    for (count, line) in [
+        (100, "list fault 4 WrongKind"),
+        (127, "list fault 4 WrongKind"),
+        (128, "list fault 1 NotJson"),
+        (200, "list fault 1 NotJson"),
+    ] {
+        let open = times(rt.alloc(), "[", count)?;
+        let close = times(rt.alloc(), "]", count)?;
+        let list = format!(in rt.alloc(); "{open}{close}")?;
+        refuses(&rt, rt.alloc(), list.as_bytes(), line)?;
+    }
     Ok(())
 }
 
@@ -161,25 +149,22 @@ fn crowded(alloc: Global, draws: &[(usize, usize)]) -> Result<String, AllocError
     format!(in alloc; "{{\"width\":3,\"height\":3,\"draws\":[{all}]}}")
 }
 
-/// Asserts that the program draws the triangle.
-fn draws_the_triangle<R: Threads + Wait + Sync + Abort>(
-    rt: &R,
-    alloc: Global,
-    list: &str,
-) -> Result<(), Fail> {
-    let called = call(rt, alloc, &[], list.as_bytes())?;
-    let expected = file(alloc, 3, 3, PIXELS)?;
-    assert_eq!(rt; called.errors.as_slice(), b"".as_slice());
-    assert_eq!(rt; called.output.as_slice(), expected.as_slice());
-    assert_eq!(rt; called.status, 0);
+#[test]
+fn takes_lists_at_their_limits(rt: HostRuntime) -> Result<(), Fail> {
+    let alloc = rt.alloc();
+    for (name, counts) in [
+        ("65,536 vertices", (65_536, 1)),
+        ("65,536 triangles", (3, 65_536)),
+    ] {
+        let list = crowded(alloc, &[counts])?;
+        draws(&rt, alloc, name, &list, (3, 3), PIXELS)?;
+    }
     Ok(())
 }
 
 #[test]
-fn takes_lists_at_their_limits(rt: HostRuntime) -> Result<(), Fail> {
+fn refuses_lists_past_their_limits(rt: HostRuntime) -> Result<(), Fail> {
     let alloc = rt.alloc();
-    draws_the_triangle(&rt, alloc, &crowded(alloc, &[(65_536, 1)])?)?;
-    draws_the_triangle(&rt, alloc, &crowded(alloc, &[(3, 65_536)])?)?;
     let list = crowded(alloc, &[(65_537, 1)])?;
     refuses(
         &rt,
@@ -208,71 +193,9 @@ fn counts_draws(rt: HostRuntime) -> Result<(), Fail> {
     let empty = r#"{"vertices":[],"triangles":[]}"#;
     let most = listed(rt.alloc(), empty, 1024)?;
     let list = format!(in rt.alloc(); "{{\"width\":1,\"height\":1,\"draws\":[{most}]}}")?;
-    let called = call(&rt, rt.alloc(), &[], list.as_bytes())?;
-    assert_eq!(rt; called.status, 0);
+    draws(&rt, rt.alloc(), "1,024 draws", &list, (1, 1), "000000")?;
     let list = format!(in rt.alloc(); "{{\"width\":1,\"height\":1,\"draws\":[{most},{empty}]}}")?;
     refuses(&rt, rt.alloc(), list.as_bytes(), "list fault 7 TooMany")
-}
-
-/// Runs over this source.
-fn run_over<R: Threads + Wait + Sync>(
-    rt: &R,
-    alloc: Global,
-    source: Source<'_>,
-) -> (Result<(), Fault>, Vec<u8>) {
-    let mut input = Counted::new(source);
-    let mut output = Counted::new(Vec::new(alloc));
-    let result = run(rt, alloc, &mut input, &mut output, OPTIONS);
-    (result, output.into_inner())
-}
-
-#[test]
-fn reads_in_small_pieces(rt: HostRuntime) -> Result<(), Fail> {
-    let source = Source {
-        text: TRIANGLE.as_bytes(),
-        spaces: 0,
-        a_call: 1,
-        calls_left: 1_000,
-    };
-    let (result, written) = run_over(&rt, rt.alloc(), source);
-    assert_eq!(rt; result, Ok(()));
-    let expected = file(rt.alloc(), 3, 3, PIXELS)?;
-    assert_eq!(rt; written.as_slice(), expected.as_slice());
-    Ok(())
-}
-
-// Also where the read after the last byte fails.
-#[test]
-fn tells_of_each_read_that_fails(rt: HostRuntime) -> Result<(), Fail> {
-    let reads = TRIANGLE.len() as u64 / 7 + 2;
-    for calls_left in 0..reads {
-        let source = Source {
-            text: TRIANGLE.as_bytes(),
-            spaces: 0,
-            a_call: 7,
-            calls_left,
-        };
-        let (result, written) = run_over(&rt, rt.alloc(), source);
-        assert_eq!(rt; result, Err(Fault::InputFailed), "{calls_left}");
-        assert!(rt; written.is_empty(), "{calls_left}");
-    }
-    Ok(())
-}
-
-#[test]
-fn takes_an_input_of_the_greatest_length(rt: HostRuntime) -> Result<(), Fail> {
-    for (more, answer, length) in [(0, Ok(()), 38), (1, Err(Fault::InputTooLong), 0)] {
-        let source = Source {
-            text: TRIANGLE.as_bytes(),
-            spaces: 67_108_864 - TRIANGLE.len() + more,
-            a_call: 1_000_000,
-            calls_left: 1_000_000,
-        };
-        let (result, written) = run_over(&rt, rt.alloc(), source);
-        assert_eq!(rt; result, answer);
-        assert_eq!(rt; written.len(), length);
-    }
-    Ok(())
 }
 
 #[test]

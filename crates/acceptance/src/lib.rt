@@ -15,6 +15,8 @@ mod pictures;
 #[cfg(test)]
 mod primitives;
 #[cfg(test)]
+mod streams;
+#[cfg(test)]
 mod support;
 #[cfg(test)]
 mod workers;

@@ -1,9 +1,6 @@
 //! The words of the command line, and what the program says of them.
-use crate::support::call;
+use crate::support::{TRIANGLE, call};
 use std::test::Fail;
-
-const TRIANGLE: &[u8] =
-    br#"{"width":3,"height":3,"draws":[{"vertices":[[128,128,0,255,255,255,255],[640,128,0,255,255,255,255],[128,640,0,255,255,255,255]],"triangles":[[0,1,2]]}]}"#;
 
 #[test]
 fn prints_the_usage_line(rt: HostRuntime) -> Result<(), Fail> {
@@ -30,7 +27,7 @@ fn refuses_other_words(rt: HostRuntime) -> Result<(), Fail> {
         ["--width", "3"],
         ["scene.json", "picture.ppm"],
     ] {
-        let called = call(&rt, rt.alloc(), &words, TRIANGLE)?;
+        let called = call(&rt, rt.alloc(), &words, TRIANGLE.as_bytes())?;
         let name = words[1];
         assert_eq!(rt; called.status, 2, "{name}");
         assert_eq!(rt; called.output.as_slice(), b"".as_slice(), "{name}");
@@ -45,7 +42,7 @@ fn refuses_other_words(rt: HostRuntime) -> Result<(), Fail> {
 
 #[test]
 fn takes_tile_sides_and_workers(rt: HostRuntime) -> Result<(), Fail> {
-    let plain = call(&rt, rt.alloc(), &[], TRIANGLE)?;
+    let plain = call(&rt, rt.alloc(), &[], TRIANGLE.as_bytes())?;
     assert_eq!(rt; plain.output.len(), 38);
     for side in ["8", "16", "32", "64"] {
         for workers in ["1", "2", "16"] {
@@ -53,7 +50,7 @@ fn takes_tile_sides_and_workers(rt: HostRuntime) -> Result<(), Fail> {
                 &rt,
                 rt.alloc(),
                 &["--tile", side, "--workers", workers],
-                TRIANGLE,
+                TRIANGLE.as_bytes(),
             )?;
             assert_eq!(rt; called.status, 0, "{side}");
             assert_eq!(rt; called.output.as_slice(), plain.output.as_slice(), "{side}");

@@ -1,5 +1,5 @@
 //! Small pictures whose pixels were reckoned by hand.
-use crate::support::draws;
+use crate::support::{draws, file, writes};
 use std::alloc::{AllocError, Global};
 use std::process::Abort;
 use std::sync::Wait;
@@ -359,6 +359,7 @@ fn blends_the_channels_of_the_write_mask(rt: HostRuntime) -> Result<(), Fail> {
 fn reaches_the_ends_of_the_guard_band(rt: HostRuntime) -> Result<(), Fail> {
     for (name, low, high) in [
         ("half the band", "-4194304", "4194303"),
+        ("past half the band", "-4194305", "4194304"),
         ("the whole band", "-8388608", "8388607"),
     ] {
         let rest = "65535,255,255,255,255";
@@ -382,16 +383,60 @@ fn reaches_the_ends_of_the_guard_band(rt: HostRuntime) -> Result<(), Fail> {
 // The centres lie on the upper edge, which is a top edge of the first triangle and a bottom edge of the second.
 #[test]
 fn draws_slivers(rt: HostRuntime) -> Result<(), Fail> {
-    for (name, y, pixels) in [
-        ("below the centres", 129, "FFFFFF FFFFFF FFFFFF FFFFFF"),
-        ("above the centres", 127, "000000 000000 000000 000000"),
+    let white = "FFFFFF FFFFFF FFFFFF FFFFFF";
+    let black = "000000 000000 000000 000000";
+    for (name, x, y, pixels) in [
+        ("below the centres", 4_194_303, 129, white),
+        ("above the centres", 4_194_303, 127, black),
+        ("below the centres, to the end", 8_388_607, 129, white),
+        ("above the centres, to the end", 8_388_607, 127, black),
     ] {
         let vertices = format!(in rt.alloc();
-            "[0,128,0,255,255,255,255],[8388607,128,0,255,255,255,255],[8388607,{y},0,255,255,255,255]"
+            "[0,128,0,255,255,255,255],[{x},128,0,255,255,255,255],[{x},{y},0,255,255,255,255]"
         )?;
         let draw = draw(rt.alloc(), &vertices, "")?;
         let list = format!(in rt.alloc(); "{{\"width\":4,\"height\":1,\"draws\":[{draw}]}}")?;
         draws(&rt, rt.alloc(), name, &list, (4, 1), pixels)?;
+    }
+    Ok(())
+}
+
+/// One white pixel in 16 by 8.
+fn one_white(alloc: Global, column: usize) -> Result<String, AllocError> {
+    let mut pixels = String::new(alloc);
+    for place in 0..128 {
+        pixels.push_str(if place == column { "FFFFFF" } else { "000000" })?;
+    }
+    Ok(pixels)
+}
+
+// The pixel stands in the last column of the first tile of 8 pixels. The box of the second triangle reaches into the second
+// tile, where it covers no centre, and the third covers the centre of a pixel there.
+#[test]
+fn draws_in_the_last_column_of_a_tile(rt: HostRuntime) -> Result<(), Fail> {
+    for (name, vertices, column) in [
+        ("in the tile", [(1920, 128), (2000, 128), (1920, 200)], 7),
+        ("into the next", [(1920, 128), (2176, 128), (1920, 384)], 7),
+        ("in the next", [(2176, 128), (2300, 128), (2176, 200)], 8),
+    ] {
+        let [(ax, ay), (bx, by), (cx, cy)] = vertices;
+        let white = "0,255,255,255,255";
+        let vertices = format!(in rt.alloc();
+            "[{ax},{ay},{white}],[{bx},{by},{white}],[{cx},{cy},{white}]"
+        )?;
+        let draw = draw(rt.alloc(), &vertices, "")?;
+        let list = format!(in rt.alloc(); "{{\"width\":16,\"height\":8,\"draws\":[{draw}]}}")?;
+        let expected = file(rt.alloc(), 16, 8, &one_white(rt.alloc(), column)?)?;
+        for side in ["8", "16", "32", "64"] {
+            writes(
+                &rt,
+                rt.alloc(),
+                &["--tile", side],
+                list.as_bytes(),
+                &expected,
+                name,
+            )?;
+        }
     }
     Ok(())
 }

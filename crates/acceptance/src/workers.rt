@@ -1,32 +1,17 @@
-//! One picture from all tile sides and numbers of workers, and what is left of it where its writer fails.
+//! One picture from all tile sides and numbers of workers, and workers that are at work at once.
 ghost use Rattle.std.specs.Prelude.{◌≤◌};
 
-use crate::devices::{End, Sink};
+use crate::support::{HALF, call, half};
 use grid::TileSide;
 use pool::Gate;
 use std::alloc::{AllocError, Global};
+use std::rt::Files;
 use std::sync::Wait;
 use std::sync::atomic::{AtomicU64, Ordering};
 use std::test::Fail;
-use std::thread;
-use std::thread::Threads;
-use trirast::{Counted, Fault, Options, run, run_with};
-
-/// 65 by 65 pixels, and a triangle over the upper left half of 64 by 64 of them and a little more.
-const HALF: &[u8] =
-    br#"{"width":65,"height":65,"draws":[{"vertices":[[0,0,0,255,255,255,255],[16640,0,0,255,255,255,255],[0,16640,0,255,255,255,255]],"triangles":[[0,1,2]]}]}"#;
-
-/// Its file: row j has white pixels 0 to 63 - j.
-fn half(alloc: Global) -> Result<Vec<u8>, AllocError> {
-    let mut bytes = Vec::from_slice(alloc, b"P6\n65 65\n255\n")?;
-    for row in 0..65u32 {
-        for column in 0..65u32 {
-            let level = if column + row <= 63 { 255 } else { 0 };
-            bytes.extend_from_slice(&[level, level, level])?;
-        }
-    }
-    Ok(bytes)
-}
+use std::thread::{Threads, join};
+use std::{fs, thread};
+use trirast::{Counted, Options, run, run_with};
 
 #[test]
 fn draws_the_same_bytes(rt: HostRuntime) -> Result<(), Fail> {
@@ -34,7 +19,7 @@ fn draws_the_same_bytes(rt: HostRuntime) -> Result<(), Fail> {
     assert_eq!(rt; expected.len(), 12_688);
     for tile in [TileSide::T8, TileSide::T16, TileSide::T32, TileSide::T64] {
         for workers in [1, 2, 7, 16] {
-            let mut input = Counted::new(HALF);
+            let mut input = Counted::new(HALF.as_bytes());
             let mut output = Counted::new(Vec::new(rt.alloc()));
             let options = Options { tile, workers };
             run(&rt, rt.alloc(), &mut input, &mut output, options)?;
@@ -45,77 +30,6 @@ fn draws_the_same_bytes(rt: HostRuntime) -> Result<(), Fail> {
                 "{tile:?} {workers}"
             );
         }
-    }
-    Ok(())
-}
-
-/// Runs with so many workers and tiles of 32 pixels over this writer, and gives it back.
-fn cut_short<R: Threads + Wait + Sync>(
-    rt: &R,
-    alloc: Global,
-    sink: Sink,
-    workers: u32,
-) -> (Result<(), Fault>, Sink)
-    requires { (1 ≤ workers) × (workers ≤ 16) }
-{
-    let mut input = Counted::new(HALF);
-    let mut output = Counted::new(sink);
-    let options = Options {
-        tile: TileSide::T32,
-        workers,
-    };
-    let result = run(rt, alloc, &mut input, &mut output, options);
-    (result, output.into_inner())
-}
-
-#[test]
-fn tells_how_much_went_out(rt: HostRuntime) -> Result<(), Fail> {
-    let expected = half(rt.alloc())?;
-    for room in [
-        0,
-        1,
-        5,
-        12,
-        13,
-        14,
-        6252,
-        6253,
-        6254,
-        12_492,
-        12_493,
-        12_687usize,
-    ] {
-        for end in [End::Fails, End::TakesNothing] {
-            let sink = Sink {
-                taken: Vec::new(rt.alloc()),
-                room,
-                a_call: 4096,
-                end,
-                can_flush: true,
-            };
-            let (result, sink) = cut_short(&rt, rt.alloc(), sink, 7);
-            assert_eq!(rt; result, Err(Fault::WriteFailed(room as u64)), "{room}");
-            assert!(rt; expected.starts_with(&sink.taken), "{room}");
-            assert_eq!(rt; sink.taken.len(), room);
-        }
-    }
-    Ok(())
-}
-
-#[test]
-fn writes_in_small_pieces_and_flushes(rt: HostRuntime) -> Result<(), Fail> {
-    let expected = half(rt.alloc())?;
-    for (can_flush, answer) in [(true, Ok(())), (false, Err(Fault::WriteFailed(12_688)))] {
-        let sink = Sink {
-            taken: Vec::new(rt.alloc()),
-            room: 20_000,
-            a_call: 1,
-            end: End::Fails,
-            can_flush,
-        };
-        let (result, sink) = cut_short(&rt, rt.alloc(), sink, 1);
-        assert_eq!(rt; result, answer);
-        assert_eq!(rt; sink.taken.as_slice(), expected.as_slice());
     }
     Ok(())
 }
@@ -148,7 +62,7 @@ fn two_at_once_picture(rt: HostRuntime) -> Result<(), Fail> {
         entered: AtomicU64::new(0),
         met: AtomicU64::new(0),
     };
-    let mut input = Counted::new(HALF);
+    let mut input = Counted::new(HALF.as_bytes());
     let mut output = Counted::new(Vec::new(rt.alloc()));
     let options = Options {
         tile: TileSide::T32,
@@ -159,5 +73,107 @@ fn two_at_once_picture(rt: HostRuntime) -> Result<(), Fail> {
     let written: Vec<u8> = output.into_inner();
     let expected = half(rt.alloc())?;
     assert_eq!(rt; written.as_slice(), expected.as_slice());
+    Ok(())
+}
+
+/// 256 by 128 pixels of four samples, all of which four blended triangles cover.
+fn laborious(alloc: Global) -> Result<String, AllocError> {
+    let triangles = "[0,1,2],[0,1,2],[0,1,2],[0,1,2]";
+    format!(in alloc;
+        "{{\"width\":256,\"height\":128,\"samples\":4,\"draws\":[{{\"blend\":\"over\",\"vertices\":[[0,0,0,255,0,0,9],[131072,0,0,0,255,0,99],[0,131072,0,0,0,255,199]],\"triangles\":[{triangles}]}}]}}"
+    )
+}
+
+/// How many threads this process has, as Linux tells.
+fn threads_now<R: Files + AllocGlobal>(rt: &R) -> u32 {
+    let Ok(status) = fs::read_to_string(rt, "/proc/self/status") else {
+        return 0;
+    };
+    for line in status.lines() {
+        if let Some(number) = line.strip_prefix("Threads:") {
+            return number.trim().parse::<u32>().unwrap_or(0);
+        }
+    }
+    0
+}
+
+/// The most threads that are seen at once until `ended` is set.
+fn watch<R: Files + AllocGlobal>(rt: &R, ended: &AtomicU64) -> u32 {
+    let mut most = 0;
+    for _ in 0..1_000_000 {
+        if ended.load(Ordering::SeqCst) > 0 {
+            return most;
+        }
+        most = most.max(threads_now(rt));
+    }
+    most
+}
+
+/// Draws the list by `run` with so many workers, and answers whether it was drawn.
+fn is_drawn_by_run<R: Threads + Wait + Sync>(
+    rt: &R,
+    alloc: Global,
+    list: &str,
+    workers: u32,
+) -> bool
+    requires { (1 ≤ workers) × (workers ≤ 16) }
+{
+    let mut input = Counted::new(list.as_bytes());
+    let mut output = Counted::new(Vec::new(alloc));
+    let options = Options {
+        tile: TileSide::T32,
+        workers,
+    };
+    let is_drawn = run(rt, alloc, &mut input, &mut output, options).is_ok();
+    let _written: Vec<u8> = output.into_inner();
+    is_drawn
+}
+
+/// Draws the list by the program with so many workers, and answers whether it was drawn.
+fn is_drawn_by_command<R: Threads + Wait + Sync>(
+    rt: &R,
+    alloc: Global,
+    list: &str,
+    workers: &str,
+) -> Result<bool, Fail> {
+    let words = ["--tile", "32", "--workers", workers];
+    let called = call(rt, alloc, &words, list.as_bytes())?;
+    Ok(called.status == 0)
+}
+
+// Other threads of the process are there in either run, so a run with four workers is seen to have more.
+#[test]
+fn several_workers_are_there_at_once(rt: HostRuntime) -> Result<(), Fail> {
+    let list = laborious(rt.alloc())?;
+    let mut by_run = [0, 0];
+    let mut by_command = [0, 0];
+    for (place, workers, word) in [(0usize, 1u32, "1"), (1, 4, "4")] {
+        let ended = AtomicU64::new(0);
+        let (most, is_drawn) = join(
+            &rt,
+            || watch(&rt, &ended),
+            || {
+                let is_drawn = is_drawn_by_run(&rt, rt.alloc(), &list, workers);
+                ended.store(1, Ordering::SeqCst);
+                is_drawn
+            },
+        );
+        assert!(rt; is_drawn);
+        by_run[place] = most;
+        let ended = AtomicU64::new(0);
+        let (most, is_drawn) = join(
+            &rt,
+            || watch(&rt, &ended),
+            || {
+                let is_drawn = is_drawn_by_command(&rt, rt.alloc(), &list, word);
+                ended.store(1, Ordering::SeqCst);
+                is_drawn
+            },
+        );
+        assert!(rt; is_drawn?);
+        by_command[place] = most;
+    }
+    assert!(rt; by_run[0] < by_run[1], "{by_run:?}");
+    assert!(rt; by_command[0] < by_command[1], "{by_command:?}");
     Ok(())
 }

@@ -50,13 +50,7 @@ fn writes_the_header_of_depths_and_rows(rt: HostRuntime) -> Result<(), Fail> {
 #[test]
 fn tells_how_much_of_a_header_went_out(rt: HostRuntime) -> Result<(), Fail> {
     for (room, end) in [(0, End::Fails), (5, End::TakesNothing), (16, End::Fails)] {
-        let mut out = Counted::new(Sink {
-            taken: Vec::new(rt.alloc()),
-            room,
-            a_call: 3,
-            end,
-            can_flush: true,
-        });
+        let mut out = Counted::new(Sink::in_pieces(rt.alloc(), room, 3, end));
         let fault = WriteFault {
             written: room as u64,
         };
@@ -69,6 +63,32 @@ fn tells_how_much_of_a_header_went_out(rt: HostRuntime) -> Result<(), Fail> {
     Ok(())
 }
 
+// The header has 13 bytes, and each row 60.
+#[test]
+fn tells_how_much_of_a_file_went_out_at_each_byte(rt: HostRuntime) -> Result<(), Fail> {
+    let mut pixels = Vec::new(rt.alloc());
+    for place in 0..1200u32 {
+        pixels.push((place % 251) as u8)?;
+    }
+    let mut expected = Vec::from_slice(rt.alloc(), b"P6\n20 20\n255\n")?;
+    expected.extend_from_slice(&pixels)?;
+    for room in 0..1213usize {
+        for end in [End::Fails, End::TakesNothing] {
+            let mut out = Counted::new(Sink::new(rt.alloc(), room, end));
+            let written = room as u64;
+            assert_eq!(rt;
+                write_ppm(20, 20, &pixels, &mut out),
+                Err(WriteFault { written })
+            );
+            assert_eq!(rt; out.failures(), 1);
+            let sink = out.into_inner();
+            assert_eq!(rt; Some(sink.taken.as_slice()), expected.get(..room));
+            assert_eq!(rt; sink.late_calls, 0);
+        }
+    }
+    Ok(())
+}
+
 #[test]
 fn counts_failures(rt: HostRuntime) -> Result<(), Fail> {
     for (end, can_flush, failures) in [
@@ -76,13 +96,9 @@ fn counts_failures(rt: HostRuntime) -> Result<(), Fail> {
         (End::Fails, false, 2),
         (End::TakesNothing, false, 2),
     ] {
-        let mut out = Counted::new(Sink {
-            taken: Vec::new(rt.alloc()),
-            room: 2,
-            a_call: 1,
-            end,
-            can_flush,
-        });
+        let mut sink = Sink::in_pieces(rt.alloc(), 2, 1, end);
+        sink.can_flush = can_flush;
+        let mut out = Counted::new(sink);
         assert_eq!(rt;
             ppm_rows(&[1, 2, 3], 10, &mut out),
             Err(WriteFault { written: 12 })
@@ -91,12 +107,7 @@ fn counts_failures(rt: HostRuntime) -> Result<(), Fail> {
         assert_eq!(rt; out.failures(), failures);
         assert_eq!(rt; out.into_inner().taken.as_slice(), [1, 2].as_slice());
     }
-    let mut input = Counted::new(Source {
-        text: b"ab",
-        spaces: 0,
-        a_call: 1,
-        calls_left: 1,
-    });
+    let mut input = Counted::new(Source::failing(b"ab", 1, 1));
     let mut buffer = [0; 4];
     assert_eq!(rt; input.read(&mut buffer).ok(), Some(1));
     assert_eq!(rt; input.failures(), 0);

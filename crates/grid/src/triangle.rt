@@ -1,7 +1,7 @@
 ghost use Rattle.std.specs.Prelude.{◌≡◌, ◌↔◌, ◌⊎◌, ◌^◌, IsTrue, pos, ◌+ℤ◌, ◌≤ℤ◌};
 ghost use Rattle.grid.specs.Bounds.{IsWithin};
 ghost use Rattle.grid.specs.Edge.{IsTopEdge, IsLeftEdge, PassesEdge};
-ghost use Rattle.grid.specs.Seam.{IsSeam, IsOnOpenEdge};
+ghost use Rattle.grid.specs.Seam.{IsSeam, IsOnOpenEdge, NoOverlap, NoCrack};
 ghost use Rattle.std.specs.Int.{int_max};
 ghost use Rattle.grid.specs.Position.{IsInBand, right_of};
 ghost use Rattle.grid.specs.Triangle.{doubled_area, Covers};
@@ -118,8 +118,8 @@ pub(crate) fn passes_edge(a: Point, b: Point, third: Point, p: Point) -> bool
 pub fn covers_at_seam(a: Point, b: Point, c: Point, d: Point, p: Point) -> (bool, bool)
     ensures first { IsTrue result.0 ↔ Covers a b c p }
     ensures second { IsTrue result.1 ↔ Covers a b d p }
-    ensures no_overlap { IsSeam a b c d → ¬ (IsTrue result.0 × IsTrue result.1) }
-    ensures no_crack { IsSeam a b c d → IsOnOpenEdge a b p → (IsTrue result.0 ⊎ IsTrue result.1) }
+    ensures no_overlap { IsSeam a b c d → NoOverlap a b c d p × ¬ (IsTrue result.0 × IsTrue result.1) }
+    ensures no_crack { IsSeam a b c d → NoCrack a b c d p × (IsOnOpenEdge a b p → (IsTrue result.0 ⊎ IsTrue result.1)) }
 {
     (Tri::new(a, b, c).covers(p), Tri::new(a, b, d).covers(p))
 }

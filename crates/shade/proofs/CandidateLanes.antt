@@ -40,7 +40,7 @@ pub whole_fits : (f bits : ℕ) → f < 2 ^ 32 → (bits ≡ 16) ⊎ (bits ≡ 2
 whole_fits f bits h width = elim width [ inl e ↦ rw e (omega (arith, h)) | inr e ↦ rw e (omega (arith, h)) ]
 
 -- ---- what is left
-small_is : (z : ℤ) (r : ℕ) → r < 2 ^ 64 → IsWithin (2 ^ 48) z → IsModulo z r → to_z w64 r ≡ z
+pub small_is : (z : ℤ) (r : ℕ) → r < 2 ^ 64 → IsWithin (2 ^ 50) z → IsModulo z r → to_z w64 r ≡ z
 small_is z r fits within h =
     let wide : FitsSigned w64 z = omega (arith, ints) in
     let bits = modulo_bits z wide in

@@ -10,7 +10,7 @@ use Rattle.grid.proofs.Ring.{var, plus, neg, times, ring}
 use Rattle.shade.specs.declared.plane.Plane.{Plane}
 use Rattle.shade.specs.declared.slope.Slope.{Slope}
 use Rattle.shade.specs.Candidate.{IsCandidate}
-use Rattle.shade.specs.Reciprocal.{IsGradient}
+use Rattle.shade.specs.Reciprocal.{IsGradient, IsExactGradient}
 use Rattle.shade.specs.Modulo.{IsModulo}
 use Rattle.shade.specs.Plane.{IsPlane, IsHeight, IsPart, IsReached}
 use Rattle.shade.proofs.Gradients.{over_product}
@@ -117,7 +117,7 @@ high_near k n area s p x y r b plane reached =
     (IsWithin-mul _ _ (2 ^ 23 + 2 ^ 20) (2 * area) reached.near_x (gradient_within (32 + k) area s.across p.across plane.across))
     (IsWithin-mul _ _ (2 ^ 23 + 2 ^ 20) (2 * area) reached.near_y (gradient_within (32 + k) area s.down p.down plane.down))
 
--- a plane that does not grow is exact
+-- a plane whose gradients have no error is exact
 high_whole : (k n area : ℕ) (h : ℤ) → 0 < area → h *ℤ pos area ≡ pos (n * 2 ^ (32 + k)) +ℤ pos (3 * 2 ^ 32 * area) → IsHigh k n area h
 high_whole k n area (pos z) some sum =
     record { z = z; is = refl; above = record { low = omega (arith, ints, sum); high = omega (arith, ints, sum) } }
@@ -125,25 +125,25 @@ high_whole k n area (negsuc z) some sum =
     let product = over_product (negsuc z) 0 area (omega (arith, ints, sum)) in
     absurd (omega (arith, ints, product))
 
-no_error : (w g n : ℤ) (area f : ℕ) → g ≡ pos 0 → n ≡ pos 0 → w *ℤ (g *ℤ pos area -ℤ n *ℤ pos f) ≡ pos 0
-no_error w g n area f e h = mul_null w (g *ℤ pos area -ℤ n *ℤ pos f) (rw (e, h) (omega (arith, ints)))
+no_error : (w g n : ℤ) (area f : ℕ) → g *ℤ pos area ≡ n *ℤ pos f → w *ℤ (g *ℤ pos area -ℤ n *ℤ pos f) ≡ pos 0
+no_error w g n area f e = mul_null w (g *ℤ pos area -ℤ n *ℤ pos f) (omega (arith, ints, e))
 
 high_exact : (k n area : ℕ) (s : Slope) (p : Plane) (x y r b : ℤ) → IsPlane (32 + k) area s p → IsReached k area s (x +ℤ r) (y +ℤ b) n
-    → s.across ≡ pos 0 → s.down ≡ pos 0 → p.across ≡ pos 0 → p.down ≡ pos 0 → IsHigh k n area (height (2 ^ (32 + k)) (3 * 2 ^ 32) s p x y r b)
+    → IsExactGradient (32 + k) area s.across p.across → IsExactGradient (32 + k) area s.down p.down → IsHigh k n area (height (2 ^ (32 + k)) (3 * 2 ^ 32) s p x y r b)
 unfolding height
-high_exact k n area s p x y r b plane reached e g h l =
+high_exact k n area s p x y r b plane reached e g =
     let f = 2 ^ (32 + k) in
     let sum = error (pos s.first) (pos f) (pos area) s.x s.y p.across p.down x y r b (pos (3 * 2 ^ 32)) s.across s.down in
     let value = ap (λ z. z *ℤ pos f) reached.value in
-    let first = no_error (x +ℤ r -ℤ s.x) p.across s.across area f h e in
-    let second = no_error (y +ℤ b -ℤ s.y) p.down s.down area f l g in
+    let first = no_error (x +ℤ r -ℤ s.x) p.across s.across area f e in
+    let second = no_error (y +ℤ b -ℤ s.y) p.down s.down area f g in
     high_whole k n area _ (area_some (32 + k) area s.across p.across plane.across) (omega (arith, ints, sum, value, first, second))
 
 high : (k n area : ℕ) (s : Slope) (p : Plane) (x y r b : ℤ) → (plane : IsPlane (32 + k) area s p) → IsReached k area s (x +ℤ r) (y +ℤ b) n → IsHigh k n area (height (2 ^ (32 + k)) plane.above s p x y r b)
 high k n area s p x y r b plane reached =
     elim plane.margin [
       | inl e ↦ rw e (high_near k n area s p x y r b plane reached)
-      | inr e ↦ rw e.0 (high_exact k n area s p x y r b plane reached e.1 e.2 e.3 e.4)
+      | inr e ↦ rw e.0 (high_exact k n area s p x y r b plane reached e.1 e.2)
     ]
 
 height_modulo : (bits area : ℕ) (s : Slope) (p : Plane) (x y r b : ℤ) (m n : ℕ) → (plane : IsPlane bits area s p) → IsHeight p x y m → IsPart p r b n → IsModulo (height (2 ^ bits) plane.above s p x y r b) (m + n)

@@ -15,6 +15,7 @@ pub mod Reciprocals
 pub mod Gradients
 pub mod Modulos
 pub mod Heights
+pub mod Exactness
 pub mod FixedPoint
 pub mod CandidateLanes
 pub mod Slopes

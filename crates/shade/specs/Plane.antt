@@ -3,14 +3,14 @@ use Rattle.grid.specs.Bounds.{IsWithin}
 use Rattle.shade.specs.declared.plane.Plane.{Plane}
 use Rattle.shade.specs.declared.slope.Slope.{Slope}
 use Rattle.shade.specs.Slope.{numerator}
-use Rattle.shade.specs.Reciprocal.{IsGradient}
+use Rattle.shade.specs.Reciprocal.{IsGradient, IsExactGradient}
 use Rattle.shade.specs.Modulo.{IsModulo}
 
 -- How far a plane lies above its slope: two units of 2^32 and a sixteenth, so that no error takes it under the slope, and three
--- units where neither grows.
-abbrev pub IsMargin : Slope → Plane → ℕ → Type 0
-IsMargin s p above =
-    (above ≡ 2 ^ 33 + 2 ^ 28) ⊎ ((above ≡ 3 * 2 ^ 32) × (s.across ≡ pos 0) × (s.down ≡ pos 0) × (p.across ≡ pos 0) × (p.down ≡ pos 0))
+-- units where its gradients have no error.
+abbrev pub IsMargin : ℕ → ℕ → Slope → ℤ → ℤ → ℕ → Type 0
+IsMargin bits area s across down above =
+    (above ≡ 2 ^ 33 + 2 ^ 28) ⊎ ((above ≡ 3 * 2 ^ 32) × IsExactGradient bits area s.across across × IsExactGradient bits area s.down down)
 
 -- The plane of a slope with so many fractional bits: its gradients are near the exact ones, and it starts at the slope's vertex,
 -- by its margin above the attribute there.
@@ -18,7 +18,7 @@ pub record IsPlane (bits area : ℕ) (s : Slope) (p : Plane) : Type 0 where
   pub across : IsGradient bits area s.across p.across
   pub down : IsGradient bits area s.down p.down
   pub above : ℕ
-  pub margin : IsMargin s p above
+  pub margin : IsMargin bits area s p.across p.down above
   pub start : IsModulo (pos (s.first * 2 ^ bits) -ℤ s.x *ℤ p.across -ℤ s.y *ℤ p.down +ℤ pos above) p.start
 
 -- The numerator itself as a plane, with no fractional bits.

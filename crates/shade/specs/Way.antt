@@ -1,4 +1,4 @@
-use Rattle.std.specs.Prelude.{◌≡◌}
+use Rattle.std.specs.Prelude.{◌≡◌, true, [], ◌∷◌}
 use Rattle.shade.specs.declared.placed.Placed.{Placed}
 use Rattle.shade.specs.declared.sample.Merge.{Merge}
 use Rattle.shade.specs.declared.sources.DepthSource.{DepthSource}
@@ -18,3 +18,7 @@ pub record AreSourcesOf (t : Placed) (merge : Merge) (depth : DepthSource) (colo
   pub merge_of : t.state.merge ≡ merge
   pub depth_of : IsDepthOf t depth
   pub colour_of : IsColourOf t colour
+
+-- The merge writes red, green and blue.
+abbrev pub WritesAll : Merge → Type 0
+WritesAll m = m.write ≡ true ∷ true ∷ true ∷ []

@@ -5,7 +5,7 @@ ghost use Rattle.shade.specs.Placed.{IsDrawnAt};
 ghost use Rattle.shade.specs.declared.placed.Placed.{Placed as Triangle};
 ghost use Rattle.shade.specs.Block.{stored_at, position_in, IsOnScreen, CoversMask, AreDrawn};
 ghost use Rattle.shade.specs.Lanes.{IsMask};
-ghost use Rattle.shade.specs.Way.{AreSourcesOf};
+ghost use Rattle.shade.specs.Way.{AreSourcesOf, WritesAll};
 
 use crate::block::BlockSamples;
 use crate::group::draw_group;
@@ -152,30 +152,74 @@ fn draw_by_mask(
     }
 }
 
-/// The same with code of its own for each source of colour. A value that is made again is known where the code is inlined, and
-/// planes are not copied.
+/// Whether a merge writes all three channels.
 #[inline(always)]
-fn draw_by_colour(
-    merge: &Merge,
-    depth: &DepthSource,
-    colour: &ColourSource,
-    p: Point,
-    mask: u64,
-    samples: &mut BlockSamples,
-)
-    requires { IsOnScreen p }
-    ensures { (t : Triangle) → AreSourcesOf t merge.now depth.now colour.now → CoversMask t p mask → AreDrawn t p mask samples.old samples.new 0 64 }
+fn writes_all(merge: &Merge) -> bool
+    ensures { IsTrue result → WritesAll merge.now }
 {
-    match colour {
-        ColourSource::Flat(rgba) => {
-            draw_by_mask(merge, depth, &ColourSource::Flat(*rgba), p, mask, samples);
-        }
-        ColourSource::Planes(_) => draw_by_mask(merge, depth, colour, p, mask, samples),
+    let [red, green, blue] = merge.write;
+    red && green && blue
+}
+
+/// The merge made again, so that what it writes and whether it blends are known where the code is inlined.
+#[inline(always)]
+fn known<const OVER: bool>(merge: &Merge) -> Merge
+    requires over { merge.now.over ≡ OVER }
+    requires all { WritesAll merge.now }
+    ensures { result ≡ merge.now }
+{
+    Merge {
+        test: merge.test,
+        depth_write: merge.depth_write,
+        write: [true; 3],
+        over: OVER,
     }
 }
 
-/// The same with code of its own for each source of depth.
-fn draw_by_depth(
+/// The same for a merge that writes all channels, with code of its own for each source of depth and of colour. A value that is
+/// made again is known where the code is inlined, and planes are not copied.
+#[inline(never)]
+fn draw_by_sources<const OVER: bool>(
+    merge: &Merge,
+    depth: &DepthSource,
+    colour: &ColourSource,
+    p: Point,
+    mask: u64,
+    samples: &mut BlockSamples,
+)
+    requires over { merge.now.over ≡ OVER }
+    requires all { WritesAll merge.now }
+    requires on_screen { IsOnScreen p }
+    ensures { (t : Triangle) → AreSourcesOf t merge.now depth.now colour.now → CoversMask t p mask → AreDrawn t p mask samples.old samples.new 0 64 }
+{
+    let merge = known::<OVER>(merge);
+    match colour {
+        ColourSource::Flat(rgba) => {
+            let colour = ColourSource::Flat(*rgba);
+            match depth {
+                DepthSource::Unused => {
+                    draw_by_mask(&merge, &DepthSource::Unused, &colour, p, mask, samples);
+                }
+                DepthSource::Flat(z) => {
+                    draw_by_mask(&merge, &DepthSource::Flat(*z), &colour, p, mask, samples);
+                }
+                DepthSource::Plane(_) => draw_by_mask(&merge, depth, &colour, p, mask, samples),
+            }
+        }
+        ColourSource::Planes(_) => match depth {
+            DepthSource::Unused => {
+                draw_by_mask(&merge, &DepthSource::Unused, colour, p, mask, samples);
+            }
+            DepthSource::Flat(z) => {
+                draw_by_mask(&merge, &DepthSource::Flat(*z), colour, p, mask, samples);
+            }
+            DepthSource::Plane(_) => draw_by_mask(&merge, depth, colour, p, mask, samples),
+        },
+    }
+}
+
+/// The same with code of its own where all channels are written: laid over the stored ones, or not.
+fn draw_by_merge(
     merge: &Merge,
     depth: &DepthSource,
     colour: &ColourSource,
@@ -186,14 +230,12 @@ fn draw_by_depth(
     requires { IsOnScreen p }
     ensures { (t : Triangle) → AreSourcesOf t merge.now depth.now colour.now → CoversMask t p mask → AreDrawn t p mask samples.old samples.new 0 64 }
 {
-    match depth {
-        DepthSource::Unused => {
-            draw_by_colour(merge, &DepthSource::Unused, colour, p, mask, samples);
-        }
-        DepthSource::Flat(z) => {
-            draw_by_colour(merge, &DepthSource::Flat(*z), colour, p, mask, samples);
-        }
-        DepthSource::Plane(_) => draw_by_colour(merge, depth, colour, p, mask, samples),
+    if !writes_all(merge) {
+        draw_by_mask(merge, depth, colour, p, mask, samples);
+    } else if merge.over {
+        draw_by_sources::<true>(merge, depth, colour, p, mask, samples);
+    } else {
+        draw_by_sources::<false>(merge, depth, colour, p, mask, samples);
     }
 }
 
@@ -209,8 +251,7 @@ impl Interpolants {
         match &self.way {
             Way::Each => self.placed.draw_each(p, mask, samples),
             Way::Groups(depth, colour) => {
-                let merge = self.placed.state.merge;
-                draw_by_depth(&merge, depth, colour, p, mask, samples);
+                draw_by_merge(&self.placed.state.merge, depth, colour, p, mask, samples);
             }
         }
     }

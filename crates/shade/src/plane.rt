@@ -1,6 +1,8 @@
 ghost use Rattle.std.specs.Prelude.{ℕ, ℤ, pos, ◌≡◌, ◌≤◌, ◌<◌, ◌+◌, ◌*◌, ◌-◌, ◌/◌, ◌%◌, ◌^◌, ◌+ℤ◌, ◌*ℤ◌, ◌-ℤ◌, length, slice_index};
 ghost use Rattle.std.specs.Int.RustNames.{unsigned_abs};
 ghost use Rattle.shade.specs.Modulo.{IsModulo};
+ghost use Rattle.shade.specs.Plane.{IsMargin};
+ghost use Rattle.shade.specs.Reciprocal.{IsGradient};
 
 use crate::reciprocal::Reciprocal;
 use crate::slope::Slope;
@@ -18,8 +20,8 @@ pub(crate) struct Plane {
 /// sixteenth for the gradients' errors.
 const ABOVE: u64 = (2 << 32) + (1 << 28);
 
-/// The same where nothing grows and there is no error: three units, so that each candidate is sure.
-const ABOVE_LEVEL: u64 = 3 << 32;
+/// The same where the gradients have no error: three units, so that a candidate of a whole value is sure.
+const ABOVE_EXACT: u64 = 3 << 32;
 
 /// A coordinate times a gradient, modulo 2^64.
 #[inline(always)]
@@ -29,6 +31,22 @@ fn scaled(way: i32, gradient: i64) -> u64
     i64::from(way)
         .cast_unsigned()
         .wrapping_mul(gradient.cast_unsigned())
+}
+
+/// How far a plane of a slope with these gradients lies above the attribute.
+fn margin(slope: Slope, reciprocal: Reciprocal, across: i64, down: i64, bits: u32) -> u64
+    requires bits { bits ≤ 56 }
+    requires across { IsGradient bits reciprocal.area slope.across across }
+    requires down { IsGradient bits reciprocal.area slope.down down }
+    ensures { IsMargin bits reciprocal.area slope across down result }
+{
+    if reciprocal.is_exact(slope.across, across, bits)
+        && reciprocal.is_exact(slope.down, down, bits)
+    {
+        ABOVE_EXACT
+    } else {
+        ABOVE
+    }
 }
 
 impl Plane {
@@ -43,20 +61,12 @@ impl Plane {
         requires down_level { unsigned_abs slope.down < reciprocal.area * 2 ^ (63 - bits) }
         ensures { IsPlane bits reciprocal.area slope result }
     {
-        let first = u64::from(slope.first) << bits;
-        if slope.across == 0 && slope.down == 0 {
-            return Plane {
-                start: first.wrapping_add(ABOVE_LEVEL),
-                across: 0,
-                down: 0,
-            };
-        }
-        let across = reciprocal.gradient(slope.across, bits);
-        let down = reciprocal.gradient(slope.down, bits);
-        let start = first
+        let across = reciprocal.settled_gradient(slope.across, bits);
+        let down = reciprocal.settled_gradient(slope.down, bits);
+        let start = (u64::from(slope.first) << bits)
             .wrapping_sub(scaled(slope.x, across))
             .wrapping_sub(scaled(slope.y, down))
-            .wrapping_add(ABOVE);
+            .wrapping_add(margin(slope, reciprocal, across, down, bits));
         Plane {
             start,
             across,

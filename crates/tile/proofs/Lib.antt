@@ -3,8 +3,7 @@ pub mod Parts
 pub mod Bits
 pub mod Plane
 pub mod Planes
-pub mod Whole
-pub mod Waiting
+pub mod Rows
 pub mod Ends
 pub mod Shown
 pub mod Runs

@@ -6,7 +6,7 @@ use Rattle.shade.specs.declared.placed.Placed.{Placed}
 use Rattle.shade.specs.Placed.{Meets, Draws}
 use Rattle.tile.specs.declared.tile.Tile.{Tile}
 use Rattle.tile.specs.Samples.{IsSampleOf, stored}
-use Rattle.tile.specs.Drawing.{DrawsPart, DrawsTile, DrawsAt, KeepsAt}
+use Rattle.tile.specs.Drawing.{DrawsPart, DrawsAt, KeepsAt}
 
 -- a triangle that does not meet a sample leaves it
 pub draws_missed : (t : Placed) (tile : Tile) (row column s : ℕ) (x : Sample) → ¬ Meets t tile.count (8 * tile.bx + column) (8 * tile.by + row) s → Draws t tile.count (8 * tile.bx + column) (8 * tile.by + row) s x x
@@ -55,7 +55,3 @@ module _ (t : Placed) (tile : Tile) where
   -- no sample at all
   pub no_part : (part : ℕ → ℕ → ℕ → Type 0) (xs : List BlockSamples) → ((row column s : ℕ) → IsSampleOf tile row column s → part row column s → ⊥) → DrawsPart t tile part xs xs
   no_part part xs none = missed_part part xs (λ row column s h p. absurd (none row column s h p))
-
-  -- the whole tile
-  pub whole_tile : (part : ℕ → ℕ → ℕ → Type 0) (a b : List BlockSamples) → DrawsPart t tile part a b → ((row column s : ℕ) → IsSampleOf tile row column s → part row column s) → DrawsTile t tile a b
-  whole_tile part a b d all row column s h = d.drawn row column s h (all row column s h)

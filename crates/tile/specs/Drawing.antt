@@ -5,7 +5,6 @@ use Rattle.grid.specs.Samples.{count_of}
 use Rattle.grid.specs.declared.triangle.Tri.{Tri}
 use Rattle.grid.specs.declared.sample_count.SampleCount.{SampleCount}
 use Rattle.shade.specs.declared.block.BlockSamples.{BlockSamples}
-use Rattle.cover.specs.Square.{Place}
 use Rattle.cover.specs.Masks.{IsPlaneOf, CoversInBlock}
 use Rattle.shade.specs.declared.placed.Placed.{Placed}
 use Rattle.shade.specs.Placed.{Draws}
@@ -54,22 +53,6 @@ abbrev pub IsMetPlane : Placed → ℕ → ℕ → SampleCount → ℕ → ℕ �
 IsMetPlane t bx by count s plane =
     (row column : ℕ) → row < 8 → column < 8
     → (IsBitSet plane (8 * row + column) ↔ (CoversInBlock t.tri bx by count s row column × IsInBox t.state.scissor (8 * bx + column) (8 * by + row)))
-
--- A square of the triangle's, which lies in the tile.
-pub record IsSquareIn (t : Placed) (tile : Tile) (q : Place) : Type 0 where
-  pub triangle : q.triangle ≡ t.tri
-  pub count : q.count ≡ tile.count
-  pub lies : LiesIn tile q.bx q.by (side_of q.side)
-
--- The sample is of a pixel of the square.
-abbrev pub IsIn : Tile → Place → ℕ → ℕ → ℕ → Type 0
-IsIn tile q = IsInSquare tile q.bx q.by (side_of q.side)
-
--- The pixel is in the row of blocks by of the square.
-pub record IsInRow (tile : Tile) (q : Place) (by : ℕ) (row column s : ℕ) : Type 0 where
-  pub square : IsIn tile q row column s
-  pub top : 8 * by ≤ 8 * tile.by + row
-  pub bottom : 8 * tile.by + row < 8 * by + 8
 
 -- The words tell which samples of block (bx, by) the triangle covers.
 abbrev pub ArePlanesOf : Tri → ℕ → ℕ → SampleCount → List ℕ → Type 0

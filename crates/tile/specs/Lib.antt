@@ -1,4 +1,5 @@
 pub mod Samples
 pub mod Drawing
+pub mod Region
 pub mod Store
 pub mod Picture

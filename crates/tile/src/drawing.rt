@@ -8,7 +8,7 @@ ghost use Rattle.tile.specs.Samples.{planes_of, AreAll};
 ghost use Rattle.tile.specs.Picture.{IsTileAt, IsPictureIn, IsTileBin, AreEnds};
 
 use crate::pixels::resolve;
-use crate::squares::draw_triangle;
+use crate::scan::draw_triangle;
 use crate::store::{Store, clear};
 use crate::tile::Tile;
 use bins::{Bins, Tiling};

@@ -5,8 +5,9 @@ mod block;
 mod drawing;
 mod eight;
 mod pixels;
+mod region;
+mod scan;
 mod scissor;
-mod squares;
 mod store;
 mod tile;
 

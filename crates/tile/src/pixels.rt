@@ -13,12 +13,17 @@ use list::{DrawList, Output};
 use shade::BlockSamples;
 use std::alloc::Global;
 
-/// Appends so many bytes.
+/// Appends so many bytes. A whole run has a length that is known where this is inlined, so that it is copied without a call.
+#[inline(always)]
 fn push_first(run: &[u8], many: u32, bytes: &mut Vec<u8>) -> Result<(), OutOfMemory>
     requires { many ≤ length run.now }
     ensures { OnOk result (bytes.new.items ≡ bytes.old.items ++ take many run.now) }
 {
-    bytes.extend_from_slice(&run[..many as usize])?;
+    if many as usize == run.len() {
+        bytes.extend_from_slice(run)?;
+    } else {
+        bytes.extend_from_slice(&run[..many as usize])?;
+    }
     Ok(())
 }
 

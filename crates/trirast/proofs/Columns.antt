@@ -1,5 +1,8 @@
 -- A tile by its column and its row, and the runs that it adds to the rows of its band.
-use Rattle.std.proofs.Common.{◌≡◌, sym, ap, subst, ◌∙◌, ℕ, ◌+◌, ◌-◌, ◌*◌, ◌/◌, ◌%◌, ◌<◌, min, List, ◌++◌, Result, Ok, Err, IfOk, zero-add, arith}
+use Rattle.std.proofs.Common.{◌≡◌, ◌⊎◌, inl, inr, refl, sym, ap, subst, ◌∙◌, ℕ, ◌+◌, ◌-◌, ◌*◌, ◌/◌, ◌%◌, ◌<◌, ◌≤◌, min, zero, suc, List, [], ◌∷◌, ◌++◌, length, slice_get, Some, Result, Ok, Err, IfOk, zero-add, append_assoc, append-nil, length-append, arith}
+use Rattle.std.proofs.lemmas.Bool.{cases_lt}
+use Rattle.std.proofs.lemmas.List.{length_push}
+use Rattle.std.proofs.lemmas.Option.{none-some, same_Some}
 use Rattle.std.proofs.lemmas.Nat.{same_from_place}
 use Rattle.std.proofs.Math.Nat.{mod-lt, div-add-mod'}
 use Rattle.std.proofs.lemmas.Int.{ints}
@@ -7,13 +10,15 @@ use Rattle.grid.specs.Pixels.{side_of}
 use Rattle.grid.specs.declared.pixels.PixelBox.{PixelBox}
 use Rattle.list.specs.Begun.{IsBegun, IsRun}
 use Rattle.list.specs.Scene.{Scene}
-use Rattle.list.proofs.Begun.{begun_run}
+use Rattle.list.specs.Picture.{IsPixel, pixel_at}
+use Rattle.list.proofs.Begun.{begun_run, nothing_begun, part_of_rows}
+use Rattle.list.proofs.Pixels.{bytes_of_both, bytes_of_none, same_pixel, pixel_before, pixel_behind}
 use Rattle.bins.specs.Bin.{TileBins, HasTile, AreBins}
 use Rattle.bins.specs.Grid.{TileGrid, columns_of, rect_at, rect_of, tiles_over}
-use Rattle.tile.specs.Picture.{IsPictureIn}
+use Rattle.tile.specs.Picture.{AddsRun, IsPictureIn}
 use Rattle.tile.specs.declared.drawing.TilePixels.{TilePixels}
-use Rattle.trirast.specs.Band.{IsColumn, band_height, band_top, column_left, column_width}
-use Rattle.trirast.proofs.Strips.{begins_within, strip_next, strip_before}
+use Rattle.trirast.specs.Band.{AddsBand, AreColumns, IsColumn, band_height, band_top, column_left, column_width}
+use Rattle.trirast.proofs.Strips.{strip_next, strip_before}
 
 -- the tile of this column and row has this number
 pub tile_of_column : (row column columns : ℕ) → column < columns → ((row * columns + column) % columns ≡ column) × ((row * columns + column) / columns ≡ row)
@@ -53,21 +58,98 @@ has_tile l g row column columns b e h bins =
     let number = bins.number in
     record { from = omega arith; below = omega arith }
 
+-- two runs side by side
+module _ (l : Scene) (i j m n : ℕ) (a b : List ℕ) (h : IsRun l i j m a) (k : IsRun l (i + m) j n b) where
+  pixel : (t : ℕ) → t < m + n → (t < m) ⊎ (m ≤ t) → IsPixel l (i + t) j (pixel_at l.output t (a ++ b))
+  pixel t below (inl left) = same_pixel l (i + t) j (i + t) j _ _ refl refl (sym (pixel_before l.output m t a b h.size left)) (h.pixels t left)
+  pixel t below (inr right) =
+      let column : (i + m) + (t - m) ≡ i + t = omega arith in
+      same_pixel l ((i + m) + (t - m)) j (i + t) j _ _ column refl (sym (pixel_behind l.output m (t - m) t a b h.size (omega arith))) (k.pixels (t - m) (omega arith))
+
+  pub run_append : IsRun l i j (m + n) (a ++ b)
+  run_append = record {
+    size = omega (arith, length-append a b, h.size, k.size, bytes_of_both l.output m n);
+    pixels = λ t below. pixel t below (cases_lt t m);
+  }
+
+-- nothing was added yet
+pub no_run : (l : Scene) (i j many : ℕ) (bytes : List ℕ) → many ≡ 0 → AddsRun l i j many bytes bytes
+no_run l i j many bytes none = record {
+  run = [];
+  is = record { size = sym (bytes_of_none l.output many none); pixels = λ m below. absurd (omega arith) };
+  behind = sym (append-nil bytes);
+}
+
 -- a tile's run behind those of the tiles on its left
-pub column_begun : (l : Scene) (g : TileGrid) (y j column : ℕ) (bytes run all : List ℕ) → column < columns_of g → g.width ≡ l.width
-    → IsBegun l 0 y l.width (j * l.width + min l.width (side_of g.side * column)) bytes
-    → IsRun l (column_left g column) (y + j) (column_width g column) run
+pub column_added : (l : Scene) (g : TileGrid) (y column : ℕ) (old bytes run all : List ℕ) → column < columns_of g → g.width ≡ l.width
+    → AddsRun l 0 y (min l.width (side_of g.side * column)) old bytes
+    → IsRun l (column_left g column) y (column_width g column) run
     → all ≡ bytes ++ run
-    → IsBegun l 0 y l.width (j * l.width + min l.width (side_of g.side * (column + 1))) all
-column_begun l g y j column bytes run all h same begun more e =
+    → AddsRun l 0 y (min l.width (side_of g.side * (column + 1))) old all
+column_added l g y column old bytes run all h same added more e =
     let left : ℕ = side_of g.side * column in
     let many : ℕ = min l.width (left + side_of g.side) - left in
     let within : column < tiles_over l.width g.side = rw (← same) h in
-    let begins = begins_within column l.width g.side within in
-    let before = strip_before column l.width g.side within in
-    let next = strip_next column l.width g.side within in
+    let before : min l.width left ≡ left = strip_before column l.width g.side within in
+    let next : min l.width (side_of g.side * (column + 1)) ≡ left + many = strip_next column l.width g.side within in
     let wide : column_width g column ≡ many = ap (λ n. min n (left + side_of g.side) - left) same in
-    let run' = subst (λ x. IsRun l x (y + j) many run) (sym (zero-add left)) (subst (λ n. IsRun l left (y + j) n run) wide more) in
-    let more' = begun_run l 0 y l.width (j * l.width + min l.width left) left j many bytes run begun (omega arith) (ap (λ n. j * l.width + n) before) run' in
-    let count : j * l.width + min l.width (side_of g.side * (column + 1)) ≡ j * l.width + min l.width left + many = omega arith in
-    rw (count, e) more'
+    let is : IsRun l 0 y left added.run = subst (λ n. IsRun l 0 y n added.run) before added.is in
+    let run' : IsRun l (0 + left) y many run = subst (λ x. IsRun l x y many run) (sym (zero-add left)) (subst (λ n. IsRun l left y n run) wide more) in
+    let both = run_append l 0 y left many added.run run is run' in
+    record {
+      run = added.run ++ run;
+      is = subst (λ n. IsRun l 0 y n (added.run ++ run)) (sym next) both;
+      behind = e ∙ (ap (λ b. b ++ run) added.behind ∙ append_assoc old added.run run);
+    }
+
+-- The new bytes are the old ones, and behind them the first pixels of the picture's rows from this one on, so many of them.
+pub record AddsBegun (l : Scene) (y n : ℕ) (old new : List ℕ) : Type 0 where
+  pub rows : List ℕ
+  pub is : IsBegun l 0 y l.width n rows
+  pub behind : new ≡ old ++ rows
+
+pub no_rows_begun : (l : Scene) (y n : ℕ) (bytes : List ℕ) → n ≡ 0 → AddsBegun l y n bytes bytes
+no_rows_begun l y n bytes none = record { rows = []; is = nothing_begun l 0 y l.width n none; behind = sym (append-nil bytes) }
+
+-- a row behind those above it
+pub row_added : (l : Scene) (y j : ℕ) (old bytes all : List ℕ) → AddsBegun l y (j * l.width) old bytes → AddsRun l 0 (y + j) l.width bytes all → AddsBegun l y ((j + 1) * l.width) old all
+row_added l y j old bytes all above added =
+    let more = begun_run l 0 y l.width (j * l.width) 0 j l.width above.rows added.run above.is (omega arith) (omega arith) added.is in
+    let count : (j + 1) * l.width ≡ j * l.width + l.width = omega arith in
+    record {
+      rows = above.rows ++ added.run;
+      is = rw count more;
+      behind = added.behind ∙ (ap (λ b. b ++ added.run) above.behind ∙ append_assoc old above.rows added.run);
+    }
+
+-- all rows of a band were added
+pub band_added : (l : Scene) (g : TileGrid) (row j : ℕ) (old new : List ℕ) → j ≡ band_height g row → AddsBegun l (band_top g row) (j * l.width) old new → AddsBand l g row old new
+band_added l g row j old new all added = record {
+  band = added.rows;
+  is = part_of_rows l 0 (band_top g row) l.width (band_height g row) added.rows (rw all at added.is);
+  behind = added.behind;
+}
+
+-- what holds of each item by its place holds with one more
+each_pushed : {X : Type 0} (P : ℕ → X → Type 0) (xs : List X) (x : X) → ((k : ℕ) (y : X) → slice_get xs k ≡ Some y → P k y) → P (length xs) x → (k : ℕ) (y : X) → slice_get (xs ++ x ∷ []) k ≡ Some y → P k y
+each_pushed P [] x each last zero y e = subst (P 0) (same_Some x y e) last
+each_pushed P [] x each last (suc k) y e = absurd (none-some y e)
+each_pushed P (z ∷ zs) x each last zero y e = each zero y e
+each_pushed P (z ∷ zs) x each last (suc k) y e = each_pushed (λ n. P (suc n)) zs x (λ n. each (suc n)) last k y e
+
+-- The tiles of the first columns of a band, so many of them.
+pub record AreFirst (l : Scene) (g : TileGrid) (row many : ℕ) (tiles : List TilePixels) : Type 0 where
+  pub number : length tiles ≡ many
+  pub each : (column : ℕ) (pixels : TilePixels) → slice_get tiles column ≡ Some pixels → IsColumn l g row column pixels
+
+pub no_tiles : (l : Scene) (g : TileGrid) (row many : ℕ) (tiles : List TilePixels) → many ≡ 0 → tiles ≡ [] → AreFirst l g row many tiles
+no_tiles l g row many tiles none e =
+    rw (none, e) (record { number = refl; each = λ column pixels found. absurd (none-some pixels found) })
+
+pub tile_pushed : (l : Scene) (g : TileGrid) (row many : ℕ) (tiles new : List TilePixels) (pixels : TilePixels) → AreFirst l g row many tiles → IsColumn l g row many pixels → new ≡ tiles ++ pixels ∷ [] → AreFirst l g row (many + 1) new
+tile_pushed l g row many tiles new pixels first last e =
+    let last' : IsColumn l g row (length tiles) pixels = subst (λ n. IsColumn l g row n pixels) (sym first.number) last in
+    rw e (record { number = length_push tiles pixels ∙ ap (λ n. n + 1) first.number; each = each_pushed (IsColumn l g row) tiles pixels first.each last' })
+
+pub all_tiles : (l : Scene) (g : TileGrid) (row many : ℕ) (tiles : List TilePixels) → many ≡ columns_of g → AreFirst l g row many tiles → AreColumns l g row tiles
+all_tiles l g row many tiles e first = record { number = first.number ∙ e; each = first.each }

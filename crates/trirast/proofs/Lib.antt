@@ -3,3 +3,5 @@ pub mod Files
 pub mod Strips
 pub mod Columns
 pub mod Written
+pub mod Bands
+pub mod Lines

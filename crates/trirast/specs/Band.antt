@@ -1,6 +1,7 @@
 -- One row of tiles, and the rows of pixels in it.
-use Rattle.std.specs.Prelude.{◌≡◌, ℕ, ◌+◌, ◌-◌, ◌*◌, List, length, min, slice_get, Some}
+use Rattle.std.specs.Prelude.{◌≡◌, ℕ, ◌+◌, ◌-◌, ◌*◌, List, ◌++◌, length, min, slice_get, Some}
 use Rattle.grid.specs.Pixels.{side_of}
+use Rattle.grid.specs.declared.pixels.TileSide.{TileSide}
 use Rattle.list.specs.Picture.{IsPart}
 use Rattle.list.specs.Scene.{Scene}
 use Rattle.bins.specs.Grid.{TileGrid, columns_of, rect_at}
@@ -34,3 +35,19 @@ pub record AreColumns (l : Scene) (g : TileGrid) (row : ℕ) (tiles : List TileP
 -- The bytes of a band's rows of pixels.
 abbrev pub IsBand : Scene → TileGrid → ℕ → List ℕ → Type 0
 IsBand l g row bytes = IsPart l 0 (band_top g row) l.width (band_height g row) bytes
+
+-- The new bytes are the old ones, and behind them those of a band.
+pub record AddsBand (l : Scene) (g : TileGrid) (row : ℕ) (old new : List ℕ) : Type 0 where
+  pub band : List ℕ
+  pub is : IsBand l g row band
+  pub behind : new ≡ old ++ band
+
+-- The bytes of the rows of pixels in the rows of tiles of this side from `first` to before `end`.
+abbrev pub AreBands : Scene → TileSide → ℕ → ℕ → List ℕ → Type 0
+AreBands l side first end bytes = IsPart l 0 (side_of side * first) l.width (min l.height (side_of side * end) - side_of side * first) bytes
+
+-- The new bytes are the old ones, and behind them those of these bands.
+pub record AddsBands (l : Scene) (side : TileSide) (first end : ℕ) (old new : List ℕ) : Type 0 where
+  pub bands : List ℕ
+  pub are : AreBands l side first end bands
+  pub behind : new ≡ old ++ bands

@@ -3,4 +3,5 @@ pub mod Counted
 pub mod File
 pub mod Runs
 pub mod Words
+pub mod Program
 pub mod Band

@@ -1,7 +1,6 @@
-//! One row of tiles, drawn by several workers and put together.
+//! One row of tiles, drawn by several workers or on the calling thread, and put together.
 ghost use Rattle.std.specs.Prelude.{◌≡◌, ◌+◌, ◌*◌, ◌<◌, ◌≤◌, IfOk, OnOk, IfErr, ◌⊎◌};
 ghost use Rattle.grid.specs.Pixels.{side_of};
-ghost use Rattle.list.specs.Begun.{IsBegun};
 ghost use Rattle.bins.specs.Grid.{columns_of, rows_of};
 ghost use Rattle.trirast.specs.declared.fault.Fault.TheVariants as fault;
 
@@ -9,7 +8,7 @@ use crate::fault::Fault;
 use bins::{Bins, Tiling};
 use grid::OutOfMemory;
 use list::DrawList;
-use pool::{Desks, Gate, Job, PoolFault, run};
+use pool::{Desks, Gate, Job, Open, PoolFault, run};
 use std::alloc::Global;
 use std::sync::Wait;
 use std::thread::Threads;
@@ -67,7 +66,8 @@ impl Job for BandJob<'_> {
 
 impl<'a> Band<'a> {
     ghost use Rattle.list.specs.Begun.{IsRun};
-    ghost use Rattle.trirast.specs.Band.{band_top, band_height, column_left, column_width as width_of_column, IsColumn, AreColumns, IsBand};
+    ghost use Rattle.tile.specs.Picture.{AddsRun};
+    ghost use Rattle.trirast.specs.Band.{band_top, band_height, column_left, column_width as width_of_column, IsColumn, AreColumns, IsBand, AddsBand};
 
     /// The band of this number, counted from the top.
     pub(crate) fn new(list: &'a DrawList, tiling: &'a Tiling, row: u32) -> Band<'a>
@@ -118,8 +118,7 @@ impl<'a> Band<'a> {
     fn push_row(&self, tiles: &[TilePixels], j: u32, bytes: &mut Vec<u8>) -> Result<(), OutOfMemory>
         requires tiles { AreColumns self.now.list.now self.now.tiling.now self.now.row tiles.now }
         requires row { j < band_height self.now.tiling.now self.now.row }
-        requires above { IsBegun self.now.list.now 0 (band_top self.now.tiling.now self.now.row) self.now.list.now.width (j * self.now.list.now.width) bytes.old.items }
-        ensures { OnOk result (IsBegun self.now.list.now 0 (band_top self.now.tiling.now self.now.row) self.now.list.now.width ((j + 1) * self.now.list.now.width) bytes.new.items) }
+        ensures { OnOk result (AddsRun self.now.list.now 0 (band_top self.now.tiling.now self.now.row + j) self.now.list.now.width bytes.old.items bytes.new.items) }
     {
         for column in 0..self.tiling.columns() {
             bytes.extend_from_slice(self.row_of(&tiles[column as usize], column, j))?;
@@ -127,19 +126,18 @@ impl<'a> Band<'a> {
         Ok(())
     }
 
-    /// Puts the tiles together, row by row.
+    /// Puts the tiles together, row by row, behind the bytes that are there.
     fn join(&self, tiles: &[TilePixels], bytes: &mut Vec<u8>) -> Result<(), OutOfMemory>
         requires { AreColumns self.now.list.now self.now.tiling.now self.now.row tiles.now }
-        ensures { OnOk result (IsBand self.now.list.now self.now.tiling.now self.now.row bytes.new.items) }
+        ensures { OnOk result (AddsBand self.now.list.now self.now.tiling.now self.now.row bytes.old.items bytes.new.items) }
     {
-        bytes.clear();
         for j in 0..self.height() {
             self.push_row(tiles, j, bytes)?;
         }
         Ok(())
     }
 
-    /// Draws the tiles of the band.
+    /// Has the tiles of the band drawn by so many workers.
     fn draw<R: Threads + Wait + Sync, G: Gate>(
         &self,
         rt: &R,
@@ -151,21 +149,52 @@ impl<'a> Band<'a> {
         ensures tiles { IfOk result (λ tiles. AreColumns self.now.list.now self.now.tiling.now self.now.row tiles.items) }
         ensures fault { IfErr result (λ e. (e ≡ fault.OutOfMemory) ⊎ (e ≡ fault.Pool PoolFault.NoWorker)) }
     {
+        let columns = self.tiling.columns();
+        // A worker without a tile would be a thread started for nothing, and so would one that nobody works beside.
+        let workers = workers.min(columns);
+        if workers == 1 {
+            let mut store = Store::new(alloc, self.tiling.side(), self.list.count())?;
+            return Ok(self.draw_alone(alloc, &mut store, gate)?);
+        }
         let bins = Bins::build(alloc, self.list, self.tiling, self.row, 1)?;
         let job = BandJob {
             band: self,
             bins: &bins,
         };
-        let columns = self.tiling.columns();
-        // A worker without a tile would be a thread started for nothing.
-        match run::<_, Desks, _, _>(rt, alloc, columns, workers.min(columns), &job, gate) {
+        match run::<_, Desks, _, _>(rt, alloc, columns, workers, &job, gate) {
             Ok(tiles) => Ok(tiles),
             Err(PoolFault::OutOfMemory) => Err(Fault::OutOfMemory),
             Err(PoolFault::NoWorker) => Err(Fault::Pool(PoolFault::NoWorker)),
         }
     }
 
-    /// Draws the band, and puts the bytes of its rows of pixels into `bytes`, in place of what was there.
+    /// Has the tiles of the band drawn one after another on the calling thread, in this store. It passes through the gate as the
+    /// worker with number 0 would.
+    fn draw_alone<G: Gate>(
+        &self,
+        alloc: Global,
+        store: &mut Store,
+        gate: &G,
+    ) -> Result<Vec<TilePixels>, OutOfMemory>
+        requires { store.old ≡ record { side = self.now.tiling.now.side; count = self.now.list.now.count } }
+        ensures tiles { IfOk result (λ tiles. AreColumns self.now.list.now self.now.tiling.now self.now.row tiles.items) }
+        ensures store { store.new ≡ store.old }
+    {
+        let bins = Bins::build(alloc, self.list, self.tiling, self.row, 1)?;
+        let job = BandJob {
+            band: self,
+            bins: &bins,
+        };
+        let columns = self.tiling.columns();
+        let mut tiles = Vec::with_capacity(alloc, columns as usize)?;
+        for column in 0..columns {
+            gate.enter(0, column);
+            tiles.push_reserved(job.work(alloc, column, store)?);
+        }
+        Ok(tiles)
+    }
+
+    /// Draws the band by so many workers, and puts the bytes of its rows of pixels into `bytes`, in place of what was there.
     pub(crate) fn render<R: Threads + Wait + Sync, G: Gate>(
         &self,
         rt: &R,
@@ -179,7 +208,23 @@ impl<'a> Band<'a> {
         ensures fault { IfErr result (λ e. (e ≡ fault.OutOfMemory) ⊎ (e ≡ fault.Pool PoolFault.NoWorker)) }
     {
         let tiles = self.draw(rt, alloc, workers, gate)?;
+        bytes.clear();
         self.join(&tiles, bytes)?;
         Ok(())
+    }
+
+    /// Draws the band on the calling thread, its tiles in this store, and appends the bytes of its rows of pixels.
+    pub(crate) fn push_alone(
+        &self,
+        alloc: Global,
+        store: &mut Store,
+        bytes: &mut Vec<u8>,
+    ) -> Result<(), OutOfMemory>
+        requires { store.old ≡ record { side = self.now.tiling.now.side; count = self.now.list.now.count } }
+        ensures band { OnOk result (AddsBand self.now.list.now self.now.tiling.now self.now.row bytes.old.items bytes.new.items) }
+        ensures store { store.new ≡ store.old }
+    {
+        let tiles = self.draw_alone(alloc, store, &Open)?;
+        self.join(&tiles, bytes)
     }
 }

@@ -23,8 +23,8 @@ use std::io::{Read, Write};
 use std::sync::Wait;
 use std::thread::Threads;
 
-/// Reads a draw list.
-fn read_list(alloc: Global, bytes: &[u8]) -> Result<DrawList, Fault>
+/// The draw list that the bytes denote, at most 64 MiB, or their first fault. Want of memory is told as such.
+pub fn read_list(alloc: Global, bytes: &[u8]) -> Result<DrawList, Fault>
     requires { length bytes.now ≤ MOST_BYTES }
     ensures ok { IfOk result (Denotes bytes.now) }
     ensures fault { IfErr result (λ e. (e ≡ Fault.OutOfMemory) ⊎ ((fault : ReadFault) × (e ≡ Fault.List fault) × IsFirstFault (places (json_of bytes.now)) fault)) }

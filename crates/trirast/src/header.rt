@@ -7,11 +7,11 @@ ghost use Rattle.trirast.specs.File.{ppm_header as header_of_colours, pgm_header
 use crate::counted::Counted;
 use crate::sending::{WriteFault, send};
 use arrayvec::ArrayVec;
-use list::Output;
+use list::{DrawList, Output};
 use std::io::Write;
 
-/// The longest header, that of depths of 4096 by 4096.
-const HEADER_BYTES: usize = 19;
+/// The length of the longest header, that of depths of 4096 by 4096, in bytes.
+pub const HEADER_BYTES: usize = 19;
 
 /// Appends a number in digits.
 #[tactic(auto, using(std::proofs::lemmas::Fmt::decimal_digit))]
@@ -65,6 +65,13 @@ fn picture_header(output: Output, width: u32, height: u32) -> ArrayVec<u8, HEADE
         Output::Color => header_text(b"P6\n", width, height, b"\n255\n"),
         Output::Depth => header_text(b"P5\n", width, height, b"\n65535\n"),
     }
+}
+
+/// The header of the file of a list's picture.
+pub fn file_header(list: &DrawList) -> ArrayVec<u8, HEADER_BYTES>
+    ensures { result.items ≡ header_of list.now.output list.now.width list.now.height }
+{
+    picture_header(list.output(), list.width(), list.height())
 }
 
 /// Writes the header of a picture that shows colours or depths, and answers its length.

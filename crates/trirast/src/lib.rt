@@ -3,6 +3,7 @@
 
 mod band;
 mod counted;
+mod drawing;
 mod engine;
 mod fault;
 mod header;
@@ -11,14 +12,17 @@ mod line;
 mod ppm;
 mod program;
 mod sending;
+mod telling;
 mod words;
 
 pub use counted::Counted;
-pub use engine::{run, run_with, write_picture};
+pub use drawing::{draw, draw_rows};
+pub use engine::{read_list, run, run_with, write_picture};
 pub use fault::Fault;
-pub use header::{pgm_header, ppm_header};
+pub use header::{HEADER_BYTES, file_header, pgm_header, ppm_header};
 pub use line::{LineFault, Options};
 pub use ppm::{ppm_rows, write_ppm};
 pub use program::{command, refuse};
 pub use sending::WriteFault;
+pub use telling::{FaultLine, LINE_BYTES, fault_line};
 pub use words::options;

@@ -1,5 +1,6 @@
 //! The program, over words and streams.
 ghost use Rattle.std.specs.Prelude.{◌≡◌, ◌<◌, ◌⊎◌, map};
+ghost use Rattle.trirast.specs.Program.{EndsByFault, WritesLine, refusal_line, usage_line};
 ghost use Rattle.trirast.specs.Runs.{WritesPicture};
 ghost use Rattle.trirast.specs.Words.{AsksForHelp, status_of};
 
@@ -8,24 +9,19 @@ use crate::engine::run;
 use crate::fault::Fault;
 use crate::line::LineFault;
 use crate::sending::send;
+use crate::telling::{FaultLine, fault_line};
 use crate::words::options;
-use arrayvec::ArrayString;
-use list::ReadFault;
 use std::alloc::Global;
-use std::fmt;
-use std::fmt::Write as _;
 use std::io::{Read, Write};
 use std::sync::Wait;
 use std::thread::Threads;
 
-/// Room for the line of a fault, in bytes.
-const LINE_BYTES: usize = 96;
-
-type Line = ArrayString<LINE_BYTES>;
-
 /// What `--help` prints.
 const USAGE: &[u8] =
     b"usage: trirast [--tile 8|16|32|64] [--workers 1..16] < list.json > picture.ppm\n";
+
+/// What is told of words that are refused.
+const REFUSAL: &[u8] = b"trirast: command line refused\n";
 
 /// Reads the words as a command line, the program's name first, and a draw list from the input, and writes its picture. The
 /// answer is the program's status: 0 where the picture was written or the usage line was asked for, 1 where the run came to
@@ -43,15 +39,20 @@ pub fn command<'a, Rt: Threads + Wait + Sync, R: Read, W: Write, E: Write>(
     requires output { output.old.failures < u64.MAX }
     requires errors { errors.old.failures < u64.MAX }
     ensures status { (result ≡ 0) ⊎ (result ≡ 1) ⊎ (result ≡ 2) }
-    ensures drawn { result ≡ 0 → AsksForHelp (map (λ word. word.now) words.entry.now)
+    ensures drawn { result ≡ 0 → (AsksForHelp (map (λ word. word.now) words.entry.now) × WritesLine usage_line (W.contents output.old.inner) (W.contents output.new.inner))
         ⊎ WritesPicture (R.remaining input.old.inner) (R.remaining input.new.inner) (W.contents output.old.inner) (W.contents output.new.inner) }
+    ensures quiet { result ≡ 0 → errors.new ≡ errors.old }
+    // What is on the output is what a fault of the run explains, and nothing behind it.
+    ensures failed { result ≡ 1 → EndsByFault (R.remaining input.old.inner) (R.remaining input.new.inner) (W.contents output.old.inner) (W.contents output.new.inner)
+        (input.old.failures < input.new.failures) (output.old.failures < output.new.failures) }
     ensures refused { result ≡ 2 → (input.new ≡ input.old) × (output.new ≡ output.old) }
+    ensures refusal { result ≡ 2 → WritesLine refusal_line (E.contents errors.old.inner) (E.contents errors.new.inner) }
 {
     match options(alloc, words) {
         Ok(options) => match run(rt, alloc, input, output, options) {
             Ok(()) => 0,
             Err(fault) => {
-                tell(&fault_line(&fault), errors);
+                tell(fault_line(&fault).as_str().as_bytes(), errors);
                 1
             }
         },
@@ -69,73 +70,34 @@ pub fn refuse<W: Write, E: Write>(
     requires output { output.old.failures < u64.MAX }
     requires errors { errors.old.failures < u64.MAX }
     ensures help { result ≡ 0 → fault ≡ LineFault.Help }
+    ensures usage { result ≡ 0 → WritesLine usage_line (W.contents output.old.inner) (W.contents output.new.inner) }
+    ensures quiet { result ≡ 0 → errors.new ≡ errors.old }
+    ensures failed { result ≡ 1 → output.new ≡ output.old }
     ensures refused { result ≡ 2 → output.new ≡ output.old }
+    ensures refusal { result ≡ 2 → WritesLine refusal_line (E.contents errors.old.inner) (E.contents errors.new.inner) }
     ensures status { result ≡ status_of fault }
 {
     match fault {
         LineFault::Help => {
-            let _ = send(USAGE, 0, output);
+            tell(USAGE, output);
             0
         }
         LineFault::Refused => {
-            let _ = send(b"trirast: command line refused\n", 0, errors);
+            tell(REFUSAL, errors);
             2
         }
         LineFault::OutOfMemory => {
-            tell(&fault_line(&Fault::OutOfMemory), errors);
+            tell(fault_line(&Fault::OutOfMemory).as_str().as_bytes(), errors);
             1
         }
     }
 }
 
 /// Writes a line, or what of it can be written.
-fn tell<E: Write>(line: &Line, errors: &mut Counted<E>)
-    requires { errors.old.failures < u64.MAX }
+#[tactic(auto, using(crate::proofs::Lines::writes_line))]
+fn tell<W: Write>(line: &[u8], out: &mut Counted<W>)
+    requires { out.old.failures < u64.MAX }
+    ensures { WritesLine line.now (W.contents out.old.inner) (W.contents out.new.inner) }
 {
-    let _ = send(line.as_str().as_bytes(), 0, errors);
-}
-
-/// The line of a fault.
-fn fault_line(fault: &Fault) -> Line {
-    let mut line = Line::new();
-    let _ = write_fault(fault, &mut line);
-    line
-}
-
-fn write_fault(fault: &Fault, line: &mut Line) -> fmt::Result {
-    match fault {
-        Fault::List(ReadFault { kind, draw: None }) => {
-            writeln!(
-                line,
-                "trirast: list fault {} {}",
-                kind.number(),
-                kind.name()
-            )
-        }
-        Fault::List(
-            ReadFault {
-                kind,
-                draw: Some(draw),
-            },
-        ) => {
-            writeln!(
-                line,
-                "trirast: list fault {} {} in draw {draw}",
-                kind.number(),
-                kind.name()
-            )
-        }
-        Fault::Pool(fault) => {
-            writeln!(
-                line,
-                "trirast: pool fault {} {}",
-                fault.number(),
-                fault.name()
-            )
-        }
-        Fault::InputFailed => writeln!(line, "trirast: input failed"),
-        Fault::InputTooLong => writeln!(line, "trirast: input too long"),
-        Fault::WriteFailed(count) => writeln!(line, "trirast: write failed after {count} bytes"),
-        Fault::OutOfMemory => writeln!(line, "trirast: out of memory"),
-    }
+    let _ = send(line, 0, out);
 }

@@ -16,9 +16,9 @@ sources t placed way depth colour same is e =
 pub returns-in-Groups-clause-drawn : goal.returns-in-Groups-clause-drawn
 returns-in-Groups-clause-drawn c k l set =
     let t = c.args.self.now in
-    (c.draw_by_depth.ensures t (sources t c.self.inside.placed c.self.inside.way c.in-Groups.depth c.in-Groups.colour c.self.view_is c.self.invariant c.in-Groups.is) c.requires.covered).drawn k (omega arith) (omega (arith, l)) set
+    (c.draw_by_merge.ensures t (sources t c.self.inside.placed c.self.inside.way c.in-Groups.depth c.in-Groups.colour c.self.view_is c.self.invariant c.in-Groups.is) c.requires.covered).drawn k (omega arith) (omega (arith, l)) set
 
 pub returns-in-Groups-clause-kept : goal.returns-in-Groups-clause-kept
 returns-in-Groups-clause-kept c k l clear =
     let t = c.args.self.now in
-    (c.draw_by_depth.ensures t (sources t c.self.inside.placed c.self.inside.way c.in-Groups.depth c.in-Groups.colour c.self.view_is c.self.invariant c.in-Groups.is) c.requires.covered).kept k (omega arith) (omega (arith, l)) clear
+    (c.draw_by_merge.ensures t (sources t c.self.inside.placed c.self.inside.way c.in-Groups.depth c.in-Groups.colour c.self.view_is c.self.invariant c.in-Groups.is) c.requires.covered).kept k (omega arith) (omega (arith, l)) clear

@@ -1,8 +1,11 @@
 use Rattle.std.proofs.Common.{◌≡◌, arith}
-use Rattle.list.proofs.Begun.{part_of_rows}
+use Rattle.trirast.proofs.Columns.{row_added, band_added}
 use Rattle.trirast.proofs.band.Band.join.Goals as goal
+
+pub loop-j-preserved : goal.loop-j-preserved
+loop-j-preserved c = row_added _ _ _ _ _ _ c.loop-j.invariant c.in_ok-push_row.ensures
 
 pub returns : goal.returns
 returns c =
     let all : c.loop-j.j ≡ c.height-j-end.result = omega arith in
-    part_of_rows _ _ _ _ _ _ (rw (all, c.height-j-end.ensures) at c.loop-j.invariant)
+    band_added _ _ _ c.loop-j.j _ _ (rw c.height-j-end.ensures at all) c.loop-j.invariant

@@ -1,0 +1,74 @@
+#!/usr/bin/env python3
+"""Times the library beside the program on the scenes of bench/scenes.py and prints one table.
+
+    bench/library.py [--runs 5] [--threads 4] [--scenes tiny mesh ..]
+
+Needs `make library`. For each scene it gives the least time of some rounds of: the program with one worker and with as many
+workers as threads, a whole process each; trirast_size, which reads the list and draws nothing; that and trirast_draw, one
+after the other on one thread, so that the list is read twice; and trirast.draw of python with the threads, each of which
+reads the list and draws its part. The ways take turns, so that a busy machine slows them all. Python 3.8 or later on Linux,
+standard library alone.
+"""
+
+import argparse
+import os
+import subprocess
+import sys
+import time
+
+import run
+
+sys.path.insert(0, os.path.join(run.TOP, "python"))
+
+SCENES = tuple(name for name in run.SCENES if name not in run.REFUSED)
+
+
+def seconds(call, *words):
+    begin = time.perf_counter()
+    call(*words)
+    return time.perf_counter() - begin
+
+
+def ways(program, threads, source):
+    """The ways to draw a list, by name: each gives the seconds that it took."""
+    import trirast
+
+    with open(source, "rb") as file:
+        data = file.read()
+
+    def process(workers):
+        return run.Run([program, "--workers", str(workers)], source, os.devnull).wall
+
+    return {
+        "program, 1 worker": lambda: process(1),
+        f"program, {threads} workers": lambda: process(threads),
+        "trirast_size": lambda: seconds(trirast.size, data),
+        "trirast_size and trirast_draw": lambda: seconds(trirast.draw_file, data),
+        f"python, {threads} threads": lambda: seconds(trirast.draw, data, 32, threads),
+    }
+
+
+def main():
+    parser = argparse.ArgumentParser(description="Times the library beside the program.")
+    parser.add_argument("--program", default=os.path.join(run.TOP, "bin", "trirast"), help="default bin/trirast")
+    parser.add_argument("--runs", type=int, default=5, help="rounds of which the least counts (default 5)")
+    parser.add_argument("--threads", type=int, default=4, help="threads and workers (default 4)")
+    parser.add_argument("--scenes", nargs="+", choices=SCENES, default=SCENES, metavar="NAME", help=", ".join(SCENES))
+    words = parser.parse_args()
+    os.makedirs(run.OUT, exist_ok=True)
+    subprocess.run([sys.executable, os.path.join(run.BENCH, "scenes.py"), *words.scenes], check=True)
+    print(f"Machine: {run.processor_name()}, {os.cpu_count()} processors; load before the run {run.load()}.")
+    print(f"Least of {words.runs} rounds, tiles of 32 pixels, milliseconds.\n")
+    for number, name in enumerate(words.scenes):
+        chosen = ways(os.path.abspath(words.program), words.threads, os.path.join(run.OUT, f"{name}.json"))
+        if number == 0:
+            print(f"| scene | {' | '.join(chosen)} |")
+            print("|---" * (len(chosen) + 1) + "|")
+        rounds = [[way() for way in chosen.values()] for _ in range(words.runs)]
+        least = [run.milliseconds(min(times)) for times in zip(*rounds)]
+        print(f"| {name} | {' | '.join(least)} |", flush=True)
+    print(f"\nLoad after the run {run.load()}.")
+
+
+if __name__ == "__main__":
+    main()

@@ -1,0 +1,355 @@
+//! Readers and writers that fail, and what a run and the program then tell and leave.
+use crate::devices::{End, Sink, Source};
+use crate::support::{
+    HALF, PIXELS, TRIANGLE, call_over, file, half, refuses, run_into, was_cut_short, writes,
+};
+use grid::TileSide;
+use std::alloc::{AllocError, Global};
+use std::process::Abort;
+use std::sync::Wait;
+use std::test::Fail;
+use std::thread::Threads;
+use trirast::{Counted, Fault, Options, run};
+
+const OPTIONS: Options = Options {
+    tile: TileSide::T32,
+    workers: 2,
+};
+
+/// Runs over this source.
+fn run_over<R: Threads + Wait + Sync>(
+    rt: &R,
+    alloc: Global,
+    source: Source<'_>,
+) -> (Result<(), Fault>, Vec<u8>) {
+    let mut input = Counted::new(source);
+    let mut output = Counted::new(Vec::new(alloc));
+    let result = run(rt, alloc, &mut input, &mut output, OPTIONS);
+    (result, output.into_inner())
+}
+
+// The last read that fails is the one after the last byte, which would have told the end.
+#[test]
+fn tells_of_each_read_that_fails(rt: HostRuntime) -> Result<(), Fail> {
+    let bytes = TRIANGLE.as_bytes();
+    for a_call in [1, 7] {
+        let reads = bytes.len().div_ceil(a_call) as u64 + 1;
+        for calls_left in 0..reads {
+            let source = Source::failing(bytes, a_call, calls_left);
+            let (result, written) = run_over(&rt, rt.alloc(), source);
+            assert_eq!(rt; result, Err(Fault::InputFailed), "{calls_left}");
+            assert!(rt; written.is_empty(), "{calls_left}");
+        }
+        let (result, written) = run_over(&rt, rt.alloc(), Source::failing(bytes, a_call, reads));
+        assert_eq!(rt; result, Ok(()));
+        let expected = file(rt.alloc(), 3, 3, PIXELS)?;
+        assert_eq!(rt; written.as_slice(), expected.as_slice());
+    }
+    Ok(())
+}
+
+#[test]
+fn takes_an_input_of_the_greatest_length(rt: HostRuntime) -> Result<(), Fail> {
+    let spaces = 67_108_864 - TRIANGLE.len();
+    let source = Source::padded(TRIANGLE.as_bytes(), spaces);
+    let (result, written) = run_over(&rt, rt.alloc(), source);
+    assert_eq!(rt; result, Ok(()));
+    let expected = file(rt.alloc(), 3, 3, PIXELS)?;
+    assert_eq!(rt; written.as_slice(), expected.as_slice());
+    Ok(())
+}
+
+#[test]
+fn takes_no_input_of_a_byte_more(rt: HostRuntime) -> Result<(), Fail> {
+    let spaces = 67_108_865 - TRIANGLE.len();
+    let source = Source::padded(TRIANGLE.as_bytes(), spaces);
+    let (result, written) = run_over(&rt, rt.alloc(), source);
+    assert_eq!(rt; result, Err(Fault::InputTooLong));
+    assert!(rt; written.is_empty());
+    Ok(())
+}
+
+/// 1 by 33 pixels, so two bands of tiles of 32 pixels, and a triangle over the centres of rows 0 to 18.
+const COLUMN: &str =
+    r#"{"width":1,"height":33,"draws":[{"vertices":[[0,0,0,255,255,255,255],[5120,0,0,255,255,255,255],[0,5120,0,255,255,255,255]],"triangles":[[0,1,2]]}]}"#;
+
+/// Its file, of 111 bytes.
+fn column(alloc: Global) -> Result<Vec<u8>, AllocError> {
+    let mut bytes = Vec::from_slice(alloc, b"P6\n1 33\n255\n")?;
+    for row in 0..33 {
+        let level = if row < 19 { 255 } else { 0 };
+        bytes.extend_from_slice(&[level, level, level])?;
+    }
+    Ok(bytes)
+}
+
+#[test]
+fn tells_how_much_went_out_at_each_byte(rt: HostRuntime) -> Result<(), Fail> {
+    let expected = column(rt.alloc())?;
+    assert_eq!(rt; expected.len(), 111);
+    for room in 0..111usize {
+        for end in [End::Fails, End::TakesNothing] {
+            for workers in [1u32, 2] {
+                let sink = Sink::new(rt.alloc(), room, end);
+                let (result, sink) = run_into(&rt, rt.alloc(), COLUMN, sink, workers);
+                was_cut_short(&rt, result, &sink, &expected, room);
+            }
+        }
+    }
+    Ok(())
+}
+
+#[test]
+fn tells_how_much_went_out_of_a_larger_picture(rt: HostRuntime) -> Result<(), Fail> {
+    let expected = half(rt.alloc())?;
+    assert_eq!(rt; expected.len(), 12_688);
+    for step in 0..208usize {
+        let room = 61 * step;
+        for end in [End::Fails, End::TakesNothing] {
+            let sink = Sink::new(rt.alloc(), room, end);
+            let (result, sink) = run_into(&rt, rt.alloc(), HALF, sink, 1);
+            was_cut_short(&rt, result, &sink, &expected, room);
+        }
+    }
+    Ok(())
+}
+
+/// Where the header and the bands end, and beside these places.
+const PLACES: [usize; 12] = [
+    0, 1, 5, 12, 13, 14, 6252, 6253, 6254, 12_492, 12_493, 12_687,
+];
+
+#[test]
+fn tells_how_much_went_out_with_seven_workers(rt: HostRuntime) -> Result<(), Fail> {
+    let expected = half(rt.alloc())?;
+    for room in PLACES {
+        for end in [End::Fails, End::TakesNothing] {
+            let sink = Sink::in_pieces(rt.alloc(), room, 4096, end);
+            let (result, sink) = run_into(&rt, rt.alloc(), HALF, sink, 7);
+            was_cut_short(&rt, result, &sink, &expected, room);
+        }
+    }
+    Ok(())
+}
+
+#[test]
+fn writes_in_small_pieces_and_flushes_once(rt: HostRuntime) -> Result<(), Fail> {
+    let expected = half(rt.alloc())?;
+    for a_call in [1, 20_000] {
+        for (can_flush, answer) in [(true, Ok(())), (false, Err(Fault::WriteFailed(12_688)))] {
+            let mut sink = Sink::in_pieces(rt.alloc(), 20_000, a_call, End::Fails);
+            sink.can_flush = can_flush;
+            let (result, sink) = run_into(&rt, rt.alloc(), HALF, sink, 1);
+            assert_eq!(rt; result, answer);
+            assert_eq!(rt; sink.taken.as_slice(), expected.as_slice());
+            assert_eq!(rt; sink.flushes, 1);
+            assert_eq!(rt; sink.late_calls, 0);
+        }
+    }
+    Ok(())
+}
+
+/// Calls the program without words over this source, and asserts that it tells this line, with status 1, and writes nothing.
+fn tells_of_the_input<R: Threads + Wait + Sync + Abort>(
+    rt: &R,
+    alloc: Global,
+    source: Source<'_>,
+    line: &[u8],
+) -> Result<(), Fail> {
+    let (status, output, errors): (u8, Vec<u8>, Vec<u8>) = call_over(
+        rt,
+        alloc,
+        &[],
+        source,
+        Vec::new(alloc),
+        Vec::new(alloc),
+    )?;
+    assert_eq!(rt; errors.as_slice(), line);
+    assert_eq!(rt; output.as_slice(), b"".as_slice());
+    assert_eq!(rt; status, 1);
+    Ok(())
+}
+
+#[test]
+fn tells_on_its_line_that_the_input_failed(rt: HostRuntime) -> Result<(), Fail> {
+    let bytes = TRIANGLE.as_bytes();
+    let line = b"trirast: input failed\n".as_slice();
+    for calls_left in 0..bytes.len() as u64 + 1 {
+        let source = Source::failing(bytes, 1, calls_left);
+        tells_of_the_input(&rt, rt.alloc(), source, line)?;
+    }
+    // Where the bytes so far denote no list, that is not told.
+    tells_of_the_input(&rt, rt.alloc(), Source::failing(b"{]", 1, 2), line)
+}
+
+#[test]
+fn tells_on_its_line_that_the_input_is_too_long(rt: HostRuntime) -> Result<(), Fail> {
+    // That the bytes denote no list is not told.
+    let source = Source::padded(b"{]", 67_108_863);
+    tells_of_the_input(&rt, rt.alloc(), source, b"trirast: input too long\n")
+}
+
+/// Calls the program without words with a list and an output that fails, and asserts that it tells after how many bytes, with
+/// status 1, and that these went out and nothing behind them.
+fn tells_of_the_output<R: Threads + Wait + Sync + Abort>(
+    rt: &R,
+    alloc: Global,
+    sink: Sink,
+    expected: &[u8],
+) -> Result<(), Fail> {
+    let room = expected.len();
+    let (status, sink, errors): (u8, Sink, Vec<u8>) = call_over(
+        rt,
+        alloc,
+        &[],
+        HALF.as_bytes(),
+        sink,
+        Vec::new(alloc),
+    )?;
+    let line = format!(in alloc; "trirast: write failed after {room} bytes\n")?;
+    assert_eq!(rt; errors.as_slice(), line.as_bytes(), "{room}");
+    assert_eq!(rt; sink.taken.as_slice(), expected, "{room}");
+    assert_eq!(rt; sink.late_calls, 0, "{room}");
+    assert_eq!(rt; status, 1, "{room}");
+    Ok(())
+}
+
+#[test]
+fn tells_on_its_line_after_how_many_bytes_the_output_failed(rt: HostRuntime) -> Result<(), Fail> {
+    let expected = half(rt.alloc())?;
+    for room in PLACES {
+        for end in [End::Fails, End::TakesNothing] {
+            let sink = Sink::new(rt.alloc(), room, end);
+            let part = expected.get(..room).unwrap_or_default();
+            tells_of_the_output(&rt, rt.alloc(), sink, part)?;
+        }
+    }
+    // A flush that fails comes after the whole file.
+    let mut sink = Sink::new(rt.alloc(), 20_000, End::Fails);
+    sink.can_flush = false;
+    tells_of_the_output(&rt, rt.alloc(), sink, &expected)
+}
+
+/// Calls the program, and asserts that it tells this line with this status and output, and that neither changes where of the
+/// line no more than a beginning can be written.
+fn passes_over_failing_errors<R: Threads + Wait + Sync + Abort>(
+    rt: &R,
+    alloc: Global,
+    words: &[&str],
+    list: &str,
+    room: usize,
+    wanted: (u8, &[u8], &[u8]),
+) -> Result<(), Fail> {
+    let (status, output, line) = wanted;
+    for taken in 0..line.len() + 1 {
+        for end in [End::Fails, End::TakesNothing] {
+            let sink = Sink::new(alloc, room, End::Fails);
+            let mut errors = Sink::new(alloc, taken, end);
+            errors.can_flush = false;
+            let (answer, sink, errors) = call_over(
+                rt,
+                alloc,
+                words,
+                list.as_bytes(),
+                sink,
+                errors,
+            )?;
+            assert_eq!(rt; answer, status, "{taken}");
+            assert_eq!(rt; sink.taken.as_slice(), output, "{taken}");
+            assert_eq!(rt; Some(errors.taken.as_slice()), line.get(..taken), "{taken}");
+            assert_eq!(rt; errors.late_calls, 0, "{taken}");
+        }
+    }
+    Ok(())
+}
+
+#[test]
+fn passes_over_a_line_that_cannot_be_written(rt: HostRuntime) -> Result<(), Fail> {
+    let alloc = rt.alloc();
+    let picture = file(alloc, 3, 3, PIXELS)?;
+    let part = picture.get(..20).unwrap_or_default();
+    for (words, list, room, status, output, line) in [
+        (
+            ["--tile", "8"],
+            TRIANGLE,
+            99,
+            0,
+            picture.as_slice(),
+            "".as_bytes(),
+        ),
+        (
+            ["--tile", "8"],
+            TRIANGLE,
+            20,
+            1,
+            part,
+            b"trirast: write failed after 20 bytes\n".as_slice(),
+        ),
+        (
+            ["--tile", "8"],
+            "[]",
+            99,
+            1,
+            b"".as_slice(),
+            b"trirast: list fault 4 WrongKind\n".as_slice(),
+        ),
+        (
+            ["--tile", "9"],
+            TRIANGLE,
+            99,
+            2,
+            b"".as_slice(),
+            b"trirast: command line refused\n".as_slice(),
+        ),
+    ] {
+        passes_over_failing_errors(&rt, alloc, &words, list, room, (status, output, line))?;
+    }
+    Ok(())
+}
+
+#[test]
+fn passes_over_a_usage_line_that_cannot_be_written(rt: HostRuntime) -> Result<(), Fail> {
+    let usage =
+        b"usage: trirast [--tile 8|16|32|64] [--workers 1..16] < list.json > picture.ppm\n".as_slice();
+    for room in 0..usage.len() + 1 {
+        for end in [End::Fails, End::TakesNothing] {
+            let sink = Sink::new(rt.alloc(), room, end);
+            let (status, sink, errors): (u8, Sink, Vec<u8>) = call_over(
+                &rt,
+                rt.alloc(),
+                &["--help"],
+                b"".as_slice(),
+                sink,
+                Vec::new(rt.alloc()),
+            )?;
+            assert_eq!(rt; status, 0, "{room}");
+            assert_eq!(rt; Some(sink.taken.as_slice()), usage.get(..room), "{room}");
+            assert_eq!(rt; sink.late_calls, 0, "{room}");
+            assert_eq!(rt; errors.as_slice(), b"".as_slice(), "{room}");
+        }
+    }
+    Ok(())
+}
+
+// A program that is called again after a fault draws as ever.
+#[test]
+fn draws_after_a_fault(rt: HostRuntime) -> Result<(), Fail> {
+    let expected = half(rt.alloc())?;
+    refuses(&rt, rt.alloc(), b"[]", "list fault 4 WrongKind")?;
+    let (result, _) = run_into(
+        &rt,
+        rt.alloc(),
+        HALF,
+        Sink::new(rt.alloc(), 6253, End::Fails),
+        3,
+    );
+    assert_eq!(rt; result, Err(Fault::WriteFailed(6253)));
+    writes(
+        &rt,
+        rt.alloc(),
+        &[],
+        HALF.as_bytes(),
+        &expected,
+        "after faults",
+    )
+}

@@ -1,0 +1,101 @@
+//! Reading by itself: a draw list from standard input is read in one pass, as the program reads it, and by `serde_json` into its
+//! tree of values alone. By default it prints how many triangles the list draws and whether the tree is an object. With `--time`
+//! both are read again and again in turn, and it prints the least time of each and their ratio.
+#![tactic(auto)]
+
+ghost use Rattle.std.specs.Prelude.{◌≤◌, IfOk, length, vec_len};
+
+use list::{MOST_BYTES, read};
+use serde_json::Value;
+use std::alloc::Global;
+use std::io::{ErrorKind, Read};
+use std::time::{Clock, Instant};
+use std::{env, io};
+
+/// How often each is read where times are asked for.
+const ROUNDS: u32 = 7;
+
+/// The bytes on standard input.
+fn input(rt: &HostRuntime) -> io::Result<Vec<u8>>
+    ensures { IfOk result (λ bytes. vec_len bytes ≤ MOST_BYTES) }
+{
+    let mut bytes = Vec::new(rt.alloc());
+    rt.stdin().read_to_end(&mut bytes)?;
+    if bytes.len() > MOST_BYTES {
+        return Err(io::Error::from(ErrorKind::InvalidInput));
+    }
+    Ok(bytes)
+}
+
+/// How many triangles the list draws, or none where the bytes are no draw list or memory ran out.
+fn triangles(alloc: Global, bytes: &[u8]) -> Option<usize>
+    requires { length bytes.now ≤ MOST_BYTES }
+{
+    match read(alloc, bytes) {
+        Ok(list) => Some(list.triangles()),
+        Err(_) => None,
+    }
+}
+
+/// Whether `serde_json` reads an object.
+fn is_object(alloc: Global, bytes: &[u8]) -> bool {
+    match Value::from_slice(alloc, bytes) {
+        Ok(value) => value.is_object(),
+        Err(_) => false,
+    }
+}
+
+/// The lesser of a time and the time since a start, in nanoseconds.
+fn least_since<R: Clock>(rt: &R, start: Instant, least: u64) -> io::Result<u64> {
+    let nanos = u64::try_from(start.elapsed(rt)?.as_nanos()).unwrap_or(u64::MAX);
+    Ok(least.min(nanos))
+}
+
+/// The least time of reading in one pass and by `serde_json` alone, in nanoseconds, the two in turn.
+fn least_times<R: Clock>(rt: &R, alloc: Global, bytes: &[u8]) -> io::Result<(u64, u64)>
+    requires { length bytes.now ≤ MOST_BYTES }
+{
+    let (mut ours, mut value) = (u64::MAX, u64::MAX);
+    for _ in 0..ROUNDS {
+        let start = Instant::now(rt)?;
+        let _triangles = triangles(alloc, bytes);
+        ours = least_since(rt, start, ours)?;
+        let start = Instant::now(rt)?;
+        let _object = is_object(alloc, bytes);
+        value = least_since(rt, start, value)?;
+    }
+    Ok((ours, value))
+}
+
+/// Hundredths of a ratio, 0 where there is none.
+fn hundredths(part: u64, whole: u64) -> u64 {
+    if whole == 0 {
+        0
+    } else {
+        part.saturating_mul(100) / whole
+    }
+}
+
+fn main(rt: HostRuntime) -> io::Result<()> {
+    let mut timed = false;
+    for word in env::args(&rt)? {
+        timed |= word.as_str() == "--time";
+    }
+    let bytes = input(&rt)?;
+    match triangles(rt.alloc(), &bytes) {
+        Some(number) => println!(rt; "a list of {number} triangles")?,
+        None => println!(rt; "no list")?,
+    }
+    let kind = if is_object(rt.alloc(), &bytes) {
+        "an object"
+    } else {
+        "no object"
+    };
+    println!(rt; "serde_json: {kind}")?;
+    if timed {
+        let (ours, value) = least_times(&rt, rt.alloc(), &bytes)?;
+        let ratio = hundredths(ours, value);
+        println!(rt; "list::read {ours} ns, serde_json's value {value} ns, {ratio} hundredths")?;
+    }
+    Ok(())
+}

@@ -1,0 +1,62 @@
+//! The blocks of a tile that a triangle meets, row by row.
+ghost use Rattle.std.specs.Prelude.{◌≡◌, length, IfSome, None};
+ghost use Rattle.grid.specs.declared.pixels.TileSide.TheVariants.{T8};
+ghost use Rattle.cover.specs.Drawn.{IsDrawn};
+ghost use Rattle.cover.specs.Square.{CoversNone};
+ghost use Rattle.tile.specs.Samples.{planes_of};
+ghost use Rattle.tile.specs.Drawing.{DrawsTile, ArePlanesOf};
+
+use crate::block::draw_block;
+use crate::region::Region;
+use crate::tile::Tile;
+use cover::{Class, Setup, Square};
+use grid::TileSide;
+use shade::{BlockSamples, Interpolants, Placed};
+
+/// The planes of a block whose samples are all covered.
+const ALL: [u64; 4] = [u64::MAX; 4];
+
+/// Which samples of a block the triangle covers, or none where it covers none of them.
+#[inline]
+fn planes(block: &Square) -> Option<[u64; 4]>
+    requires { block.now.side ≡ T8 }
+    ensures some { IfSome result (ArePlanesOf block.now.triangle block.now.bx block.now.by block.now.count) }
+    ensures none { result ≡ None → CoversNone block.now }
+{
+    match block.class() {
+        Class::Out => None,
+        Class::All => Some(ALL),
+        Class::Mixed => Some(block.masks().plane),
+    }
+}
+
+/// Draws the triangle at the samples of the tile that it meets: block by block of the region where its box and its scissor meet the
+/// tile. It is made ready at the first block that it does not leave out.
+fn draw_blocks(triangle: &Placed, setup: &Setup, tile: &Tile, samples: &mut [BlockSamples])
+    requires samples { length samples.old ≡ planes_of tile.now.side tile.now.count }
+    requires setup { setup.now ≡ triangle.now.tri }
+    requires drawn { IsDrawn triangle.now.tri triangle.now.state.cull }
+    ensures { DrawsTile triangle.now tile.now samples.old samples.new }
+{
+    let region = Region::of(tile, &setup.bounds(), &triangle.state.scissor);
+    let mut interpolants = None;
+    for by in region.top..region.bottom {
+        for bx in region.left..region.right {
+            let block = setup.square(bx, by, TileSide::T8, tile.count);
+            if let Some(planes) = planes(&block) {
+                let interpolants = interpolants.get_or_insert_with(|| Interpolants::new(triangle));
+                draw_block(interpolants, tile, bx, by, &planes, samples);
+            }
+        }
+    }
+}
+
+/// Draws the triangle at the samples of the tile that it meets.
+pub(crate) fn draw_triangle(triangle: &Placed, tile: &Tile, samples: &mut [BlockSamples])
+    requires { length samples.old ≡ planes_of tile.now.side tile.now.count }
+    ensures { DrawsTile triangle.now tile.now samples.old samples.new }
+{
+    if let Some(setup) = Setup::new(&triangle.tri, triangle.state.cull) {
+        draw_blocks(triangle, &setup, tile, samples);
+    }
+}

@@ -1,0 +1,55 @@
+-- Bands one below the other, and the file that all of them make.
+use Rattle.std.proofs.Common.{◌≡◌, sym, ap, subst, ◌∙◌, ℕ, ◌+◌, ◌-◌, ◌*◌, ◌<◌, ◌≤◌, min, List, [], ◌++◌, append_assoc, append-nil, arith}
+use Rattle.std.proofs.Math.Nat.{mul-le-mul_left}
+use Rattle.grid.specs.Pixels.{side_of}
+use Rattle.grid.specs.declared.pixels.TileSide.{TileSide}
+use Rattle.list.specs.Picture.{IsPart}
+use Rattle.list.specs.Scene.{Scene}
+use Rattle.list.proofs.Parts.{part-append}
+use Rattle.list.proofs.Pixels.{bytes_of_none}
+use Rattle.bins.specs.Grid.{TileGrid, tiles_over}
+use Rattle.trirast.specs.Band.{AddsBand, AddsBands}
+use Rattle.trirast.specs.File.{header_of, IsPictureFile}
+use Rattle.trirast.proofs.Strips.{strip_before, strip_next, strips_all}
+
+no_rows : (l : Scene) (y height : ℕ) → height ≡ 0 → IsPart l 0 y l.width height []
+no_rows l y height none = rw none (record { size = sym (bytes_of_none l.output (0 * l.width) (omega arith)); pixels = λ i j wide high. absurd (omega arith) })
+
+pub no_bands : (l : Scene) (side : TileSide) (row : ℕ) (bytes : List ℕ) → AddsBands l side row row bytes bytes
+no_bands l side row bytes = record { bands = []; are = no_rows l (side_of side * row) _ (omega arith); behind = sym (append-nil bytes) }
+
+-- a band by what its parts are called
+pub adds_of : (l l' : Scene) (g g' : TileGrid) (row row' : ℕ) (old new : List ℕ) → l' ≡ l → g' ≡ g → row' ≡ row → AddsBand l' g' row' old new → AddsBand l g row old new
+adds_of l l' g g' row row' old new e f h band = rw (← e, ← f, ← h) band
+
+-- one band more
+pub band_next : (l : Scene) (g : TileGrid) (first row : ℕ) (old bytes new : List ℕ) → g.height ≡ l.height → first ≤ row → row < tiles_over l.height g.side
+    → AddsBands l g.side first row old bytes → AddsBand l g row bytes new → AddsBands l g.side first (row + 1) old new
+band_next l g first row old bytes new same order within above h =
+    let side : ℕ = side_of g.side in
+    let before : min l.height (side * row) ≡ side * row = strip_before row l.height g.side within in
+    let next : min l.height (side * (row + 1)) ≡ side * row + (min l.height (side * row + side) - side * row) = strip_next row l.height g.side within in
+    let low : side * first ≤ side * row = mul-le-mul_left side order in
+    let upper : min l.height (side * row) - side * first ≡ side * row - side * first = ap (λ n. n - side * first) before in
+    let below : side * row ≡ side * first + (side * row - side * first) = omega arith in
+    let high : min g.height (side * row + side) - side * row ≡ min l.height (side * row + side) - side * row = ap (λ n. min n (side * row + side) - side * row) same in
+    let a = subst (λ n. IsPart l 0 (side * first) l.width n above.bands) upper above.are in
+    let b = subst (λ y. IsPart l 0 y l.width (min l.height (side * row + side) - side * row) h.band) below (subst (λ n. IsPart l 0 (side * row) l.width n h.band) high h.is) in
+    let both = part-append l 0 (side * first) l.width (side * row - side * first) (min l.height (side * row + side) - side * row) above.bands h.band a b in
+    let sum : (side * row - side * first) + (min l.height (side * row + side) - side * row) ≡ min l.height (side * (row + 1)) - side * first = omega arith in
+    record {
+      bands = above.bands ++ h.band;
+      are = subst (λ n. IsPart l 0 (side * first) l.width n (above.bands ++ h.band)) sum both;
+      behind = h.behind ∙ (ap (λ xs. xs ++ h.band) above.behind ∙ append_assoc old above.bands h.band);
+    }
+
+-- all bands behind the header are the file
+pub file_of_bands : (l : Scene) (side : TileSide) (rows : ℕ) (header file : List ℕ) → tiles_over l.height side ≤ rows → header ≡ header_of l.output l.width l.height → AddsBands l side 0 rows header file → IsPictureFile l file
+file_of_bands l side rows header file all is h =
+    let high : min l.height (side_of side * rows) - side_of side * 0 ≡ l.height = ap (λ n. n - side_of side * 0) (strips_all rows l.height side all) ∙ omega arith in
+    let top : side_of side * 0 ≡ 0 = omega arith in
+    record {
+      rows = h.bands;
+      picture = subst (λ y. IsPart l 0 y l.width l.height h.bands) top (subst (λ n. IsPart l 0 (side_of side * 0) l.width n h.bands) high h.are);
+      whole = h.behind ∙ ap (λ xs. xs ++ h.bands) is;
+    }

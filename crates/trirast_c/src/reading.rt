@@ -1,0 +1,42 @@
+//! What the caller gives: a list, and the side of a tile.
+ghost use Rattle.std.specs.Prelude.{◌≡◌, ◌<◌, ◌↔◌, length, IfOk, IfErr, Err};
+ghost use Rattle.grid.specs.Pixels.{side_of as pixels_of};
+ghost use Rattle.list.specs.Denotes.{Denotes};
+ghost use Rattle.trirast_c.specs.Library.{ExplainsSize, IsSide};
+ghost use Rattle.trirast_c.specs.declared.fault.CallFault.TheVariants as call;
+
+use crate::fault::CallFault;
+use grid::TileSide;
+use list::{DrawList, MOST_BYTES};
+use std::alloc::Global;
+use trirast::{Fault, read_list};
+
+/// The list that the bytes denote.
+pub(crate) fn list_of(alloc: Global, bytes: &[u8]) -> Result<DrawList, CallFault>
+    ensures ok { IfOk result (Denotes bytes.now) }
+    ensures fault { IfErr result (ExplainsSize bytes.now) }
+    ensures too_long { (result ≡ Err call.InputTooLong) ↔ (MOST_BYTES < length bytes.now) }
+{
+    if bytes.len() > MOST_BYTES {
+        return Err(CallFault::InputTooLong);
+    }
+    match read_list(alloc, bytes) {
+        Ok(list) => Ok(list),
+        Err(Fault::List(fault)) => Err(CallFault::List(fault)),
+        Err(_) => Err(CallFault::OutOfMemory),
+    }
+}
+
+/// The side of a tile of so many pixels.
+pub(crate) fn side_of(tile: u32) -> Result<TileSide, CallFault>
+    ensures side { IfOk result (λ side. pixels_of side ≡ tile) }
+    ensures none { IfErr result (λ e. (e ≡ call.NoSide) × ¬ IsSide tile) }
+{
+    match tile {
+        8 => Ok(TileSide::T8),
+        16 => Ok(TileSide::T16),
+        32 => Ok(TileSide::T32),
+        64 => Ok(TileSide::T64),
+        _ => Err(CallFault::NoSide),
+    }
+}

@@ -1,0 +1,112 @@
+/* trirast: draws a list of triangles into memory, the same bytes as the program trirast writes. For C and C++.
+ *
+ * A draw list is a JSON text (docs/draw-list.md). Its picture's file is a binary PPM file (P6, three bytes a pixel: red,
+ * green, blue), or, where the list asks for depths, a binary PGM file (P5, two bytes a pixel, the high one first).
+ *
+ * What holds of every call:
+ *
+ * - Memory. The caller owns all that it passes. Nothing that is passed is kept, and nothing has to be freed: what a call
+ *   takes from malloc it gives back before it returns. No pointer may be NULL, not even one to no bytes.
+ * - A list is `length` bytes at `list`, with no byte of zero at their end. They are read and not changed.
+ * - A buffer is `room` bytes at `buffer`. Where a call answers 0 it wrote as many bytes as its text says at the buffer's
+ *   beginning, and the rest is as it was. After a fault the whole buffer is as it was.
+ * - What is written (`buffer`, `picture`, `fault`) must not overlap with each other nor with the list.
+ * - The answer is 0 or the kind of the fault, TRIRAST_LIST_FAULT to TRIRAST_NO_SUCH_ROWS. `fault` is written in either
+ *   case, and its `kind` is the answer. Of several faults the first is told: the side of a tile, the list, the rows, the
+ *   buffer; and want of memory where it is met.
+ * - Threads. No call keeps a state or starts a thread, so any number of threads may call at once, with the same list too,
+ *   as long as what one of them writes is not touched by another. Not to be called from a signal handler.
+ * - Each call reads its list anew. A list may be changed or freed as soon as the call returns.
+ */
+#ifndef TRIRAST_H
+#define TRIRAST_H
+
+#include <stddef.h>
+#include <stdint.h>
+
+#ifdef __cplusplus
+extern "C" {
+#endif
+
+/* The version that this header describes. A library of a greater one has all of it, in the same form. */
+#define TRIRAST_VERSION 1
+
+/* Bytes of stack that are enough for each call, for a thread that is given a small one. Measured, with room to spare, and
+ * not proved: docs/library.md. */
+#define TRIRAST_STACK 262144
+
+/* The answer of a call, and the `kind` of a fault. */
+enum {
+    TRIRAST_OK = 0,               /* done */
+    TRIRAST_LIST_FAULT = 1,       /* the bytes are no draw list: `list_kind` and `draw` say why and where */
+    TRIRAST_TOO_LONG = 2,         /* the list has more than 67,108,864 bytes */
+    TRIRAST_OUT_OF_MEMORY = 3,    /* malloc or realloc refused */
+    TRIRAST_BUFFER_TOO_SHORT = 4, /* `room` is less than what would be written */
+    TRIRAST_NO_TILE_SIDE = 5,     /* `tile` is none of 8, 16, 32 and 64 */
+    TRIRAST_NO_SUCH_ROWS = 6      /* `first` is not before `end`, or the picture has fewer rows of tiles than `end` */
+};
+
+/* The `list_kind` of a fault whose kind is TRIRAST_LIST_FAULT: the numbers of docs/draw-list.md. */
+enum {
+    TRIRAST_NOT_JSON = 1,
+    TRIRAST_UNKNOWN_KEY = 2,
+    TRIRAST_MISSING_KEY = 3,
+    TRIRAST_WRONG_KIND = 4,
+    TRIRAST_OUT_OF_RANGE = 5,
+    TRIRAST_BAD_INDEX = 6,
+    TRIRAST_TOO_MANY = 7,
+    TRIRAST_TWO_LISTS = 9,
+    TRIRAST_NOT_CONVEX = 10
+};
+
+/* Why a call did nothing. After an answer of 0 all four are 0. */
+typedef struct {
+    uint32_t kind;      /* the call's answer */
+    uint32_t list_kind; /* where the kind is TRIRAST_LIST_FAULT: TRIRAST_NOT_JSON to TRIRAST_NOT_CONVEX; else 0 */
+    uint32_t in_draw;   /* 1 where the fault stands in a draw of the list, else 0 */
+    uint32_t draw;      /* that draw, counted from 0; 0 where it stands in none */
+} trirast_fault;
+
+/* What a list's picture takes. file_bytes = header_bytes + (uint64_t)width * height * pixel_bytes. */
+typedef struct {
+    uint32_t width;        /* columns, in pixels: 1 to 4096 */
+    uint32_t height;       /* rows, in pixels: 1 to 4096 */
+    uint32_t pixel_bytes;  /* bytes of a pixel: 3 for colours (P6), 2 for depths (P5) */
+    uint32_t header_bytes; /* bytes of the file before its first pixel */
+    uint64_t file_bytes;   /* bytes of the whole file */
+} trirast_picture;
+
+/* The version of the library: 1. */
+uint32_t trirast_version(void);
+
+/* Reads a list and tells what its picture takes. After a fault `*picture` is as it was.
+ * Faults: TRIRAST_LIST_FAULT, TRIRAST_TOO_LONG, TRIRAST_OUT_OF_MEMORY. */
+uint32_t trirast_size(const uint8_t *list, size_t length, trirast_picture *picture, trirast_fault *fault);
+
+/* Draws a list's picture: the whole file, header and pixels, goes to the buffer's first `file_bytes` bytes. `tile` is
+ * the side of a tile in pixels, 8, 16, 32 or 64; it changes no byte, and 32 is a good one. So that the buffer is as it was
+ * after a fault, the file is drawn beside it and copied: drawing takes as much memory again as is written.
+ * Faults: all but TRIRAST_NO_SUCH_ROWS. */
+uint32_t trirast_draw(const uint8_t *list, size_t length, uint32_t tile, uint8_t *buffer, size_t room,
+                      trirast_fault *fault);
+
+/* Draws the rows of tiles from `first` to before `end`, counted from 0 at the top. A picture has
+ * (height + tile - 1) / tile of them, and row r holds the rows of pixels from r * tile to before (r + 1) * tile, the last
+ * one as many as are left. `first` is before `end`. Their pixels go to the buffer's beginning without a header:
+ * (bottom - top) * width * pixel_bytes bytes, where top = first * tile and bottom = min(end * tile, height).
+ * So several threads share one picture, each with a range of its own and the part of one buffer that begins at
+ * top * width * pixel_bytes. Only the range is drawn, but each call reads the whole list.
+ * Faults: all. */
+uint32_t trirast_draw_rows(const uint8_t *list, size_t length, uint32_t tile, uint32_t first, uint32_t end,
+                           uint8_t *buffer, size_t room, trirast_fault *fault);
+
+/* Writes the line that the program trirast has for a fault, as "trirast: list fault 6 BadIndex in draw 1\n", or as much of
+ * it as there is room for, and gives the length of the whole line, which is at most 96 bytes, without a byte of zero at its
+ * end. Of what no call tells, as of a fault of kind 0, there is no line: nothing is written, and the answer is 0. */
+size_t trirast_fault_line(const trirast_fault *fault, uint8_t *buffer, size_t room);
+
+#ifdef __cplusplus
+}
+#endif
+
+#endif
