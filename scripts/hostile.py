@@ -244,13 +244,11 @@ class Threads(unittest.TestCase):
     def test_each_size_of_the_address_space(self):
         """With too little of it the program is not loaded, or memory or a thread's stack is refused."""
         lines = set()
-        for size in range(2 << 20, 160 << 20, 2 << 20):
-
-            def limit(size=size):
-                resource.setrlimit(resource.RLIMIT_AS, (size, size))
-                resource.setrlimit(resource.RLIMIT_CORE, (0, 0))
-
-            status, output, line = run(LARGE, "--tile", "32", program=self.program, preexec_fn=limit)
+        for kilobytes in range(2048, 160 * 1024, 2048):
+            limited = f'ulimit -c 0; ulimit -v {kilobytes}; exec "$0" --tile 32'
+            how = {"input": LARGE, "capture_output": True, "timeout": MOST_SECONDS}
+            done = subprocess.run(["sh", "-c", limited, self.program], **how)
+            status, output, line = done.returncode, done.stdout, done.stderr
             if line in (OUT_OF_MEMORY, NO_WORKER):
                 self.assertEqual(status, 1)
                 self.assertIn(len(output), (0, 13, 6253, 12493))

@@ -1,0 +1,148 @@
+#!/usr/bin/env python3
+"""Tests that what the documents name is there: files, definitions, commands, and the calls and clauses of proofs.md.
+
+    python3 scripts/test_documents.py
+"""
+
+import glob
+import os
+import re
+import sys
+import unittest
+
+sys.path.insert(0, os.path.dirname(os.path.abspath(__file__)))
+
+import counts
+import plant_faults
+import reference
+
+TOP = os.path.dirname(os.path.dirname(os.path.abspath(__file__)))
+PATH = re.compile(r"`((?:[a-z_.]+/)+[\w.-]+\.(?:antt|rt|md|py|json|png|1|c|cpp|txt))`")
+
+
+def text_of(path):
+    with open(os.path.join(TOP, path), encoding="utf-8") as file:
+        return file.read()
+
+
+def documents():
+    names = ["README.md", "CONTRIBUTING.md", os.path.join("examples", "README.md")]
+    names += sorted(os.path.relpath(path, TOP) for path in glob.glob(os.path.join(TOP, "docs", "*.md")))
+    return {name: text_of(name) for name in names}
+
+
+def sources(pattern):
+    paths = glob.glob(os.path.join(TOP, "crates", "*", pattern), recursive=True)
+    return {os.path.relpath(path, TOP): text_of(path) for path in paths}
+
+
+def contracts():
+    """The clauses that stand under each name of a call, in any crate: names of `ensures` and of `requires`."""
+    found = {}
+    for text in sources("src/**/*.rt").values():
+        name = None
+        for line in text.split("\n"):
+            head = re.match(r"\s*(?:pub(?:\(crate\))? )?fn (\w+)", line)
+            clause = re.match(r"\s*(?:ensures|requires)(?: (\w+))? ?[{\n]?", line)
+            if head:
+                name = head[1]
+                found.setdefault(name, set())
+            elif clause and name:
+                # `ensures { .. }` has no name, and `ensures tiles { .. }` has one.
+                found[name].add(clause[1])
+    return found
+
+
+def definitions():
+    """The names that stand in the specs of any crate."""
+    return set(re.findall(r"^(?:[a-z]+ )*(\w+) .*:", "".join(sources("specs/**/*.antt").values()), re.MULTILINE))
+
+
+def rows(text):
+    """The cells of the rows of a document's tables, their heads too."""
+    for line in text.split("\n"):
+        if line.startswith("| "):
+            yield [cell.strip() for cell in line.strip("|").split(" | ")]
+
+
+class Names(unittest.TestCase):
+    def test_files(self):
+        for name, text in documents().items():
+            for path in set(PATH.findall(text)):
+                # A file is named from the top, from the document's folder, from crates/ or from a crate; one that a command makes
+                # is not there before it.
+                folders = ((), (os.path.dirname(name),), ("crates",), ("crates", "*"), ("crates", "*", "src"))
+                places = [os.path.join(TOP, *folder, path) for folder in folders]
+                if not path.startswith(("out/", "conformance/out/", "crates/NAME/")):
+                    self.assertTrue(any(map(glob.glob, places)), f"{name}: {path}")
+
+    def test_commands(self):
+        targets = set(re.findall(r"^([\w-]+):", text_of("Makefile"), re.MULTILINE))
+        for name, text in documents().items():
+            named = re.findall(r"`make ([\w-]+)`", text) + re.findall(r"^make ([\w-]+)", text, re.MULTILINE)
+            self.assertLessEqual(set(named), targets, name)
+
+    def test_definitions_of_the_rules(self):
+        definitions = sources("specs/**/*.antt")
+        for paragraph in re.findall(r"\*Definition:\*(.*?)\n\n", text_of("docs/rules.md"), re.DOTALL):
+            files = [definitions[path] for path in re.findall(r"`(crates/[\w/.]+\.antt)`", paragraph)]
+            self.assertTrue(files, paragraph)
+            for name in re.findall(r"`(\w+)`", paragraph):
+                stands = re.compile(rf"^(?:(?:pub|abbrev|record|data|opaque|unfoldable) )*{name} (?:.*)?:", re.MULTILINE)
+                self.assertTrue(any(stands.search(text) for text in files), f"{name}: {paragraph}")
+
+    def test_faults_of_lists(self):
+        kinds = [kind for kind in vars(reference).values() if isinstance(kind, tuple) and isinstance(kind[-1], str) and len(kind) == 2]
+        self.assertEqual([number for number, _name in kinds], [1, 2, 3, 4, 5, 6, 7, 9, 10])
+        for number, name in kinds:
+            self.assertIn(f"| {number} | `{name}` |", text_of("docs/draw-list.md"))
+            self.assertIn(f"{number} {name}", text_of("docs/trirast.1"))
+
+    def test_lines_of_the_program(self):
+        page = text_of("docs/trirast.1")
+        texts = [text for path, text in sources("src/**/*.rt").items() if path.split(os.sep)[1] == "trirast"]
+        lines = {line.rstrip() for line in re.findall(r'"(trirast: [a-z ]+)', "".join(texts))}
+        self.assertLessEqual({"trirast: list fault", "trirast: pool fault", "trirast: out of memory"}, lines)
+        for line in lines:
+            self.assertIn(line, page)
+
+    def test_number_of_planted_faults(self):
+        self.assertIn(f"that {len(plant_faults.FAULTS)} wrong rules", text_of("docs/proofs.md"))
+
+
+class Proofs(unittest.TestCase):
+    """The right cells of the tables of promises: calls, and behind a colon the names of their clauses."""
+
+    def test_calls_and_clauses(self):
+        known = contracts()
+        types = set(re.findall(r"\b(?:struct|enum|trait) (\w+)", "".join(sources("src/**/*.rt").values())))
+        types |= definitions()
+        clauses = set()
+        for *_promise, carriers in rows(text_of("docs/proofs.md").split("## What is only tested")[0]):
+            carriers = re.sub(r"\(.*?\)", "", carriers)
+            words = [word.split("::")[-1] for word in re.findall(r"`([\w:]+)`", carriers)]
+            # "The same" calls are those of the row above.
+            clauses = clauses if carriers.startswith("the same") else set()
+            clauses = clauses.union(*(known.get(word, set()) for word in words))
+            for word in words:
+                is_there = word in (types if word[0].isupper() else known.keys() | clauses)
+                self.assertTrue(is_there, f"{word} is nowhere: {carriers}")
+            for part in carriers.split(";"):
+                head, _colon, named = part.partition(": ")
+                if not re.search(r"[A-Z]\w*`$", head):
+                    for word in re.findall(r"`(\w+)`", named):
+                        self.assertTrue(word in clauses or word[0].isupper(), f"{word} is no clause: {carriers}")
+
+    def test_what_layers_rely_on(self):
+        known = contracts()
+        table = text_of("docs/architecture.md").split("## What each layer relies on")[1].split("\n\n")[1]
+        defined = definitions()
+        for _crate, uses, named in list(rows(table))[1:]:
+            calls = {word.split("::")[-1] for word in re.findall(r"`([\w:]+)`", uses)}
+            clauses = set().union(*(known.get(call, set()) for call in calls))
+            for word in set(re.findall(r"`(\w+)`", named)) - {"main"}:
+                self.assertTrue(word in clauses | calls | defined, f"{word} is no clause of {uses}")
+
+
+if __name__ == "__main__":
+    counts.run_tests()
