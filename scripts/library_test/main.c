@@ -182,6 +182,7 @@ static void look_at_odd_lists(void) {
         uint32_t kind, list_kind;
     } lists[] = {
         {"a list of no bytes is no JSON", {long_list, 0}, TRIRAST_LIST_FAULT, TRIRAST_NOT_JSON},
+        {"no list, NULL and 0, is answered in the same way", {NULL, 0}, TRIRAST_LIST_FAULT, TRIRAST_NOT_JSON},
         {"a list of 67,108,864 bytes is read", {long_list, 67108864}, TRIRAST_LIST_FAULT, TRIRAST_NOT_JSON},
         {"a list of 67,108,865 bytes is too long", {long_list, 67108865}, TRIRAST_TOO_LONG, 0},
     };
