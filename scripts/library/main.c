@@ -165,8 +165,9 @@ static void look_at_refused(void) {
         marked line = mark(96);
         size_t length = trirast_fault_line(&fault, line.bytes, line.room);
         int has_line = kind >= TRIRAST_TOO_LONG && kind <= TRIRAST_NO_SUCH_ROWS;
-        expect(has_line ? length > 10 && length <= 96 && line.bytes[length - 1] == '\n' : !length && holds_just(&line, NULL, 0),
-               "kind %u: a line of %zu bytes", kind, length);
+        int is_right = has_line ? length > 10 && length <= 96 && line.bytes[length - 1] == '\n'
+                                : !length && holds_just(&line, NULL, 0);
+        expect(is_right, "kind %u: a line of %zu bytes", kind, length);
         free(line.all);
     }
     tell("of what no call tells there is no line");
