@@ -7,8 +7,7 @@
  *
  * - Memory. The caller owns all that it passes. Nothing that is passed is kept, and nothing has to be freed: what a call
  *   takes from malloc it gives back before it returns. A program with a heap of its own replaces malloc, realloc and free
- *   together. No pointer may be NULL. (A list of no bytes at NULL is answered as any
- *   list of no bytes, TRIRAST_NOT_JSON. That is tested, and no contract says it.)
+ *   together. No pointer may be NULL but that to a list or a buffer of no bytes.
  * - A list is `length` bytes at `list`, with no byte of zero at their end. They are read and not changed.
  * - A buffer is `room` bytes at `buffer`. Where a call answers 0 it wrote as many bytes as its text says at the buffer's
  *   beginning, and the rest is as it was. After a fault the whole buffer is as it was.

@@ -119,6 +119,13 @@ static void look_at_buffers(void) {
         }
     draw_case(&drawn[0], UINT32_MAX, drawn[0].wanted.length, TRIRAST_NO_TILE_SIDE);
     tell("a side that no tile has is refused");
+    trirast_fault fault = UNSET;
+    uint32_t answer = trirast_draw(drawn[0].list.bytes, drawn[0].list.length, 32, NULL, 0, &fault);
+    expect(is_fault(&fault, answer, TRIRAST_BUFFER_TOO_SHORT), "answer %u", answer);
+    answer = trirast_draw_rows(drawn[0].list.bytes, drawn[0].list.length, 32, 0, 1, NULL, 0, &fault);
+    expect(is_fault(&fault, answer, TRIRAST_BUFFER_TOO_SHORT), "rows: answer %u", answer);
+    expect(trirast_fault_line(&fault, NULL, 0) > 0, "no line");
+    tell("no buffer, NULL and 0, is too short");
 }
 
 // One refused list by one of the three calls that read a list.
