@@ -4,10 +4,10 @@
     bench/library.py [--runs 5] [--threads 4] [--scenes tiny mesh ..]
 
 Needs `make library`. For each scene it gives the least time of some rounds of: the program with one worker and with as many
-workers as threads, a whole process each; trirast_size, which reads the list and draws nothing; that and trirast_draw, one
-after the other on one thread, so that the list is read twice; and trirast.draw of python with the threads, each of which
-reads the list and draws its part. The ways take turns, so that a busy machine slows them all. Python 3.8 or later on Linux,
-standard library alone.
+workers as threads, a whole process each; trirast_size, which reads the list and draws nothing; trirast_draw on one thread,
+which reads the list and draws its file into a buffer that is there; and trirast.draw of python with the threads, which asks
+for the size, makes a buffer, and has each thread read the list and draw its part. The ways take turns, so that a busy machine
+slows them all. Python 3.8 or later on Linux, standard library alone.
 """
 
 import argparse
@@ -35,17 +35,26 @@ def ways(program, threads, source):
 
     with open(source, "rb") as file:
         data = file.read()
+    buffer, fault = bytearray(trirast.draw_file(data)), trirast._Fault()
+    part = trirast._part(buffer, 0, len(buffer))
 
     def process(workers):
         return run.Run([program, "--workers", str(workers)], source, os.devnull).wall
+
+    def draw():
+        return seconds(trirast._library.trirast_draw, data, len(data), 32, part, len(buffer), fault)
 
     return {
         "program, 1 worker": lambda: process(1),
         f"program, {threads} workers": lambda: process(threads),
         "trirast_size": lambda: seconds(trirast.size, data),
-        "trirast_size and trirast_draw": lambda: seconds(trirast.draw_file, data),
+        "trirast_draw": draw,
         f"python, {threads} threads": lambda: seconds(trirast.draw, data, 32, threads),
     }
+
+
+def milliseconds(time_taken):
+    return run.milliseconds(time_taken) if time_taken >= 0.001 else f"{1000 * time_taken:.2f}"
 
 
 def main():
@@ -65,7 +74,7 @@ def main():
             print(f"| scene | {' | '.join(chosen)} |")
             print("|---" * (len(chosen) + 1) + "|")
         rounds = [[way() for way in chosen.values()] for _ in range(words.runs)]
-        least = [run.milliseconds(min(times)) for times in zip(*rounds)]
+        least = [milliseconds(min(times)) for times in zip(*rounds)]
         print(f"| {name} | {' | '.join(least)} |", flush=True)
     print(f"\nLoad after the run {run.load()}.")
 

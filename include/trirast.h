@@ -6,7 +6,8 @@
  * What holds of every call:
  *
  * - Memory. The caller owns all that it passes. Nothing that is passed is kept, and nothing has to be freed: what a call
- *   takes from malloc it gives back before it returns. No pointer may be NULL, not even one to no bytes.
+ *   takes from malloc it gives back before it returns. A program with a heap of its own replaces malloc, realloc and free
+ *   together. No pointer may be NULL but that to a list or a buffer of no bytes.
  * - A list is `length` bytes at `list`, with no byte of zero at their end. They are read and not changed.
  * - A buffer is `room` bytes at `buffer`. Where a call answers 0 it wrote as many bytes as its text says at the buffer's
  *   beginning, and the rest is as it was. After a fault the whole buffer is as it was.
@@ -15,7 +16,8 @@
  *   case, and its `kind` is the answer. Of several faults the first is told: the side of a tile, the list, the rows, the
  *   buffer; and want of memory where it is met.
  * - Threads. No call keeps a state or starts a thread, so any number of threads may call at once, with the same list too,
- *   as long as what one of them writes is not touched by another. Not to be called from a signal handler.
+ *   as long as what one of them writes is not touched by another. Not to be called from a signal handler, nor in the forked
+ *   child of a process with threads.
  * - Each call reads its list anew. A list may be changed or freed as soon as the call returns.
  */
 #ifndef TRIRAST_H

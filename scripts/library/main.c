@@ -119,6 +119,13 @@ static void look_at_buffers(void) {
         }
     draw_case(&drawn[0], UINT32_MAX, drawn[0].wanted.length, TRIRAST_NO_TILE_SIDE);
     tell("a side that no tile has is refused");
+    trirast_fault fault = UNSET;
+    uint32_t answer = trirast_draw(drawn[0].list.bytes, drawn[0].list.length, 32, NULL, 0, &fault);
+    expect(is_fault(&fault, answer, TRIRAST_BUFFER_TOO_SHORT), "answer %u", answer);
+    answer = trirast_draw_rows(drawn[0].list.bytes, drawn[0].list.length, 32, 0, 1, NULL, 0, &fault);
+    expect(is_fault(&fault, answer, TRIRAST_BUFFER_TOO_SHORT), "rows: answer %u", answer);
+    expect(trirast_fault_line(&fault, NULL, 0) > 0, "no line");
+    tell("no buffer, NULL and 0, is too short");
 }
 
 // One refused list by one of the three calls that read a list.
@@ -165,8 +172,9 @@ static void look_at_refused(void) {
         marked line = mark(96);
         size_t length = trirast_fault_line(&fault, line.bytes, line.room);
         int has_line = kind >= TRIRAST_TOO_LONG && kind <= TRIRAST_NO_SUCH_ROWS;
-        expect(has_line ? length > 10 && length <= 96 && line.bytes[length - 1] == '\n' : !length && holds_just(&line, NULL, 0),
-               "kind %u: a line of %zu bytes", kind, length);
+        int is_right = has_line ? length > 10 && length <= 96 && line.bytes[length - 1] == '\n'
+                                : !length && holds_just(&line, NULL, 0);
+        expect(is_right, "kind %u: a line of %zu bytes", kind, length);
         free(line.all);
     }
     tell("of what no call tells there is no line");
@@ -182,6 +190,7 @@ static void look_at_odd_lists(void) {
         uint32_t kind, list_kind;
     } lists[] = {
         {"a list of no bytes is no JSON", {long_list, 0}, TRIRAST_LIST_FAULT, TRIRAST_NOT_JSON},
+        {"no list, NULL and 0, is answered in the same way", {NULL, 0}, TRIRAST_LIST_FAULT, TRIRAST_NOT_JSON},
         {"a list of 67,108,864 bytes is read", {long_list, 67108864}, TRIRAST_LIST_FAULT, TRIRAST_NOT_JSON},
         {"a list of 67,108,865 bytes is too long", {long_list, 67108865}, TRIRAST_TOO_LONG, 0},
     };
