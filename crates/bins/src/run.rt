@@ -1,11 +1,11 @@
 //! Runs of tiles that triangles can meet.
-ghost use Rattle.std.specs.Prelude.{◌≡◌, ◌+◌, ◌<◌, ◌≤◌, ◌^◌, length, IfOk, OnOk};
+ghost use Rattle.std.specs.Prelude.{◌≡◌, ◌+◌, ◌<◌, ◌≤◌, ◌^◌, ◌↔◌, length, IfOk, OnOk, IsTrue};
 ghost use Rattle.bins.specs.Grid.{rows_of, IsWithinLimits};
 
 use crate::reach::{Columns, overlap};
 use crate::tiling::Tiling;
 use cover::Setup;
-use list::DrawList;
+use list::{DrawList, RowSpan};
 use std::alloc::{AllocError, Global};
 
 /// Consecutive tiles of a row which a triangle can meet, from `first` to before `end`. They are counted from the first tile of
@@ -36,13 +36,21 @@ impl Run {
         let (top, bottom) = tiling.pixel_rows(first_row, rows);
         let mut runs = Vec::new(alloc);
         for number in 0..list.triangles() as u32 {
-            let span = list.rows(number as usize);
-            if u32::from(span.first) < bottom && top < u32::from(span.end) {
+            if has_rows(list.rows(number as usize), top, bottom) {
                 push_runs(list, number, tiling, first_row, rows, &mut runs)?;
             }
         }
         Ok(runs)
     }
+}
+
+/// Whether some rows of pixels lie between `top` and before `bottom`. Both ends are compared before a branch is taken, since half of
+/// all triangles pass either comparison and few both.
+#[inline]
+fn has_rows(rows: RowSpan, top: u32, bottom: u32) -> bool
+    ensures { IsTrue result ↔ ((rows.first < bottom) × (top < rows.end)) }
+{
+    (u32::from(rows.first) < bottom) & (top < u32::from(rows.end))
 }
 
 ghost use Rattle.bins.specs.Runs.{AreRuns};

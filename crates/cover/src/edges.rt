@@ -29,6 +29,7 @@ impl Edges {
 
     /// The edges of a triangle whose area is not zero, each turned so that the triangle lies where its edge function is over
     /// zero.
+    #[inline(always)]
     pub(crate) fn of(t: &Tri) -> Edges
         requires { doubled_area t.now.a t.now.b t.now.c ≢ pos 0 }
         ensures { AreEdgesOf t.now result }

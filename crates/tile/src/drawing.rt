@@ -27,7 +27,8 @@ pub struct TilePixels {
     pub bytes: Vec<u8>,
 }
 
-/// Draws the triangles of the tile's bin, one after another, over cleared samples.
+/// Draws the triangles of the tile's bin, one after another, over cleared samples. Each is fetched before the one before it is
+/// drawn, so that its vertices are under way from memory meanwhile.
 fn draw_bin(list: &DrawList, numbers: &[u32], tile: &Tile, samples: &mut [BlockSamples])
     requires samples { length samples.old ≡ planes_of tile.now.side tile.now.count }
     requires count { tile.now.count ≡ list.now.count }
@@ -36,8 +37,13 @@ fn draw_bin(list: &DrawList, numbers: &[u32], tile: &Tile, samples: &mut [BlockS
     requires bin { IsTileBin list.now tile.now numbers.now }
     ensures { AreEnds list.now tile.now samples.new }
 {
-    for number in numbers {
-        let triangle = list.triangle(*number as usize);
+    let Some(first) = numbers.first() else {
+        return;
+    };
+    let mut next = list.triangle(*first as usize);
+    for place in 0..numbers.len() {
+        let triangle = next;
+        next = list.triangle(numbers[(place + 1).min(numbers.len() - 1)] as usize);
         draw_triangle(&triangle, tile, samples);
     }
 }

@@ -16,6 +16,9 @@ use shade::{BlockSamples, Interpolants, Placed};
 /// The planes of a block whose samples are all covered.
 const ALL: [u64; 4] = [u64::MAX; 4];
 
+/// The planes of a block of whose samples none is covered.
+const NONE: [u64; 4] = [0; 4];
+
 /// Which samples of a block the triangle covers, or none where it covers none of them.
 #[inline]
 fn planes(block: &Square) -> Option<[u64; 4]>
@@ -26,7 +29,10 @@ fn planes(block: &Square) -> Option<[u64; 4]>
     match block.class() {
         Class::Out => None,
         Class::All => Some(ALL),
-        Class::Mixed => Some(block.masks().plane),
+        Class::Mixed => {
+            let planes = block.masks().plane;
+            if planes == NONE { None } else { Some(planes) }
+        }
     }
 }
 
