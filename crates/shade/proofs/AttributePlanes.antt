@@ -9,14 +9,12 @@ use Rattle.std.specs.Int.RustNames.{unsigned_abs}
 use Rattle.grid.specs.Position.{Position}
 use Rattle.grid.specs.Triangle.{doubled_area, Covers}
 use Rattle.grid.proofs.Ring.{var, plus, neg, times, ring}
-use Rattle.shade.specs.Quotient.{IsQuotient}
-use Rattle.shade.specs.Value.{IsValueAt}
 use Rattle.shade.specs.Block.{position_in}
 use Rattle.shade.specs.Group.{IsGroupOnScreen}
 use Rattle.shade.specs.Modulo.{IsModulo}
-use Rattle.shade.specs.Candidate.{IsCandidate, IsNear}
-use Rattle.shade.specs.Slope.{IsSlope, numerator}
-use Rattle.shade.specs.Plane.{IsPlane, IsHeight, IsHighPart, IsReached}
+use Rattle.shade.specs.Candidate.{IsCandidate}
+use Rattle.shade.specs.Slope.{IsSlope}
+use Rattle.shade.specs.Plane.{IsPlane, IsNumeratorPlane, IsHeight, IsHighPart, IsReached}
 use Rattle.shade.specs.declared.slope.Slope.{Slope}
 use Rattle.shade.specs.declared.plane.Plane.{Plane}
 use Rattle.shade.specs.declared.attribute_plane.AttributePlane.{AttributePlane}
@@ -61,8 +59,8 @@ pub candidates_are : (k : ℕ) (a b c p : Position) (values : List ℕ) (q : Att
     → ((i k area n : ℕ) (s : Slope) (q' : Plane) (x y right below : ℤ) → i < 16 → IsPlane (32 + k) area s q' → IsHeight q' x y height → IsHighPart q' right below (get_or q.lanes i 0) → IsReached k area s (x +ℤ right) (y +ℤ below) n → IsCandidate k n area (get_or lanes i 0))
     → AreCandidates k a b c values p lanes
 candidates_are k a b c p values q height lanes is screen high each i less covered =
-    let near = reached k a b c p values is.slope i q.area is.of_all is.is_slope is.narrow screen less covered in
-    rw is.of_all at (each i k q.area (sum_at a b c values (position_in p i)) is.slope q.plane p.x p.y (pos (256 * (i % 8))) (pos (256 * (i / 8))) less is.is_plane high (is.are_lanes.each i less) near)
+    let near = reached k a b c p values is.slope i _ refl is.is_slope is.narrow screen less covered in
+    (each i k (unsigned_abs (doubled_area a b c)) (sum_at a b c values (position_in p i)) is.slope q.plane p.x p.y (pos (256 * (i % 8))) (pos (256 * (i / 8))) less is.is_plane high (is.are_lanes.each i less) near)
 
 fraction_units : (k : ℕ) (values : List ℕ) → IsNarrow k values → 4 ≤ 2 ^ k
 fraction_units k values narrow = elim narrow [ inl h ↦ rw h.0 (omega arith) | inr h ↦ rw h.0 (omega arith) ]
@@ -86,57 +84,19 @@ numerator_at f area sx sy x y ac dn =
     (plus (plus (times (var 0) (var 1)) (times (plus (var 4) (neg (var 2))) (var 6))) (times (plus (var 5) (neg (var 3))) (var 7)))
     refl
 
-pub sum_modulo : (k : ℕ) (a b c p : Position) (values : List ℕ) (q : AttributePlane) (height : ℕ) → IsAttributePlane k a b c values q → Covers a b c p → IsHeight q.numerator p.x p.y height
-    → IsModulo (pos (sum_at a b c values p)) height
-sum_modulo k a b c p values q height is covered high =
-    let s = is.slope in
-    let from : IsHeight (record { start = q.numerator.start; across = s.across; down = s.down }) p.x p.y height = rw (is.is_numerator.across, is.is_numerator.down) at high in
-    let whole = modulo_through _ (p.x *ℤ s.across +ℤ p.y *ℤ s.down) q.numerator.start height is.is_numerator.start from in
-    let form = numerator_at (pos s.first) (pos q.area) s.x s.y p.x p.y s.across s.down in
-    let sum : numerator s q.area p.x p.y ≡ pos (sum_at a b c values p) = rw is.of_all (is.is_slope.sum p covered) in
-    rw (form ∙ sum) at whole
-
--- the value, from it or the number after it
-pub corrected_value : (k : ℕ) (a b c p : Position) (values : List ℕ) (q : AttributePlane) (height found value : ℕ) (left : ℤ) → IsAttributePlane k a b c values q → Covers a b c p
-    → IsNear (sum_at a b c values p) (unsigned_abs (doubled_area a b c)) found → IsHeight q.numerator p.x p.y height
-    → ((n : ℕ) → q.area ≤ 2 ^ 48 → IsModulo (pos n) height → IsNear n q.area found → left ≡ pos n -ℤ pos (found * q.area))
-    → ((n s : ℕ) → IsNear n s found → left ≡ pos n -ℤ pos (found * s) → IsQuotient n s value)
-    → IsValueAt a b c p (get_or values 0 0) (get_or values 1 0) (get_or values 2 0) value
-corrected_value k a b c p values q height found value left is covered near high rest corrected =
-    let here : IsNear (sum_at a b c values p) q.area found = rw is.of_all near in
-    let sum = sum_modulo k a b c p values q height is covered high in
-    let quotient = corrected (sum_at a b c values p) q.area here (rest (sum_at a b c values p) is.bound sum here) in
-    rw is.of_all at quotient
-
--- ---- a lane after the correction
-pub record IsCorrected (q : AttributePlane) (p : Position) (i found value : ℕ) : Type 0 where
-  pub at_most : value ≤ found
-  pub right : (k : ℕ) (a b c : Position) (values : List ℕ) → IsAttributePlane k a b c values q → Covers a b c (position_in p i)
-      → IsNear (sum_at a b c values (position_in p i)) (unsigned_abs (doubled_area a b c)) found
-      → IsValueAt a b c (position_in p i) (get_or values 0 0) (get_or values 1 0) (get_or values 2 0) value
+-- what the numerator of a slope is at a covered point
+pub sum_modulo : (a b c p : Position) (values : List ℕ) (s : Slope) (q : Plane) (height : ℕ) → IsSlope a b c (get_or values 0 0) (get_or values 1 0) (get_or values 2 0) s → IsNumeratorPlane (unsigned_abs (doubled_area a b c)) s q
+    → Covers a b c p → IsHeight q p.x p.y height → IsModulo (pos (sum_at a b c values p)) height
+sum_modulo a b c p values s q height is is_numerator covered high =
+    let from : IsHeight (record { start = q.start; across = s.across; down = s.down }) p.x p.y height = rw (is_numerator.across, is_numerator.down) at high in
+    let whole = modulo_through _ (p.x *ℤ s.across +ℤ p.y *ℤ s.down) q.start height is_numerator.start from in
+    let form = numerator_at (pos s.first) (pos (unsigned_abs (doubled_area a b c))) s.x s.y p.x p.y s.across s.down in
+    rw (form ∙ is.sum p covered) at whole
 
 -- bytes stay bytes
 pub bytes_kept : (after before : List ℕ) → length after ≡ 16 → length before ≡ 16 → ((i : ℕ) → i < 16 → get_or after i 0 ≤ get_or before i 0) → Each1 (λ n. n ≤ 255) before → Each1 (λ n. n ≤ 255) after
 bytes_kept after before long long' most bytes =
     of_each (λ n. n ≤ 255) after long (λ k l. let byte : get_or before k 0 ≤ 255 = Each1-get_or (λ n. n ≤ 255) before k 0 (omega arith) bytes in omega (arith, most k l, byte))
-
--- the same values in another list
-pub same_values : (k : ℕ) (a b c : Position) (values values' : List ℕ) (p : AttributePlane) → get_or values 0 0 ≡ get_or values' 0 0 → get_or values 1 0 ≡ get_or values' 1 0 → get_or values 2 0 ≡ get_or values' 2 0
-    → IsAttributePlane k a b c values p → IsAttributePlane k a b c values' p
-same_values k a b c values values' p e f g is =
-    record {
-      slope = is.slope;
-      of_all = is.of_all;
-      bound = is.bound;
-      narrow = elim is.narrow [
-        | inl h ↦ inl (h.0, rw (← e, ← f, ← g) h.1)
-        | inr h ↦ inr (h.0, record { first = rw (← e) h.1.first; second = rw (← f) h.1.second; third = rw (← g) h.1.third })
-      ];
-      is_slope = rw (← e, ← f, ← g) is.is_slope;
-      is_plane = is.is_plane;
-      is_numerator = is.is_numerator;
-      are_lanes = is.are_lanes;
-    }
 
 -- the least of two is at least three where both are
 pub least_first : (m a b : ℕ) → m ≡ min a b → 3 ≤ m → 3 ≤ a
@@ -144,9 +104,3 @@ least_first m a b e h = omega (arith, e, h, min-le_left a b)
 
 pub least_second : (m a b : ℕ) → m ≡ min a b → 3 ≤ m → 3 ≤ b
 least_second m a b e h = omega (arith, e, h, min-le_right a b)
-
-pub corrected_lane : (q : AttributePlane) (p : Position) (i found found' value : ℕ) (x y : ℤ)
-    → ((k : ℕ) (a b c : Position) (values : List ℕ) → IsAttributePlane k a b c values q → Covers a b c (record { x = x; y = y }) → IsNear (sum_at a b c values (record { x = x; y = y })) (unsigned_abs (doubled_area a b c)) found'
-    → IsValueAt a b c (record { x = x; y = y }) (get_or values 0 0) (get_or values 1 0) (get_or values 2 0) value)
-    → value ≤ found' → found' ≡ found → x ≡ p.x +ℤ pos (256 * (i % 8)) → y ≡ p.y +ℤ pos (256 * (i / 8)) → IsCorrected q p i found value
-corrected_lane q p i found found' value x y right most g e f = record { at_most = rw g at most; right = rw (e, f, g) at right }

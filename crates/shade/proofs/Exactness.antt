@@ -10,13 +10,25 @@ use Rattle.shade.specs.Modulo.{IsModulo}
 use Rattle.shade.specs.Reciprocal.{IsGradient}
 use Rattle.shade.proofs.Gradients.{under_product, over_product}
 use Rattle.shade.proofs.Modulos.{modulo_self, modulo_bits, modulo_product, modulo_rest, wrapped_difference}
-use Rattle.shade.proofs.CandidateLanes.{small_is}
 
 -- a signed number times another, modulo 2^64
 product_is : (n : ℤ) (m k : ℕ) → FitsSigned w64 n → m ≡ of_z w64 (to_z w64 (of_z w64 n)) → IsModulo (n *ℤ pos k) (m * k % 2 ^ 64)
 product_is n m k fits e =
     let is : m ≡ of_z w64 n = e ∙ ap (of_z w64) (to_z-of_z w64 n fits) in
     rw is (modulo_rest (n *ℤ pos k) _ (modulo_product n (pos k) _ _ (modulo_bits n fits) (modulo_self k)))
+
+-- a small number is told by what it is modulo 2^64
+small_is : (z : ℤ) (r : ℕ) → r < 2 ^ 64 → IsWithin (2 ^ 50) z → IsModulo z r → to_z w64 r ≡ z
+small_is z r fits within h =
+    let wide : FitsSigned w64 z = omega (arith, ints) in
+    let bits = modulo_bits z wide in
+    let below : of_z w64 z < 2 ^ 64 = of_z-lt z wide in
+    let same : r ≡ of_z w64 z = omega (arith, ints, h.sum, bits.sum, fits, below) in
+    ap (to_z w64) same ∙ to_z-of_z w64 z wide
+  where
+    of_z-lt : (z : ℤ) → FitsSigned w64 z → of_z w64 z < 2 ^ 64
+    of_z-lt (pos n) h = omega (arith, ints, h.sfits)
+    of_z-lt (negsuc n) h = omega (arith, ints, h.sfits)
 
 -- a small number is read back from what it is modulo 2^64
 read_back : (z : ℤ) (r : ℕ) (result : ℤ) → r < 2 ^ 64 → IsWithin (2 ^ 50) z → IsModulo z r → result ≡ to_z w64 r → to_z w64 (of_z w64 result) ≡ z

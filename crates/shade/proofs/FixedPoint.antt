@@ -1,13 +1,16 @@
 -- The plane of a slope, as the code forms it.
-use Rattle.std.proofs.Common.{◌≡◌, refl, inl, inr, [], ◌∷◌, List, get_or, arith, ℕ, ◌+◌, ◌-◌, ◌*◌, ◌/◌, ◌%◌, ◌<◌, ◌^◌, FitsSigned, w32, w64, to_z, of_z, ℤ, pos, ◌*ℤ◌, ◌+ℤ◌}
-use Rattle.std.proofs.lemmas.Int.{to_z-of_z}
+use Rattle.std.proofs.Common.{◌≡◌, refl, inl, inr, [], ◌∷◌, List, get_or, length, arith, ℕ, ◌+◌, ◌-◌, ◌*◌, ◌/◌, ◌%◌, ◌<◌, ◌^◌, FitsSigned, w32, w64, to_z, of_z, ℤ, pos, ◌*ℤ◌, ◌+ℤ◌, ◌-ℤ◌}
+use Rattle.std.specs.Prelude.{replicate}
+use lib.Lanes.{zip2}
+use Rattle.std.proofs.lemmas.Int.{ints, to_z-of_z}
 use Rattle.std.proofs.lemmas.Bool.{cases_lt}
 use Rattle.grid.proofs.Ring.{var, lit, plus, times, ring}
 use Rattle.shade.specs.declared.plane.Plane.{Plane}
 use Rattle.shade.specs.declared.slope.Slope.{Slope}
 use Rattle.shade.specs.Reciprocal.{IsGradient}
 use Rattle.shade.specs.Modulo.{IsModulo}
-use Rattle.shade.specs.Plane.{IsMargin, IsPlane, IsNumeratorPlane, IsPart, IsHighPart}
+use Rattle.shade.specs.Plane.{IsMargin, IsPlane, IsNumeratorPlane, IsPart, IsHeight, IsHighPart}
+use Rattle.shade.proofs.Lanes.{itself, zipped, splat}
 use Rattle.shade.proofs.Modulos.{modulo_self, modulo_rest, wrapped_sum, wrapped_difference}
 
 pub plane_of : (bits area : ℕ) (s : Slope) (a d : ℤ) (from m n : ℕ)
@@ -77,9 +80,9 @@ pub half_of : (p : Plane) (x y : ℤ) (m : ℕ) → m < 2 ^ 64 → IsPart p x y 
 half_of p x y m fits h = record { part = m; fits = fits; is_part = h; is = refl }
 
 -- both rows of eight columns are the sixteen lanes
-pub row_of : (p : Plane) (halves : List ℕ) → ((k : ℕ) → k < 8 → IsHighPart p (pos (256 * k)) (pos 0) (get_or halves k 0)) → ((k : ℕ) → k < 8 → IsHighPart p (pos (256 * k)) (pos 256) (get_or halves (k + 8) 0))
-    → (i : ℕ) → i < 16 → IsHighPart p (pos (256 * (i % 8))) (pos (256 * (i / 8))) (get_or halves i 0)
-row_of p halves first second i less =
+pub row_of : (p : Plane) (parts : List ℕ) → ((k : ℕ) → k < 8 → IsPart p (pos (256 * k)) (pos 0) (get_or parts k 0)) → ((k : ℕ) → k < 8 → IsPart p (pos (256 * k)) (pos 256) (get_or parts (k + 8) 0))
+    → (i : ℕ) → i < 16 → IsPart p (pos (256 * (i % 8))) (pos (256 * (i / 8))) (get_or parts i 0)
+row_of p parts first second i less =
     elim (cases_lt i 8) [
       | inl l ↦
           let column : 256 * (i % 8) ≡ 256 * i = omega (arith, l) in
@@ -89,9 +92,25 @@ row_of p halves first second i less =
           let column : 256 * (i % 8) ≡ 256 * (i - 8) = omega (arith, l, less) in
           let row : 256 * (i / 8) ≡ 256 = omega (arith, l, less) in
           let place : i - 8 + 8 ≡ i = omega (arith, l) in
-          let half = second (i - 8) (omega (arith, l, less)) in
-          rw (column, row) (rw place at half)
+          let part = second (i - 8) (omega (arith, l, less)) in
+          rw (column, row) (rw place at part)
     ]
+
+-- the heights at sixteen pixels
+moved : (start x y r b a d : ℤ) → start +ℤ (x *ℤ a +ℤ y *ℤ d) +ℤ (r *ℤ a +ℤ b *ℤ d) ≡ start +ℤ ((x +ℤ r) *ℤ a +ℤ (y +ℤ b) *ℤ d)
+moved start x y r b a d =
+    ring (start ∷ x ∷ y ∷ r ∷ b ∷ a ∷ d ∷ [])
+    (plus (plus (var 0) (plus (times (var 1) (var 5)) (times (var 2) (var 6)))) (plus (times (var 3) (var 5)) (times (var 4) (var 6))))
+    (plus (var 0) (plus (times (plus (var 1) (var 3)) (var 5)) (times (plus (var 2) (var 4)) (var 6)))) refl
+
+pub heights_of : (p : Plane) (x y right below : ℤ) (h : ℕ) (parts : List ℕ) (i : ℕ) → FitsSigned w32 x → FitsSigned w32 y → i < 16 → length parts ≡ 16
+    → IsHeight p (to_z w32 (of_z w32 x)) (to_z w32 (of_z w32 y)) h → IsPart p right below (get_or parts i 0)
+    → IsHeight p (x +ℤ right) (y +ℤ below) (get_or (zip2 (λ m n. (m + n) % 2 ^ 64) (replicate 16 h) parts) i 0)
+heights_of p x y right below h parts i fx fy l long high part =
+    let here = rw (to_z-of_z w32 x fx, to_z-of_z w32 y fy) at high in
+    let sum = wrapped_sum _ _ _ _ here part in
+    let all = zipped (λ m n. (m + n) % 2 ^ 64) (replicate 16 h) parts _ _ (splat h) (itself parts long) in
+    rw (all.each i l) (rw (moved (pos p.start) x y right below p.across p.down) at sum)
 
 -- the plane of a slope that does not grow
 -- the numerator as a plane

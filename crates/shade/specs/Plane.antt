@@ -1,8 +1,9 @@
-use Rattle.std.specs.Prelude.{ℕ, ℤ, pos, ◌≡◌, ◌⊎◌, ◌≤◌, ◌<◌, ◌+◌, ◌*◌, ◌^◌, ◌/◌, ◌+ℤ◌, ◌-ℤ◌, ◌*ℤ◌}
+use Rattle.std.specs.Prelude.{ℕ, ℤ, pos, ◌≡◌, ◌⊎◌, ◌≤◌, ◌<◌, ◌+◌, ◌-◌, ◌*◌, ◌^◌, ◌/◌, ◌+ℤ◌, ◌-ℤ◌, ◌*ℤ◌}
+use Rattle.std.specs.Int.RustNames.{unsigned_abs}
 use Rattle.grid.specs.Bounds.{IsWithin}
 use Rattle.shade.specs.declared.plane.Plane.{Plane}
 use Rattle.shade.specs.declared.slope.Slope.{Slope}
-use Rattle.shade.specs.Slope.{numerator}
+use Rattle.shade.specs.Slope.{numerator, IsBounded}
 use Rattle.shade.specs.Reciprocal.{IsGradient, IsExactGradient}
 use Rattle.shade.specs.Modulo.{IsModulo}
 
@@ -11,6 +12,12 @@ use Rattle.shade.specs.Modulo.{IsModulo}
 abbrev pub IsMargin : ℕ → ℕ → Slope → ℤ → ℤ → ℕ → Type 0
 IsMargin bits area s across down above =
     (above ≡ 2 ^ 33 + 2 ^ 28) ⊎ ((above ≡ 3 * 2 ^ 32) × IsExactGradient bits area s.across across × IsExactGradient bits area s.down down)
+
+-- The slope is not steep: by the area it grows by less than 2^(63 - bits) with 1/256 pixel, so that it has gradients.
+pub record IsLevel (bits area : ℕ) (s : Slope) : Type 0 where
+  pub bounded : IsBounded s
+  pub across : unsigned_abs s.across < area * 2 ^ (63 - bits)
+  pub down : unsigned_abs s.down < area * 2 ^ (63 - bits)
 
 -- The plane of a slope with so many fractional bits: its gradients are near the exact ones, and it starts at the slope's vertex,
 -- by its margin above the attribute there.

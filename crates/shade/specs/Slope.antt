@@ -25,3 +25,8 @@ pub record IsSlope (a b c : Position) (u v w : ℕ) (s : Slope) : Type 0 where
   pub in_band : IsInGuardBand (record { x = s.x; y = s.y })
   pub across : unsigned_abs s.across < 2 ^ 41
   pub down : unsigned_abs s.down < 2 ^ 41
+
+-- The growths fit 41 bits and a sign.
+pub record IsBounded (s : Slope) : Type 0 where
+  pub across : unsigned_abs s.across < 2 ^ 41
+  pub down : unsigned_abs s.down < 2 ^ 41

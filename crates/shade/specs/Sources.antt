@@ -24,7 +24,7 @@ pub record NeedsNoDepth (t : Placed) : Type 0 where
 abbrev pub IsDepthOf : Placed → DepthSource → Type 0
 IsDepthOf t Unused = NeedsNoDepth t
 IsDepthOf t (Flat z) = IsFlat t.z z
-IsDepthOf t (Plane p) = IsDepthPlane t p
+IsDepthOf t (Plane q p) = (q.now ≡ t) × IsDepthPlane t p.now
 
 -- The vertices have the same red, green and blue, and where they are blended the same alpha.
 pub record IsFlatColour (t : Placed) (rgba : List ℕ) : Type 0 where
@@ -36,4 +36,4 @@ pub record IsFlatColour (t : Placed) (rgba : List ℕ) : Type 0 where
 -- The source gives the triangle's colour, and its alpha where it is blended.
 abbrev pub IsColourOf : Placed → ColourSource → Type 0
 IsColourOf t (colour.Flat rgba) = IsFlatColour t rgba
-IsColourOf t (colour.Planes p) = AreColourPlanes t p
+IsColourOf t (colour.Planes q p) = (q.now ≡ t) × AreColourPlanes t p.now

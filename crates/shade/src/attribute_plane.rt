@@ -7,15 +7,17 @@
 //! - Certificate. So its whole part is the value or the number after it (`IsNear`), and it is the value where its fraction is at
 //!   least three units.
 //! - Correction. Where it is less, the sign of N - m S tells which of the two m is.
-ghost use Rattle.std.specs.Prelude.{ℕ, ◌≡◌, ◌<◌, ◌≤◌, ◌^◌, IfSome, List, length, slice_index};
+ghost use Rattle.std.specs.Prelude.{ℕ, ◌≡◌, ◌⊎◌, ◌+◌, ◌<◌, ◌≤◌, ◌^◌, IfSome, List, length, slice_index};
 ghost use Rattle.std.specs.Int.RustNames.{unsigned_abs};
 ghost use Rattle.grid.specs.Position.{Position};
 ghost use Rattle.grid.specs.Triangle.{doubled_area, Covers};
-ghost use Rattle.shade.specs.Value.{IsValueAt};
-ghost use Rattle.shade.specs.Candidate.{IsNear};
+ghost use Rattle.std.specs.Simd.Lanes.{Each1};
 ghost use Rattle.shade.specs.Group.{IsGroupOnScreen};
+ghost use Rattle.shade.specs.Slope.{IsSlope};
+ghost use Rattle.shade.specs.Plane.{IsLevel};
 
-use crate::candidates::{candidates, corrected, rest};
+use crate::candidates::{are_sure, candidates, fractions, wholes};
+use crate::correction::corrected;
 use crate::plane::Plane;
 use crate::reciprocal::Reciprocal;
 use crate::slope::Slope;
@@ -29,43 +31,34 @@ pub(crate) struct AttributePlane {
     plane: Plane,
     /// The high halves of its growth from a group's first sample to each of the sixteen.
     lanes: u32x16,
-    /// The attribute times the area.
-    numerator: Plane,
-    area: u64,
     pub ghost long: { length lanes ≡ 16 },
 }
 
 impl AttributePlane {
-    ghost use Rattle.shade.specs.AttributePlane.{IsNarrow, IsAttributePlane, AreCandidates, AreNear, AreValues, sum_at};
+    ghost use Rattle.shade.specs.AttributePlane.{IsNarrow, IsAttributePlane, AreCandidates, AreValues};
 
-    /// What is `values` at the vertices of `t`, which has this area, for candidates of so many fractional bits: 16 for depth and
-    /// 24 for a channel. None where it is too steep: the triangle is then very thin.
-    pub(crate) fn new(
-        t: &Tri,
-        values: [u16; 3],
-        reciprocal: Reciprocal,
-        fraction: u32,
-    ) -> Option<AttributePlane>
-        requires area { reciprocal.area ≡ unsigned_abs (doubled_area t.now.a t.now.b t.now.c) }
-        requires narrow { IsNarrow fraction values }
-        ensures { IfSome result (λ p. IsAttributePlane fraction t.now.a t.now.b t.now.c values p) }
+    /// The plane of a slope that is level, with so many fractional bits of a candidate: 16 for depth and 24 for a channel.
+    #[inline(always)]
+    pub(crate) fn new(slope: &Slope, reciprocal: Reciprocal, fraction: u32) -> AttributePlane
+        requires fraction { (fraction ≡ 16) ⊎ (fraction ≡ 24) }
+        requires level { IsLevel (32 + fraction) reciprocal.area slope.now }
+        ensures { (a b c : Position) (values : List ℕ) → reciprocal.area ≡ unsigned_abs (doubled_area a b c) → IsNarrow fraction values
+            → IsSlope a b c (slice_index values 0) (slice_index values 1) (slice_index values 2) slope.now → IsAttributePlane fraction a b c values result }
     {
-        let slope = Slope::of(t, values);
-        let bits = 32 + fraction;
-        if !reciprocal.is_level(slope.across, bits) {
-            return None;
-        }
-        if !reciprocal.is_level(slope.down, bits) {
-            return None;
-        }
-        let plane = Plane::new(slope, reciprocal, bits);
-        let numerator = Plane::of_numerator(slope, reciprocal.area);
-        Some(AttributePlane {
+        let plane = Plane::new(*slope, reciprocal, 32 + fraction);
+        AttributePlane {
             plane,
             lanes: plane.lanes(),
-            numerator,
-            area: reciprocal.area,
-        })
+        }
+    }
+
+    /// A plane that nobody reads.
+    #[inline(always)]
+    pub(crate) fn none() -> AttributePlane {
+        AttributePlane {
+            plane: Plane::none(),
+            lanes: u32x16::splat(0),
+        }
     }
 
     /// The candidates at the group of sixteen samples that starts at (x, y).
@@ -78,33 +71,22 @@ impl AttributePlane {
         candidates(self.lanes, self.plane.height(x, y))
     }
 
-    /// The value at (x, y), from it or the number after it.
-    fn corrected_at(&self, x: i32, y: i32, found: u16) -> u16
-        ensures value { (k : ℕ) (a b c : Position) (values : List ℕ) → IsAttributePlane k a b c values self.now → Covers a b c (record { x = x; y = y })
-            → IsNear (sum_at a b c values (record { x = x; y = y })) (unsigned_abs (doubled_area a b c)) found
-            → IsValueAt a b c (record { x = x; y = y }) (slice_index values 0) (slice_index values 1) (slice_index values 2) result }
-        ensures at_most { result ≤ found }
-    {
-        corrected(found, rest(self.numerator.height(x, y), found, self.area))
-    }
-
-    /// The values at the group of sixteen samples that starts at (x, y), from the values or the numbers after them.
-    #[cold]
-    #[inline(never)]
-    pub(crate) fn corrected(&self, x: i32, y: i32, found: u16x16) -> u16x16
-        requires { IsGroupOnScreen (record { x = x; y = y }) }
+    /// The values at the group of sixteen samples that starts at (x, y) of what is `values` at the vertices of `t`, which the plane
+    /// was made of.
+    #[inline(always)]
+    pub(crate) fn values(&self, t: &Tri, values: [u16; 3], fraction: u32, x: i32, y: i32) -> u16x16
+        requires screen { IsGroupOnScreen (record { x = x; y = y }) }
+        requires fraction { (fraction ≡ 16) ⊎ (fraction ≡ 24) }
         ensures length { length result ≡ 16 }
-        ensures each { (k : ℕ) (a b c : Position) (values : List ℕ) → IsAttributePlane k a b c values self.now → AreNear a b c values (record { x = x; y = y }) found → AreValues a b c values (record { x = x; y = y }) result }
-        ensures at_most { (i : ℕ) → i < 16 → slice_index result i ≤ slice_index found i }
+        ensures each { IsAttributePlane fraction t.now.a t.now.b t.now.c values self.now → AreValues t.now.a t.now.b t.now.c values (record { x = x; y = y }) result }
+        ensures bytes { fraction ≡ 24 → Each1 (λ n. n ≤ 255) result }
     {
-        let mut values = found.to_array();
-        for i in 0..16 {
-            values[i] = self.corrected_at(
-                x + (256 * (i % 8)) as i32,
-                y + (256 * (i / 8)) as i32,
-                values[i],
-            );
+        let candidates = self.candidates(x, y);
+        let found = wholes(candidates, fraction);
+        if are_sure(fractions(candidates, (1 << fraction) - 1)) {
+            found
+        } else {
+            corrected(t, values, x, y, found)
         }
-        u16x16::from_array(values)
     }
 }

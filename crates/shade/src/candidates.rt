@@ -60,24 +60,31 @@ pub(crate) fn are_sure(fractions: u32x16) -> bool
     fractions.simd_lt(u32x16::splat(SURE)).to_bitmask() == 0
 }
 
-/// What is left of a numerator without so many times the area, where it is less than the area in size.
-pub(crate) fn rest(numerator: u64, value: u16, area: u64) -> i64
-    ensures { (n : ℕ) → area ≤ 2 ^ 48 → IsModulo (pos n) numerator → IsNear n area value → result ≡ pos n -ℤ pos (value * area) }
+/// What is left of sixteen numerators, each without its value times the area, modulo 2^64.
+#[inline(always)]
+pub(crate) fn rests(numerators: u64x16, values: u16x16, area: u64) -> u64x16
+    ensures length { length result ≡ 16 }
+    ensures each { (i n : ℕ) → i < 16 → IsModulo (pos n) (slice_index numerators i) → IsModulo (pos n -ℤ pos (slice_index values i * area)) (slice_index result i) }
 {
-    numerator
-        .wrapping_sub(u64::from(value).wrapping_mul(area))
-        .cast_signed()
+    numerators - values.cast::<u64>() * u64x16::splat(area)
 }
 
-/// The quotient, from it or the number after it, by the sign of what is left.
+/// The highest bits of sixteen numbers, which tell whether they are under 0: 1 where they are.
 #[inline(always)]
-pub(crate) fn corrected(value: u16, left: i64) -> u16
-    ensures value { (n s : ℕ) → IsNear n s value → left ≡ pos n -ℤ pos (value * s) → IsQuotient n s result }
-    ensures at_most { result ≤ value }
+fn signs(numbers: u64x16) -> u16x16
+    ensures length { length result ≡ 16 }
+    ensures each { (i : ℕ) → i < 16 → slice_index result i ≡ slice_index numbers i / 2 ^ 63 }
 {
-    if left < 0 {
-        value.saturating_sub(1)
-    } else {
-        value
-    }
+    (numbers >> 63).cast::<u16>()
+}
+
+/// The quotients, from them or the numbers after them, by the signs of what is left. No lane grows.
+#[inline(always)]
+pub(crate) fn lowered(values: u16x16, rests: u64x16) -> u16x16
+    ensures length { length result ≡ 16 }
+    ensures each { (i n s : ℕ) → i < 16 → s ≤ 2 ^ 48 → IsNear n s (slice_index values i) → IsModulo (pos n -ℤ pos (slice_index values i * s)) (slice_index rests i) → IsQuotient n s (slice_index result i) }
+    ensures at_most { (i : ℕ) → i < 16 → slice_index result i ≤ slice_index values i }
+{
+    let lower = values - signs(rests);
+    lower.simd_lt(values).select(lower, values)
 }

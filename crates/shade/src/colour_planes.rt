@@ -1,11 +1,12 @@
-ghost use Rattle.std.specs.Prelude.{◌≡◌, ◌<◌, ◌≤◌, ◌%◌, ◌^◌, ℕ, List, IfSome, IsTrue, length, slice_index};
+ghost use Rattle.std.specs.Prelude.{◌≡◌, ◌<◌, ◌≤◌, ◌%◌, ◌^◌, ℕ, List, IsTrue, true, length, slice_index};
 ghost use Rattle.std.specs.Int.RustNames.{unsigned_abs};
 ghost use Rattle.std.specs.Simd.Lanes.{Each1};
 ghost use Rattle.grid.specs.Triangle.{doubled_area, Covers};
-ghost use Rattle.shade.specs.declared.placed.Placed.{Placed as Triangle};
 ghost use Rattle.shade.specs.Placed.{channel, IsInterpolated};
 ghost use Rattle.shade.specs.Block.{position_in};
-ghost use Rattle.shade.specs.AttributePlane.{IsAttributePlane};
+ghost use Rattle.shade.specs.AttributePlane.{AreBytes, IsAttributePlane, IsChannelSlope};
+ghost use Rattle.shade.specs.Slope.{IsBounded};
+ghost use Rattle.shade.specs.declared.placed.Placed.{Placed as Triangle};
 ghost use Rattle.shade.specs.Group.{IsGroupOnScreen};
 ghost use Rattle.grid.specs.Position.{Position};
 
@@ -13,7 +14,7 @@ use crate::attribute_plane::AttributePlane;
 use crate::candidates::{are_sure, fractions, least, wholes};
 use crate::placed::Placed;
 use crate::reciprocal::Reciprocal;
-use grid::Tri;
+use crate::slope::Slope;
 use std::simd::prelude::*;
 
 /// Colour and alpha of sixteen samples, each at most 255.
@@ -25,15 +26,64 @@ pub(crate) struct Colours {
     pub(crate) a: u16x16,
 }
 
-/// What the vertices of `t` have as one channel, made ready for sixteen samples at once.
-fn channel_plane(t: &Tri, values: [u8; 3], reciprocal: Reciprocal) -> Option<AttributePlane>
-    requires { reciprocal.area ≡ unsigned_abs (doubled_area t.now.a t.now.b t.now.c) }
-    ensures { IfSome result (λ p. IsAttributePlane 24 t.now.a t.now.b t.now.c values p) }
+/// What the three vertices have as one channel.
+#[inline(always)]
+fn channel_values(placed: &Placed, number: usize) -> [u16; 3]
+    requires { number < 4 }
+    ensures value { result ≡ channel placed.now number }
+    ensures bytes { AreBytes result }
 {
-    let [a, b, c] = values;
-    let values = [u16::from(a), u16::from(b), u16::from(c)];
-    let plane = AttributePlane::new(t, values, reciprocal, 24)?;
-    Some(plane)
+    let [a, b, c] = placed.channel(number);
+    [u16::from(a), u16::from(b), u16::from(c)]
+}
+
+/// The slope of one channel of a triangle, where it is asked for.
+#[inline(always)]
+fn channel_slope(used: bool, placed: &Placed, number: usize) -> Slope
+    requires { number < 4 }
+    ensures slope { IsTrue used → IsChannelSlope placed.now number result }
+    ensures bounded { IsBounded result }
+{
+    Slope::of_used(used, &placed.tri, channel_values(placed, number))
+}
+
+/// How the channels of a triangle grow.
+#[derive(Clone, Copy, Debug)]
+pub(crate) struct ColourSlopes {
+    red: Slope,
+    green: Slope,
+    blue: Slope,
+    alpha: Slope,
+}
+
+impl ColourSlopes {
+    ghost use Rattle.shade.specs.AttributePlane.{AreColourSlopes, AreBounded, AreLevel};
+
+    /// The slopes of a triangle's channels where they are asked for, of alpha where it is blended.
+    #[inline(always)]
+    pub(crate) fn of_used(used: bool, placed: &Placed) -> ColourSlopes
+        ensures slopes { IsTrue used → AreColourSlopes placed.now result }
+        ensures bounded { AreBounded result }
+    {
+        ColourSlopes {
+            red: channel_slope(used, placed, 0),
+            green: channel_slope(used, placed, 1),
+            blue: channel_slope(used, placed, 2),
+            alpha: channel_slope(used && placed.state.merge.over, placed, 3),
+        }
+    }
+
+    /// Whether no channel is too steep for a plane.
+    #[inline(always)]
+    pub(crate) fn are_level(&self, reciprocal: Reciprocal) -> bool
+        requires { AreBounded self.now }
+        ensures { IsTrue result → AreLevel reciprocal.area self.now }
+    {
+        self.red.is_level(reciprocal, 56)
+            && self.green.is_level(reciprocal, 56)
+            && self.blue.is_level(reciprocal, 56)
+            && self.alpha.is_level(reciprocal, 56)
+    }
 }
 
 /// The bits of a channel's fraction.
@@ -62,24 +112,31 @@ pub(crate) struct ColourPlanes {
 }
 
 impl ColourPlanes {
-    ghost use Rattle.shade.specs.AttributePlane.{AreColourPlanes, AreCandidates, AreNear, AreValues};
+    ghost use Rattle.shade.specs.AttributePlane.{AreColourPlanes, AreColourSlopes, AreLevel, AreCandidates, AreValues};
 
-    /// Colour and alpha of a triangle with this doubled area, or none where a channel is too steep: its samples are then drawn
-    /// one by one.
-    pub(crate) fn new(placed: &Placed, reciprocal: Reciprocal) -> Option<ColourPlanes>
-        requires { reciprocal.area ≡ unsigned_abs (doubled_area placed.now.tri.a placed.now.tri.b placed.now.tri.c) }
-        ensures { IfSome result (λ p. AreColourPlanes placed.now p) }
+    /// The planes of channels that are level, of a triangle with this doubled area.
+    #[inline(always)]
+    pub(crate) fn new(slopes: &ColourSlopes, reciprocal: Reciprocal) -> ColourPlanes
+        requires { AreLevel reciprocal.area slopes.now }
+        ensures { (t : Triangle) → reciprocal.area ≡ unsigned_abs (doubled_area t.tri.a t.tri.b t.tri.c) → AreColourSlopes t slopes.now → AreColourPlanes t result }
     {
-        let red = channel_plane(&placed.tri, placed.channel(0), reciprocal)?;
-        let green = channel_plane(&placed.tri, placed.channel(1), reciprocal)?;
-        let blue = channel_plane(&placed.tri, placed.channel(2), reciprocal)?;
-        let alpha = channel_plane(&placed.tri, placed.channel(3), reciprocal)?;
-        Some(ColourPlanes {
-            red,
-            green,
-            blue,
-            alpha,
-        })
+        ColourPlanes {
+            red: AttributePlane::new(&slopes.red, reciprocal, 24),
+            green: AttributePlane::new(&slopes.green, reciprocal, 24),
+            blue: AttributePlane::new(&slopes.blue, reciprocal, 24),
+            alpha: AttributePlane::new(&slopes.alpha, reciprocal, 24),
+        }
+    }
+
+    /// Planes that nobody reads.
+    #[inline(always)]
+    pub(crate) fn none() -> ColourPlanes {
+        ColourPlanes {
+            red: AttributePlane::none(),
+            green: AttributePlane::none(),
+            blue: AttributePlane::none(),
+            alpha: AttributePlane::none(),
+        }
     }
 
     /// The candidates of alpha, where it is asked for.
@@ -96,72 +153,84 @@ impl ColourPlanes {
         }
     }
 
-    /// Alpha from it or the numbers after it, where it is asked for.
-    fn alpha_corrected(&self, with_alpha: bool, x: i32, y: i32, found: u16x16) -> u16x16
-        requires { IsGroupOnScreen (record { x = x; y = y }) }
+    /// One channel of the triangle at sixteen samples by itself, from its plane.
+    fn channel_at(plane: &AttributePlane, placed: &Placed, number: usize, x: i32, y: i32) -> u16x16
+        requires screen { IsGroupOnScreen (record { x = x; y = y }) }
+        requires number { number < 4 }
         ensures length { length result ≡ 16 }
-        ensures each { (k : ℕ) (a b c : Position) (values : List ℕ) → IsTrue with_alpha → IsAttributePlane k a b c values self.now.alpha → AreNear a b c values (record { x = x; y = y }) found → AreValues a b c values (record { x = x; y = y }) result }
-        ensures at_most { (i : ℕ) → i < 16 → slice_index result i ≤ slice_index found i }
+        ensures bytes { Each1 (λ n. n ≤ 255) result }
+        ensures each { IsAttributePlane 24 placed.now.tri.a placed.now.tri.b placed.now.tri.c (channel placed.now number) plane.now → AreValues placed.now.tri.a placed.now.tri.b placed.now.tri.c (channel placed.now number) (record { x = x; y = y }) result }
     {
-        if with_alpha {
-            self.alpha.corrected(x, y, found)
-        } else {
-            found
-        }
+        let values = channel_values(placed, number);
+        plane.values(&placed.tri, values, 24, x, y)
     }
 
-    /// The colours from those or the numbers after them.
+    /// The colours at sixteen samples, each channel by itself.
     #[cold]
     #[inline(never)]
-    fn corrected(&self, with_alpha: bool, x: i32, y: i32, found: &Colours) -> Colours
-        requires screen { IsGroupOnScreen (record { x = x; y = y }) }
-        requires length { (length found.now.r ≡ 16) × (length found.now.g ≡ 16) × (length found.now.b ≡ 16) × (length found.now.a ≡ 16) }
-        requires bytes { Each1 (λ n. n ≤ 255) found.now.r × Each1 (λ n. n ≤ 255) found.now.g × Each1 (λ n. n ≤ 255) found.now.b × Each1 (λ n. n ≤ 255) found.now.a }
-        ensures length { (length result.r ≡ 16) × (length result.g ≡ 16) × (length result.b ≡ 16) × (length result.a ≡ 16) }
-        ensures bytes { Each1 (λ n. n ≤ 255) result.r × Each1 (λ n. n ≤ 255) result.g × Each1 (λ n. n ≤ 255) result.b × Each1 (λ n. n ≤ 255) result.a }
-        ensures red { (k : ℕ) (a b c : Position) (values : List ℕ) → IsAttributePlane k a b c values self.now.red → AreNear a b c values (record { x = x; y = y }) found.now.r → AreValues a b c values (record { x = x; y = y }) result.r }
-        ensures green { (k : ℕ) (a b c : Position) (values : List ℕ) → IsAttributePlane k a b c values self.now.green → AreNear a b c values (record { x = x; y = y }) found.now.g → AreValues a b c values (record { x = x; y = y }) result.g }
-        ensures blue { (k : ℕ) (a b c : Position) (values : List ℕ) → IsAttributePlane k a b c values self.now.blue → AreNear a b c values (record { x = x; y = y }) found.now.b → AreValues a b c values (record { x = x; y = y }) result.b }
-        ensures alpha { (k : ℕ) (a b c : Position) (values : List ℕ) → IsTrue with_alpha → IsAttributePlane k a b c values self.now.alpha → AreNear a b c values (record { x = x; y = y }) found.now.a → AreValues a b c values (record { x = x; y = y }) result.a }
-    {
-        Colours {
-            r: self.red.corrected(x, y, found.r),
-            g: self.green.corrected(x, y, found.g),
-            b: self.blue.corrected(x, y, found.b),
-            a: self.alpha_corrected(with_alpha, x, y, found.a),
-        }
-    }
-
-    /// The colours at sixteen samples, two rows of eight pixels, the first of which is at (x, y): right wherever the triangle
-    /// covers the sample. Alpha is found only where it is asked for.
-    #[inline(always)]
-    pub(crate) fn values(&self, with_alpha: bool, x: i32, y: i32) -> Colours
+    fn channels(&self, placed: &Placed, with_alpha: bool, x: i32, y: i32) -> Colours
         requires { IsGroupOnScreen (record { x = x; y = y }) }
         ensures length { (length result.r ≡ 16) × (length result.g ≡ 16) × (length result.b ≡ 16) × (length result.a ≡ 16) }
         ensures bytes { Each1 (λ n. n ≤ 255) result.r × Each1 (λ n. n ≤ 255) result.g × Each1 (λ n. n ≤ 255) result.b × Each1 (λ n. n ≤ 255) result.a }
-        ensures red { (t : Triangle) (i : ℕ) → AreColourPlanes t self.now → i < 16 → Covers t.tri.a t.tri.b t.tri.c (position_in (record { x = x; y = y }) i)
-            → IsInterpolated t (position_in (record { x = x; y = y }) i) (channel t 0) (slice_index result.r i) }
-        ensures green { (t : Triangle) (i : ℕ) → AreColourPlanes t self.now → i < 16 → Covers t.tri.a t.tri.b t.tri.c (position_in (record { x = x; y = y }) i)
-            → IsInterpolated t (position_in (record { x = x; y = y }) i) (channel t 1) (slice_index result.g i) }
-        ensures blue { (t : Triangle) (i : ℕ) → AreColourPlanes t self.now → i < 16 → Covers t.tri.a t.tri.b t.tri.c (position_in (record { x = x; y = y }) i)
-            → IsInterpolated t (position_in (record { x = x; y = y }) i) (channel t 2) (slice_index result.b i) }
-        ensures alpha { (t : Triangle) (i : ℕ) → IsTrue with_alpha → AreColourPlanes t self.now → i < 16 → Covers t.tri.a t.tri.b t.tri.c (position_in (record { x = x; y = y }) i)
-            → IsInterpolated t (position_in (record { x = x; y = y }) i) (channel t 3) (slice_index result.a i) }
+        ensures red { (i : ℕ) → AreColourPlanes placed.now self.now → i < 16 → Covers placed.now.tri.a placed.now.tri.b placed.now.tri.c (position_in (record { x = x; y = y }) i)
+            → IsInterpolated placed.now (position_in (record { x = x; y = y }) i) (channel placed.now 0) (slice_index result.r i) }
+        ensures green { (i : ℕ) → AreColourPlanes placed.now self.now → i < 16 → Covers placed.now.tri.a placed.now.tri.b placed.now.tri.c (position_in (record { x = x; y = y }) i)
+            → IsInterpolated placed.now (position_in (record { x = x; y = y }) i) (channel placed.now 1) (slice_index result.g i) }
+        ensures blue { (i : ℕ) → AreColourPlanes placed.now self.now → i < 16 → Covers placed.now.tri.a placed.now.tri.b placed.now.tri.c (position_in (record { x = x; y = y }) i)
+            → IsInterpolated placed.now (position_in (record { x = x; y = y }) i) (channel placed.now 2) (slice_index result.b i) }
+        ensures alpha { (i : ℕ) → IsTrue with_alpha → placed.now.state.merge.over ≡ true → AreColourPlanes placed.now self.now → i < 16 → Covers placed.now.tri.a placed.now.tri.b placed.now.tri.c (position_in (record { x = x; y = y }) i)
+            → IsInterpolated placed.now (position_in (record { x = x; y = y }) i) (channel placed.now 3) (slice_index result.a i) }
+    {
+        Colours {
+            r: ColourPlanes::channel_at(&self.red, placed, 0, x, y),
+            g: ColourPlanes::channel_at(&self.green, placed, 1, x, y),
+            b: ColourPlanes::channel_at(&self.blue, placed, 2, x, y),
+            a: self.alpha_values(placed, with_alpha, x, y),
+        }
+    }
+
+    /// Alpha by itself, where it is asked for.
+    fn alpha_values(&self, placed: &Placed, with_alpha: bool, x: i32, y: i32) -> u16x16
+        requires { IsGroupOnScreen (record { x = x; y = y }) }
+        ensures length { length result ≡ 16 }
+        ensures bytes { Each1 (λ n. n ≤ 255) result }
+        ensures each { IsTrue with_alpha → IsAttributePlane 24 placed.now.tri.a placed.now.tri.b placed.now.tri.c (channel placed.now 3) self.now.alpha → AreValues placed.now.tri.a placed.now.tri.b placed.now.tri.c (channel placed.now 3) (record { x = x; y = y }) result }
+    {
+        if with_alpha {
+            ColourPlanes::channel_at(&self.alpha, placed, 3, x, y)
+        } else {
+            u16x16::splat(255)
+        }
+    }
+
+    /// The colours of the triangle at sixteen samples, two rows of eight pixels, the first of which is at (x, y): right wherever it
+    /// covers the sample. Alpha is found only where it is asked for.
+    #[inline(always)]
+    pub(crate) fn values(&self, placed: &Placed, with_alpha: bool, x: i32, y: i32) -> Colours
+        requires { IsGroupOnScreen (record { x = x; y = y }) }
+        ensures length { (length result.r ≡ 16) × (length result.g ≡ 16) × (length result.b ≡ 16) × (length result.a ≡ 16) }
+        ensures bytes { Each1 (λ n. n ≤ 255) result.r × Each1 (λ n. n ≤ 255) result.g × Each1 (λ n. n ≤ 255) result.b × Each1 (λ n. n ≤ 255) result.a }
+        ensures red { (i : ℕ) → AreColourPlanes placed.now self.now → i < 16 → Covers placed.now.tri.a placed.now.tri.b placed.now.tri.c (position_in (record { x = x; y = y }) i)
+            → IsInterpolated placed.now (position_in (record { x = x; y = y }) i) (channel placed.now 0) (slice_index result.r i) }
+        ensures green { (i : ℕ) → AreColourPlanes placed.now self.now → i < 16 → Covers placed.now.tri.a placed.now.tri.b placed.now.tri.c (position_in (record { x = x; y = y }) i)
+            → IsInterpolated placed.now (position_in (record { x = x; y = y }) i) (channel placed.now 1) (slice_index result.g i) }
+        ensures blue { (i : ℕ) → AreColourPlanes placed.now self.now → i < 16 → Covers placed.now.tri.a placed.now.tri.b placed.now.tri.c (position_in (record { x = x; y = y }) i)
+            → IsInterpolated placed.now (position_in (record { x = x; y = y }) i) (channel placed.now 2) (slice_index result.b i) }
+        ensures alpha { (i : ℕ) → IsTrue with_alpha → placed.now.state.merge.over ≡ true → AreColourPlanes placed.now self.now → i < 16 → Covers placed.now.tri.a placed.now.tri.b placed.now.tri.c (position_in (record { x = x; y = y }) i)
+            → IsInterpolated placed.now (position_in (record { x = x; y = y }) i) (channel placed.now 3) (slice_index result.a i) }
     {
         let red = self.red.candidates(x, y);
         let green = self.green.candidates(x, y);
         let blue = self.blue.candidates(x, y);
         let alpha = self.alpha_candidates(with_alpha, x, y);
-        let found = Colours {
+        if !are_all_sure(red, green, blue, alpha) {
+            return self.channels(placed, with_alpha, x, y);
+        }
+        Colours {
             r: wholes(red, 24),
             g: wholes(green, 24),
             b: wholes(blue, 24),
             a: wholes(alpha, 24),
-        };
-        if are_all_sure(red, green, blue, alpha) {
-            found
-        } else {
-            self.corrected(with_alpha, x, y, &found)
         }
     }
 }

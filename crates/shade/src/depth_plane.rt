@@ -5,22 +5,16 @@ ghost use Rattle.shade.specs.declared.placed.Placed.{Placed as Triangle};
 ghost use Rattle.shade.specs.Placed.{IsInterpolated};
 ghost use Rattle.shade.specs.Block.{position_in};
 ghost use Rattle.shade.specs.Group.{IsGroupOnScreen};
-ghost use Rattle.shade.specs.AttributePlane.{IsAttributePlane, IsDepthPlane};
+ghost use Rattle.shade.specs.AttributePlane.{IsDepthPlane};
+ghost use Rattle.shade.specs.Row.{IsSmall};
+ghost use Rattle.shade.specs.Slope.{IsSlope};
+ghost use Rattle.shade.specs.Plane.{IsLevel};
 
 use crate::attribute_plane::AttributePlane;
-use crate::candidates::{are_sure, fractions, wholes};
 use crate::placed::Placed;
 use crate::reciprocal::Reciprocal;
-use grid::Tri;
+use crate::slope::Slope;
 use std::simd::prelude::*;
-
-/// What the vertices of `t` have as depths, made ready for sixteen samples at once.
-fn plane_of_depths(t: &Tri, values: [u16; 3], reciprocal: Reciprocal) -> Option<AttributePlane>
-    requires { reciprocal.area ≡ unsigned_abs (doubled_area t.now.a t.now.b t.now.c) }
-    ensures { IfSome result (λ p. IsAttributePlane 16 t.now.a t.now.b t.now.c values p) }
-{
-    AttributePlane::new(t, values, reciprocal, 16)
-}
 
 /// The depth of a triangle, made ready for sixteen samples at once.
 #[derive(Clone, Copy, Debug)]
@@ -29,30 +23,35 @@ pub(crate) struct DepthPlane {
 }
 
 impl DepthPlane {
-    /// The depth of a triangle with this doubled area, or none where it is too steep: its samples are then drawn one by one.
-    pub(crate) fn new(placed: &Placed, reciprocal: Reciprocal) -> Option<DepthPlane>
-        requires { reciprocal.area ≡ unsigned_abs (doubled_area placed.now.tri.a placed.now.tri.b placed.now.tri.c) }
-        ensures { IfSome result (λ p. IsDepthPlane placed.now p) }
+    /// The depth of a triangle with this doubled area, from its slope where it is level.
+    #[inline(always)]
+    pub(crate) fn new(slope: &Slope, reciprocal: Reciprocal) -> DepthPlane
+        requires { IsLevel 48 reciprocal.area slope.now }
+        ensures { (t : Triangle) → reciprocal.area ≡ unsigned_abs (doubled_area t.tri.a t.tri.b t.tri.c)
+            → IsSlope t.tri.a t.tri.b t.tri.c (slice_index t.z 0) (slice_index t.z 1) (slice_index t.z 2) slope.now → IsSmall (slice_index t.z 0) (slice_index t.z 1) (slice_index t.z 2) → IsDepthPlane t result }
     {
-        let depth = plane_of_depths(&placed.tri, placed.z, reciprocal)?;
-        Some(DepthPlane { depth })
+        DepthPlane {
+            depth: AttributePlane::new(slope, reciprocal, 16),
+        }
     }
 
-    /// The depths at sixteen samples, two rows of eight pixels, the first of which is at (x, y): right wherever the triangle
+    /// A plane that nobody reads.
+    #[inline(always)]
+    pub(crate) fn none() -> DepthPlane {
+        DepthPlane {
+            depth: AttributePlane::none(),
+        }
+    }
+
+    /// The depths of the triangle at sixteen samples, two rows of eight pixels, the first of which is at (x, y): right wherever it
     /// covers the sample.
     #[inline(always)]
-    pub(crate) fn values(&self, x: i32, y: i32) -> u16x16
+    pub(crate) fn values(&self, placed: &Placed, x: i32, y: i32) -> u16x16
         requires { IsGroupOnScreen (record { x = x; y = y }) }
         ensures length { length result ≡ 16 }
-        ensures values { (t : Triangle) (i : ℕ) → IsDepthPlane t self.now → i < 16 → Covers t.tri.a t.tri.b t.tri.c (position_in (record { x = x; y = y }) i)
-            → IsInterpolated t (position_in (record { x = x; y = y }) i) t.z (slice_index result i) }
+        ensures values { (i : ℕ) → IsDepthPlane placed.now self.now → i < 16 → Covers placed.now.tri.a placed.now.tri.b placed.now.tri.c (position_in (record { x = x; y = y }) i)
+            → IsInterpolated placed.now (position_in (record { x = x; y = y }) i) placed.now.z (slice_index result i) }
     {
-        let candidates = self.depth.candidates(x, y);
-        let found = wholes(candidates, 16);
-        if are_sure(fractions(candidates, 0xffff)) {
-            found
-        } else {
-            self.depth.corrected(x, y, found)
-        }
+        self.depth.values(&placed.tri, placed.z, 16, x, y)
     }
 }

@@ -74,8 +74,8 @@ fn lanes_of(whole: bool, mask: u64, group: u64) -> u16x16
 #[inline(always)]
 fn draw_rows(
     merge: &Merge,
-    depth: &DepthSource,
-    colour: &ColourSource,
+    depth: &DepthSource<'_>,
+    colour: &ColourSource<'_>,
     whole: bool,
     p: Point,
     mask: u64,
@@ -108,8 +108,8 @@ fn draw_rows(
 #[inline(always)]
 fn draw_block(
     merge: &Merge,
-    depth: &DepthSource,
-    colour: &ColourSource,
+    depth: &DepthSource<'_>,
+    colour: &ColourSource<'_>,
     whole: bool,
     p: Point,
     mask: u64,
@@ -136,8 +136,8 @@ fn is_whole(mask: u64) -> bool
 #[inline(always)]
 fn draw_by_mask(
     merge: &Merge,
-    depth: &DepthSource,
-    colour: &ColourSource,
+    depth: &DepthSource<'_>,
+    colour: &ColourSource<'_>,
     p: Point,
     mask: u64,
     samples: &mut BlockSamples,
@@ -176,13 +176,13 @@ fn known<const OVER: bool>(merge: &Merge) -> Merge
     }
 }
 
-/// The same for a merge that writes all channels, with code of its own for each source of depth and of colour. A value that is
-/// made again is known where the code is inlined, and planes are not copied.
+/// The same for a merge that writes all channels, with code of its own for each source of colour and of depth. A value that is
+/// made again is known where the code is inlined.
 #[inline(never)]
 fn draw_by_sources<const OVER: bool>(
     merge: &Merge,
-    depth: &DepthSource,
-    colour: &ColourSource,
+    depth: &DepthSource<'_>,
+    colour: &ColourSource<'_>,
     p: Point,
     mask: u64,
     samples: &mut BlockSamples,
@@ -192,37 +192,46 @@ fn draw_by_sources<const OVER: bool>(
     requires on_screen { IsOnScreen p }
     ensures { (t : Triangle) → AreSourcesOf t merge.now depth.now colour.now → CoversMask t p mask → AreDrawn t p mask samples.old samples.new 0 64 }
 {
-    let merge = known::<OVER>(merge);
+    let merge = &known::<OVER>(merge);
     match colour {
         ColourSource::Flat(rgba) => {
-            let colour = ColourSource::Flat(*rgba);
+            let colour = &ColourSource::Flat(*rgba);
             match depth {
                 DepthSource::Unused => {
-                    draw_by_mask(&merge, &DepthSource::Unused, &colour, p, mask, samples);
+                    draw_by_mask(merge, &DepthSource::Unused, colour, p, mask, samples);
                 }
                 DepthSource::Flat(z) => {
-                    draw_by_mask(&merge, &DepthSource::Flat(*z), &colour, p, mask, samples);
+                    draw_by_mask(merge, &DepthSource::Flat(*z), colour, p, mask, samples);
                 }
-                DepthSource::Plane(_) => draw_by_mask(&merge, depth, &colour, p, mask, samples),
+                DepthSource::Plane(placed, plane) => {
+                    let depth = &DepthSource::Plane(placed, plane);
+                    draw_by_mask(merge, depth, colour, p, mask, samples);
+                }
             }
         }
-        ColourSource::Planes(_) => match depth {
-            DepthSource::Unused => {
-                draw_by_mask(&merge, &DepthSource::Unused, colour, p, mask, samples);
+        ColourSource::Planes(placed, planes) => {
+            let colour = &ColourSource::Planes(placed, planes);
+            match depth {
+                DepthSource::Unused => {
+                    draw_by_mask(merge, &DepthSource::Unused, colour, p, mask, samples);
+                }
+                DepthSource::Flat(z) => {
+                    draw_by_mask(merge, &DepthSource::Flat(*z), colour, p, mask, samples);
+                }
+                DepthSource::Plane(placed, plane) => {
+                    let depth = &DepthSource::Plane(placed, plane);
+                    draw_by_mask(merge, depth, colour, p, mask, samples);
+                }
             }
-            DepthSource::Flat(z) => {
-                draw_by_mask(&merge, &DepthSource::Flat(*z), colour, p, mask, samples);
-            }
-            DepthSource::Plane(_) => draw_by_mask(&merge, depth, colour, p, mask, samples),
-        },
+        }
     }
 }
 
 /// The same with code of its own where all channels are written: laid over the stored ones, or not.
 fn draw_by_merge(
     merge: &Merge,
-    depth: &DepthSource,
-    colour: &ColourSource,
+    depth: &DepthSource<'_>,
+    colour: &ColourSource<'_>,
     p: Point,
     mask: u64,
     samples: &mut BlockSamples,
@@ -248,10 +257,12 @@ impl Interpolants {
         ensures drawn { (k : ℕ) → k < 64 → IsBitSet mask k → IsDrawnAt self.now (position_in p k) (stored_at samples.old k) (stored_at samples.new k) }
         ensures kept { (k : ℕ) → k < 64 → ¬ IsBitSet mask k → stored_at samples.new k ≡ stored_at samples.old k }
     {
-        match &self.way {
+        match self.way {
             Way::Each => self.placed.draw_each(p, mask, samples),
             Way::Groups(depth, colour) => {
-                draw_by_merge(&self.placed.state.merge, depth, colour, p, mask, samples);
+                let depth = depth.source(&self.placed, &self.depth);
+                let colour = colour.source(&self.placed, &self.colour);
+                draw_by_merge(&self.placed.state.merge, &depth, &colour, p, mask, samples);
             }
         }
     }

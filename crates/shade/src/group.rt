@@ -100,7 +100,7 @@ fn test_depths(merge: &Merge, mask: u16x16, z: u16x16, stored: &mut [u16], at: u
 /// The same by where the depths come from; the first of the samples is at (x, y).
 #[inline(always)]
 fn test_depths_of(
-    source: &DepthSource,
+    source: &DepthSource<'_>,
     merge: &Merge,
     mask: u16x16,
     x: i32,
@@ -120,7 +120,13 @@ fn test_depths_of(
     match source {
         DepthSource::Unused => mask,
         DepthSource::Flat(z) => test_depths(merge, mask, u16x16::splat(*z), stored, at),
-        DepthSource::Plane(plane) => test_depths(merge, mask, plane.values(x, y), stored, at),
+        DepthSource::Plane(placed, plane) => test_depths(
+            merge,
+            mask,
+            plane.values(placed, x, y),
+            stored,
+            at,
+        ),
     }
 }
 
@@ -128,8 +134,8 @@ fn test_depths_of(
 #[inline(always)]
 pub(crate) fn draw_group(
     merge: &Merge,
-    depth: &DepthSource,
-    colour: &ColourSource,
+    depth: &DepthSource<'_>,
+    colour: &ColourSource<'_>,
     mask: u16x16,
     x: i32,
     y: i32,

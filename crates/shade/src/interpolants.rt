@@ -1,8 +1,13 @@
 ghost use Rattle.std.specs.Prelude.{◌≡◌, pos};
+ghost use Rattle.std.specs.Int.RustNames.{unsigned_abs};
 ghost use Rattle.grid.specs.Triangle.{doubled_area};
 
+use crate::colour_planes::{ColourPlanes, ColourSlopes};
+use crate::depth_plane::DepthPlane;
 use crate::placed::Placed;
-use crate::way::Way;
+use crate::reciprocal::Reciprocal;
+use crate::slope::Slope;
+use crate::way::{ColourWay, DepthWay, Way};
 use std::marker::Model;
 
 /// A triangle made ready to be drawn: how its depth, its colour and its alpha change from pixel to pixel, and which way of
@@ -11,6 +16,10 @@ use std::marker::Model;
 pub struct Interpolants {
     pub(crate) placed: Placed,
     pub(crate) way: Way,
+    /// The depth, where the way needs a plane of it.
+    pub(crate) depth: DepthPlane,
+    /// The colour, where the way needs planes of it.
+    pub(crate) colour: ColourPlanes,
 }
 
 impl Model for Interpolants {
@@ -21,7 +30,15 @@ impl Model for Interpolants {
 
     ghost view = { λ i. i.placed };
 
-    ghost invariant = { λ i. IsWayOf i.placed i.way };
+    ghost invariant = { λ i. IsWayOf i.placed i.way i.depth i.colour };
+}
+
+/// The doubled area of a triangle that has one, with its reciprocal.
+fn reciprocal(placed: &Placed) -> Reciprocal
+    requires { ¬ (doubled_area placed.now.tri.a placed.now.tri.b placed.now.tri.c ≡ pos 0) }
+    ensures { result.area ≡ unsigned_abs (doubled_area placed.now.tri.a placed.now.tri.b placed.now.tri.c) }
+{
+    Reciprocal::of(placed.tri.area2().unsigned_abs())
 }
 
 impl Interpolants {
@@ -30,9 +47,32 @@ impl Interpolants {
         requires { ¬ (doubled_area placed.now.tri.a placed.now.tri.b placed.now.tri.c ≡ pos 0) }
         ensures { result ≡ placed.now }
     {
+        let (depth, colour) = (DepthWay::of(placed), ColourWay::of(placed));
+        let (by_plane, by_planes) = (depth.is_by_plane(), colour.is_by_planes());
+        if !by_plane && !by_planes {
+            return Interpolants {
+                placed: *placed,
+                way: Way::Groups(depth, colour),
+                depth: DepthPlane::none(),
+                colour: ColourPlanes::none(),
+            };
+        }
+        let reciprocal = reciprocal(placed);
+        let depth_slope = Slope::of_used(by_plane, &placed.tri, placed.z);
+        let slopes = ColourSlopes::of_used(by_planes, placed);
+        if !depth_slope.is_level(reciprocal, 48) || !slopes.are_level(reciprocal) {
+            return Interpolants {
+                placed: *placed,
+                way: Way::Each,
+                depth: DepthPlane::none(),
+                colour: ColourPlanes::none(),
+            };
+        }
         Interpolants {
             placed: *placed,
-            way: Way::of(placed),
+            way: Way::Groups(depth, colour),
+            depth: DepthPlane::new(&depth_slope, reciprocal),
+            colour: ColourPlanes::new(&slopes, reciprocal),
         }
     }
 

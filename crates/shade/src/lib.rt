@@ -6,6 +6,7 @@ mod blend;
 mod block;
 mod candidates;
 mod colour_planes;
+mod correction;
 mod depth;
 mod depth_plane;
 mod drawing;

@@ -34,6 +34,7 @@ fn scaled(way: i32, gradient: i64) -> u64
 }
 
 /// How far a plane of a slope with these gradients lies above the attribute.
+#[inline(always)]
 fn margin(slope: Slope, reciprocal: Reciprocal, across: i64, down: i64, bits: u32) -> u64
     requires bits { bits ≤ 56 }
     requires across { IsGradient bits reciprocal.area slope.across across }
@@ -50,15 +51,13 @@ fn margin(slope: Slope, reciprocal: Reciprocal, across: i64, down: i64, bits: u3
 }
 
 impl Plane {
-    ghost use Rattle.shade.specs.Plane.{IsPlane, IsNumeratorPlane, IsPart, IsHeight, IsHighPart};
+    ghost use Rattle.shade.specs.Plane.{IsLevel, IsPlane, IsNumeratorPlane, IsPart, IsHeight, IsHighPart};
 
     /// The plane of a slope that is not steep, with so many fractional bits.
+    #[inline(always)]
     pub(crate) fn new(slope: Slope, reciprocal: Reciprocal, bits: u32) -> Plane
         requires bits { bits ≤ 56 }
-        requires across_bound { unsigned_abs slope.across < 2 ^ 41 }
-        requires across_level { unsigned_abs slope.across < reciprocal.area * 2 ^ (63 - bits) }
-        requires down_bound { unsigned_abs slope.down < 2 ^ 41 }
-        requires down_level { unsigned_abs slope.down < reciprocal.area * 2 ^ (63 - bits) }
+        requires level { IsLevel bits reciprocal.area slope }
         ensures { IsPlane bits reciprocal.area slope result }
     {
         let across = reciprocal.settled_gradient(slope.across, bits);
@@ -71,6 +70,16 @@ impl Plane {
             start,
             across,
             down,
+        }
+    }
+
+    /// A plane that nobody reads.
+    #[inline(always)]
+    pub(crate) fn none() -> Plane {
+        Plane {
+            start: 0,
+            across: 0,
+            down: 0,
         }
     }
 
@@ -105,19 +114,38 @@ impl Plane {
         self.start.wrapping_add(self.part(x, y))
     }
 
+    /// The growth to each of sixteen pixels, eight columns by two rows, modulo 2^64.
+    #[inline(always)]
+    fn parts(&self) -> u64x16
+        ensures length { length result ≡ 16 }
+        ensures each { (i : ℕ) → i < 16 → IsPart self.now (pos (256 * (i % 8))) (pos (256 * (i / 8))) (slice_index result i) }
+    {
+        let (across, down) = (scaled(256, self.across), scaled(256, self.down));
+        let mut parts = [0; 16];
+        let mut part: u64 = 0;
+        for i in 0..8 {
+            parts[i] = part;
+            parts[i + 8] = part.wrapping_add(down);
+            part = part.wrapping_add(across);
+        }
+        u64x16::from_array(parts)
+    }
+
     /// The high halves of the growth to each of sixteen pixels, eight columns by two rows.
+    #[inline(always)]
     pub(crate) fn lanes(&self) -> u32x16
         ensures length { length result ≡ 16 }
         ensures each { (i : ℕ) → i < 16 → IsHighPart self.now (pos (256 * (i % 8))) (pos (256 * (i / 8))) (slice_index result i) }
     {
-        let (across, down) = (scaled(256, self.across), scaled(256, self.down));
-        let mut halves = [0; 16];
-        let mut part: u64 = 0;
-        for i in 0..8 {
-            halves[i] = (part >> 32) as u32;
-            halves[i + 8] = (part.wrapping_add(down) >> 32) as u32;
-            part = part.wrapping_add(across);
-        }
-        u32x16::from_array(halves)
+        (self.parts() >> 32).cast::<u32>()
+    }
+
+    /// The heights at sixteen pixels, eight columns by two rows, the first of which is at (x, y), modulo 2^64.
+    #[inline(always)]
+    pub(crate) fn heights(&self, x: i32, y: i32) -> u64x16
+        ensures length { length result ≡ 16 }
+        ensures each { (i : ℕ) → i < 16 → IsHeight self.now (x +ℤ pos (256 * (i % 8))) (y +ℤ pos (256 * (i / 8))) (slice_index result i) }
+    {
+        u64x16::splat(self.height(x, y)) + self.parts()
     }
 }

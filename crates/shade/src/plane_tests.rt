@@ -2,9 +2,10 @@
 ghost use Rattle.std.specs.Prelude.{IsTrue, pos, ◌≤ℤ◌, ◌<ℤ◌};
 ghost use Rattle.shade.specs.Group.{IsGroupOnScreen};
 
-use crate::colour_planes::ColourPlanes;
+use crate::colour_planes::{ColourPlanes, ColourSlopes};
 use crate::depth_plane::DepthPlane;
 use crate::reciprocal::Reciprocal;
+use crate::slope::Slope;
 use crate::{DepthTest, Merge, Placed, State, floor_at};
 use grid::{Cull, PixelBox, Point, Tri};
 use std::process::Abort;
@@ -75,8 +76,15 @@ fn agrees(rt: &impl Abort, t: &Placed, (x, y): (i32, i32)) -> Option<bool> {
     assert!(rt; is_on_screen(x, y));
     assert!(rt; t.tri.area2() != 0);
     let reciprocal = Reciprocal::of(t.tri.area2().unsigned_abs());
-    let depths = DepthPlane::new(t, reciprocal)?.values(x, y).to_array();
-    let colours = ColourPlanes::new(t, reciprocal)?.values(true, x, y);
+    let slope = Slope::of(&t.tri, t.z);
+    let slopes = ColourSlopes::of_used(true, t);
+    if !slope.is_level(reciprocal, 48) || !slopes.are_level(reciprocal) {
+        return None;
+    }
+    let depths = DepthPlane::new(&slope, reciprocal)
+        .values(t, x, y)
+        .to_array();
+    let colours = ColourPlanes::new(&slopes, reciprocal).values(t, true, x, y);
     let (reds, greens) = (colours.r.to_array(), colours.g.to_array());
     let (blues, alphas) = (colours.b.to_array(), colours.a.to_array());
     let mut met = false;

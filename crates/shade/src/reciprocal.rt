@@ -51,6 +51,7 @@ impl Reciprocal {
     }
 
     /// `number` without so many times the area as a gradient says, in units of the gradient's last bit.
+    #[inline(always)]
     fn rest(self, number: i64, gradient: i64, bits: u32) -> i64
         requires bits { bits ≤ 56 }
         requires gradient { IsGradient bits self.area number gradient }
@@ -62,6 +63,7 @@ impl Reciprocal {
     }
 
     /// Whether a gradient is `number` by the area without an error.
+    #[inline(always)]
     pub(crate) fn is_exact(self, number: i64, gradient: i64, bits: u32) -> bool
         requires bits { bits ≤ 56 }
         requires gradient { IsGradient bits self.area number gradient }
@@ -71,6 +73,7 @@ impl Reciprocal {
     }
 
     /// The gradient of a number that is not steep, and the exact one where rounding down lost just one unit of it.
+    #[inline(always)]
     pub(crate) fn settled_gradient(self, number: i64, bits: u32) -> i64
         requires bits { bits ≤ 56 }
         requires bound { unsigned_abs number < 2 ^ 41 }

@@ -1,7 +1,8 @@
-ghost use Rattle.std.specs.Prelude.{ℕ, pos, ◌≡◌, ◌*◌, ◌^◌, ◌+ℤ◌, ◌-ℤ◌, ◌*ℤ◌, slice_index};
+ghost use Rattle.std.specs.Prelude.{ℕ, pos, ◌≡◌, ◌≤◌, ◌<◌, IsTrue, ◌*◌, ◌^◌, ◌+ℤ◌, ◌-ℤ◌, ◌*ℤ◌, slice_index};
 ghost use Rattle.grid.specs.Bounds.{IsWithin};
 ghost use Rattle.grid.specs.Position.{IsInBand};
 
+use crate::reciprocal::Reciprocal;
 use grid::Tri;
 
 /// An attribute's numerator, which is the attribute times the size of the doubled area: `first` times that size at (x, y), growing
@@ -28,7 +29,9 @@ fn growth(from: u16, to: u16, start: i32, end: i32) -> i64
 }
 
 impl Slope {
-    ghost use Rattle.shade.specs.Slope.{AreGrowths, IsSlope};
+    ghost use Rattle.shade.specs.Slope.{AreGrowths, IsSlope, IsBounded};
+    ghost use Rattle.shade.specs.Plane.{IsLevel};
+    ghost use Rattle.shade.specs.Row.{IsSmall};
 
     /// How the sum of the values, each times the edge function of the opposite edge, grows with x and with y.
     fn growths(t: &Tri, values: [u16; 3]) -> (i64, i64)
@@ -44,6 +47,7 @@ impl Slope {
     }
 
     /// The slope of what is `values` at the vertices of `t`, from the first vertex.
+    #[inline(always)]
     pub(crate) fn of(t: &Tri, values: [u16; 3]) -> Slope
         ensures { IsSlope t.now.a t.now.b t.now.c (slice_index values 0) (slice_index values 1) (slice_index values 2) result }
     {
@@ -66,5 +70,35 @@ impl Slope {
                 down,
             }
         }
+    }
+
+    /// The same where it is asked for, and else a slope that does not grow.
+    #[inline(always)]
+    pub(crate) fn of_used(used: bool, t: &Tri, values: [u16; 3]) -> Slope
+        ensures slope { IsTrue used → IsSlope t.now.a t.now.b t.now.c (slice_index values 0) (slice_index values 1) (slice_index values 2) result }
+        ensures bounded { IsBounded result }
+        ensures small { IsSmall (slice_index values 0) (slice_index values 1) (slice_index values 2) }
+    {
+        if used {
+            return Slope::of(t, values);
+        }
+        Slope {
+            first: 0,
+            x: 0,
+            y: 0,
+            across: 0,
+            down: 0,
+        }
+    }
+
+    /// Whether the slope is not steep, so that it has a plane with so many fractional bits.
+    #[inline(always)]
+    pub(crate) fn is_level(&self, reciprocal: Reciprocal, bits: u32) -> bool
+        requires low { 48 ≤ bits }
+        requires high { bits ≤ 56 }
+        requires bounded { IsBounded self.now }
+        ensures { IsTrue result → IsLevel bits reciprocal.area self.now }
+    {
+        reciprocal.is_level(self.across, bits) && reciprocal.is_level(self.down, bits)
     }
 }

@@ -10,26 +10,27 @@ ghost use Rattle.shade.specs.Sources.{IsFlatColour};
 
 use crate::colour_planes::{ColourPlanes, Colours};
 use crate::depth_plane::DepthPlane;
+use crate::placed::Placed;
 use std::simd::prelude::*;
 
 /// How the depth is had.
 #[derive(Clone, Copy, Debug)]
-pub(crate) enum DepthSource {
+pub(crate) enum DepthSource<'a> {
     /// Each depth passes and none is stored, so there is no need of it.
     Unused,
     /// The three vertices have this depth.
     Flat(u16),
-    /// A plane.
-    Plane(DepthPlane),
+    /// The plane of the triangle.
+    Plane(&'a Placed, &'a DepthPlane),
 }
 
 /// How colour and alpha are had.
 #[derive(Clone, Copy, Debug)]
-pub(crate) enum ColourSource {
+pub(crate) enum ColourSource<'a> {
     /// The three vertices have this colour, and this alpha where they are blended.
     Flat([u8; 4]),
-    /// Planes.
-    Planes(ColourPlanes),
+    /// The planes of the triangle.
+    Planes(&'a Placed, &'a ColourPlanes),
 }
 
 /// The same colour in each lane.
@@ -51,7 +52,7 @@ fn flat_colours(rgba: [u8; 4]) -> Colours
     }
 }
 
-impl ColourSource {
+impl<'a> ColourSource<'a> {
     ghost use Rattle.shade.specs.Sources.{IsColourOf};
 
     /// The colours at sixteen samples, the first of which is at (x, y), each at most 255: right wherever the triangle covers the
@@ -72,7 +73,7 @@ impl ColourSource {
     {
         match self {
             ColourSource::Flat(rgba) => flat_colours(*rgba),
-            ColourSource::Planes(planes) => planes.values(with_alpha, x, y),
+            ColourSource::Planes(placed, planes) => planes.values(placed, with_alpha, x, y),
         }
     }
 }

@@ -22,6 +22,7 @@ returns-clause-set c t i z source e l set covered value =
       | in-Plane w ↦
           let x = to_z-of_z w32 c.args.x c.ranges.x in
           let y = to_z-of_z w32 c.args.y c.ranges.y in
-          let here = rw (x, y) at (w.values.ensures.values t i (subst (IsDepthOf t) w.in-Plane.is source) l (rw (x, y) covered)) in
+          let plane = subst (IsDepthOf t) w.in-Plane.is source in
+          let here = rw (x, y) at ((rw plane.0 at w.values.ensures.values) i plane.1 l (rw (x, y) covered)) in
           rw (w.stored-is, w.result-is) (tested_as t p m z _ _ _ _ value here (w.test_depths-in-Plane.ensures.set i l set))
     ]

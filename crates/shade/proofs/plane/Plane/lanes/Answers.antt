@@ -1,35 +1,29 @@
-use Rattle.std.proofs.Common.{◌≡◌, ◌≢◌, refl, ◌<◌, ◌+◌, ◌*◌, ◌/◌, ◌%◌, ◌^◌, length, slice_set, arith, rules, get_or-set_other, get_or-set_same, below_more, FitsSigned, w64}
-use Rattle.shade.proofs.FixedPoint.{part_none, part_stepped, part_lower, half_of, row_of}
+use Rattle.std.proofs.Common.{◌/◌, get_or, ap, sym, subst, ◌∙◌, arith, rules, pos, ◌*◌, ◌%◌, w64, Fits}
+use Rattle.std.proofs.lemmas.Simd.{Each1-get_or}
+use Rattle.std.specs.Simd.Lanes.{Each1}
+use Rattle.std.proofs.lemmas.List.{map-id}
+use Rattle.shade.specs.Plane.{IsHighPart}
+use Rattle.shade.proofs.Lanes.{of_each}
+use Rattle.shade.proofs.FixedPoint.{half_of}
+use Rattle.shade.proofs.CandidateLanes.{high_parts, high_parts_are}
 use Rattle.shade.proofs.plane.Plane.lanes.Goals as goal
 
-pub loop-i-init : goal.loop-i-init
-loop-i-init c = (refl, part_none c.args.self.now, λ k h. absurd (omega (arith, h)), λ k h. absurd (omega (arith, h)))
+pub overflow_cast-result : goal.overflow_cast-result
+overflow_cast-result c =
+    let m = c.parts.result in
+    let all = high_parts_are m 32 c.parts.ensures.length in
+    let each : Each1 (Fits w64) m = search rules in
+    of_each _ (high_parts m 32) all.long (λ k l.
+    let fits = Each1-get_or (Fits w64) m k 0 (omega (arith, c.parts.ensures.length)) each in
+    rw (all.each k l) (record { fits = omega (arith, fits.fits) }))
 
-pub loop-i-preserved : goal.loop-i-preserved
-loop-i-preserved c =
-    let i = c.loop-i.i in
-    let p = c.args.self.now in
-    let m = c.loop-i.part in
-    let lower = (m + c.scaled-down.result) % 2 ^ 64 in
-    let less : i < 8 = omega (arith, c.loop-i-test.true) in
-    let across : FitsSigned w64 p.across = search rules in
-    let down : FitsSigned w64 p.down = search rules in
-    let fits : m < 2 ^ 64 = c.loop-i.auto.part-fits.fits in
-    let below : lower < 2 ^ 64 = omega arith in
-    let room : i < length c.loop-i.halves = omega (arith, c.loop-i.invariant.0, less) in
-    let long : length (slice_set c.loop-i.halves i (m / 2 ^ 32)) ≡ 16 = search (rules, c.loop-i.invariant.0) in
-    let room' : i + 8 < length (slice_set c.loop-i.halves i (m / 2 ^ 32)) = omega (arith, long, less) in
-    let apart : i ≢ i + 8 = omega arith in
-    let next : 256 * i + 256 ≡ 256 * (i + 1) = omega arith in (
-      search rules,
-      rw next at (part_stepped p (256 * i) m c.scaled-across.result across c.loop-i.invariant.1 c.scaled-across.ensures),
-      below_more _ _
-          (λ k h. let ne : k ≢ i = omega arith in let ne' : k ≢ i + 8 = omega arith in rw (get_or-set_other, get_or-set_other) (c.loop-i.invariant.2 k h))
-          (rw (get_or-set_other, get_or-set_same) (half_of p _ _ m fits c.loop-i.invariant.1)),
-      below_more _ _
-          (λ k h. let ne : k + 8 ≢ i = omega arith in let ne' : k + 8 ≢ i + 8 = omega arith in rw (get_or-set_other, get_or-set_other) (c.loop-i.invariant.3 k h))
-          (rw get_or-set_same (half_of p _ _ lower below (part_lower p (256 * i) m c.scaled-down.result down c.loop-i.invariant.1 c.scaled-down.ensures))),
-    )
+pub returns-clause-length : goal.returns-clause-length
+returns-clause-length c = rw (map-id (high_parts c.parts.result 32)) ((high_parts_are c.parts.result 32 c.parts.ensures.length).long)
 
 pub returns-clause-each : goal.returns-clause-each
-returns-clause-each c = row_of c.args.self.now c.loop-i.halves (λ k l. c.loop-i.invariant.2 k (omega (arith, l, c.loop-i-test.false))) (λ k l. c.loop-i.invariant.3 k (omega (arith, l, c.loop-i-test.false)))
+returns-clause-each c i l =
+    let m = c.parts.result in
+    let each : Each1 (Fits w64) m = search rules in
+    let fits = Each1-get_or (Fits w64) m i 0 (omega (arith, c.parts.ensures.length)) each in
+    let lane = ap (λ v. get_or v i 0) (map-id (high_parts m 32)) ∙ (high_parts_are m 32 c.parts.ensures.length).each i l in
+    subst (IsHighPart c.args.self.now (pos (256 * (i % 8))) (pos (256 * (i / 8)))) (sym lane) (half_of c.args.self.now _ _ _ fits.fits (c.parts.ensures.each i l))

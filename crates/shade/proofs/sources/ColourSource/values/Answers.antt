@@ -33,19 +33,19 @@ returns-in-Flat-clause-alpha c t i asked blends source l covered =
 pub returns-in-Planes-clause-red : goal.returns-in-Planes-clause-red
 returns-in-Planes-clause-red c t i source l covered =
     let planes = subst (λ s. IsColourOf t s) c.in-Planes.is source in
-    (rw (to_z-of_z w32 c.args.x c.ranges.x, to_z-of_z w32 c.args.y c.ranges.y) at c.values.ensures.red) t i planes l covered
+    (rw planes.0 at (rw (to_z-of_z w32 c.args.x c.ranges.x, to_z-of_z w32 c.args.y c.ranges.y) at c.values.ensures.red)) i planes.1 l covered
 
 pub returns-in-Planes-clause-green : goal.returns-in-Planes-clause-green
 returns-in-Planes-clause-green c t i source l covered =
     let planes = subst (λ s. IsColourOf t s) c.in-Planes.is source in
-    (rw (to_z-of_z w32 c.args.x c.ranges.x, to_z-of_z w32 c.args.y c.ranges.y) at c.values.ensures.green) t i planes l covered
+    (rw planes.0 at (rw (to_z-of_z w32 c.args.x c.ranges.x, to_z-of_z w32 c.args.y c.ranges.y) at c.values.ensures.green)) i planes.1 l covered
 
 pub returns-in-Planes-clause-blue : goal.returns-in-Planes-clause-blue
 returns-in-Planes-clause-blue c t i source l covered =
     let planes = subst (λ s. IsColourOf t s) c.in-Planes.is source in
-    (rw (to_z-of_z w32 c.args.x c.ranges.x, to_z-of_z w32 c.args.y c.ranges.y) at c.values.ensures.blue) t i planes l covered
+    (rw planes.0 at (rw (to_z-of_z w32 c.args.x c.ranges.x, to_z-of_z w32 c.args.y c.ranges.y) at c.values.ensures.blue)) i planes.1 l covered
 
 pub returns-in-Planes-clause-alpha : goal.returns-in-Planes-clause-alpha
 returns-in-Planes-clause-alpha c t i asked blends source l covered =
     let planes = subst (λ s. IsColourOf t s) c.in-Planes.is source in
-    (rw (to_z-of_z w32 c.args.x c.ranges.x, to_z-of_z w32 c.args.y c.ranges.y) at c.values.ensures.alpha) t i asked planes l covered
+    (rw planes.0 at (rw (to_z-of_z w32 c.args.x c.ranges.x, to_z-of_z w32 c.args.y c.ranges.y) at c.values.ensures.alpha)) i asked blends planes.1 l covered
