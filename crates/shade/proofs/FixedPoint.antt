@@ -1,8 +1,8 @@
 -- The plane of a slope, as the code forms it.
-use Rattle.std.proofs.Common.{◌≡◌, refl, inl, inr, [], ◌∷◌, List, get_or, length, arith, ℕ, ◌+◌, ◌-◌, ◌*◌, ◌/◌, ◌%◌, ◌<◌, ◌^◌, FitsSigned, w32, w64, to_z, of_z, ℤ, pos, ◌*ℤ◌, ◌+ℤ◌, ◌-ℤ◌}
+use Rattle.std.proofs.Common.{◌≡◌, refl, inl, inr, [], ◌∷◌, List, get_or, length, arith, ℕ, ◌+◌, ◌-◌, ◌*◌, ◌/◌, ◌%◌, ◌<◌, ◌^◌, FitsSigned, w32, w64, to_z, of_z, ℤ, pos, ◌*ℤ◌, ◌+ℤ◌}
 use Rattle.std.specs.Prelude.{replicate}
 use lib.Lanes.{zip2}
-use Rattle.std.proofs.lemmas.Int.{ints, to_z-of_z}
+use Rattle.std.proofs.lemmas.Int.{to_z-of_z}
 use Rattle.std.proofs.lemmas.Bool.{cases_lt}
 use Rattle.grid.proofs.Ring.{var, lit, plus, times, ring}
 use Rattle.shade.specs.declared.plane.Plane.{Plane}
