@@ -53,6 +53,10 @@ impl Model for DrawList {
 
 impl DrawList {
     /// The draw list of these draws. Past a limit is told before want of memory.
+    ///
+    /// The state of a draw has no limits. Of its sample mask the bits of the picture's samples count, and of its scissor the
+    /// pixels of the picture, so a mask over 15 and a scissor with sides outside of 0 to 4096, which the reader refuses, may
+    /// stand here.
     pub fn new(
         alloc: Global,
         width: u32,

@@ -16,7 +16,7 @@ const SCREEN_ROWS: i32 = 4096;
 /// Rows of pixels of the screen, from `first` to before `end`. There are none where `end` is at most `first`.
 #[derive(Clone, Copy, Debug, PartialEq, Eq)]
 pub struct RowSpan {
-    /// The first row.
+    /// The first row, at most 32767: past the screen where the triangle lies below it.
     pub first: u16,
     /// The row after the last one, at most 4096.
     pub end: u16,

@@ -1,4 +1,5 @@
 mod dealing;
 mod deques;
+mod gates;
 mod running;
 mod threads;
