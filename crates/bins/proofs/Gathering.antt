@@ -220,7 +220,7 @@ above a b h = omega arith
 
 -- the triangle has no sample in the rows before its span or after it
 pub missed_rows : (t : Placed) (count : SampleCount) (g : TileGrid) (first_row rows tile : ℕ) (span : RowSpan) → IsWithinLimits g → IsRowSpan t.tri span
-    → (side_of g.side * (first_row + rows) ≤ span.first) ⊎ (span.end ≤ side_of g.side * first_row) → tile < rows * columns_of g → ¬ MeetsRect t count (rect_of g (first_row * columns_of g + tile))
+    → ((j : ℕ) → span.first ≤ j → j < span.end → side_of g.side * first_row ≤ j → j < side_of g.side * (first_row + rows) → ⊥) → tile < rows * columns_of g → ¬ MeetsRect t count (rect_of g (first_row * columns_of g + tile))
 missed_rows t count g first_row rows tile span limits is apart below meets =
     let k : ℕ = first_row * columns_of g + tile in
     let row : ℕ = k / columns_of g in
@@ -235,7 +235,7 @@ missed_rows t count g first_row rows tile span limits is apart below meets =
     let most : meets.row < span.end = omega (arith, ints, clamps, is.end, inside.bottom) in
     let low : side_of g.side * first_row ≤ side_of g.side * row = mul-le-mul_left (side_of g.side) from in
     let high : side_of g.side * (row + 1) ≤ side_of g.side * (first_row + rows) = mul-le-mul_left (side_of g.side) (above row (first_row + rows) before) in
-    elim apart [ inl h ↦ omega (arith, along.below) | inr h ↦ omega (arith, along.from) ]
+    apart meets.row least most (omega (arith, along.from)) (omega (arith, along.below))
 
 -- few runs in a picture's rows of tiles
 pub few_runs : (l : Scene) (g : TileGrid) (first_row rows : ℕ) (runs : List Run) → IsWithinLimits g → first_row + rows ≤ rows_of g → length l.triangles ≤ 65536

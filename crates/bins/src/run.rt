@@ -1,5 +1,5 @@
 //! Runs of tiles that triangles can meet.
-ghost use Rattle.std.specs.Prelude.{◌≡◌, ◌+◌, ◌<◌, ◌≤◌, ◌^◌, ◌↔◌, length, IfOk, OnOk, IsTrue};
+ghost use Rattle.std.specs.Prelude.{◌≡◌, ℕ, ◌+◌, ◌<◌, ◌≤◌, ◌^◌, length, IfOk, OnOk, IsTrue};
 ghost use Rattle.bins.specs.Grid.{rows_of, IsWithinLimits};
 
 use crate::reach::{Columns, overlap};
@@ -36,7 +36,7 @@ impl Run {
         let (top, bottom) = tiling.pixel_rows(first_row, rows);
         let mut runs = Vec::new(alloc);
         for number in 0..list.triangles() as u32 {
-            if has_rows(list.rows(number as usize), top, bottom) {
+            if has_row(list.rows(number as usize), top, bottom) {
                 push_runs(list, number, tiling, first_row, rows, &mut runs)?;
             }
         }
@@ -44,13 +44,14 @@ impl Run {
     }
 }
 
-/// Whether some rows of pixels lie between `top` and before `bottom`. Both ends are compared before a branch is taken, since half of
-/// all triangles pass either comparison and few both.
+/// Whether one of these rows of pixels lies between `top` and before `bottom`. There is one comparison and one branch: half of all
+/// triangles begin above the bottom, and half end below the top, but few do both.
 #[inline]
-fn has_rows(rows: RowSpan, top: u32, bottom: u32) -> bool
-    ensures { IsTrue result ↔ ((rows.first < bottom) × (top < rows.end)) }
+fn has_row(rows: RowSpan, top: u32, bottom: u32) -> bool
+    ensures all { (row : ℕ) → rows.first ≤ row → row < rows.end → top ≤ row → row < bottom → IsTrue result }
+    ensures others { IsTrue result → (rows.first < bottom) × (top < rows.end) }
 {
-    (u32::from(rows.first) < bottom) & (top < u32::from(rows.end))
+    u32::from(rows.first).max(top) < u32::from(rows.end).min(bottom)
 }
 
 ghost use Rattle.bins.specs.Runs.{AreRuns};

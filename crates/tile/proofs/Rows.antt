@@ -4,7 +4,7 @@ use Rattle.std.proofs.lemmas.Int.{ints, clamps}
 use Rattle.std.specs.Int.{int_min, int_max}
 use Rattle.std.proofs.lemmas.Bool.{cases_lt}
 use Rattle.std.proofs.lemmas.Nat.Bits.{bit_at_ones}
-use Rattle.grid.specs.Pixels.{side_of}
+use Rattle.grid.specs.Pixels.{side_of, IsInBox}
 use Rattle.grid.specs.Samples.{count_of}
 use Rattle.grid.specs.declared.pixels.PixelBox.{PixelBox}
 use Rattle.grid.specs.declared.pixels.TileSide.{TileSide}
@@ -19,7 +19,7 @@ use Rattle.cover.specs.Bounds.{HoldsCovered}
 use Rattle.cover.specs.Square.{IsCorner, CoversAll, CoversNone}
 use Rattle.tile.specs.declared.tile.Tile.{Tile}
 use Rattle.tile.specs.declared.region.Region.{Region}
-use Rattle.tile.specs.Region.{IsRegionIn, IsInRegion, HoldsCommon}
+use Rattle.tile.specs.Region.{IsRegionIn, IsInRegion, HoldsCommon, HoldsTile}
 use Rattle.tile.specs.Samples.{IsSampleOf}
 use Rattle.tile.specs.Drawing.{DrawsPart, DrawsTile, DrawsAt, IsInSquare, LiesIn, ArePlanesOf}
 use Rattle.tile.proofs.Bits.{is_set}
@@ -55,6 +55,17 @@ all_set (suc zero) k h low = is_set _ k (bit_at_ones 64 k low)
 all_set (suc (suc zero)) k h low = is_set _ k (bit_at_ones 64 k low)
 all_set (suc (suc (suc zero))) k h low = is_set _ k (bit_at_ones 64 k low)
 all_set (suc (suc (suc (suc s)))) k h low = absurd (omega arith)
+
+-- a word of all bits
+pub word_full : (k : ℕ) → k < 64 → IsBitSet 18446744073709551615 k
+word_full k low = is_set _ k (bit_at_ones 64 k low)
+
+-- the pixels of a block of a tile that a rectangle holds
+pub held_block : (r : PixelBox) (tile : Tile) (bx by : ℕ) → LiesIn tile bx by 8 → HoldsTile r tile → (row column : ℕ) → row < 8 → column < 8 → IsInBox r (8 * bx + column) (8 * by + row)
+held_block r tile bx by lies holds row column high wide =
+    let across : 8 * tile.bx + (8 * (bx - tile.bx) + column) ≡ 8 * bx + column = omega (arith, lies.left) in
+    let down : 8 * tile.by + (8 * (by - tile.by) + row) ≡ 8 * by + row = omega (arith, lies.top) in
+    rw (across, down) at (holds (8 * (by - tile.by) + row) (8 * (bx - tile.bx) + column) (omega (arith, lies.top, lies.bottom)) (omega (arith, lies.left, lies.right)))
 
 -- the planes of a block that is covered whole
 pub all_covered : (t : Tri) (bx by : ℕ) (count : SampleCount) → CoversAll (record { triangle = t; bx = bx; by = by; side = T8; count = count })

@@ -26,3 +26,7 @@ abbrev pub HoldsCommon : Tile → PixelBox → PixelBox → Region → Type 0
 HoldsCommon tile a b r =
     (row column : ℕ) → row < side_of tile.side → column < side_of tile.side
     → IsInBox a (8 * tile.bx + column) (8 * tile.by + row) → IsInBox b (8 * tile.bx + column) (8 * tile.by + row) → IsInRegion tile r row column
+
+-- Each pixel of the tile is in the rectangle.
+abbrev pub HoldsTile : PixelBox → Tile → Type 0
+HoldsTile r tile = (row column : ℕ) → row < side_of tile.side → column < side_of tile.side → IsInBox r (8 * tile.bx + column) (8 * tile.by + row)

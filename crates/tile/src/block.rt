@@ -4,9 +4,10 @@ ghost use Rattle.grid.specs.Pixels.{IsInBox, side_of};
 ghost use Rattle.grid.specs.Samples.{count_of};
 ghost use Rattle.cover.specs.Drawn.{IsDrawn};
 ghost use Rattle.tile.specs.Samples.{planes_of};
+ghost use Rattle.tile.specs.Region.{HoldsTile};
 ghost use Rattle.tile.specs.Drawing.{DrawsPart, IsInPlane, IsInSquare, LiesIn, ArePlanesOf, IsMetPlane};
 
-use crate::scissor::in_scissor;
+use crate::scissor::in_scissor_of_tile;
 use crate::tile::Tile;
 use grid::sample_at;
 use shade::{BlockSamples, Interpolants};
@@ -45,22 +46,25 @@ fn draw_plane(
     }
 }
 
-/// Draws the triangle at the samples of block (bx, by); the bits of `planes` tell which of them it covers.
+/// Draws the triangle at the samples of block (bx, by); the bits of `planes` tell which of them it covers, and `whole` that all
+/// pixels of the tile are in the scissor.
 pub(crate) fn draw_block(
     triangle: &Interpolants,
     tile: &Tile,
     bx: u32,
     by: u32,
     planes: &[u64; 4],
+    whole: bool,
     samples: &mut [BlockSamples],
 )
     requires samples { length samples.old ≡ planes_of tile.now.side tile.now.count }
     requires block { LiesIn tile.now bx by 8 }
     requires drawn { IsDrawn triangle.now.tri triangle.now.state.cull }
     requires covered { ArePlanesOf triangle.now.tri bx by tile.now.count planes.now }
+    requires whole { IsTrue whole → HoldsTile triangle.now.state.scissor tile.now }
     ensures { DrawsPart triangle.now tile.now (IsInSquare tile.now bx by 8) samples.old samples.new }
 {
-    let scissor = in_scissor(&triangle.placed().state.scissor, bx, by);
+    let scissor = in_scissor_of_tile(&triangle.placed().state.scissor, whole, tile, bx, by);
     for s in 0..tile.count.count() {
         let plane = planes[s as usize] & scissor;
         draw_plane(triangle, tile, bx, by, s, plane, samples);

@@ -8,6 +8,7 @@ ghost use Rattle.tile.specs.Drawing.{DrawsTile, ArePlanesOf};
 
 use crate::block::draw_block;
 use crate::region::Region;
+use crate::scissor::holds_tile;
 use crate::tile::Tile;
 use cover::{Class, Setup, Square};
 use grid::TileSide;
@@ -45,13 +46,14 @@ fn draw_blocks(triangle: &Placed, setup: &Setup, tile: &Tile, samples: &mut [Blo
     ensures { DrawsTile triangle.now tile.now samples.old samples.new }
 {
     let region = Region::of(tile, &setup.bounds(), &triangle.state.scissor);
+    let whole = holds_tile(&triangle.state.scissor, tile);
     let mut interpolants = None;
     for by in region.top..region.bottom {
         for bx in region.left..region.right {
             let block = setup.square(bx, by, TileSide::T8, tile.count);
             if let Some(planes) = planes(&block) {
                 let interpolants = interpolants.get_or_insert_with(|| Interpolants::new(triangle));
-                draw_block(interpolants, tile, bx, by, &planes, samples);
+                draw_block(interpolants, tile, bx, by, &planes, whole, samples);
             }
         }
     }

@@ -10,6 +10,11 @@ draw_block-requires-clause-covered c =
     let made : c.get_or_insert_with-interpolants.result.now ≡ c.args.triangle.now = search rules in
     rw made (rw (c.square-block.ensures, c.requires.setup) at c.in-Some.ensures.some)
 
+pub draw_block-requires-clause-whole : goal.draw_block-requires-clause-whole
+draw_block-requires-clause-whole c =
+    let made : c.get_or_insert_with-interpolants.result.now ≡ c.args.triangle.now = search rules in
+    rw made c.holds_tile-whole.ensures
+
 pub loop-bx-preserved : goal.loop-bx-preserved
 loop-bx-preserved c =
     let t = c.args.triangle.now in
