@@ -115,9 +115,10 @@ fn is_drawn_by_run<R: Threads + Wait + Sync>(
     alloc: Global,
     list: &str,
     workers: u32,
-) -> bool
-    requires { (1 ≤ workers) × (workers ≤ 16) }
-{
+) -> bool {
+    if workers < 1 || 16 < workers {
+        return false;
+    }
     let mut input = Counted::new(list.as_bytes());
     let mut output = Counted::new(Vec::new(alloc));
     let options = Options {

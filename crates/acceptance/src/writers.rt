@@ -76,6 +76,7 @@ fn tells_how_much_of_a_file_went_out_at_each_byte(rt: HostRuntime) -> Result<(),
         for end in [End::Fails, End::TakesNothing] {
             let mut out = Counted::new(Sink::new(rt.alloc(), room, end));
             let written = room as u64;
+            assert!(rt; pixels.len() == 1200);
             assert_eq!(rt;
                 write_ppm(20, 20, &pixels, &mut out),
                 Err(WriteFault { written })
