@@ -225,17 +225,22 @@ class Threads(unittest.TestCase):
         except subprocess.SubprocessError:
             self.skipTest("this system lets no process take another user's number")
 
-    def test_no_thread_at_all(self):
-        status, output, line = self.run_with_processes(1, "--workers", "1")
-        if status == 0:
+    def skip_uncounted(self):
+        """Skips a test where threads are not counted against the limit on processes."""
+        if self.run_with_processes(1, "--workers", "2")[0] == 0:
             self.skipTest("this system does not count threads against the limit on processes")
-        self.assertEqual((status, output, line), (1, LARGE_PICTURE[:13], NO_WORKER))
+
+    def test_one_worker_needs_no_thread(self):
+        self.assertEqual(self.run_with_processes(1, "--workers", "1"), (0, LARGE_PICTURE, b""))
+
+    def test_no_thread_at_all(self):
+        self.skip_uncounted()
+        self.assertEqual(self.run_with_processes(1, "--workers", "2"), (1, LARGE_PICTURE[:13], NO_WORKER))
 
     def test_some_threads_of_three(self):
         if os.geteuid() != 0:
             self.skipTest("only root can take a user's number that has no other process")
-        if self.run_with_processes(1, "--workers", "1")[0] == 0:
-            self.skipTest("this system does not count threads against the limit on processes")
+        self.skip_uncounted()
         for most in (1, 2, 3):
             status, output, line = self.run_with_processes(most, "--workers", "3")
             self.assertEqual((status, output, line), (1, LARGE_PICTURE[:13], NO_WORKER), most)
