@@ -1,23 +1,19 @@
 -- The bytes of eight pixels.
 use Rattle.std.proofs.Common.{◌≡◌, inl, inr, zero, suc, refl, sym, ap, subst, ◌∙◌, ℕ, ◌+◌, ◌*◌, ◌/◌, ◌%◌, ◌<◌, ◌≤◌, List, [], ◌∷◌, ◌++◌, length, take, slice_index, slice_index_or, slice_set, get_or-set_same, get_or-set_other, Result, Ok, Err, OnOk, length-take, length-set, arith}
 use Rattle.std.proofs.lemmas.Bool.{cases_lt}
-use Rattle.grid.specs.declared.sample_count.SampleCount.{SampleCount}
 use Rattle.grid.specs.declared.sample_count.SampleCount.TheVariants.{One, Four}
 use Rattle.shade.specs.declared.block.BlockSamples.{BlockSamples}
-use Rattle.shade.specs.declared.sample.Sample.{Sample}
-use Rattle.shade.specs.Block.{stored_at}
 use Rattle.shade.specs.Quotient.{IsQuotient}
 use Rattle.shade.specs.Resolve.{IsResolved}
 use Rattle.list.specs.Begun.{IsBegun, IsRun}
-use Rattle.list.specs.Picture.{IsPixel, IsColour, IsEnd, pixel_at, pixel_bytes}
+use Rattle.list.specs.Picture.{pixel_at}
 use Rattle.list.specs.Scene.{Scene}
-use Rattle.list.specs.declared.output.Output.{Output}
 use Rattle.list.specs.declared.output.Output.TheVariants.{Color, Depth}
 use Rattle.list.proofs.Begun.{begun_run}
 use Rattle.list.proofs.Pixels.{same_pixel, pixel_of_part, pixel_of_three, pixel_of_two, pixel_of_colour, pixel_of_depth}
 use Rattle.tile.specs.declared.tile.Tile.{Tile}
 use Rattle.tile.specs.Samples.{place_of, stored}
-use Rattle.tile.specs.Picture.{IsShown, AreEnds, IsColourAt, AreColoursAt, AreDepthsAt, AreInterleaved, AddsRun}
+use Rattle.tile.specs.Picture.{IsShown, AreEnds, IsColourAt, AreColoursAt, AreDepthsAt, AddsRun}
 use Rattle.tile.proofs.Shown.{colour_shown}
 
 -- ---- lists

@@ -1,4 +1,4 @@
-use Rattle.std.proofs.Common.{◌≡◌, ◌+◌, ◌≤◌, length, slice_get, slice_index, Some, ap, ◌∙◌, refl, arith, rules}
+use Rattle.std.proofs.Common.{◌≡◌, ◌+◌, ◌≤◌, length, slice_index, refl, arith, rules}
 use Rattle.tile.proofs.Ends.{none_have_drawn, have_drawn_more, all_have_drawn}
 use Rattle.tile.proofs.drawing.draw_bin.Goals as goal
 

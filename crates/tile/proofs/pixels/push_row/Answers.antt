@@ -1,5 +1,4 @@
-use Rattle.std.proofs.Common.{◌≡◌, ◌+◌, ◌*◌, ◌≤◌, min, arith}
-use Rattle.list.specs.Begun.{IsBegun}
+use Rattle.std.proofs.Common.{◌≡◌, ◌+◌, ◌*◌, min, arith}
 use Rattle.tile.proofs.Runs.{begun_more}
 use Rattle.tile.proofs.pixels.push_row.Goals as goal
 
