@@ -133,7 +133,7 @@ class Pictures(Refusals):
         self.assertEqual(lengths, sorted(lengths))
         # A program that holds the whole picture would not stop at each of them.
         self.assertEqual(sorted(set(lengths)), ENDS)
-        self.assertEqual(self.threads(cut), 3, "one thread is started for each band")
+        self.assertEqual(self.threads(cut), 0, "one worker is the calling thread")
 
     def test_the_second_band_of_one_worker(self):
         second = next(run for run in self.cut_pictures(1) if len(run.output) > len(HEADER))
