@@ -225,26 +225,32 @@ class Threads(unittest.TestCase):
         except subprocess.SubprocessError:
             self.skipTest("this system lets no process take another user's number")
 
-    def skip_uncounted(self):
-        """Skips a test where threads are not counted against the limit on processes."""
+    def check_that_threads_count(self):
         if self.run_with_processes(1, "--workers", "2")[0] == 0:
             self.skipTest("this system does not count threads against the limit on processes")
+
+    def test_no_thread_at_all(self):
+        self.check_that_threads_count()
+        for workers in ("2", "3", "16"):
+            self.assertEqual(self.run_with_processes(1, "--workers", workers), (1, LARGE_PICTURE[:13], NO_WORKER))
 
     def test_one_worker_needs_no_thread(self):
         self.assertEqual(self.run_with_processes(1, "--workers", "1"), (0, LARGE_PICTURE, b""))
 
-    def test_no_thread_at_all(self):
-        self.skip_uncounted()
-        self.assertEqual(self.run_with_processes(1, "--workers", "2"), (1, LARGE_PICTURE[:13], NO_WORKER))
-
     def test_some_threads_of_three(self):
+        """A thread that has ended makes room for another, so a run may come through."""
         if os.geteuid() != 0:
             self.skipTest("only root can take a user's number that has no other process")
-        self.skip_uncounted()
-        for most in (1, 2, 3):
+        self.check_that_threads_count()
+        for most in (2, 3, 4):
             status, output, line = self.run_with_processes(most, "--workers", "3")
-            self.assertEqual((status, output, line), (1, LARGE_PICTURE[:13], NO_WORKER), most)
-        self.assertEqual(self.run_with_processes(4, "--workers", "3"), (0, LARGE_PICTURE, b""))
+            if status == 0:
+                self.assertEqual((output, line), (LARGE_PICTURE, b""))
+            else:
+                self.assertEqual((status, line), (1, NO_WORKER))
+                self.assertIn(len(output), (13, 6253, 12493))
+                self.assertTrue(LARGE_PICTURE.startswith(output))
+        self.assertEqual(self.run_with_processes(64, "--workers", "3"), (0, LARGE_PICTURE, b""))
 
     def test_each_size_of_the_address_space(self):
         """With too little of it the program is not loaded, or memory or a thread's stack is refused."""
