@@ -24,7 +24,7 @@ pub is_first : {T : Type 0} (ps : List (Place T)) (fault : T) → first_fault ps
 is_first [] fault is = absurd (cc)
 is_first (p ∷ ps) fault is = is_first-cons p ps fault p.fails refl (is_first ps fault) is
 
-no_other : (kind : ReadKind) → (kind ≢ OutOfMemory → ⊥) → kind ≡ OutOfMemory
+pub no_other : (kind : ReadKind) → (kind ≢ OutOfMemory → ⊥) → kind ≡ OutOfMemory
 no_other NotJson h = absurd (h (λ e. cc))
 no_other UnknownKey h = absurd (h (λ e. cc))
 no_other MissingKey h = absurd (h (λ e. cc))

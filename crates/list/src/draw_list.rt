@@ -76,7 +76,7 @@ impl DrawList {
     }
 
     /// The draw list of these draws, which are within the limits.
-    pub(crate) fn within_limits(
+    pub fn within_limits(
         alloc: Global,
         width: u32,
         height: u32,

@@ -126,7 +126,7 @@ impl Primitives {
     }
 
     /// Whether each primitive names vertices that there are, and each quad is strictly convex.
-    pub(crate) fn are_over(&self, vertices: &[Vertex]) -> bool
+    pub fn are_over(&self, vertices: &[Vertex]) -> bool
         ensures { IsTrue result ↔ AreOver vertices.now (primitive_listing self.now) }
     {
         match self {

@@ -1,0 +1,4 @@
+pub mod Draws
+pub mod Limits
+pub mod Faults
+pub mod Chunks

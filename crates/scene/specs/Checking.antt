@@ -1,0 +1,27 @@
+-- Checks in their order, and the first that fails.
+use Rattle.std.specs.Prelude.{◌≡◌, ◌≢◌, ◌⊎◌, Result, MatchResult}
+use Rattle.list.specs.declared.fault.ReadKind.{ReadKind}
+use Rattle.list.specs.declared.fault.ReadKind.TheVariants.{OutOfMemory}
+
+-- Checks, one after another: what has to hold, and what is told where it does not.
+pub data Checks : Type 1 where
+  done : Checks
+  check : Type 0 → ReadKind → Checks → Checks
+
+abbrev pub followed_by : Checks → Checks → Checks
+followed_by done later = later
+followed_by (check holds told rest) later = check holds told (followed_by rest later)
+
+-- Each check holds.
+abbrev pub Pass : Checks → Type 0
+Pass done = Unit {0}
+Pass (check holds told rest) = holds × Pass rest
+
+-- A check does not hold, and of the first that does not this is told.
+abbrev pub FirstIs : Checks → ReadKind → Type 0
+FirstIs done kind = ⊥
+FirstIs (check holds told rest) kind = ((holds → ⊥) × (told ≡ kind)) ⊎ (holds × FirstIs rest kind)
+
+-- The answer is right: each check holds, or the first that does not is told, unless memory ran out.
+abbrev pub Reads : {X : Type 0} → Checks → (X → Type 0) → Result X ReadKind → Type 0
+Reads checks P answer = MatchResult answer (λ x. Pass checks × P x) (λ kind. kind ≢ OutOfMemory → FirstIs checks kind)

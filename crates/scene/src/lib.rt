@@ -1,0 +1,16 @@
+//! Draw lists out of a caller's own arrays, without a text.
+#![tactic(auto)]
+
+mod builder;
+mod draw;
+mod head;
+mod primitives;
+mod vertex;
+
+pub use builder::build;
+pub use draw::SceneDraw;
+pub use head::SceneHead;
+pub use vertex::SceneVertex;
+
+#[cfg(test)]
+mod tests;

@@ -1,0 +1,82 @@
+ghost use Rattle.std.specs.Prelude.{◌≡◌, ◌↔◌, ◌<◌, ◌≤◌, IsTrue, IfOk, length};
+ghost use Rattle.std.specs.List.{All};
+ghost use Rattle.list.specs.Primitives.{primitive_listing, count_of_triangles};
+ghost use Rattle.scene.specs.Listed.{corners_of, primitives_listed};
+ghost use Rattle.scene.specs.Checking.{Reads};
+ghost use Rattle.scene.specs.Checks.{primitives_checks};
+
+use list::{Primitives, ReadKind, Vertex};
+use std::alloc::{AllocError, Global};
+
+/// The most triangles of all draws together.
+const MOST_TRIANGLES: usize = 65_536;
+
+/// How many indices each of the primitives of this kind takes.
+fn corners(kind: u32) -> usize
+    ensures value { result ≡ corners_of kind }
+    ensures least { 1 ≤ result }
+{
+    match kind {
+        0 => 3,
+        1 => 1,
+        _ => 4,
+    }
+}
+
+/// How many triangles the primitives of this kind with these indices are.
+#[tactic(auto, using(crate::proofs::Chunks::count_of_chunks))]
+fn triangles(kind: u32, indices: &[u32]) -> usize
+    ensures { result ≡ count_of_triangles (primitives_listed kind indices.now) }
+{
+    match kind {
+        0 => indices.len() / 3,
+        1 => indices.len().saturating_sub(2),
+        _ => 2 * (indices.len() / 4),
+    }
+}
+
+/// Whether each index names one of so many vertices.
+fn name_vertices(indices: &[u32], vertices: usize) -> bool
+    ensures { IsTrue result ↔ All (λ k. k < vertices) indices.now }
+{
+    indices.iter().all(|index| (*index as usize) < vertices)
+}
+
+/// The primitives of this kind with these indices; what is left at the end and too few for a primitive is none.
+fn listed(alloc: Global, kind: u32, indices: &[u32]) -> Result<Primitives, AllocError>
+    ensures { IfOk result (λ found. primitive_listing found ≡ primitives_listed kind indices.now) }
+{
+    match kind {
+        0 => Ok(Primitives::Triangles(Vec::from_slice(alloc, indices.as_chunks::<3>().0)?)),
+        1 => Ok(Primitives::Strip(Vec::from_slice(alloc, indices)?)),
+        _ => Ok(Primitives::Quads(Vec::from_slice(alloc, indices.as_chunks::<4>().0)?)),
+    }
+}
+
+/// The primitives of a draw of these vertices, before which the draws have `earlier` triangles.
+pub(crate) fn primitives_of(
+    alloc: Global,
+    kind: u32,
+    indices: &[u32],
+    earlier: usize,
+    vertices: &[Vertex],
+) -> Result<Primitives, ReadKind>
+    requires { earlier ≤ MOST_TRIANGLES }
+    ensures { Reads (primitives_checks earlier vertices.now kind indices.now)
+        (λ found. primitive_listing found ≡ primitives_listed kind indices.now) result }
+{
+    if indices.len() % corners(kind) != 0 {
+        return Err(ReadKind::WrongKind);
+    }
+    if triangles(kind, indices) > MOST_TRIANGLES - earlier {
+        return Err(ReadKind::TooMany);
+    }
+    if !name_vertices(indices, vertices.len()) {
+        return Err(ReadKind::BadIndex);
+    }
+    let primitives = listed(alloc, kind, indices)?;
+    if !primitives.are_over(vertices) {
+        return Err(ReadKind::NotConvex);
+    }
+    Ok(primitives)
+}
