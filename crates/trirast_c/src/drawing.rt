@@ -1,16 +1,20 @@
 //! Pictures and rows of them, into the caller's buffer.
-ghost use Rattle.std.specs.Prelude.{◌≡◌, ◌≢◌, ◌<◌, ◌≤◌, ◌↔◌, ℕ, List, length, OnOk, OnErr, IfErr};
+ghost use Rattle.std.specs.Prelude.{◌≡◌, ◌≢◌, ◌<◌, ◌≤◌, ◌↔◌, ◌⊎◌, ℕ, List, length, OnOk, OnErr, IfErr};
+ghost use Rattle.list.specs.Denotes.{Denotes};
+ghost use Rattle.scene.specs.Checks.{IsListOf};
 ghost use Rattle.bins.specs.Grid.{tiles_over};
 ghost use Rattle.trirast.specs.Band.{AreBands};
 ghost use Rattle.trirast_c.specs.Faults.{no_fault, number_of, told};
-ghost use Rattle.trirast_c.specs.Library.{DrawsFile, DrawsRows, ExplainsDraw, ExplainsRows, IsPut, IsSide};
+ghost use Rattle.trirast_c.specs.Library.{DrawsFile, DrawsRows, ExplainsDraw, ExplainsRows, HoldsFile, IsFileLonger, IsPut, arrays, text};
+ghost use Rattle.trirast_c.specs.declared.fault.CallFault.TheVariants as call;
 
 use crate::fault::{CallFault, LibraryFault, tell};
-use crate::reading::{list_of, side_of};
+use crate::reading::{list_of, list_of_arrays, side_of};
 use crate::size::PictureSize;
 use bins::Tiling;
 use grid::TileSide;
 use list::DrawList;
+use scene::{SceneDraw, SceneHead, SceneVertex};
 use std::alloc::Global;
 use trirast::{draw, draw_rows};
 
@@ -34,20 +38,53 @@ fn bytes_of_rows(list: &DrawList, side: TileSide, first: u32, end: u32) -> u64
     u64::from(list.output().pixel_bytes()) * u64::from((bottom - top) * list.width())
 }
 
-/// Puts the file of the list's picture into the buffer. It is drawn into memory of its own first, so that the buffer stays as it
+/// Puts the file of a list's picture into the buffer. It is drawn into memory of its own first, so that the buffer stays as it
 /// was where drawing ends in want of memory.
-fn draw_into(alloc: Global, list: &[u8], tile: u32, buffer: &mut [u8]) -> Result<(), CallFault>
-    ensures drawn { OnOk result (DrawsFile list.now buffer.old buffer.new) }
+fn file_into(
+    alloc: Global,
+    list: &DrawList,
+    side: TileSide,
+    buffer: &mut [u8],
+) -> Result<(), CallFault>
+    ensures drawn { OnOk result (HoldsFile list.now buffer.old buffer.new) }
     ensures kept { OnErr result (buffer.new ≡ buffer.old) }
-    ensures fault { IfErr result (ExplainsDraw list.now tile (length buffer.old)) }
+    ensures fault { IfErr result (λ e. (e ≡ call.OutOfMemory) ⊎ ((e ≡ call.BufferTooShort) × IsFileLonger list.now (length buffer.old))) }
+{
+    if PictureSize::of(list).file_bytes > buffer.len() as u64 {
+        return Err(CallFault::BufferTooShort);
+    }
+    put(&draw(alloc, list, side)?, buffer);
+    Ok(())
+}
+
+/// Puts the file of the picture of the list that the bytes denote into the buffer.
+fn draw_into(alloc: Global, list: &[u8], tile: u32, buffer: &mut [u8]) -> Result<(), CallFault>
+    ensures drawn { OnOk result (DrawsFile (Denotes list.now) buffer.old buffer.new) }
+    ensures kept { OnErr result (buffer.new ≡ buffer.old) }
+    ensures fault { IfErr result (ExplainsDraw (text list.now) tile (length buffer.old)) }
 {
     let side = side_of(tile)?;
     let list = list_of(alloc, list)?;
-    if PictureSize::of(&list).file_bytes > buffer.len() as u64 {
-        return Err(CallFault::BufferTooShort);
-    }
-    put(&draw(alloc, &list, side)?, buffer);
-    Ok(())
+    file_into(alloc, &list, side, buffer)
+}
+
+/// The same of the list that the arrays list.
+fn draw_arrays_into(
+    alloc: Global,
+    head: &SceneHead,
+    draws: &[SceneDraw],
+    vertices: &[SceneVertex],
+    indices: &[u32],
+    tile: u32,
+    buffer: &mut [u8],
+) -> Result<(), CallFault>
+    ensures drawn { OnOk result (DrawsFile (IsListOf head.now draws.now vertices.now indices.now) buffer.old buffer.new) }
+    ensures kept { OnErr result (buffer.new ≡ buffer.old) }
+    ensures fault { IfErr result (ExplainsDraw (arrays head.now draws.now vertices.now indices.now) tile (length buffer.old)) }
+{
+    let side = side_of(tile)?;
+    let list = list_of_arrays(alloc, head, draws, vertices, indices)?;
+    file_into(alloc, &list, side, buffer)
 }
 
 /// Puts the rows of pixels in these rows of tiles into the buffer, in the same way.
@@ -59,9 +96,9 @@ fn draw_rows_into(
     end: u32,
     buffer: &mut [u8],
 ) -> Result<(), CallFault>
-    ensures drawn { OnOk result (DrawsRows list.now tile first end buffer.old buffer.new) }
+    ensures drawn { OnOk result (DrawsRows (Denotes list.now) tile first end buffer.old buffer.new) }
     ensures kept { OnErr result (buffer.new ≡ buffer.old) }
-    ensures fault { IfErr result (ExplainsRows list.now tile first end (length buffer.old)) }
+    ensures fault { IfErr result (ExplainsRows (text list.now) tile first end (length buffer.old)) }
 {
     let side = side_of(tile)?;
     let list = list_of(alloc, list)?;
@@ -85,10 +122,10 @@ pub extern "C" fn trirast_draw(
     buffer: &mut [u8],
     fault: &mut LibraryFault,
 ) -> u32
-    ensures drawn { result ≡ 0 → DrawsFile list.now buffer.old buffer.new }
+    ensures drawn { result ≡ 0 → DrawsFile (Denotes list.now) buffer.old buffer.new }
     ensures no_fault { result ≡ 0 → fault.new ≡ no_fault }
     ensures kept { result ≢ 0 → buffer.new ≡ buffer.old }
-    ensures fault { result ≢ 0 → (e : CallFault) × (result ≡ number_of e) × (fault.new ≡ told e) × ExplainsDraw list.now tile (length buffer.old) e }
+    ensures fault { result ≢ 0 → (e : CallFault) × (result ≡ number_of e) × (fault.new ≡ told e) × ExplainsDraw (text list.now) tile (length buffer.old) e }
 {
     tell(draw_into(alloc, list, tile, buffer), fault)
 }
@@ -107,10 +144,36 @@ pub extern "C" fn trirast_draw_rows(
     buffer: &mut [u8],
     fault: &mut LibraryFault,
 ) -> u32
-    ensures drawn { result ≡ 0 → DrawsRows list.now tile first end buffer.old buffer.new }
+    ensures drawn { result ≡ 0 → DrawsRows (Denotes list.now) tile first end buffer.old buffer.new }
     ensures no_fault { result ≡ 0 → fault.new ≡ no_fault }
     ensures kept { result ≢ 0 → buffer.new ≡ buffer.old }
-    ensures fault { result ≢ 0 → (e : CallFault) × (result ≡ number_of e) × (fault.new ≡ told e) × ExplainsRows list.now tile first end (length buffer.old) e }
+    ensures fault { result ≢ 0 → (e : CallFault) × (result ≡ number_of e) × (fault.new ≡ told e) × ExplainsRows (text list.now) tile first end (length buffer.old) e }
 {
     tell(draw_rows_into(alloc, list, tile, first, end, buffer), fault)
+}
+
+/// Draws the picture of a list that the caller's arrays list, with tiles of this side, in pixels, and puts its file at the beginning
+/// of the buffer; what is behind it stays. `draws` are the draws in their order; `vertices` and `indices` are those of all draws,
+/// one draw's after another's. The answer is 0, or the number of the fault, which `fault` tells, and then the buffer is as it was.
+/// The arrays are read in the call, and nothing of them is kept.
+#[unsafe(no_mangle)]
+pub extern "C" fn trirast_draw_scene(
+    alloc: Global,
+    head: &SceneHead,
+    draws: &[SceneDraw],
+    vertices: &[SceneVertex],
+    indices: &[u32],
+    tile: u32,
+    buffer: &mut [u8],
+    fault: &mut LibraryFault,
+) -> u32
+    ensures drawn { result ≡ 0 → DrawsFile (IsListOf head.now draws.now vertices.now indices.now) buffer.old buffer.new }
+    ensures no_fault { result ≡ 0 → fault.new ≡ no_fault }
+    ensures kept { result ≢ 0 → buffer.new ≡ buffer.old }
+    ensures fault { result ≢ 0 → (e : CallFault) × (result ≡ number_of e) × (fault.new ≡ told e) × ExplainsDraw (arrays head.now draws.now vertices.now indices.now) tile (length buffer.old) e }
+{
+    tell(
+        draw_arrays_into(alloc, head, draws, vertices, indices, tile, buffer),
+        fault,
+    )
 }

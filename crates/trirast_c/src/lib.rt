@@ -9,7 +9,7 @@ mod reading;
 mod size;
 mod telling;
 
-pub use drawing::{trirast_draw, trirast_draw_rows};
+pub use drawing::{trirast_draw, trirast_draw_rows, trirast_draw_scene};
 pub use fault::{CallFault, LibraryFault};
 pub use size::{PictureSize, trirast_size};
 pub use telling::trirast_fault_line;

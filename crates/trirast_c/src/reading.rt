@@ -2,19 +2,21 @@
 ghost use Rattle.std.specs.Prelude.{◌≡◌, ◌<◌, ◌↔◌, length, IfOk, IfErr, Err};
 ghost use Rattle.grid.specs.Pixels.{side_of as pixels_of};
 ghost use Rattle.list.specs.Denotes.{Denotes};
-ghost use Rattle.trirast_c.specs.Library.{ExplainsSize, IsSide};
+ghost use Rattle.scene.specs.Checks.{IsListOf};
+ghost use Rattle.trirast_c.specs.Library.{ExplainsSize, IsSide, arrays, text};
 ghost use Rattle.trirast_c.specs.declared.fault.CallFault.TheVariants as call;
 
 use crate::fault::CallFault;
 use grid::TileSide;
-use list::{DrawList, MOST_BYTES};
+use list::{DrawList, MOST_BYTES, ReadKind};
+use scene::{SceneDraw, SceneHead, SceneVertex, build};
 use std::alloc::Global;
 use trirast::{Fault, read_list};
 
 /// The list that the bytes denote.
 pub(crate) fn list_of(alloc: Global, bytes: &[u8]) -> Result<DrawList, CallFault>
     ensures ok { IfOk result (Denotes bytes.now) }
-    ensures fault { IfErr result (ExplainsSize bytes.now) }
+    ensures fault { IfErr result (ExplainsSize (text bytes.now)) }
     ensures too_long { (result ≡ Err call.InputTooLong) ↔ (MOST_BYTES < length bytes.now) }
 {
     if bytes.len() > MOST_BYTES {
@@ -24,6 +26,24 @@ pub(crate) fn list_of(alloc: Global, bytes: &[u8]) -> Result<DrawList, CallFault
         Ok(list) => Ok(list),
         Err(Fault::List(fault)) => Err(CallFault::List(fault)),
         Err(_) => Err(CallFault::OutOfMemory),
+    }
+}
+
+/// The list that the arrays list.
+pub(crate) fn list_of_arrays(
+    alloc: Global,
+    head: &SceneHead,
+    draws: &[SceneDraw],
+    vertices: &[SceneVertex],
+    indices: &[u32],
+) -> Result<DrawList, CallFault>
+    ensures ok { IfOk result (IsListOf head.now draws.now vertices.now indices.now) }
+    ensures fault { IfErr result (ExplainsSize (arrays head.now draws.now vertices.now indices.now)) }
+{
+    match build(alloc, head, draws, vertices, indices) {
+        Ok(list) => Ok(list),
+        Err(fault) if fault.kind == ReadKind::OutOfMemory => Err(CallFault::OutOfMemory),
+        Err(fault) => Err(CallFault::List(fault)),
     }
 }
 

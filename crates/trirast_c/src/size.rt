@@ -1,7 +1,8 @@
 //! What a picture takes.
 ghost use Rattle.std.specs.Prelude.{◌≡◌, ◌≢◌, ◌<◌, ◌↔◌, length, OnOk, OnErr, IfErr};
+ghost use Rattle.list.specs.Denotes.{Denotes};
 ghost use Rattle.trirast_c.specs.Faults.{no_fault, number_of, told};
-ghost use Rattle.trirast_c.specs.Library.{ExplainsSize, IsSizeOf, TellsSize};
+ghost use Rattle.trirast_c.specs.Library.{ExplainsSize, IsSizeOf, TellsSize, text};
 
 use crate::fault::{CallFault, LibraryFault, tell};
 use crate::reading::list_of;
@@ -45,9 +46,9 @@ impl PictureSize {
 
 /// Puts what the list's picture takes into `size`.
 fn size_into(alloc: Global, list: &[u8], size: &mut PictureSize) -> Result<(), CallFault>
-    ensures size { OnOk result (TellsSize list.now size.new) }
+    ensures size { OnOk result (TellsSize (Denotes list.now) size.new) }
     ensures kept { OnErr result (size.new ≡ size.old) }
-    ensures fault { IfErr result (ExplainsSize list.now) }
+    ensures fault { IfErr result (ExplainsSize (text list.now)) }
 {
     *size = PictureSize::of(&list_of(alloc, list)?);
     Ok(())
@@ -62,10 +63,10 @@ pub extern "C" fn trirast_size(
     size: &mut PictureSize,
     fault: &mut LibraryFault,
 ) -> u32
-    ensures size { result ≡ 0 → TellsSize list.now size.new }
+    ensures size { result ≡ 0 → TellsSize (Denotes list.now) size.new }
     ensures no_fault { result ≡ 0 → fault.new ≡ no_fault }
     ensures kept { result ≢ 0 → size.new ≡ size.old }
-    ensures fault { result ≢ 0 → (e : CallFault) × (result ≡ number_of e) × (fault.new ≡ told e) × ExplainsSize list.now e }
+    ensures fault { result ≢ 0 → (e : CallFault) × (result ≡ number_of e) × (fault.new ≡ told e) × ExplainsSize (text list.now) e }
 {
     tell(size_into(alloc, list, size), fault)
 }
