@@ -134,8 +134,8 @@ enum {
     TRIRAST_ALWAYS = 7
 };
 
-/* A draw of a scene. There are no defaults: a draw of which all samples and pixels are drawn has the three writes 1, the sample
- * mask 15 and the scissor 0, 0, width, height. */
+/* A draw of a scene. There are no defaults: a draw of which all samples and pixels are drawn has the three writes 1, the
+ * sample mask 15 and the scissor 0, 0, width, height. */
 typedef struct {
     uint32_t vertices;       /* how many vertices it has, which follow those of the draws before it: at most 65,536 */
     uint32_t indices;        /* how many indices it has, which follow those of the draws before it */
@@ -166,11 +166,11 @@ typedef struct {
 } trirast_scene_vertex;
 
 /* Draws a scene as trirast_draw draws a list, from arrays in place of a text. `draws` are the draws in their order; `vertices`
- * and `indices` are those of all draws, one draw's after another's; an index names a vertex of its own draw, from 0. Each pair is
- * an array and the number of its elements, 0 and NULL where there are none.
- * Faults: TRIRAST_LIST_FAULT, with TRIRAST_OUT_OF_RANGE, TRIRAST_TOO_MANY, TRIRAST_BAD_INDEX or TRIRAST_NOT_CONVEX as for a list,
- * or TRIRAST_WRONG_KIND where the arrays are shorter or longer than the draws say, or the indices make no whole triangles or
- * quads; and as for trirast_draw, but not TRIRAST_TOO_LONG. */
+ * and `indices` are those of all draws, one draw's after another's; an index names a vertex of its own draw, from 0. Each
+ * pair is an array and the number of its elements, and an array of none may be NULL.
+ * Faults: TRIRAST_LIST_FAULT, with TRIRAST_OUT_OF_RANGE, TRIRAST_TOO_MANY, TRIRAST_BAD_INDEX or TRIRAST_NOT_CONVEX as for a
+ * list, or TRIRAST_WRONG_KIND where the arrays are shorter or longer than the draws say, or the indices make no whole
+ * triangles or quads; and as for trirast_draw, but not TRIRAST_TOO_LONG. */
 uint32_t trirast_draw_scene(const trirast_scene_head *head, const trirast_scene_draw *draws, size_t draw_count,
                             const trirast_scene_vertex *vertices, size_t vertex_count, const uint32_t *indices,
                             size_t index_count, uint32_t tile, uint8_t *buffer, size_t room, trirast_fault *fault);

@@ -42,7 +42,7 @@ void __wrap_free(void *block) {
     __real_free(block);
 }
 
-// One call with a refusal at this number: 0 size, 1 the file, 2 its first row of tiles, 3 the file from arrays. Gives the answer.
+// One call with a refusal at this number, and its answer: 0 size, 1 the file, 2 its first row of tiles, 3 the file from arrays.
 static uint32_t call_short_of_memory(int call, const list_case *one, marked *buffer, long number, int with_later) {
     trirast_fault fault = UNSET;
     trirast_picture size;

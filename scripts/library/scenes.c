@@ -69,7 +69,8 @@ static void look_at_broken(int change, uint32_t list_kind, int draw) {
     uint32_t answer = draw_scene(&all, 32, &buffer, &fault);
     uint32_t kind = list_kind ? TRIRAST_LIST_FAULT : TRIRAST_OK;
     int is_there = draw < 0 ? !fault.in_draw && !fault.draw : fault.in_draw == 1 && fault.draw == (uint32_t)draw;
-    expect(is_fault(&fault, answer, kind) && fault.list_kind == list_kind && is_there && (!kind || holds_just(&buffer, NULL, 0)),
+    int is_kept = !kind || holds_just(&buffer, NULL, 0);
+    expect(is_fault(&fault, answer, kind) && fault.list_kind == list_kind && is_there && is_kept,
            "change %d: answer %u, list fault %u in draw %u", change, answer, fault.list_kind, fault.draw);
     free(buffer.all);
 }
