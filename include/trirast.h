@@ -102,6 +102,79 @@ uint32_t trirast_draw(const uint8_t *list, size_t length, uint32_t tile, uint8_t
 uint32_t trirast_draw_rows(const uint8_t *list, size_t length, uint32_t tile, uint32_t first, uint32_t end,
                            uint8_t *buffer, size_t room, trirast_fault *fault);
 
+/* ---- A list without a text ---- */
+
+/* The picture of a scene. */
+typedef struct {
+    uint32_t width;       /* columns, in pixels: 1 to 4096 */
+    uint32_t height;      /* rows, in pixels: 1 to 4096 */
+    uint32_t samples;     /* samples of a pixel: 1 or 4 */
+    uint32_t output;      /* what the picture shows: 0 the colours, 1 the depths of sample 0 */
+    uint32_t clear_red;   /* with which each sample begins: 0 to 255 */
+    uint32_t clear_green;
+    uint32_t clear_blue;
+    uint32_t clear_depth; /* with which each sample begins: 0 to 65535 */
+} trirast_scene_head;
+
+/* What the indices of a draw are. */
+enum { TRIRAST_TRIANGLES = 0, TRIRAST_STRIP = 1, TRIRAST_QUADS = 2 };
+
+/* Which triangles are dropped. */
+enum { TRIRAST_CULL_NONE = 0, TRIRAST_CULL_FRONT = 1, TRIRAST_CULL_BACK = 2 };
+
+/* When a new depth passes. */
+enum {
+    TRIRAST_NEVER = 0,
+    TRIRAST_LESS = 1,
+    TRIRAST_EQUAL = 2,
+    TRIRAST_LESS_EQUAL = 3,
+    TRIRAST_GREATER = 4,
+    TRIRAST_NOT_EQUAL = 5,
+    TRIRAST_GREATER_EQUAL = 6,
+    TRIRAST_ALWAYS = 7
+};
+
+/* A draw of a scene. There are no defaults: a draw of which all samples and pixels are drawn has the three writes 1, the
+ * sample mask 15 and the scissor 0, 0, width, height. */
+typedef struct {
+    uint32_t vertices;       /* how many vertices it has, which follow those of the draws before it: at most 65,536 */
+    uint32_t indices;        /* how many indices it has, which follow those of the draws before it */
+    uint32_t primitives;     /* TRIRAST_TRIANGLES, three indices each; TRIRAST_STRIP; TRIRAST_QUADS, four indices each */
+    uint32_t cull;           /* TRIRAST_CULL_NONE to TRIRAST_CULL_BACK */
+    uint32_t depth_test;     /* TRIRAST_NEVER to TRIRAST_ALWAYS */
+    uint32_t depth_write;    /* 1 where the new depth is stored where the test passes, else 0 */
+    uint32_t blend;          /* 1 where the new colour is laid over the stored one by its alpha, 0 where it replaces it */
+    uint32_t write_red;      /* 1 where the channel is written, else 0 */
+    uint32_t write_green;
+    uint32_t write_blue;
+    uint32_t sample_mask;    /* bit s says whether sample s is drawn: 0 to 15 */
+    uint32_t scissor_left;   /* in pixels, right and bottom outside: 0 to 4096 each */
+    uint32_t scissor_top;
+    uint32_t scissor_right;
+    uint32_t scissor_bottom;
+} trirast_scene_draw;
+
+/* A vertex of a scene. */
+typedef struct {
+    int32_t x;  /* to the right, in 1/256 pixel: -8388608 to 8388607 */
+    int32_t y;  /* downwards, in 1/256 pixel: -8388608 to 8388607 */
+    uint32_t z; /* the depth: 0 to 65535 */
+    uint32_t r; /* the colour and its alpha: 0 to 255 each */
+    uint32_t g;
+    uint32_t b;
+    uint32_t a;
+} trirast_scene_vertex;
+
+/* Draws a scene as trirast_draw draws a list, from arrays in place of a text. `draws` are the draws in their order; `vertices`
+ * and `indices` are those of all draws, one draw's after another's; an index names a vertex of its own draw, from 0. Each
+ * pair is an array and the number of its elements, and an array of none may be NULL.
+ * Faults: TRIRAST_LIST_FAULT, with TRIRAST_OUT_OF_RANGE, TRIRAST_TOO_MANY, TRIRAST_BAD_INDEX or TRIRAST_NOT_CONVEX as for a
+ * list, or TRIRAST_WRONG_KIND where the arrays are shorter or longer than the draws say, or the indices make no whole
+ * triangles or quads; and as for trirast_draw, but not TRIRAST_TOO_LONG. */
+uint32_t trirast_draw_scene(const trirast_scene_head *head, const trirast_scene_draw *draws, size_t draw_count,
+                            const trirast_scene_vertex *vertices, size_t vertex_count, const uint32_t *indices,
+                            size_t index_count, uint32_t tile, uint8_t *buffer, size_t room, trirast_fault *fault);
+
 /* Writes the line that the program trirast has for a fault, as "trirast: list fault 6 BadIndex in draw 1\n", or as much of
  * it as there is room for, and gives the length of the whole line, which is at most 96 bytes, without a byte of zero at its
  * end. Of what no call tells, as of a fault of kind 0, there is no line: nothing is written, and the answer is 0. */

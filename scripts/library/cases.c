@@ -64,7 +64,7 @@ static blob read_file(const char *path) {
 void read_manifest(const char *path) {
     FILE *file = fopen(path, "r");
     if (!file) stop("cannot be read", path);
-    char kind[16], list[1024], wanted[1024];
+    char kind[16], list[1024 + sizeof ".scene"], wanted[1024];
     while (fscanf(file, "%15s %1023s %1023s", kind, list, wanted) == 3) {
         int is_drawn = !strcmp(kind, "drawn");
         list_case *next = is_drawn ? &drawn[drawn_count++] : &refused[refused_count++];
@@ -73,13 +73,18 @@ void read_manifest(const char *path) {
         next->list = read_file(list);
         next->wanted = read_file(wanted);
         trirast_fault fault;
+        if (is_drawn) {
+            // The arrays lie beside the list, as NAME.scene beside NAME.json.
+            snprintf(strrchr(list, '.'), sizeof ".scene", ".scene");
+            next->arrays = read_file(list);
+        }
         if (is_drawn && trirast_size(next->list.bytes, next->list.length, &next->size, &fault)) stop("refused", list);
     }
     fclose(file);
 }
 
 void free_cases(void) {
-    for (int k = 0; k < drawn_count; k++) free(drawn[k].list.bytes), free(drawn[k].wanted.bytes);
+    for (int k = 0; k < drawn_count; k++) free(drawn[k].list.bytes), free(drawn[k].wanted.bytes), free(drawn[k].arrays.bytes);
     for (int k = 0; k < refused_count; k++) free(refused[k].list.bytes), free(refused[k].wanted.bytes);
 }
 

@@ -14,10 +14,10 @@ typedef struct {
     size_t length;
 } blob;
 
-// A list with what the program made of it: a file, or a line where it was refused.
+// A list with what the program made of it: a file, or a line where it was refused. A drawn one has its arrays too.
 typedef struct {
-    char name[1024];
-    blob list, wanted;
+    char name[2048];
+    blob list, wanted, arrays;
     trirast_picture size;
 } list_case;
 
@@ -64,5 +64,9 @@ size_t offset_of(const list_case *one, uint32_t tile, uint32_t row);
 
 // The way that refuses memory, in memory.c.
 void look_at_memory(void);
+
+// The way that draws from arrays, and a call on those of a case, in scenes.c.
+void look_at_scenes(void);
+uint32_t draw_arrays(const list_case *one, uint32_t tile, marked *buffer, trirast_fault *fault);
 
 #endif

@@ -6,9 +6,9 @@ import subprocess
 
 from .common import HERE, INCLUDE, LIB, OUT, SECONDS, SHARED, STATIC, STRICT, must, need, run
 
-WAYS = ("pictures", "rows", "buffers", "refused", "odd", "threads", "stack", "memory")
+WAYS = ("pictures", "rows", "buffers", "refused", "odd", "scenes", "threads", "stack", "memory")
 # Not by memcheck: the lists of 64 MiB, which take minutes there, and the stack, of which valgrind keeps its own account.
-MEMCHECKED = ("pictures", "rows", "buffers", "refused", "threads", "memory")
+MEMCHECKED = ("pictures", "rows", "buffers", "refused", "scenes", "threads", "memory")
 
 
 def check_header(compiler, language, standard):
@@ -50,8 +50,8 @@ def build_test(name, sources, *more):
 def build_tests():
     """The test over the static library, where memory can be refused, and over the shared one."""
     wraps = [f"-Wl,--wrap={name}" for name in ("malloc", "realloc", "free")]
-    build_test("test_static", ("main", "cases", "memory"), "-DWRAPPED", STATIC, *wraps)
-    build_test("test_shared", ("main", "cases"), *SHARED)
+    build_test("test_static", ("main", "cases", "scenes", "memory"), "-DWRAPPED", STATIC, *wraps)
+    build_test("test_shared", ("main", "cases", "scenes"), *SHARED)
 
 
 def check_in_c(tally, program, way, manifest):

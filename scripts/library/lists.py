@@ -4,6 +4,7 @@ import glob
 import json
 import os
 import random
+import struct
 
 from .common import OUT, TOP, drawn_by_program
 
@@ -11,6 +12,30 @@ import compare
 from check_schema import REFUSED
 
 SMALL_LIST = 20000
+
+
+CULLS = ("none", "front", "back")
+DEPTH_TESTS = ("never", "less", "equal", "less_equal", "greater", "not_equal", "greater_equal", "always")
+
+
+def arrays_of(scene):
+    """A list that is accepted as the arrays of trirast_draw_scene, one after another behind the numbers of their elements."""
+    size = [scene["width"], scene["height"]]
+    head = size + [scene.get("samples", 1), int(scene.get("output") == "depth")]
+    head += scene.get("clear", [0, 0, 0]) + [scene.get("clear_depth", 65535)]
+    draws, vertices, indices = [], [], []
+    for draw in scene["draws"]:
+        kind = next(place for place, key in enumerate(("triangles", "strip", "quads")) if key in draw)
+        faces = draw[("triangles", "strip", "quads")[kind]]
+        places = faces if kind == 1 else [index for face in faces for index in face]
+        draws += [len(draw["vertices"]), len(places), kind, CULLS.index(draw.get("cull", "none"))]
+        draws += [DEPTH_TESTS.index(draw.get("depth_test", "always")), int(draw.get("depth_write", False))]
+        draws += [int(draw.get("blend") == "over"), *map(int, draw.get("write", [1, 1, 1])), draw.get("sample_mask", 15)]
+        draws += draw.get("scissor", [0, 0] + size)
+        vertices += [number for vertex in draw["vertices"] for number in vertex]
+        indices += places
+    counts = [len(draws) // 15, len(vertices) // 7, len(indices)]
+    return struct.pack(f"={len(counts + head + draws + vertices + indices)}i", *counts, *head, *draws, *vertices, *indices)
 
 
 class Lists:
@@ -56,6 +81,8 @@ class Lists:
             self.keep(f"{name}-{number}.json", text)
             kind, ending, answer = ("drawn", "file", file) if status == 0 else ("refused", "line", line)
             self.keep(f"{name}-{number}.{ending}", answer)
+            if status == 0:
+                self.keep(f"{name}-{number}.scene", arrays_of(json.loads(text)))
             (self.drawn if status == 0 else self.refused).append((text, answer))
             lines.append(f"{kind} lists/{name}-{number}.json lists/{name}-{number}.{ending}\n")
         self.keep(f"{name}.txt", "".join(lines).encode())

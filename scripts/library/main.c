@@ -1,7 +1,7 @@
 // Calls libtrirast in one of several ways, and prints a line for each thing that was looked at: "ok WHAT" or
 // "failed WHAT: WHY". scripts/check_library.py builds it, makes the cases with the program, and runs it:
 //
-//     library_test pictures|rows|buffers|refused|odd|threads|stack|memory MANIFEST
+//     library_test pictures|rows|buffers|refused|odd|scenes|threads|stack|memory MANIFEST
 //
 // A line of the manifest is `drawn LIST FILE`, where FILE is what the program writes for LIST, or `refused LIST LINE`,
 // where LINE is what it tells. `memory` is there with -DWRAPPED, for the static library alone: see memory.c.
@@ -319,7 +319,7 @@ int main(int count, char **words) {
     } ways[] = {
         {"pictures", look_at_pictures}, {"rows", look_at_rows},       {"buffers", look_at_buffers},
         {"refused", look_at_refused},   {"odd", look_at_odd_lists},   {"threads", look_at_threads},
-        {"stack", look_at_stack},
+        {"stack", look_at_stack},       {"scenes", look_at_scenes},
 #ifdef WRAPPED
         {"memory", look_at_memory},
 #endif

@@ -42,7 +42,7 @@ void __wrap_free(void *block) {
     __real_free(block);
 }
 
-// One call with a refusal at this number: 0 size, 1 the file, 2 its first row of tiles. Gives the answer.
+// One call with a refusal at this number, and its answer: 0 size, 1 the file, 2 its first row of tiles, 3 the file from arrays.
 static uint32_t call_short_of_memory(int call, const list_case *one, marked *buffer, long number, int with_later) {
     trirast_fault fault = UNSET;
     trirast_picture size;
@@ -50,6 +50,8 @@ static uint32_t call_short_of_memory(int call, const list_case *one, marked *buf
     heap.is_on = 1, heap.with_later = with_later, heap.refused_number = number;
     heap.calls = heap.refusals = heap.live = 0;
     if (call == 0) answer = trirast_size(one->list.bytes, one->list.length, &size, &fault);
+    else if (call == 3)
+        answer = draw_arrays(one, 16, buffer, &fault);
     else if (call == 1)
         answer = trirast_draw(one->list.bytes, one->list.length, 16, buffer->bytes, buffer->room, &fault);
     else
@@ -81,9 +83,10 @@ static long refuse_each(int call, const list_case *one, uint32_t kind, int with_
 void look_at_memory(void) {
     for (int with_later = 0; with_later < 2; with_later++) {
         long ended = 0;
-        for (int call = 0; call < 3; call++) {
+        for (int call = 0; call < 4; call++) {
             for (int k = 0; k < drawn_count; k++) ended += refuse_each(call, &drawn[k], TRIRAST_OK, with_later);
-            for (int k = 0; k < refused_count; k++) ended += refuse_each(call, &refused[k], TRIRAST_LIST_FAULT, with_later);
+            for (int k = 0; k < refused_count && call < 3; k++)
+                ended += refuse_each(call, &refused[k], TRIRAST_LIST_FAULT, with_later);
         }
         expect(ended > 0, "no refusal was told");
         tell(with_later ? "each growth of memory and all after it refused: out of memory and the buffer as it was"
