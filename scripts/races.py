@@ -21,7 +21,7 @@ import counts
 
 TOP = os.path.dirname(os.path.dirname(os.path.abspath(__file__)))
 PROGRAM = os.path.join(TOP, "bin", "trirast")
-EXAMPLES = ("triangle", "top_left", "scissor_and_masks")
+EXAMPLES = ("top_left", "scissor_and_masks", "gradient")
 WORKERS = 4
 MOST_SECONDS = 600
 FOUND = 99
