@@ -42,7 +42,7 @@ def contracts():
     for text in sources("src/**/*.rt").values():
         name = None
         for line in text.split("\n"):
-            head = re.match(r"\s*(?:pub(?:\(crate\))? )?fn (\w+)", line)
+            head = re.match(r'\s*(?:pub(?:\(crate\))? )?(?:extern "C" )?fn (\w+)', line)
             clause = re.match(r"\s*(?:ensures|requires)(?: (\w+))? ?[{\n]?", line)
             if head:
                 name = head[1]
