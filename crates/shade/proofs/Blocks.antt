@@ -53,6 +53,31 @@ one_kept t p mask s k clear = record {
   above = λ j from l i. stored_at s j;
 }
 
+-- no sample, and one more
+pub none_drawn : (t : Placed) (p : Position) (mask : ℕ) (s : BlockSamples) (k : ℕ) → AreDrawn t p mask s s k 0
+none_drawn t p mask s k = record {
+  drawn = λ j from l is. absurd (omega arith);
+  kept = λ j from l is i. stored_at s j;
+  below = λ j l i. stored_at s j;
+  above = λ j from l i. stored_at s j;
+}
+
+pub one_more : (t : Placed) (p : Position) (mask : ℕ) (old mid new : BlockSamples) (k n : ℕ) → k + n < 64 → AreDrawn t p mask old mid k n → AreDrawn t p mask mid new (k + n) 1 → AreDrawn t p mask old new k (n + 1)
+one_more t p mask old mid new k n room done next = record {
+  drawn = λ j from l set.
+      elim (cases_lt j (k + n)) [
+        | inl before ↦ subst (λ s. IsDrawnAt t (position_in p j) (stored_at old j) s) (sym (next.below j before)) (done.drawn j from before set)
+        | inr after ↦ subst (λ s. IsDrawnAt t (position_in p j) s (stored_at new j)) (done.above j after (omega arith)) (next.drawn j after (omega arith) set)
+      ];
+  kept = λ j from l clear.
+      elim (cases_lt j (k + n)) [
+        | inl before ↦ next.below j before ∙ done.kept j from before clear
+        | inr after ↦ next.kept j after (omega arith) clear ∙ done.above j after (omega arith)
+      ];
+  below = λ j l. next.below j (omega arith) ∙ done.below j l;
+  above = λ j from l. next.above j (omega arith) l ∙ done.above j (omega arith) l;
+}
+
 -- all samples, of those before 64
 pub all_done : (t : Placed) (p : Position) (mask : ℕ) (old new : BlockSamples) → IsDrawnBefore t p mask old new 64 → AreDrawn t p mask old new 0 64
 all_done t p mask old new done = record {

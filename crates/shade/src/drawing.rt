@@ -29,7 +29,35 @@ pub(crate) fn sample_position(p: Point, k: u32) -> Point
     Point::new(x, y).unwrap()
 }
 
+/// Whether some pixel of a group of two rows is in the mask.
+#[inline(always)]
+fn has_some(mask: u64, group: u64) -> bool
+    requires { group < 4 }
+    ensures { result ≡ false → (i : ℕ) → i < 16 → ¬ IsBitSet mask (16 * group + i) }
+{
+    (mask >> (16 * group)) % 65536 != 0
+}
+
 impl Placed {
+    /// Draws the triangle at the samples of two rows of a block that are in the mask, one after another.
+    fn draw_rows_each(&self, p: Point, mask: u64, group: u64, samples: &mut BlockSamples)
+        requires group { group < 4 }
+        requires on_screen { IsOnScreen p }
+        requires covered { CoversMask self.now p mask }
+        ensures { AreDrawn self.now p mask samples.old samples.new (16 * group) 16 }
+    {
+        if !has_some(mask, group) {
+            return;
+        }
+        for i in 0..16u32 {
+            let k = 16 * group as u32 + i;
+            if (mask >> k) % 2 == 1 {
+                let stored = samples.sample(k as usize);
+                samples.set(k as usize, self.drawn_at(sample_position(p, k), stored));
+            }
+        }
+    }
+
     /// Draws the triangle at samples of a block, one after another: the plain way, by the definition. Bit k of `mask` tells
     /// whether pixel k is drawn, and the first pixel's sample is at `p`.
     pub(crate) fn draw_each(&self, p: Point, mask: u64, samples: &mut BlockSamples)
@@ -38,22 +66,10 @@ impl Placed {
         ensures drawn { (k : ℕ) → k < 64 → IsBitSet mask k → IsDrawnAt self.now (position_in p k) (stored_at samples.old k) (stored_at samples.new k) }
         ensures kept { (k : ℕ) → k < 64 → ¬ IsBitSet mask k → stored_at samples.new k ≡ stored_at samples.old k }
     {
-        for k in 0..64u32 {
-            if (mask >> k) % 2 == 1 {
-                let stored = samples.sample(k as usize);
-                samples.set(k as usize, self.drawn_at(sample_position(p, k), stored));
-            }
+        for group in 0..4u64 {
+            self.draw_rows_each(p, mask, group, samples);
         }
     }
-}
-
-/// Whether some pixel of a group of two rows is in the mask.
-#[inline(always)]
-fn has_some(mask: u64, group: u64) -> bool
-    requires { group < 4 }
-    ensures { result ≡ false → (i : ℕ) → i < 16 → ¬ IsBitSet mask (16 * group + i) }
-{
-    (mask >> (16 * group)) % 65536 != 0
 }
 
 /// The lanes of a group in the mask; all of them where the mask is said to be whole.
