@@ -10,9 +10,9 @@ draw-requires-clause-covered c = λ k low set.
 pub returns-then-is_in_mask : goal.returns-then-is_in_mask
 returns-then-is_in_mask c =
     let in_mask : c.args.triangle.now.state.sample_mask / 2 ^ c.args.s % 2 ≡ 1 = search rules in
-    rw c.place-place.ensures.value (plane_drawn c.args.triangle.now c.args.tile.now c.args.bx c.args.by c.args.s c.requires.block c.requires.sample c.args.samples.now c.requires.samples _ c.args.plane c.requires.plane c.requires.drawn in_mask
-    (rw (c.sample_at-first.ensures, c.place-place.ensures.value) at c.draw.ensures.drawn)
-    (rw c.place-place.ensures.value at c.draw.ensures.kept))
+    rw c.requires.place (plane_drawn c.args.triangle.now c.args.tile.now c.args.bx c.args.by c.args.s c.requires.block c.requires.sample c.args.samples.now c.requires.samples _ c.args.plane c.requires.plane c.requires.drawn in_mask
+    (rw (c.sample_at-first.ensures, c.requires.place) at c.draw.ensures.drawn)
+    (rw c.requires.place at c.draw.ensures.kept))
 
 pub returns-else-plane-ne0 : goal.returns-else-plane-ne0
 returns-else-plane-ne0 c =
