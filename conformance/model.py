@@ -66,4 +66,4 @@ class Model:
             scene = CHANGES[self.fault](scene)
         with RULES.get(self.fault, contextlib.nullcontext)():
             file = reference.render(reference.read(json.dumps(scene).encode()))
-        return reference.split_file(file)[2]
+        return reference.split_file(file).bytes
