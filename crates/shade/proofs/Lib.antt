@@ -4,6 +4,7 @@ pub mod Decided
 pub mod Drawn
 pub mod Endings
 pub mod Merged
+pub mod BlockPlanes
 pub mod Blocks
 pub mod LaneNumbers
 pub mod Lanes

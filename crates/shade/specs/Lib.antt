@@ -8,6 +8,7 @@ pub mod Merging
 pub mod Resolve
 pub mod Placed
 pub mod Block
+pub mod BlockMask
 pub mod Lanes
 pub mod Sources
 pub mod Way

@@ -1,29 +1,17 @@
 //! Blocks drawn sixteen samples at once beside the same samples drawn one by one.
-ghost use Rattle.std.specs.Prelude.{◌≡◌, ◌↔◌, ◌<◌, ℕ, IsTrue, IsBitSet, pos, ◌≤ℤ◌, ◌<ℤ◌, ◌^◌};
+ghost use Rattle.std.specs.Prelude.{◌≡◌, ◌<◌, ℕ, IsTrue, IsBitSet, slice_index, pos, ◌<ℤ◌};
 ghost use Rattle.grid.specs.Triangle.{Covers};
+ghost use Rattle.grid.specs.Samples.{count_of};
 ghost use Rattle.shade.specs.Block.{position_in, IsOnScreen};
+ghost use Rattle.shade.specs.BlockMask.{first_of};
 
 use crate::drawing::sample_position;
-use crate::{BlockSamples, DepthTest, Interpolants, Merge, Placed, Sample, State};
-use grid::{Cull, PixelBox, Point, Tri};
+use crate::{BlockMask, BlockSamples, DepthTest, Interpolants, Merge, Placed, Sample, State};
+use grid::{Cull, PixelBox, Point, SampleCount, Tri};
 use std::process::Abort;
 
-/// Whether a block whose first sample has this coordinate is on the screen.
-fn is_within(z: i32) -> bool
-    ensures { IsTrue result → (pos 0 ≤ℤ z) × (z <ℤ pos 1046784) }
-{
-    0 <= z && z < 1_046_784
-}
-
-/// Whether a block whose first sample is at `p` is on the screen.
-fn is_on_screen(p: Point) -> bool
-    ensures { IsTrue result → IsOnScreen p }
-{
-    is_within(p.x()) && is_within(p.y())
-}
-
-/// Whether the triangle covers the samples in the mask.
-fn covers_mask(t: &Tri, p: Point, mask: u64) -> bool
+/// Whether the triangle covers the samples in the mask that belong to one sample index.
+fn covers_plane(t: &Tri, p: Point, mask: u64) -> bool
     requires { IsOnScreen p }
     ensures { IsTrue result → (k : ℕ) → k < 64 → IsBitSet mask k → Covers t.now.a t.now.b t.now.c (position_in p k) }
 {
@@ -35,15 +23,41 @@ fn covers_mask(t: &Tri, p: Point, mask: u64) -> bool
     true
 }
 
-/// The samples of a block that the triangle covers, as a mask.
-fn mask_of(t: &Tri, p: Point) -> u64
+/// Whether the triangle covers the samples in the mask.
+fn covers_mask(t: &Tri, mask: &BlockMask) -> bool
+    ensures { IsTrue result → (s : ℕ) → s < count_of mask.now.count → (k : ℕ) → k < 64 → IsBitSet (slice_index mask.now.plane s) k → Covers t.now.a t.now.b t.now.c (position_in (first_of mask.now s) k) }
+{
+    for s in 0..mask.count.count() {
+        if !covers_plane(t, mask.first(s), mask.plane[s as usize]) {
+            return false;
+        }
+    }
+    true
+}
+
+/// The samples of one sample index that the triangle covers, as bits.
+fn plane_of(t: &Tri, p: Point) -> u64
     requires { IsOnScreen p }
 {
-    let mut mask = 0;
+    let mut plane = 0;
     for k in 0..64u32 {
         if t.covers(sample_position(p, k)) {
-            mask |= 1 << k;
+            plane |= 1 << k;
         }
+    }
+    plane
+}
+
+/// The samples of block (10, 15) that the triangle covers, of the pixels in `wanted`.
+fn mask_of(t: &Tri, count: SampleCount, wanted: u64) -> BlockMask {
+    let mut mask = BlockMask {
+        bx: 10,
+        by: 15,
+        count,
+        plane: [0; 4],
+    };
+    for s in 0..count.count() {
+        mask.plane[s as usize] = plane_of(t, mask.first(s)) & wanted;
     }
     mask
 }
@@ -145,15 +159,41 @@ fn point(rt: &impl Abort, x: i32, y: i32) -> Point {
     Point::new(x, y).expect(rt, "inside of the guard band")
 }
 
-/// Draws the triangle where the mask has pixels that it covers, and compares each sample with the one that it becomes by itself.
-fn compare(rt: &impl Abort, t: &Placed, p: Point, wanted: u64, old: &BlockSamples, name: &str) {
-    let whole = Tri::new(t.tri.a, t.tri.b, t.tri.c);
-    assert!(rt; is_on_screen(p));
-    let mask = mask_of(&whole, p) & wanted;
-    assert!(rt; covers_mask(&t.tri, p, mask));
+/// Draws the triangle at the samples that it covers of the pixels in `wanted`, and compares each sample with the one that it becomes
+/// by itself.
+fn compare(rt: &impl Abort, t: &Placed, count: SampleCount, wanted: u64, old: &[BlockSamples]) {
+    let mask = mask_of(&t.tri, count, wanted);
+    assert!(rt; covers_mask(&t.tri, &mask));
     assert!(rt; t.tri.area2() != 0);
-    let mut new = *old;
-    Interpolants::new(t).draw(p, mask, &mut new);
+    assert!(rt; old.len() == count.count() as usize);
+    let mut new = [old[0]; 4];
+    let new = &mut new[..old.len()];
+    new.copy_from_slice(old);
+    Interpolants::new(t).draw(&mask, new);
+    for s in 0..count.count() {
+        let plane = mask.plane[s as usize];
+        compare_plane(
+            rt,
+            t,
+            mask.first(s),
+            plane,
+            &old[s as usize],
+            &new[s as usize],
+        );
+    }
+}
+
+/// The same for the samples of one sample index.
+fn compare_plane(
+    rt: &impl Abort,
+    t: &Placed,
+    p: Point,
+    mask: u64,
+    old: &BlockSamples,
+    new: &BlockSamples,
+)
+    requires { IsOnScreen p }
+{
     for k in 0..64u32 {
         let (at, stored) = (sample_position(p, k), old.sample(k as usize));
         let expected = if (mask >> k) % 2 == 1 && t.tri.covers(at) {
@@ -161,7 +201,7 @@ fn compare(rt: &impl Abort, t: &Placed, p: Point, wanted: u64, old: &BlockSample
         } else {
             stored
         };
-        assert_eq!(rt; new.sample(k as usize), expected, "{name}: pixel {k}");
+        assert_eq!(rt; new.sample(k as usize), expected, "pixel {k}");
     }
 }
 
@@ -206,9 +246,8 @@ fn placed(rt: &impl Abort, random: &mut Random, merge: Merge, flat: [bool; 3]) -
     }
 }
 
-/// Generated triangles, drawn by this merge.
-fn compare_all(rt: &impl Abort, random: &mut Random, merge: Merge) {
-    let p = point(rt, 20_576, 30_880);
+/// Generated triangles, drawn by this merge, at so many samples of a pixel.
+fn compare_all(rt: &impl Abort, random: &mut Random, merge: Merge, count: SampleCount) {
     for flat in [
         [true, true, true],
         [true, true, false],
@@ -219,9 +258,14 @@ fn compare_all(rt: &impl Abort, random: &mut Random, merge: Merge) {
     ] {
         for wanted in [u64::MAX, 0x00ff_f0f0_0000_5aa5] {
             let t = placed(rt, random, merge, flat);
-            let old = random.samples();
+            let old = [
+                random.samples(),
+                random.samples(),
+                random.samples(),
+                random.samples(),
+            ];
             if t.tri.area2() != 0 {
-                compare(rt, &t, p, wanted, &old, "generated");
+                compare(rt, &t, count, wanted, &old[..count.count() as usize]);
             }
         }
     }
@@ -240,7 +284,8 @@ fn draws_blocks_as_samples_one_by_one(rt: HostRuntime) {
                         write,
                         over,
                     };
-                    compare_all(&rt, &mut random, merge);
+                    compare_all(&rt, &mut random, merge, SampleCount::One);
+                    compare_all(&rt, &mut random, merge, SampleCount::Four);
                 }
             }
         }

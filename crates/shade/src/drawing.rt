@@ -1,13 +1,14 @@
 //! How a triangle is drawn at the samples of a block.
-ghost use Rattle.std.specs.Prelude.{◌≡◌, ℕ, ◌+◌, ◌*◌, ◌<◌, IsBitSet, IsTrue, false};
-ghost use Rattle.grid.specs.Triangle.{Covers};
-ghost use Rattle.shade.specs.Placed.{IsDrawnAt};
+ghost use Rattle.std.specs.Prelude.{◌≡◌, ℕ, ◌+◌, ◌*◌, ◌<◌, IsBitSet, IsTrue, false, length};
+ghost use Rattle.grid.specs.Samples.{count_of};
 ghost use Rattle.shade.specs.declared.placed.Placed.{Placed as Triangle};
-ghost use Rattle.shade.specs.Block.{stored_at, position_in, IsOnScreen, CoversMask, AreDrawn};
+ghost use Rattle.shade.specs.Block.{position_in, IsOnScreen, CoversMask, AreDrawn};
+ghost use Rattle.shade.specs.BlockMask.{CoversBlock, IsBlockDrawn};
 ghost use Rattle.shade.specs.Lanes.{IsMask};
 ghost use Rattle.shade.specs.Way.{AreSourcesOf, WritesAll};
 
 use crate::block::BlockSamples;
+use crate::block_mask::BlockMask;
 use crate::group::draw_group;
 use crate::interpolants::Interpolants;
 use crate::lane_mask::lanes_of_mask;
@@ -58,16 +59,28 @@ impl Placed {
         }
     }
 
-    /// Draws the triangle at samples of a block, one after another: the plain way, by the definition. Bit k of `mask` tells
-    /// whether pixel k is drawn, and the first pixel's sample is at `p`.
-    pub(crate) fn draw_each(&self, p: Point, mask: u64, samples: &mut BlockSamples)
+    /// Draws the triangle at samples of a block of one sample index, one after another: the plain way, by the definition. Bit k of
+    /// `mask` tells whether pixel k is drawn, and the first pixel's sample is at `p`.
+    fn draw_plane_each(&self, p: Point, mask: u64, samples: &mut BlockSamples)
         requires on_screen { IsOnScreen p }
-        requires covered { (k : ℕ) → k < 64 → IsBitSet mask k → Covers self.now.tri.a self.now.tri.b self.now.tri.c (position_in p k) }
-        ensures drawn { (k : ℕ) → k < 64 → IsBitSet mask k → IsDrawnAt self.now (position_in p k) (stored_at samples.old k) (stored_at samples.new k) }
-        ensures kept { (k : ℕ) → k < 64 → ¬ IsBitSet mask k → stored_at samples.new k ≡ stored_at samples.old k }
+        requires covered { CoversMask self.now p mask }
+        ensures { AreDrawn self.now p mask samples.old samples.new 0 64 }
     {
         for group in 0..4u64 {
             self.draw_rows_each(p, mask, group, samples);
+        }
+    }
+
+    /// Draws the triangle at the samples of a block that are in the mask, one after another.
+    pub(crate) fn draw_each(&self, mask: &BlockMask, samples: &mut [BlockSamples])
+        requires samples { length samples.old ≡ count_of mask.now.count }
+        requires covered { CoversBlock self.now mask.now }
+        ensures drawn { IsBlockDrawn self.now mask.now samples.old samples.new }
+        ensures samples { length samples.new ≡ length samples.old }
+    {
+        for s in 0..mask.count.count() {
+            let plane = mask.plane[s as usize];
+            self.draw_plane_each(mask.first(s), plane, &mut samples[s as usize]);
         }
     }
 }
@@ -148,7 +161,7 @@ fn is_whole(mask: u64) -> bool
     mask == u64::MAX
 }
 
-/// The same with code of its own for a block that is drawn whole, where masks are left out.
+/// The same with code of its own for a block that is drawn whole, where masks are left out, and none for one that is not drawn.
 #[inline(always)]
 fn draw_by_mask(
     merge: &Merge,
@@ -163,8 +176,34 @@ fn draw_by_mask(
 {
     if is_whole(mask) {
         draw_block(merge, depth, colour, true, p, mask, samples);
-    } else {
+    } else if mask != 0 {
         draw_block(merge, depth, colour, false, p, mask, samples);
+    }
+}
+
+/// Draws a block's samples, one sample index after another.
+#[inline(always)]
+fn draw_planes(
+    merge: &Merge,
+    depth: &DepthSource<'_>,
+    colour: &ColourSource<'_>,
+    mask: &BlockMask,
+    samples: &mut [BlockSamples],
+)
+    requires { length samples.old ≡ count_of mask.now.count }
+    ensures drawn { (t : Triangle) → AreSourcesOf t merge.now depth.now colour.now → CoversBlock t mask.now → IsBlockDrawn t mask.now samples.old samples.new }
+    ensures samples { length samples.new ≡ length samples.old }
+{
+    for s in 0..mask.count.count() {
+        let plane = mask.plane[s as usize];
+        draw_by_mask(
+            merge,
+            depth,
+            colour,
+            mask.first(s),
+            plane,
+            &mut samples[s as usize],
+        );
     }
 }
 
@@ -199,14 +238,14 @@ fn draw_by_sources<const OVER: bool>(
     merge: &Merge,
     depth: &DepthSource<'_>,
     colour: &ColourSource<'_>,
-    p: Point,
-    mask: u64,
-    samples: &mut BlockSamples,
+    mask: &BlockMask,
+    samples: &mut [BlockSamples],
 )
     requires over { merge.now.over ≡ OVER }
     requires all { WritesAll merge.now }
-    requires on_screen { IsOnScreen p }
-    ensures { (t : Triangle) → AreSourcesOf t merge.now depth.now colour.now → CoversMask t p mask → AreDrawn t p mask samples.old samples.new 0 64 }
+    requires samples { length samples.old ≡ count_of mask.now.count }
+    ensures drawn { (t : Triangle) → AreSourcesOf t merge.now depth.now colour.now → CoversBlock t mask.now → IsBlockDrawn t mask.now samples.old samples.new }
+    ensures samples { length samples.new ≡ length samples.old }
 {
     let merge = &known::<OVER>(merge);
     match colour {
@@ -214,14 +253,14 @@ fn draw_by_sources<const OVER: bool>(
             let colour = &ColourSource::Flat(*rgba);
             match depth {
                 DepthSource::Unused => {
-                    draw_by_mask(merge, &DepthSource::Unused, colour, p, mask, samples);
+                    draw_planes(merge, &DepthSource::Unused, colour, mask, samples);
                 }
                 DepthSource::Flat(z) => {
-                    draw_by_mask(merge, &DepthSource::Flat(*z), colour, p, mask, samples);
+                    draw_planes(merge, &DepthSource::Flat(*z), colour, mask, samples);
                 }
                 DepthSource::Plane(placed, plane) => {
                     let depth = &DepthSource::Plane(placed, plane);
-                    draw_by_mask(merge, depth, colour, p, mask, samples);
+                    draw_planes(merge, depth, colour, mask, samples);
                 }
             }
         }
@@ -229,14 +268,14 @@ fn draw_by_sources<const OVER: bool>(
             let colour = &ColourSource::Planes(placed, planes);
             match depth {
                 DepthSource::Unused => {
-                    draw_by_mask(merge, &DepthSource::Unused, colour, p, mask, samples);
+                    draw_planes(merge, &DepthSource::Unused, colour, mask, samples);
                 }
                 DepthSource::Flat(z) => {
-                    draw_by_mask(merge, &DepthSource::Flat(*z), colour, p, mask, samples);
+                    draw_planes(merge, &DepthSource::Flat(*z), colour, mask, samples);
                 }
                 DepthSource::Plane(placed, plane) => {
                     let depth = &DepthSource::Plane(placed, plane);
-                    draw_by_mask(merge, depth, colour, p, mask, samples);
+                    draw_planes(merge, depth, colour, mask, samples);
                 }
             }
         }
@@ -248,37 +287,37 @@ fn draw_by_merge(
     merge: &Merge,
     depth: &DepthSource<'_>,
     colour: &ColourSource<'_>,
-    p: Point,
-    mask: u64,
-    samples: &mut BlockSamples,
+    mask: &BlockMask,
+    samples: &mut [BlockSamples],
 )
-    requires { IsOnScreen p }
-    ensures { (t : Triangle) → AreSourcesOf t merge.now depth.now colour.now → CoversMask t p mask → AreDrawn t p mask samples.old samples.new 0 64 }
+    requires { length samples.old ≡ count_of mask.now.count }
+    ensures drawn { (t : Triangle) → AreSourcesOf t merge.now depth.now colour.now → CoversBlock t mask.now → IsBlockDrawn t mask.now samples.old samples.new }
+    ensures samples { length samples.new ≡ length samples.old }
 {
     if !writes_all(merge) {
-        draw_by_mask(merge, depth, colour, p, mask, samples);
+        draw_planes(merge, depth, colour, mask, samples);
     } else if merge.over {
-        draw_by_sources::<true>(merge, depth, colour, p, mask, samples);
+        draw_by_sources::<true>(merge, depth, colour, mask, samples);
     } else {
-        draw_by_sources::<false>(merge, depth, colour, p, mask, samples);
+        draw_by_sources::<false>(merge, depth, colour, mask, samples);
     }
 }
 
 impl Interpolants {
-    /// Draws the triangle at samples of a block whose first sample is at `p`; bit k of `mask` tells whether pixel k (row k / 8,
-    /// column k % 8) is drawn.
-    pub fn draw(&self, p: Point, mask: u64, samples: &mut BlockSamples)
-        requires on_screen { IsOnScreen p }
-        requires covered { (k : ℕ) → k < 64 → IsBitSet mask k → Covers self.now.tri.a self.now.tri.b self.now.tri.c (position_in p k) }
-        ensures drawn { (k : ℕ) → k < 64 → IsBitSet mask k → IsDrawnAt self.now (position_in p k) (stored_at samples.old k) (stored_at samples.new k) }
-        ensures kept { (k : ℕ) → k < 64 → ¬ IsBitSet mask k → stored_at samples.new k ≡ stored_at samples.old k }
+    /// Draws the triangle at the samples of a block that are in the mask, each of which it covers. `samples` holds those of the
+    /// block, sample index by sample index.
+    pub fn draw(&self, mask: &BlockMask, samples: &mut [BlockSamples])
+        requires samples { length samples.old ≡ count_of mask.now.count }
+        requires covered { CoversBlock self.now mask.now }
+        ensures drawn { IsBlockDrawn self.now mask.now samples.old samples.new }
+        ensures samples { length samples.new ≡ length samples.old }
     {
         match self.way {
-            Way::Each => self.placed.draw_each(p, mask, samples),
+            Way::Each => self.placed.draw_each(mask, samples),
             Way::Groups(depth, colour) => {
                 let depth = depth.source(&self.placed, &self.depth);
                 let colour = colour.source(&self.placed, &self.colour);
-                draw_by_merge(&self.placed.state.merge, &depth, &colour, p, mask, samples);
+                draw_by_merge(&self.placed.state.merge, &depth, &colour, mask, samples);
             }
         }
     }

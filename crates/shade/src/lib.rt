@@ -4,6 +4,7 @@
 mod attribute_plane;
 mod blend;
 mod block;
+mod block_mask;
 mod candidates;
 mod colour_planes;
 mod correction;
@@ -32,6 +33,7 @@ mod weights;
 
 pub use blend::over;
 pub use block::BlockSamples;
+pub use block_mask::BlockMask;
 pub use depth::DepthTest;
 pub use gradient::Gradient;
 pub use interpolants::Interpolants;

@@ -1,8 +1,8 @@
 pub mod Places
+pub mod Cut
 pub mod Parts
 pub mod Bits
-pub mod Plane
-pub mod Planes
+pub mod BlockDrawn
 pub mod Rows
 pub mod Ends
 pub mod Shown

@@ -1,13 +1,16 @@
 -- What a triangle makes of the samples of a tile.
 use Rattle.std.specs.Prelude.{◌≡◌, ◌↔◌, ℕ, ◌+◌, ◌*◌, ◌<◌, ◌≤◌, List, slice_index, IsBitSet}
-use Rattle.grid.specs.Pixels.{side_of, IsInBox}
+use Rattle.grid.specs.Pixels.{side_of}
 use Rattle.grid.specs.Samples.{count_of}
 use Rattle.grid.specs.declared.triangle.Tri.{Tri}
+use Rattle.grid.specs.declared.pixels.TileSide.TheVariants.{T8}
 use Rattle.grid.specs.declared.sample_count.SampleCount.{SampleCount}
 use Rattle.shade.specs.declared.block.BlockSamples.{BlockSamples}
-use Rattle.cover.specs.Masks.{IsPlaneOf, CoversInBlock}
+use Rattle.shade.specs.declared.block_mask.BlockMask.{BlockMask}
+use Rattle.cover.specs.Masks.{IsPlaneOf}
+use Rattle.cover.specs.Square.{Place}
 use Rattle.shade.specs.declared.placed.Placed.{Placed}
-use Rattle.shade.specs.Placed.{Draws}
+use Rattle.shade.specs.Placed.{Meets, Draws}
 use Rattle.tile.specs.declared.tile.Tile.{Tile}
 use Rattle.tile.specs.Samples.{IsSampleOf, stored}
 
@@ -43,16 +46,19 @@ pub record LiesIn (tile : Tile) (bx by side : ℕ) : Type 0 where
   pub top : tile.by ≤ by
   pub bottom : 8 * by + side ≤ 8 * tile.by + side_of tile.side
 
--- Sample s of a pixel of block (bx, by).
-pub record IsInPlane (tile : Tile) (bx by s : ℕ) (row column s' : ℕ) : Type 0 where
-  pub block : IsInSquare tile bx by 8 row column s'
-  pub same_sample : s' ≡ s
+-- The samples of the tile, and a triangle.
+abbrev pub square_of : Tri → Tile → Place
+square_of t tile = record { triangle = t; bx = tile.bx; by = tile.by; side = tile.side; count = tile.count }
 
--- Bit 8 row + column tells whether the triangle covers sample s of that pixel of block (bx, by) and the pixel is in the scissor.
-abbrev pub IsMetPlane : Placed → ℕ → ℕ → SampleCount → ℕ → ℕ → Type 0
-IsMetPlane t bx by count s plane =
-    (row column : ℕ) → row < 8 → column < 8
-    → (IsBitSet plane (8 * row + column) ↔ (CoversInBlock t.tri bx by count s row column × IsInBox t.state.scissor (8 * bx + column) (8 * by + row)))
+-- The samples of block (bx, by) of the tile, and a triangle.
+abbrev pub block_of : Tri → Tile → ℕ → ℕ → Place
+block_of t tile bx by = record { triangle = t; bx = bx; by = by; side = T8; count = tile.count }
+
+-- The bits of the mask tell which samples of its block the triangle meets.
+abbrev pub AreMet : Placed → BlockMask → Type 0
+AreMet t m =
+    (row column s : ℕ) → row < 8 → column < 8 → s < count_of m.count
+    → (IsBitSet (slice_index m.plane s) (8 * row + column) ↔ Meets t m.count (8 * m.bx + column) (8 * m.by + row) s)
 
 -- The words tell which samples of block (bx, by) the triangle covers.
 abbrev pub ArePlanesOf : Tri → ℕ → ℕ → SampleCount → List ℕ → Type 0

@@ -1,77 +1,76 @@
 //! The samples of blocks of 8 by 8 pixels.
-ghost use Rattle.std.specs.Prelude.{◌≡◌, ◌↔◌, ◌+◌, ◌-◌, ◌*◌, ◌/◌, ◌%◌, ◌^◌, ◌<◌, ◌≤◌, ℕ, length, IsBitSet, IsTrue};
-ghost use Rattle.grid.specs.Pixels.{IsInBox, side_of};
+ghost use Rattle.std.specs.Prelude.{◌≡◌, ◌↔◌, ℕ, ◌+◌, ◌-◌, ◌*◌, ◌/◌, ◌%◌, ◌^◌, ◌<◌, length, slice_index, IsBitSet, IsTrue};
+ghost use Rattle.grid.specs.Pixels.{IsInBox};
 ghost use Rattle.grid.specs.Samples.{count_of};
 ghost use Rattle.cover.specs.Drawn.{IsDrawn};
-ghost use Rattle.tile.specs.Samples.{place_of, planes_of};
+ghost use Rattle.shade.specs.declared.placed.Placed.{Placed as Triangle};
+ghost use Rattle.tile.specs.Samples.{planes_of};
 ghost use Rattle.tile.specs.Region.{HoldsTile};
-ghost use Rattle.tile.specs.Drawing.{DrawsPart, IsInPlane, IsInSquare, LiesIn, ArePlanesOf, IsMetPlane};
+ghost use Rattle.tile.specs.Drawing.{DrawsPart, IsInSquare, LiesIn, ArePlanesOf, AreMet};
 
 use crate::scissor::in_scissor_of_tile;
 use crate::tile::Tile;
-use grid::sample_at;
-use shade::{BlockSamples, Interpolants};
+use grid::SampleCount;
+use shade::{BlockMask, BlockSamples, Interpolants, Placed};
 
-/// Whether sample `s` of a pixel is drawn.
+/// All pixels of a block where sample `s` of a pixel is drawn, and else none.
 #[inline]
-fn is_in_mask(triangle: &Interpolants, s: u32) -> bool
+fn in_sample_mask(triangle: &Placed, s: u32) -> u64
     requires { s < 4 }
-    ensures { IsTrue result ↔ (triangle.now.state.sample_mask / 2 ^ s % 2 ≡ 1) }
+    ensures { (k : ℕ) → k < 64 → (IsBitSet result k ↔ (triangle.now.state.sample_mask / 2 ^ s % 2 ≡ 1)) }
 {
-    (triangle.placed().state.sample_mask >> s) % 2 == 1
-}
-
-/// Draws the triangle at the samples `s` of block (bx, by), which are stored at `place`; the bits of `plane` tell which of them it
-/// covers in the scissor.
-#[inline]
-fn draw_plane(
-    triangle: &Interpolants,
-    tile: &Tile,
-    bx: u32,
-    by: u32,
-    s: u32,
-    place: usize,
-    plane: u64,
-    samples: &mut [BlockSamples],
-)
-    requires samples { length samples.old ≡ planes_of tile.now.side tile.now.count }
-    requires block { LiesIn tile.now bx by 8 }
-    requires sample { s < count_of tile.now.count }
-    requires place { place ≡ place_of tile.now (by - tile.now.by) (bx - tile.now.bx) s }
-    requires stored { place < length samples.old }
-    requires drawn { IsDrawn triangle.now.tri triangle.now.state.cull }
-    requires plane { IsMetPlane triangle.now bx by tile.now.count s plane }
-    ensures { DrawsPart triangle.now tile.now (IsInPlane tile.now bx by s) samples.old samples.new }
-{
-    if plane != 0 && is_in_mask(triangle, s) {
-        let first = sample_at(8 * bx, 8 * by, s, tile.count);
-        triangle.draw(first, plane, &mut samples[place]);
+    if (triangle.state.sample_mask >> s) % 2 == 1 {
+        u64::MAX
+    } else {
+        0
     }
 }
 
-/// Draws the triangle at the samples of block (bx, by); the bits of `planes` tell which of them it covers, and `whole` that all
+/// Which samples of block (bx, by) the triangle meets, of those that it covers; `scissor` tells which pixels are in the scissor.
+#[inline]
+fn met(triangle: &Placed, bx: u32, by: u32, count: SampleCount, covered: &[u64; 4], scissor: u64) -> BlockMask
+    requires column { bx < 512 }
+    requires row { by < 512 }
+    requires drawn { IsDrawn triangle.now.tri triangle.now.state.cull }
+    requires covered { ArePlanesOf triangle.now.tri bx by count covered.now }
+    requires scissor { (row column : ℕ) → row < 8 → column < 8 → (IsBitSet scissor (8 * row + column) ↔ IsInBox triangle.now.state.scissor (8 * bx + column) (8 * by + row)) }
+    ensures met { AreMet triangle.now result }
+    ensures block { (result.bx ≡ bx) × (result.by ≡ by) × (result.count ≡ count) }
+{
+    BlockMask {
+        bx,
+        by,
+        count,
+        plane: [
+            covered[0] & scissor & in_sample_mask(triangle, 0),
+            covered[1] & scissor & in_sample_mask(triangle, 1),
+            covered[2] & scissor & in_sample_mask(triangle, 2),
+            covered[3] & scissor & in_sample_mask(triangle, 3),
+        ],
+    }
+}
+
+/// Draws the triangle at the samples of block (bx, by); the bits of `covered` tell which of them it covers, and `whole` that all
 /// pixels of the tile are in the scissor.
 pub(crate) fn draw_block(
     triangle: &Interpolants,
     tile: &Tile,
     bx: u32,
     by: u32,
-    planes: &[u64; 4],
+    covered: &[u64; 4],
     whole: bool,
     samples: &mut [BlockSamples],
 )
     requires samples { length samples.old ≡ planes_of tile.now.side tile.now.count }
     requires block { LiesIn tile.now bx by 8 }
     requires drawn { IsDrawn triangle.now.tri triangle.now.state.cull }
-    requires covered { ArePlanesOf triangle.now.tri bx by tile.now.count planes.now }
+    requires covered { ArePlanesOf triangle.now.tri bx by tile.now.count covered.now }
     requires whole { IsTrue whole → HoldsTile triangle.now.state.scissor tile.now }
     ensures { DrawsPart triangle.now tile.now (IsInSquare tile.now bx by 8) samples.old samples.new }
 {
-    let scissor = in_scissor_of_tile(&triangle.placed().state.scissor, whole, tile, bx, by);
+    let placed = triangle.placed();
+    let scissor = in_scissor_of_tile(&placed.state.scissor, whole, tile, bx, by);
+    let mask = met(placed, bx, by, tile.count, covered, scissor);
     let first = tile.place(by - tile.by, bx - tile.bx, 0);
-    for s in 0..tile.count.count() {
-        let plane = planes[s as usize] & scissor;
-        let place = first + s as usize;
-        draw_plane(triangle, tile, bx, by, s, place, plane, samples);
-    }
+    triangle.draw(&mask, &mut samples[first..first + tile.count.count() as usize]);
 }

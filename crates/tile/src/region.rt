@@ -47,4 +47,14 @@ impl Region {
             bottom,
         }
     }
+
+    /// Whether these are all blocks of the tile.
+    #[inline]
+    pub(crate) fn has_all_of(&self, tile: &Tile) -> bool {
+        let blocks = tile.side.pixels() / 8;
+        self.left <= tile.bx
+            && tile.bx + blocks <= self.right
+            && self.top <= tile.by
+            && tile.by + blocks <= self.bottom
+    }
 }

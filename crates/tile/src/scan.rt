@@ -1,10 +1,10 @@
 //! The blocks of a tile that a triangle meets, row by row.
-ghost use Rattle.std.specs.Prelude.{◌≡◌, length, IfSome, None};
+ghost use Rattle.std.specs.Prelude.{◌≡◌, length, IfSome, IsTrue, None};
 ghost use Rattle.grid.specs.declared.pixels.TileSide.TheVariants.{T8};
 ghost use Rattle.cover.specs.Drawn.{IsDrawn};
-ghost use Rattle.cover.specs.Square.{CoversNone};
+ghost use Rattle.cover.specs.Square.{CoversAll, CoversNone, IsClassOf};
 ghost use Rattle.tile.specs.Samples.{planes_of};
-ghost use Rattle.tile.specs.Drawing.{DrawsTile, ArePlanesOf};
+ghost use Rattle.tile.specs.Drawing.{DrawsTile, ArePlanesOf, LiesIn, square_of, block_of};
 
 use crate::block::draw_block;
 use crate::region::Region;
@@ -37,6 +37,35 @@ fn planes(block: &Square) -> Option<[u64; 4]>
     }
 }
 
+/// Which samples of block (bx, by) of the tile the triangle covers, or none where it covers none of them; `all` says that it covers
+/// all samples of the tile.
+#[inline]
+fn covered(setup: &Setup, tile: &Tile, all: bool, bx: u32, by: u32) -> Option<[u64; 4]>
+    requires block { LiesIn tile.now bx by 8 }
+    requires all { IsTrue all → CoversAll (square_of setup.now tile.now) }
+    ensures some { IfSome result (ArePlanesOf setup.now bx by tile.now.count) }
+    ensures none { result ≡ None → CoversNone (block_of setup.now tile.now bx by) }
+{
+    if all {
+        Some(ALL)
+    } else {
+        planes(&setup.square(bx, by, TileSide::T8, tile.count))
+    }
+}
+
+/// What the triangle covers of the tile's samples, where the region has all of its blocks: a triangle that is narrow, or large,
+/// covers none or all of many tiles that its box meets. Where the region has few, each is asked by itself.
+#[inline]
+fn class_of_tile(setup: &Setup, tile: &Tile, region: &Region) -> Option<Class>
+    ensures { IfSome result (IsClassOf (square_of setup.now tile.now)) }
+{
+    if region.has_all_of(tile) {
+        Some(setup.classify(tile.bx, tile.by, tile.side, tile.count))
+    } else {
+        None
+    }
+}
+
 /// Draws the triangle at the samples of the tile that it meets: block by block of the region where its box and its scissor meet the
 /// tile. It is made ready at the first block that it does not leave out.
 fn draw_blocks(triangle: &Placed, setup: &Setup, tile: &Tile, samples: &mut [BlockSamples])
@@ -46,14 +75,18 @@ fn draw_blocks(triangle: &Placed, setup: &Setup, tile: &Tile, samples: &mut [Blo
     ensures { DrawsTile triangle.now tile.now samples.old samples.new }
 {
     let region = Region::of(tile, &setup.bounds(), &triangle.state.scissor);
+    let all = match class_of_tile(setup, tile, &region) {
+        Some(Class::Out) => return,
+        Some(Class::All) => true,
+        Some(Class::Mixed) | None => false,
+    };
     let whole = holds_tile(&triangle.state.scissor, tile);
     let mut interpolants = None;
     for by in region.top..region.bottom {
         for bx in region.left..region.right {
-            let block = setup.square(bx, by, TileSide::T8, tile.count);
-            if let Some(planes) = planes(&block) {
+            if let Some(covered) = covered(setup, tile, all, bx, by) {
                 let interpolants = interpolants.get_or_insert_with(|| Interpolants::new(triangle));
-                draw_block(interpolants, tile, bx, by, &planes, whole, samples);
+                draw_block(interpolants, tile, bx, by, &covered, whole, samples);
             }
         }
     }

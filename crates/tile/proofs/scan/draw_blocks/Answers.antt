@@ -5,11 +5,6 @@ use Rattle.tile.proofs.Rows.{one_more, next_row, scanned, block_missed}
 use Rattle.tile.proofs.scan.draw_blocks.Goals as goal
 use Rattle.tile.proofs.scan.draw_blocks.Goals.{in-Some, in_default}
 
-pub draw_block-requires-clause-covered : goal.draw_block-requires-clause-covered
-draw_block-requires-clause-covered c =
-    let made : c.get_or_insert_with-interpolants.result.now ≡ c.args.triangle.now = search rules in
-    rw made (rw (c.square-block.ensures, c.requires.setup) at c.in-Some.ensures.some)
-
 pub draw_block-requires-clause-whole : goal.draw_block-requires-clause-whole
 draw_block-requires-clause-whole c =
     let made : c.get_or_insert_with-interpolants.result.now ≡ c.args.triangle.now = search rules in
@@ -19,15 +14,15 @@ pub loop-bx-preserved : goal.loop-bx-preserved
 loop-bx-preserved c =
     let t = c.args.triangle.now in
     let tile = c.args.tile.now in
-    let more = one_more t tile c.of-region.result c.of-region.ensures.within c.loop-by.by c.loop-bx.bx c.args.samples.now c.loop-bx.samples c.match-planes.samples c.loop-bx.invariant.0 in
-    elim c.match-planes.branch [
+    let more = one_more t tile c.of-region.result c.of-region.ensures.within c.loop-by.by c.loop-bx.bx c.args.samples.now c.loop-bx.samples c.match-covered.samples c.loop-bx.invariant.0 in
+    elim c.match-covered.branch [
       | in-Some w ↦
           let made : w.get_or_insert_with-interpolants.result.now ≡ t = search rules in
-          let drawn : DrawsPart t tile (IsInSquare tile c.loop-bx.bx c.loop-by.by 8) c.loop-bx.samples c.match-planes.samples = rw w.samples-is (rw made at w.draw_block.ensures) in
-          let kept : IfSome c.match-planes.interpolants (λ (x : Placed). x ≡ t) = search rules in
+          let drawn : DrawsPart t tile (IsInSquare tile c.loop-bx.bx c.loop-by.by 8) c.loop-bx.samples c.match-covered.samples = rw w.samples-is (rw made at w.draw_block.ensures) in
+          let kept : IfSome c.match-covered.interpolants (λ (x : Placed). x ≡ t) = search rules in
           (more drawn (omega arith) (omega arith) (omega arith) (omega arith), kept)
       | in_default w ↦
-          let missed : DrawsPart t tile (IsInSquare tile c.loop-bx.bx c.loop-by.by 8) c.loop-bx.samples c.match-planes.samples = rw w.samples-is (block_missed t tile c.loop-bx.bx c.loop-by.by c.loop-bx.samples (rw (c.square-block.ensures, c.requires.setup) at (c.planes.ensures.none w.in_default.is))) in
+          let missed : DrawsPart t tile (IsInSquare tile c.loop-bx.bx c.loop-by.by 8) c.loop-bx.samples c.match-covered.samples = rw w.samples-is (block_missed t tile c.loop-bx.bx c.loop-by.by c.loop-bx.samples (rw c.requires.setup at (c.covered.ensures.none w.in_default.is))) in
           (more missed (omega arith) (omega arith) (omega arith) (omega arith), rw w.interpolants-is c.loop-bx.invariant.1)
     ]
 

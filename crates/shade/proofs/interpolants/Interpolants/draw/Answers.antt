@@ -1,4 +1,4 @@
-use Rattle.std.proofs.Common.{◌≡◌, subst, sym, ap, arith}
+use Rattle.std.proofs.Common.{◌≡◌, subst, sym, ap}
 use Rattle.shade.specs.declared.placed.Placed.{Placed}
 use Rattle.shade.specs.declared.sources.DepthSource.{DepthSource}
 use Rattle.shade.specs.declared.sources.ColourSource.{ColourSource}
@@ -24,13 +24,7 @@ sources t placed way p q d k depth colour same is e depth_of colour_of =
     }
 
 pub returns-in-Groups-clause-drawn : goal.returns-in-Groups-clause-drawn
-returns-in-Groups-clause-drawn c k l set =
+returns-in-Groups-clause-drawn c =
     let t = c.args.self.now in
     let i = c.self.inside in
-    (c.draw_by_merge.ensures t (sources t i.placed i.way i.depth i.colour c.in-Groups.depth c.in-Groups.colour c.source-depth.result c.source-colour.result c.self.view_is c.self.invariant c.in-Groups.is c.source-depth.ensures c.source-colour.ensures) c.requires.covered).drawn k (omega arith) (omega (arith, l)) set
-
-pub returns-in-Groups-clause-kept : goal.returns-in-Groups-clause-kept
-returns-in-Groups-clause-kept c k l clear =
-    let t = c.args.self.now in
-    let i = c.self.inside in
-    (c.draw_by_merge.ensures t (sources t i.placed i.way i.depth i.colour c.in-Groups.depth c.in-Groups.colour c.source-depth.result c.source-colour.result c.self.view_is c.self.invariant c.in-Groups.is c.source-depth.ensures c.source-colour.ensures) c.requires.covered).kept k (omega arith) (omega (arith, l)) clear
+    c.draw_by_merge.ensures.drawn t (sources t i.placed i.way i.depth i.colour c.in-Groups.depth c.in-Groups.colour c.source-depth.result c.source-colour.result c.self.view_is c.self.invariant c.in-Groups.is c.source-depth.ensures c.source-colour.ensures) c.requires.covered

@@ -1,9 +1,17 @@
-use Rattle.std.proofs.Common.{◌≡◌, ◌+◌, ◌*◌, arith, subst}
-use Rattle.shade.proofs.Blocks.{IsDrawnBefore, and_next}
+use Rattle.std.proofs.Common.{arith}
+use Rattle.shade.proofs.BlockPlanes.{none_done, and_plane}
 use Rattle.shade.proofs.placed.Placed.draw_each.Goals as goal
 
-pub loop-group-preserved : goal.loop-group-preserved
-loop-group-preserved c =
-    let next : 16 * c.loop-group.group + 16 ≡ 16 * (c.loop-group.group + 1) = omega arith in
-    subst (IsDrawnBefore c.args.self.now c.args.p c.args.mask _ _) next
-    (and_next c.args.self.now c.args.p c.args.mask _ _ _ (16 * c.loop-group.group) 16 (omega arith) c.loop-group.invariant c.draw_rows_each.ensures)
+pub draw_plane_each-requires-clause-covered : goal.draw_plane_each-requires-clause-covered
+draw_plane_each-requires-clause-covered c = rw c.first.ensures.value (c.requires.covered c.loop-s.s (omega (arith, c.count-s-end.ensures, c.loop-s-test.true)))
+
+pub loop-s-init : goal.loop-s-init
+loop-s-init c = none_done c.args.self.now c.args.mask.now c.args.samples.now
+
+pub loop-s-preserved : goal.loop-s-preserved
+loop-s-preserved c =
+    and_plane c.args.self.now c.args.mask.now c.args.samples.now c.loop-s.samples c.loop-s.s c.loop-s.invariant c.draw_plane_each.new.samples
+    (omega (arith, c.requires.samples, c.count-s-end.ensures, c.loop-s-test.true)) (rw c.first.ensures.value at c.draw_plane_each.ensures)
+
+pub returns-clause-drawn : goal.returns-clause-drawn
+returns-clause-drawn c s l = c.loop-s.invariant.done s (omega (arith, c.count-s-end.ensures, c.loop-s-test.false))

@@ -1,6 +1,5 @@
-use Rattle.std.proofs.Common.{◌*◌}
-use Rattle.shade.proofs.Blocks.{IsDrawnBefore}
+use Rattle.shade.proofs.BlockPlanes.{AreDoneBefore}
 use Rattle.shade.proofs.placed.Placed.draw_each.Given as goal
 
-abbrev pub invariant-loop-group : goal.invariant-loop-group
-invariant-loop-group l = IsDrawnBefore l.self l.p l.mask l.fn.samples l.samples (16 * l.group)
+abbrev pub invariant-loop-s : goal.invariant-loop-s
+invariant-loop-s l = AreDoneBefore l.self l.mask l.fn.samples l.samples l.s

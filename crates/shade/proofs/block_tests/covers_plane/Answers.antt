@@ -1,7 +1,7 @@
 use Rattle.std.proofs.Common.{below_more}
 use Rattle.shade.proofs.LaneNumbers.{is_one}
-use Rattle.shade.proofs.block_tests.covers_mask.Goals.{else-mask-k-eq1-via-then-mask-k-eq1+else-not-covers, else-mask-k-eq1-via-else-mask-k-eq1}
-use Rattle.shade.proofs.block_tests.covers_mask.Goals as goal
+use Rattle.shade.proofs.block_tests.covers_plane.Goals.{else-mask-k-eq1-via-then-mask-k-eq1+else-not-covers, else-mask-k-eq1-via-else-mask-k-eq1}
+use Rattle.shade.proofs.block_tests.covers_plane.Goals as goal
 
 pub loop-k-preserved : goal.loop-k-preserved
 loop-k-preserved c = below_more _ _ c.loop-k.invariant (λ set.
