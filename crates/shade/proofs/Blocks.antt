@@ -78,15 +78,6 @@ one_more t p mask old mid new k n room done next = record {
   above = λ j from l. next.above j (omega arith) l ∙ done.above j (omega arith) l;
 }
 
--- no sample is in the mask
-pub all_kept : (t : Placed) (p : Position) (mask : ℕ) (s : BlockSamples) → ((k : ℕ) → ¬ IsBitSet mask k) → AreDrawn t p mask s s 0 64
-all_kept t p mask s clear = record {
-  drawn = λ j from l set. absurd (clear j set);
-  kept = λ j from l is i. stored_at s j;
-  below = λ j l i. stored_at s j;
-  above = λ j from l i. stored_at s j;
-}
-
 -- all samples, of those before 64
 pub all_done : (t : Placed) (p : Position) (mask : ℕ) (old new : BlockSamples) → IsDrawnBefore t p mask old new 64 → AreDrawn t p mask old new 0 64
 all_done t p mask old new done = record {

@@ -66,6 +66,9 @@ impl Placed {
         requires covered { CoversMask self.now p mask }
         ensures { AreDrawn self.now p mask samples.old samples.new 0 64 }
     {
+        if mask == 0 {
+            return;
+        }
         for group in 0..4u64 {
             self.draw_rows_each(p, mask, group, samples);
         }

@@ -32,17 +32,15 @@ module _ (t : Placed) (bx by : ℕ) (count : SampleCount) (d : IsDrawn t.tri t.s
       let inner = both_set covered scissor k in
       let c = covers row column high wide in
       let i = inside row column high wide in
-      let m = masked k (omega arith) in
-      (λ set. record {
-        kept = d.kept;
-        covered = c.0 (inner.0 (outer.0 set).0).0;
-        in_scissor = i.0 (inner.0 (outer.0 set).0).1;
-        in_mask = m.0 (outer.0 set).1;
-      }, λ met. outer.1 (inner.1 (c.1 met.covered, i.1 met.in_scissor), m.1 met.in_mask))
-
-pub at_most_four : (count : SampleCount) → count_of count ≤ 4
-at_most_four One = omega arith
-at_most_four Four = omega arith
+      let m = masked k (omega arith) in (
+        λ set. record {
+          kept = d.kept;
+          covered = c.0 (inner.0 (outer.0 set).0).0;
+          in_scissor = i.0 (inner.0 (outer.0 set).0).1;
+          in_mask = m.0 (outer.0 set).1;
+        },
+        λ met. outer.1 (inner.1 (c.1 met.covered, i.1 met.in_scissor), m.1 met.in_mask),
+      )
 
 -- what holds of each sample index
 pub each_of_four : (P : ℕ → Type 0) → (n : ℕ) → n ≤ 4 → (0 < n → P 0) → (1 < n → P 1) → (2 < n → P 2) → (3 < n → P 3) → (s : ℕ) → s < n → P s

@@ -20,10 +20,10 @@ use Rattle.cover.specs.Square.{IsCorner, CoversAll, CoversNone}
 use Rattle.tile.specs.declared.tile.Tile.{Tile}
 use Rattle.tile.specs.declared.region.Region.{Region}
 use Rattle.tile.specs.Region.{IsRegionIn, IsInRegion, HoldsCommon, HoldsTile}
-use Rattle.tile.specs.Samples.{IsSampleOf, stored}
+use Rattle.tile.specs.Samples.{IsSampleOf}
 use Rattle.tile.specs.Drawing.{DrawsPart, DrawsTile, DrawsAt, IsInSquare, LiesIn, ArePlanesOf, square_of, block_of}
 use Rattle.tile.proofs.Bits.{is_set}
-use Rattle.tile.proofs.Parts.{no_part, missed_part, joined, same_part, draws_missed}
+use Rattle.tile.proofs.Parts.{no_part, missed_part, joined, same_part}
 
 -- the pixel is in the region, in a row of blocks before by, or in that row and before the column bx
 pub record IsBefore (tile : Tile) (r : Region) (by bx : ℕ) (row column s : ℕ) : Type 0 where
@@ -44,7 +44,7 @@ common_low m a b i e f g h k = omega (arith, ints, clamps)
 pub common_high : (m a b i : ℤ) → m ≡ int_min (to_z w32 (of_z w32 a)) (to_z w32 (of_z w32 b)) → FitsSigned w32 a → FitsSigned w32 b → i <ℤ a → i <ℤ b → i <ℤ to_z w32 (of_z w32 m)
 common_high m a b i e f g h k = omega (arith, ints, clamps)
 
-four_at_most : (count : SampleCount) → count_of count ≤ 4
+pub four_at_most : (count : SampleCount) → count_of count ≤ 4
 four_at_most One = omega arith
 four_at_most Four = omega arith
 
@@ -202,11 +202,6 @@ block_missed t tile bx by xs none = missed_part t tile _ xs (λ row column s h i
     let across : 8 * bx + (8 * tile.bx + column - 8 * bx) ≡ 8 * tile.bx + column = omega arith in
     let down : 8 * by + (8 * tile.by + row - 8 * by) ≡ 8 * tile.by + row = omega arith in
     none s (8 * tile.by + row - 8 * by) (8 * tile.bx + column - 8 * bx) h.is_sample (omega arith) (omega arith) (rw (across, down) m.covered))
-
--- no sample of the tile is covered
-pub tile_missed : (t : Placed) (tile : Tile) (xs : List BlockSamples) → CoversNone (square_of t.tri tile) → DrawsTile t tile xs xs
-tile_missed t tile xs none row column s h =
-    draws_missed t tile row column s (stored tile xs row column s) (λ m. none s row column h.is_sample h.high h.wide m.covered)
 
 -- all samples of the tile are covered, and so those of each of its blocks
 pub block_of_covered : (t : Tri) (tile : Tile) (bx by : ℕ) → LiesIn tile bx by 8 → CoversAll (square_of t tile) → CoversAll (block_of t tile bx by)

@@ -28,7 +28,14 @@ fn in_sample_mask(triangle: &Placed, s: u32) -> u64
 
 /// Which samples of block (bx, by) the triangle meets, of those that it covers; `scissor` tells which pixels are in the scissor.
 #[inline]
-fn met(triangle: &Placed, bx: u32, by: u32, count: SampleCount, covered: &[u64; 4], scissor: u64) -> BlockMask
+fn met(
+    triangle: &Placed,
+    bx: u32,
+    by: u32,
+    count: SampleCount,
+    covered: &[u64; 4],
+    scissor: u64,
+) -> BlockMask
     requires column { bx < 512 }
     requires row { by < 512 }
     requires drawn { IsDrawn triangle.now.tri triangle.now.state.cull }
@@ -72,5 +79,8 @@ pub(crate) fn draw_block(
     let scissor = in_scissor_of_tile(&placed.state.scissor, whole, tile, bx, by);
     let mask = met(placed, bx, by, tile.count, covered, scissor);
     let first = tile.place(by - tile.by, bx - tile.bx, 0);
-    triangle.draw(&mask, &mut samples[first..first + tile.count.count() as usize]);
+    triangle.draw(
+        &mask,
+        &mut samples[first..first + tile.count.count() as usize],
+    );
 }

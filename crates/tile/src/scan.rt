@@ -2,7 +2,7 @@
 ghost use Rattle.std.specs.Prelude.{◌≡◌, length, IfSome, IsTrue, None};
 ghost use Rattle.grid.specs.declared.pixels.TileSide.TheVariants.{T8};
 ghost use Rattle.cover.specs.Drawn.{IsDrawn};
-ghost use Rattle.cover.specs.Square.{CoversAll, CoversNone, IsClassOf};
+ghost use Rattle.cover.specs.Square.{CoversAll, CoversNone};
 ghost use Rattle.tile.specs.Samples.{planes_of};
 ghost use Rattle.tile.specs.Drawing.{DrawsTile, ArePlanesOf, LiesIn, square_of, block_of};
 
@@ -53,16 +53,18 @@ fn covered(setup: &Setup, tile: &Tile, all: bool, bx: u32, by: u32) -> Option<[u
     }
 }
 
-/// What the triangle covers of the tile's samples, where the region has all of its blocks: a triangle that is narrow, or large,
-/// covers none or all of many tiles that its box meets. Where the region has few, each is asked by itself.
+/// Whether the triangle covers all samples of the tile. It is asked only where the region has all of the tile's blocks, since a
+/// smaller triangle does not.
 #[inline]
-fn class_of_tile(setup: &Setup, tile: &Tile, region: &Region) -> Option<Class>
-    ensures { IfSome result (IsClassOf (square_of setup.now tile.now)) }
+fn covers_tile(setup: &Setup, tile: &Tile, region: &Region) -> bool
+    ensures { IsTrue result → CoversAll (square_of setup.now tile.now) }
 {
-    if region.has_all_of(tile) {
-        Some(setup.classify(tile.bx, tile.by, tile.side, tile.count))
-    } else {
-        None
+    if !region.has_all_of(tile) {
+        return false;
+    }
+    match setup.classify(tile.bx, tile.by, tile.side, tile.count) {
+        Class::All => true,
+        Class::Mixed | Class::Out => false,
     }
 }
 
@@ -75,11 +77,7 @@ fn draw_blocks(triangle: &Placed, setup: &Setup, tile: &Tile, samples: &mut [Blo
     ensures { DrawsTile triangle.now tile.now samples.old samples.new }
 {
     let region = Region::of(tile, &setup.bounds(), &triangle.state.scissor);
-    let all = match class_of_tile(setup, tile, &region) {
-        Some(Class::Out) => return,
-        Some(Class::All) => true,
-        Some(Class::Mixed) | None => false,
-    };
+    let all = covers_tile(setup, tile, &region);
     let whole = holds_tile(&triangle.state.scissor, tile);
     let mut interpolants = None;
     for by in region.top..region.bottom {
