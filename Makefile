@@ -2,7 +2,7 @@
 #
 #   make           prove what the program needs, and leave it at bin/trirast
 #   make demo      draw every list of examples/ to out/*.pnm, and to out/*.png where pnmtopng is installed
-#   make test      the merge gate: every proof from nothing, the must-fail edits, all tests, and the checks below to hostile
+#   make test      the merge gate: every proof from nothing, the must-fail edits, all tests, and the checks of make checks
 #   make library   prove and build the core for other programs: lib/libtrirast.a, lib/libtrirast.so and lib/trirast.pc
 #   make check-library      run the library, its header, python/trirast.py and their examples against the program
 #   make install   program, manual page, header, libraries, pkg-config file and schema below PREFIX (an absolute path,
@@ -12,7 +12,8 @@
 #   make schema    try the JSON Schema of the draw list
 #   make memory    refuse the program each growth of memory in turn
 #   make hostile   run the program where devices, threads and lists fail
-#   make checks    the gate's checks without its proofs: from compare to hostile, over bin/trirast
+#   make checks    the gate's checks without its proofs, over bin/trirast: compare, check-compare, schema, check-conformance,
+#                  memory, hostile, and the tests of the gate's counts and of the documents
 #   make races     run the program under valgrind; no part of the gate
 #   make bench     time the program on generated scenes
 #   make frames    build the program that times frames by themselves, for bench/llvmpipe.py

@@ -38,8 +38,8 @@ class Check:
     runs_program: bool = True
 
 
-def script(name):
-    return (sys.executable, os.path.join("scripts", name))
+def script(name, folder="scripts"):
+    return (sys.executable, os.path.join(folder, name))
 
 
 CHECKS = (
@@ -50,6 +50,7 @@ CHECKS = (
     Check("what generated lists cover", script("test_compare.py"), 5 * MINUTE, runs_program=False),
     Check("generated lists", script("compare.py"), 20 * MINUTE),
     Check("faults planted in the rules", script("plant_faults.py"), 20 * MINUTE),
+    Check("the comparison with drivers", script("test_conformance.py", "conformance"), 15 * MINUTE, runs_program=False),
     Check("refused memory", script("refuse_memory.py"), 10 * MINUTE),
     Check("hostile use", script("hostile.py"), 20 * MINUTE),
 )

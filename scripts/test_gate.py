@@ -127,6 +127,13 @@ class Gate(unittest.TestCase):
         self.assertEqual(self.total(self.rt("5 passed, 1 failed", status=1, builds=False), needs, PASSES), Counts(6, 2, 0))
         self.assertIn("there is no program to run", self.printed)
 
+    def test_the_checks_are_files_of_their_own(self):
+        for one in gate.CHECKS:
+            self.assertTrue(os.path.isfile(os.path.join(gate.TOP, one.words[1])), one.name)
+            self.assertGreater(one.seconds, 0, one.name)
+        names = [one.name for one in gate.CHECKS]
+        self.assertEqual(len(set(names)), len(names))
+
     def test_without_proofs_the_program_is_taken_as_it_is(self):
         needs = check("pass", runs_program=True)
         self.assertEqual(self.total("no such rt", needs, PASSES, with_proofs=False), Counts(1, 1, 0))
