@@ -12,8 +12,8 @@
 #   make schema    try the JSON Schema of the draw list
 #   make memory    refuse the program each growth of memory in turn
 #   make hostile   run the program where devices, threads and lists fail
-#   make checks    the gate's checks without its proofs, over bin/trirast: compare, check-compare, schema, check-conformance,
-#                  memory, hostile, and the tests of the gate's counts and of the documents
+#   make checks    the gate's checks without its proofs: compare, check-compare, schema, check-conformance, memory, hostile,
+#                  and the tests of the gate's counts and of the documents
 #   make races     run the program under valgrind; no part of the gate
 #   make bench     time the program on generated scenes
 #   make frames    build the program that times frames by themselves, for bench/llvmpipe.py
@@ -26,6 +26,7 @@ PYTHON ?= python3
 PREFIX ?= /usr/local
 
 PROGRAM := bin/trirast
+TILES := bin/refused_tiles
 SOURCES := crates.txt $(shell find crates -name out -prune -o -type f \( -name '*.rt' -o -name '*.antt' \) -print)
 LISTS := $(wildcard examples/*.json)
 PICTURES := $(LISTS:examples/%.json=out/%.pnm)
@@ -43,6 +44,10 @@ all: $(PROGRAM)
 $(PROGRAM): $(SOURCES)
 	cd crates/trirast_cli && $(RT) run < "$(CURDIR)/examples/triangle.json" > /dev/null
 	install -D -m 755 crates/trirast_cli/out/trirast_cli $@
+
+$(TILES): $(SOURCES)
+	cd crates/refused_tiles && $(RT) run < stdin > /dev/null
+	install -D -m 755 crates/refused_tiles/out/refused_tiles $@
 
 library: lib/libtrirast.a lib/libtrirast.so lib/trirast.pc
 
@@ -112,7 +117,7 @@ demo: $(PICTURES)
 test:
 	@$(PYTHON) scripts/gate.py --rt $(RT)
 
-checks: $(PROGRAM)
+checks: $(PROGRAM) $(TILES)
 	@$(PYTHON) scripts/gate.py --without-proofs
 
 compare: $(PROGRAM)
@@ -126,7 +131,7 @@ check-compare: $(PROGRAM)
 schema:
 	$(PYTHON) scripts/check_schema.py
 
-memory: $(PROGRAM)
+memory: $(PROGRAM) $(TILES)
 	$(PYTHON) scripts/refuse_memory.py
 
 hostile: $(PROGRAM)
