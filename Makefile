@@ -2,7 +2,7 @@
 #
 #   make           prove what the program needs, and leave it at bin/trirast
 #   make demo      draw every list of examples/ to out/*.pnm, and to out/*.png where pnmtopng is installed
-#   make test      the merge gate: every proof from nothing, the must-fail edits, all tests, and the checks below to hostile
+#   make test      the merge gate: every proof from nothing, the must-fail edits, all tests, and the checks of make checks
 #   make library   prove and build the core for other programs: lib/libtrirast.a, lib/libtrirast.so and lib/trirast.pc
 #   make check-library      run the library, its header, python/trirast.py and their examples against the program
 #   make install   program, manual page, header, libraries, pkg-config file and schema below PREFIX (an absolute path,
@@ -12,7 +12,8 @@
 #   make schema    try the JSON Schema of the draw list
 #   make memory    refuse the program each growth of memory in turn
 #   make hostile   run the program where devices, threads and lists fail
-#   make checks    the gate's checks without its proofs: from compare to hostile, over bin/trirast
+#   make checks    the gate's checks without its proofs: compare, check-compare, schema, check-conformance, memory, hostile,
+#                  and the tests of the gate's counts and of the documents
 #   make races     run the program under valgrind; no part of the gate
 #   make bench     time the program on generated scenes
 #   make frames    build the program that times frames by themselves, for bench/llvmpipe.py
@@ -25,6 +26,7 @@ PYTHON ?= python3
 PREFIX ?= /usr/local
 
 PROGRAM := bin/trirast
+TILES := bin/refused_tiles
 SOURCES := crates.txt $(shell find crates -name out -prune -o -type f \( -name '*.rt' -o -name '*.antt' \) -print)
 LISTS := $(wildcard examples/*.json)
 PICTURES := $(LISTS:examples/%.json=out/%.pnm)
@@ -42,6 +44,10 @@ all: $(PROGRAM)
 $(PROGRAM): $(SOURCES)
 	cd crates/trirast_cli && $(RT) run < "$(CURDIR)/examples/triangle.json" > /dev/null
 	install -D -m 755 crates/trirast_cli/out/trirast_cli $@
+
+$(TILES): $(SOURCES)
+	cd crates/refused_tiles && $(RT) run < stdin > /dev/null
+	install -D -m 755 crates/refused_tiles/out/refused_tiles $@
 
 library: lib/libtrirast.a lib/libtrirast.so lib/trirast.pc
 
@@ -111,7 +117,7 @@ demo: $(PICTURES)
 test:
 	@$(PYTHON) scripts/gate.py --rt $(RT)
 
-checks: $(PROGRAM)
+checks: $(PROGRAM) $(TILES)
 	@$(PYTHON) scripts/gate.py --without-proofs
 
 compare: $(PROGRAM)
@@ -125,7 +131,7 @@ check-compare: $(PROGRAM)
 schema:
 	$(PYTHON) scripts/check_schema.py
 
-memory: $(PROGRAM)
+memory: $(PROGRAM) $(TILES)
 	$(PYTHON) scripts/refuse_memory.py
 
 hostile: $(PROGRAM)

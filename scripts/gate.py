@@ -3,11 +3,11 @@
 
     scripts/gate.py [--rt rt] [--without-proofs]
 
-`rt ci` proves every crate from nothing and leaves the program that it built, which the checks then run, so nothing is
+`rt ci` proves every crate from nothing and leaves the programs that it built, which the checks then run, so nothing is
 proved twice. The last line is `N passed, M failed`, or `N passed, M failed, K skipped`, over all of them: what rt ci
 counts, and for each check the counts of its own last line, or one. A check is skipped where something of the system is
 missing, which it names; nothing is installed. Exit status 0 where nothing failed. With --without-proofs the checks run
-bin/trirast as it is. Python 3.8 or later, standard library alone.
+what stands in bin/. Python 3.8 or later, standard library alone.
 """
 
 import argparse
@@ -25,8 +25,8 @@ sys.path.insert(0, os.path.dirname(os.path.abspath(__file__)))
 from counts import MISSING, Counts
 
 TOP = os.path.dirname(os.path.dirname(os.path.abspath(__file__)))
-BUILT = os.path.join("crates", "trirast_cli", "out", "trirast_cli")
-PROGRAM = os.path.join("bin", "trirast")
+# The crates whose programs the checks run, and the names under which they stand in bin/.
+PROGRAMS = {"trirast_cli": "trirast", "refused_tiles": "refused_tiles"}
 MINUTE = 60
 
 
@@ -38,8 +38,8 @@ class Check:
     runs_program: bool = True
 
 
-def script(name):
-    return (sys.executable, os.path.join("scripts", name))
+def script(name, folder="scripts"):
+    return (sys.executable, os.path.join(folder, name))
 
 
 CHECKS = (
@@ -50,6 +50,7 @@ CHECKS = (
     Check("what generated lists cover", script("test_compare.py"), 5 * MINUTE, runs_program=False),
     Check("generated lists", script("compare.py"), 20 * MINUTE),
     Check("faults planted in the rules", script("plant_faults.py"), 20 * MINUTE),
+    Check("the comparison with drivers", script("test_conformance.py", "conformance"), 15 * MINUTE, runs_program=False),
     Check("refused memory", script("refuse_memory.py"), 10 * MINUTE),
     Check("hostile use", script("hostile.py"), 20 * MINUTE),
 )
@@ -120,20 +121,31 @@ def prove(rt, top):
     return counts
 
 
-def take_program(top, since):
-    """Puts the program that rt ci built where the checks look for it; whether it has built one since that time."""
-    built, program = os.path.join(top, BUILT), os.path.join(top, PROGRAM)
-    if not os.path.isfile(built) or os.path.getmtime(built) < since:
-        return False
-    os.makedirs(os.path.dirname(program), exist_ok=True)
-    shutil.copy(built, program)
+def built(top, crate):
+    """Where rt ci leaves the program of a crate."""
+    return os.path.join(top, "crates", crate, "out", crate)
+
+
+def program(top, name):
+    """Where the checks look for a program."""
+    return os.path.join(top, "bin", name)
+
+
+def take_programs(top, since):
+    """Puts the programs that rt ci built where the checks look for them; whether it has built each since that time."""
+    for crate in PROGRAMS:
+        if not os.path.isfile(built(top, crate)) or os.path.getmtime(built(top, crate)) < since:
+            return False
+    os.makedirs(os.path.join(top, "bin"), exist_ok=True)
+    for crate, name in PROGRAMS.items():
+        shutil.copy(built(top, crate), program(top, name))
     return True
 
 
-def try_check(check, top, has_program):
+def try_check(check, top, has_programs):
     """Runs a check. Its counts: those of its last line, or one."""
     say(f"{check.name}: {' '.join(check.words)}")
-    if check.runs_program and not has_program:
+    if check.runs_program and not has_programs:
         say(f"{check.name} FAILED: there is no program to run")
         return Counts(failed=1)
     ended = run(check.words, top, check.seconds)
@@ -157,12 +169,12 @@ def pass_gate(top, rt, checks, with_proofs=True):
     since = int(time.time())
     if with_proofs:
         total += prove(rt, top)
-        has_program = take_program(top, since)
+        has_programs = take_programs(top, since)
     else:
-        has_program = os.access(os.path.join(top, PROGRAM), os.X_OK)
+        has_programs = all(os.access(program(top, name), os.X_OK) for name in PROGRAMS.values())
     for check in checks:
         begun = time.monotonic()
-        counts = try_check(check, top, has_program)
+        counts = try_check(check, top, has_programs)
         say(f"{check.name}: {counts}, in {time.monotonic() - begun:.0f} s")
         total += counts
     return total
@@ -171,7 +183,7 @@ def pass_gate(top, rt, checks, with_proofs=True):
 def main():
     parser = argparse.ArgumentParser(description="The merge gate: every proof, and the checks that rt ci cannot hold.")
     parser.add_argument("--rt", default="rt", help="the toolchain's command (default rt)")
-    parser.add_argument("--without-proofs", action="store_true", help="the checks alone, over bin/trirast as it is")
+    parser.add_argument("--without-proofs", action="store_true", help="the checks alone, over what stands in bin/")
     words = parser.parse_args()
     # An asked end is one like Ctrl-C, so that what runs is ended too.
     signal.signal(signal.SIGTERM, lambda *_: sys.exit(143))

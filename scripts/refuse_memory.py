@@ -5,7 +5,8 @@ A run whose growth was refused ends in one of three ways: as it would have witho
 grows by less), or with status 1, the line `trirast: out of memory` and a beginning of the file that ends where a band
 ends, or, where the refused growth is the toolchain's own record of a thread that is to be started, with `trirast: pool
 fault 2 NoWorker`: a thread was not started then, and the toolchain does not say why. There is one such place in the
-program, and no other growth may be told so. Needs gcc. The last line is 'N passed, M failed'.
+program, and no other growth may be told so. bin/refused_tiles, which draws the tiles of a list in one store, goes on after a
+refusal: the tiles that follow are right. Needs gcc. The last line is 'N passed, M failed'.
 """
 
 import json
@@ -20,7 +21,9 @@ from dataclasses import dataclass
 import counts
 
 HERE = os.path.dirname(os.path.abspath(__file__))
-PROGRAM = os.path.join(os.path.dirname(HERE), "bin", "trirast")
+TOP = os.path.dirname(HERE)
+PROGRAM = os.path.join(TOP, "bin", "trirast")
+TILES = os.path.join(TOP, "bin", "refused_tiles")
 # With several workers two runs can ask for memory in another order, so one round that meets none is not the end.
 ROUNDS_THAT_MEET_NONE = 10
 
@@ -72,23 +75,23 @@ class Refusals(unittest.TestCase):
         source = os.path.join(HERE, "refuse_memory.c")
         subprocess.run(["gcc", "-O2", "-Wall", "-shared", "-fPIC", "-o", cls.shim, source, "-ldl"], check=True)
 
-    def run_once(self, number, words, text):
+    def run_once(self, number, words, text, program=PROGRAM):
         read_end, write_end = os.pipe()
         with open(read_end, "rb") as told:
             refused = {"LD_PRELOAD": self.shim, "REFUSE_MEMORY": str(number), "REFUSE_MEMORY_TELL": str(write_end)}
             how = {"capture_output": True, "timeout": 60, "env": {**os.environ, **refused}, "pass_fds": [write_end]}
             try:
-                done = subprocess.run([PROGRAM, *words], input=text, **how)
+                done = subprocess.run([program, *words], input=text, **how)
             finally:
                 os.close(write_end)
             return Run(told.read().decode() or None, done.stdout, done.stderr, done.returncode)
 
-    def runs(self, words, text):
+    def runs(self, words, text, program=PROGRAM):
         """A run for each growth, from the first on, that met its refusal."""
         found, number, met_none = [], 0, 0
         while met_none < ROUNDS_THAT_MEET_NONE:
             number += 1
-            run = self.run_once(number, words, text)
+            run = self.run_once(number, words, text, program)
             if run.place is None:
                 met_none += 1
             else:
@@ -198,7 +201,37 @@ class Words(Refusals):
         self.check_words(["--tile", "7"], 2, b"", b"trirast: command line refused\n")
 
 
+class Tiles(Refusals):
+    """A store in which a tile was refused memory draws the next tiles as the plain program does."""
+
+    def check_tiles(self, text, tiles):
+        def line(right, refused):
+            return f"{right} tiles right, 0 wrong, {refused} refused\n".encode()
+
+        none_refused, one_refused = (line(tiles, 0), 0), (line(tiles - 1, 1), 0)
+        told = subprocess.run([TILES], input=text, capture_output=True, timeout=60)
+        self.assertEqual((told.stdout, told.returncode), none_refused)
+        ends = [(run.output, run.status) for run in self.runs([], text, TILES)]
+        # Elsewhere than in a tile a refusal is status 1, or a list that could grow ahead of need grew by less.
+        self.assertLessEqual(set(ends), {none_refused, one_refused, (b"", 1)})
+        self.assertEqual(ends.count(one_refused), tiles)
+
+    def test_six_tiles_of_four_samples(self):
+        with open(os.path.join(TOP, "crates", "refused_tiles", "stdin"), "rb") as file:
+            self.check_tiles(file.read(), 6)
+
+    def test_nine_tiles_of_one_sample(self):
+        corners = [vertex(0, 0), vertex(6144, 0), vertex(0, 6144)]
+        self.check_tiles(json.dumps(scene(24, 24, {"vertices": corners, "triangles": [[0, 1, 2]]})).encode(), 9)
+
+    def test_four_tiles_of_depths(self):
+        corners = [[0, 0, 0, *WHITE], [2560, 0, 65535, *WHITE], [0, 2560, 300, *WHITE]]
+        draw = {"depth_test": "less", "depth_write": True, "vertices": corners, "triangles": [[0, 1, 2]]}
+        self.check_tiles(json.dumps({**scene(10, 10, draw), "output": "depth"}).encode(), 4)
+
+
 if __name__ == "__main__":
-    if not os.access(PROGRAM, os.X_OK):
-        sys.exit("refuse_memory.py: bin/trirast is not there; run make first")
+    for path in (PROGRAM, TILES):
+        if not os.access(path, os.X_OK):
+            sys.exit(f"refuse_memory.py: {os.path.relpath(path, TOP)} is not there; run make memory")
     counts.run_tests()

@@ -9,6 +9,7 @@ import json
 import math
 import os
 import random
+import re
 import sys
 import unittest
 from unittest import mock
@@ -121,6 +122,39 @@ class Ranges(unittest.TestCase):
         self.check_ends((len(value["draws"]) for value in LISTS + ENDS), 0, 1024)
         for key, most in (("vertices", 65536), ("triangles", 65536), ("strip", 65538), ("quads", 32768)):
             self.check_ends((len(draw[key]) for draw in draws() if key in draw), 0, most)
+
+    def test_indices(self):
+        indices = [k for draw in draws() for k in draw.get("strip", [])]
+        indices += [k for draw in draws() for key in ("triangles", "quads") for face in draw.get(key, []) for k in face]
+        self.check_ends(indices, 0, 65535)
+
+    def test_ends_of_the_band_are_drawn(self):
+        """Each end of a coordinate is that of a triangle with an area over the picture's first pixel."""
+        found = set()
+        for scene in SCENES:
+            for triangle in scene.triangles:
+                points = corners(triangle)
+                values = [side(a, b, (128, 128)) for a, b in zip(points, points[1:] + points[:1])]
+                if min(values) > 0 or max(values) < 0:
+                    found |= {(axis, point[axis]) for point in points for axis in (0, 1)}
+        self.assertLessEqual({(axis, end) for axis in (0, 1) for end in reference.BAND}, found)
+
+
+class Broken(unittest.TestCase):
+    """What is told of the broken lists. A list with too many of anything is none of them: scripts/hostile.py has those."""
+
+    def test_every_other_fault(self):
+        told = set()
+        for k in range(compare.LISTS):
+            try:
+                reference.read(compare.a_broken_text(random.Random(f"broken 1 {k}")))
+            except reference.ListFault as fault:
+                told.add(re.sub(r" in draw \d+", " in a draw", str(fault)))
+        anywhere = (reference.UNKNOWN_KEY, reference.MISSING_KEY, reference.WRONG_KIND, reference.OUT_OF_RANGE)
+        in_a_draw = (*anywhere, reference.BAD_INDEX, reference.TWO_LISTS, reference.NOT_CONVEX)
+        wanted = {f"trirast: list fault {number} {name}" for number, name in (reference.NOT_JSON, *anywhere)}
+        wanted |= {f"trirast: list fault {number} {name} in a draw" for number, name in in_a_draw}
+        self.assertEqual(told, wanted)
 
 
 class Shapes(unittest.TestCase):

@@ -50,17 +50,19 @@ class Gate(unittest.TestCase):
         folder = tempfile.TemporaryDirectory()
         self.addCleanup(folder.cleanup)
         self.top = folder.name
-        os.makedirs(os.path.join(self.top, os.path.dirname(gate.BUILT)))
+        for crate in gate.PROGRAMS:
+            os.makedirs(os.path.dirname(gate.built(self.top, crate)))
 
-    def rt(self, *lines, status=0, builds=True):
-        """A command that prints these lines and, as rt ci does, leaves a program."""
+    def rt(self, *lines, status=0, builds=None):
+        """A command that prints these lines and, as rt ci does, leaves the programs of these crates, by default of all."""
         path = os.path.join(self.top, "rt")
-        built = f"print('the program', file=open({os.path.join(self.top, gate.BUILT)!r}, 'w'))" if builds else ""
+        left = [gate.built(self.top, crate) for crate in (gate.PROGRAMS if builds is None else builds)]
         text = f"""\
             #!{sys.executable}
             import sys
             assert sys.argv[1:] == ["ci"]
-            {built}
+            for path in {left!r}:
+                print('the program', file=open(path, 'w'))
             print({chr(10).join(lines)!r})
             sys.exit({status})
             """
@@ -114,27 +116,38 @@ class Gate(unittest.TestCase):
         self.assertEqual(self.total(self.rt("5 passed, 0 failed"), endless, PASSES), Counts(6, 1, 0))
         self.assertIn("had not ended after 1 seconds", self.printed)
 
-    def test_checks_run_the_program_that_rt_built(self):
-        reads = check(f"assert open({gate.PROGRAM!r}).read() == 'the program\\n'", runs_program=True)
+    def test_checks_run_the_programs_that_rt_built(self):
+        paths = [gate.program(self.top, name) for name in gate.PROGRAMS.values()]
+        reads = check(f"for path in {paths!r}: assert open(path).read() == 'the program\\n'", runs_program=True)
         self.assertEqual(self.total(self.rt("5 passed, 0 failed"), reads), Counts(6, 0, 0))
 
     def test_a_program_of_another_run_is_not_taken(self):
-        built = os.path.join(self.top, gate.BUILT)
-        with open(built, "w", encoding="utf-8") as file:
-            file.write("an older program")
-        os.utime(built, (1, 1))
+        for crate in gate.PROGRAMS:
+            with open(gate.built(self.top, crate), "w", encoding="utf-8") as file:
+                file.write("an older program")
+            os.utime(gate.built(self.top, crate), (1, 1))
         needs = check("pass", runs_program=True)
-        self.assertEqual(self.total(self.rt("5 passed, 1 failed", status=1, builds=False), needs, PASSES), Counts(6, 2, 0))
-        self.assertIn("there is no program to run", self.printed)
+        some = list(gate.PROGRAMS)[:-1]
+        for builds in ((), some):
+            rt = self.rt("5 passed, 1 failed", status=1, builds=builds)
+            self.assertEqual(self.total(rt, needs, PASSES), Counts(6, 2, 0))
+            self.assertIn("there is no program to run", self.printed)
 
-    def test_without_proofs_the_program_is_taken_as_it_is(self):
+    def test_the_checks_are_files_of_their_own(self):
+        for one in gate.CHECKS:
+            self.assertTrue(os.path.isfile(os.path.join(gate.TOP, one.words[1])), one.name)
+            self.assertGreater(one.seconds, 0, one.name)
+        names = [one.name for one in gate.CHECKS]
+        self.assertEqual(len(set(names)), len(names))
+
+    def test_without_proofs_the_programs_are_taken_as_they_are(self):
         needs = check("pass", runs_program=True)
         self.assertEqual(self.total("no such rt", needs, PASSES, with_proofs=False), Counts(1, 1, 0))
-        program = os.path.join(self.top, gate.PROGRAM)
-        os.makedirs(os.path.dirname(program))
-        with open(program, "w", encoding="utf-8"):
-            pass
-        os.chmod(program, 0o755)
+        os.makedirs(os.path.join(self.top, "bin"))
+        for name in gate.PROGRAMS.values():
+            with open(gate.program(self.top, name), "w", encoding="utf-8"):
+                pass
+            os.chmod(gate.program(self.top, name), 0o755)
         self.assertEqual(self.total("no such rt", needs, PASSES, with_proofs=False), Counts(2, 0, 0))
 
 

@@ -51,4 +51,6 @@ mod block_tests;
 #[cfg(test)]
 mod plane_tests;
 #[cfg(test)]
+mod row_tests;
+#[cfg(test)]
 mod tests;

@@ -1,5 +1,5 @@
 use crate::{
-    DepthTest, Merge, Row, Sample, Shaded, Weights, apply, floor_at, mean_of_four, over, passes,
+    DepthTest, Merge, Sample, Shaded, Weights, apply, floor_at, mean_of_four, over, passes,
 };
 use grid::{Point, Tri};
 use std::process::Abort;
@@ -19,60 +19,6 @@ fn value_at(rt: &impl Abort, t: &Tri, at: (i32, i32), v: [u16; 3]) -> Option<u16
         Some(floor_at(t, p, v))
     } else {
         None
-    }
-}
-
-/// The value so many pixels to the right of `at`, by steps, or none where a point on the way is not covered.
-fn value_after(rt: &impl Abort, t: &Tri, at: (i32, i32), v: [u16; 3], steps: u32) -> Option<u16> {
-    let mut p = point(rt, at);
-    if !t.covers(p) {
-        return None;
-    }
-    let mut row = Row::start(t, p, v);
-    for _ in 0..steps {
-        let next = Point::new(p.x() + 256, p.y())?;
-        if !t.covers(next) {
-            return None;
-        }
-        row.step();
-        p = next;
-    }
-    Some(row.value())
-}
-
-#[test]
-fn steps_values_along_a_row(rt: HostRuntime) {
-    let t = triangle(&rt, (0, 0), (16640, 0), (0, 16640));
-    for (v, steps, value) in [
-        ([0, 255, 0], 0, 1),
-        ([0, 255, 0], 1, 5),
-        ([0, 255, 0], 2, 9),
-        ([0, 255, 0], 3, 13),
-        ([0, 255, 0], 4, 17),
-        ([0, 255, 0], 63, 249),
-        ([255, 0, 0], 0, 251),
-        ([255, 0, 0], 1, 247),
-        ([255, 0, 0], 2, 243),
-        ([255, 0, 0], 3, 239),
-        ([255, 0, 0], 4, 235),
-        ([255, 0, 0], 63, 3),
-    ] {
-        assert_eq!(rt;
-            value_after(&rt, &t, (128, 128), v, steps),
-            Some(value),
-            "{steps} steps"
-        );
-    }
-}
-
-// The greatest depth everywhere, over all 4096 pixels of a row.
-#[test]
-fn steps_equal_values_over_a_whole_row(rt: HostRuntime) {
-    let (near, far) = (-4_194_304, 4_194_303);
-    let t = triangle(&rt, (far, far), (near, far), (far, near));
-    for steps in [0, 1, 4095] {
-        let value = value_after(&rt, &t, (128, 128), [65_535, 65_535, 65_535], steps);
-        assert_eq!(rt; value, Some(65_535), "{steps} steps");
     }
 }
 
