@@ -4,6 +4,7 @@ use Rattle.std.specs.List.{range_with_len}
 use Rattle.std.specs.declared.thread.PromisedHandle.{PromisedHandle}
 use Rattle.grid.specs.declared.OutOfMemory.{OutOfMemory}
 use Rattle.pool.specs.declared.dealer.Dealer as Dealer
+use Rattle.pool.specs.declared.gate.Gate as Gate
 use Rattle.pool.specs.declared.job.Job as Job
 use Rattle.pool.specs.declared.worker.Harvest.{Harvest}
 use Rattle.pool.specs.declared.worker.WorksThrough.{WorksThrough}
@@ -44,9 +45,14 @@ module _ {D Seat : Type 0} (d : Dealer.Ghosts D Seat) {J Out Scratch : Type 0} (
   abbrev pub AreBrought : D → J → ℕ → List (Result (Harvest Seat Out) OutOfMemory) → Type 0
   AreBrought dealer job workers brought = EachFrom (IsBrought dealer job) 0 brought × (length brought ≡ workers)
 
-  -- the job can be done for each number that is dealt
-  abbrev pub CanWork : D → J → Type 0
-  CanWork dealer job = (k : ℕ) → k < d.count dealer → j.can_work job k
+  module _ {G : Type 0} (g : Gate.Ghosts G) where
+    -- the worker of this number can do the job for each number that is dealt, once it has entered for it
+    abbrev pub CanWork : D → J → G → ℕ → Type 0
+    CanWork dealer job gate worker = (k : ℕ) → k < d.count dealer → g.entered gate worker k → j.can_work job k
+
+    -- each of so many workers can
+    abbrev pub AllCanWork : D → J → G → ℕ → Type 0
+    AllCanWork dealer job gate workers = (worker : ℕ) → worker < workers → CanWork dealer job gate worker
 
 -- the worker of this number has promised to work for this dealer and this job
 abbrev pub IsPromised : {D J T : Type 0} → D → J → ℕ → PromisedHandle T (WorksThrough D J) → Type 0

@@ -1,9 +1,14 @@
 //! Where a worker passes before each piece of work.
+ghost use Rattle.std.specs.Prelude.{ℕ};
 
 /// Called by a worker before the work on each tile, with the number of its seat and the number of
 /// the tile. Tests watch the order in which workers take tiles by a gate of their own.
 pub trait Gate: Sync {
-    fn enter(&self, worker: u32, tile: u32);
+    /// What is known once the worker with this number has entered for this tile, and from then on. A job may ask for it.
+    ghost entered: { Self → ℕ → ℕ → Type 0 } = { λ _ _ _. Unit {0} };
+
+    fn enter(&self, worker: u32, tile: u32)
+        ensures { entered self.now worker tile };
 }
 
 /// The gate that does nothing.

@@ -45,7 +45,7 @@ pub(crate) fn work_through<D: Dealer, J: Job, G: Gate>(
     requires seat { D.fits dealer.now seat }
     requires number { D.number seat ≡ number }
     requires nothing { D.given seat ≡ [] }
-    requires can_work { CanWork D.Dealer J.Job dealer.now job.now }
+    requires can_work { CanWork D.Dealer J.Job G.Gate dealer.now job.now gate.now number }
     ensures { IfOk result (IsHarvest D.Dealer J.Job dealer.now job.now number) }
 {
     let mut scratch = job.scratch(alloc)?;

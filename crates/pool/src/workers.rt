@@ -1,6 +1,6 @@
 //! A run: the workers are started, each in a thread of its own, and joined.
 ghost use Rattle.std.specs.Prelude.{◌≡◌, ◌<◌, ◌≤◌, ℕ, true, [], IfOk, vec_len, vec_capacity};
-ghost use Rattle.pool.specs.Work.{EachFrom, IsHarvest, IsPromised, AreDealt, AreBrought, CanWork, RightInOrder};
+ghost use Rattle.pool.specs.Work.{EachFrom, IsHarvest, IsPromised, AreDealt, AreBrought, AllCanWork, CanWork, RightInOrder};
 
 use crate::answers::gather;
 use crate::dealer::Dealer;
@@ -27,7 +27,7 @@ fn start_all<'s, E, D: Dealer, J: Job, G: Gate>(
     seats: Vec<D::Seat>,
     workers: &mut Vec<Worker<D, J>>,
 ) -> bool
-    requires can_work { CanWork D.Dealer J.Job dealer.now job.now }
+    requires can_work { AllCanWork D.Dealer J.Job G.Gate dealer.now job.now gate.now (vec_len seats) }
     requires seats { AreDealt D.Dealer dealer.now seats.items }
     requires room { (vec_len workers.old ≡ 0) × (vec_len seats ≤ vec_capacity workers.old) }
     ensures promised { EachFrom (IsPromised dealer.now job.now) 0 workers.new.items }
@@ -44,7 +44,7 @@ fn start_all<'s, E, D: Dealer, J: Job, G: Gate>(
         let started = scope.spawn_with(
             promise,
             move || -> Brought<D, J>
-                requires { D.fits dealer.now seat × (D.number seat ≡ number) × (D.given seat ≡ []) × CanWork D.Dealer J.Job dealer.now job.now }
+                requires { D.fits dealer.now seat × (D.number seat ≡ number) × (D.given seat ≡ []) × CanWork D.Dealer J.Job G.Gate dealer.now job.now gate.now number }
                 ensures { IfOk result (IsHarvest D.Dealer J.Job dealer.entry.now job.entry.now number) }
             { work_through(alloc, dealer, job, gate, number, seat) },
         );
@@ -84,7 +84,7 @@ fn work_all<'s, E, R: Threads, D: Dealer, J: Job, G: Gate>(
     gate: &'s G,
     seats: Vec<D::Seat>,
 ) -> Result<Vec<Brought<D, J>>, PoolFault>
-    requires can_work { CanWork D.Dealer J.Job dealer.now job.now }
+    requires can_work { AllCanWork D.Dealer J.Job G.Gate dealer.now job.now gate.now (vec_len seats) }
     requires seats { AreDealt D.Dealer dealer.now seats.items }
     ensures { IfOk result (λ brought. AreBrought D.Dealer J.Job dealer.now job.now (vec_len seats) brought.items) }
 {
@@ -108,7 +108,7 @@ fn work_seats<'a, R: Threads + Wait + Sync, D: Dealer, J: Job, G: Gate>(
     gate: &'a G,
     seats: Vec<D::Seat>,
 ) -> Result<Vec<Brought<D, J>>, PoolFault>
-    requires can_work { CanWork D.Dealer J.Job dealer.now job.now }
+    requires can_work { AllCanWork D.Dealer J.Job G.Gate dealer.now job.now gate.now (vec_len seats) }
     requires seats { AreDealt D.Dealer dealer.now seats.items }
     ensures { IfOk result (λ brought. AreBrought D.Dealer J.Job dealer.now job.now (vec_len seats) brought.items) }
 {
@@ -116,7 +116,7 @@ fn work_seats<'a, R: Threads + Wait + Sync, D: Dealer, J: Job, G: Gate>(
         thread::scope_env(),
         rt,
         move |scope| -> Result<Vec<Brought<D, J>>, PoolFault>
-            requires { CanWork D.Dealer J.Job dealer.now job.now × AreDealt D.Dealer dealer.now seats.items }
+            requires { AllCanWork D.Dealer J.Job G.Gate dealer.now job.now gate.now (vec_len seats) × AreDealt D.Dealer dealer.now seats.items }
             ensures { IfOk result (λ brought. AreBrought D.Dealer J.Job dealer.entry.now job.entry.now (vec_len seats) brought.items) }
         { work_all(rt, alloc, scope, dealer, job, gate, seats) },
     )
@@ -125,7 +125,9 @@ fn work_seats<'a, R: Threads + Wait + Sync, D: Dealer, J: Job, G: Gate>(
 /// The answers of the job for the numbers below `n`, in their order.
 ///
 /// `workers` workers do it, each in a thread of its own with a seat and a scratch of its own. The
-/// calling thread does none of it and waits for them all, also where the answer is a fault.
+/// calling thread does none of it and waits for them all, also where the answer is a fault. A worker
+/// enters the gate for a number before it works on it, under the number of its seat: what the gate
+/// lets know then is there for the job to rest on.
 ///
 /// A fault comes only where a growth of memory was refused (`PoolFault::OutOfMemory`) or a thread
 /// was not started (`PoolFault::NoWorker`): dealing gives each number once, so there is no number
@@ -140,7 +142,7 @@ pub fn run<R: Threads + Wait + Sync, D: Dealer, J: Job, G: Gate>(
 ) -> Result<Vec<J::Out>, PoolFault>
     requires n { n ≤ 262144 }
     requires workers { (1 ≤ workers) × (workers ≤ 16) }
-    requires can_work { (k : ℕ) → k < n → J.can_work job.now k }
+    requires can_work { (worker k : ℕ) → worker < workers → k < n → G.entered gate.now worker k → J.can_work job.now k }
     ensures len { IfOk result (λ answers. vec_len answers ≡ n) }
     ensures right { IfOk result (λ answers. RightInOrder (J.right job.now) answers.items) }
 {

@@ -1,12 +1,14 @@
 //! When a worker passes the gate, and under which number.
-ghost use Rattle.std.specs.Prelude.{◌<◌};
+ghost use Rattle.std.specs.Prelude.{◌≡◌, ◌<◌, ℕ};
 
-use crate::{Desks, Gate, Job, Tickets, run};
+use crate::{Desks, Gate, Job, Open, PoolFault, Tickets, run};
 use grid::OutOfMemory;
 use std::alloc::Global;
+use std::sync::Wait;
 use std::sync::atomic::{AtomicU64, Ordering};
 use std::test::Fail;
 use std::thread;
+use std::thread::Threads;
 
 /// How many workers there are, and tiles.
 const WORKERS: u32 = 3;
@@ -117,5 +119,46 @@ fn a_worker_with_a_ticket_passes_before_its_work(rt: HostRuntime) -> Result<(), 
     let answers = run::<_, Tickets, _, _>(&rt, rt.alloc(), TILES, WORKERS, &watch, &watch)?;
     assert!(rt; answers.iter().all(|is_right| *is_right));
     assert!(rt; watch.scratches.load(Ordering::SeqCst) == 0x0101_0100);
+    Ok(())
+}
+
+/// Work on a number that may begin only once a worker has entered this gate for it.
+#[derive(Drop)]
+struct Behind<'a, G> {
+    gate: &'a G,
+}
+
+impl<G: Gate> Job for Behind<'_, G> {
+    type Out = u32;
+
+    type Scratch = ();
+
+    ghost right = { λ _ k answer. answer ≡ k };
+
+    ghost fits = { λ _ _. Unit {0} };
+
+    ghost can_work = { λ job k. (worker : ℕ) × G.entered job.gate.now worker k };
+
+    fn scratch(&self, _alloc: Global) -> Result<(), OutOfMemory> {
+        Ok(())
+    }
+
+    fn work(&self, _alloc: Global, k: u32, _scratch: &mut ()) -> Result<u32, OutOfMemory> {
+        Ok(k)
+    }
+}
+
+/// Three workers behind any gate: that each may begin is proved.
+fn work_behind<R: Threads + Wait + Sync, G: Gate>(
+    rt: &R,
+    alloc: Global,
+    gate: &G,
+) -> Result<Vec<u32>, PoolFault> {
+    run::<_, Desks, _, _>(rt, alloc, 4, 3, &Behind { gate }, gate)
+}
+
+#[test]
+fn work_that_asks_for_the_gate(rt: HostRuntime) -> Result<(), Fail> {
+    assert!(rt; work_behind(&rt, rt.alloc(), &Open)?.as_slice() == [0, 1, 2, 3].as_slice());
     Ok(())
 }

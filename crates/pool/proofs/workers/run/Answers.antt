@@ -5,6 +5,14 @@ use Rattle.std.proofs.lemmas.List.Elements.{All-weaker}
 use Rattle.std.proofs.lemmas.List.FromFn.{length-range_with_len}
 use Rattle.pool.proofs.workers.run.Goals as goal
 
+pub work_seats-requires-clause-can_work : goal.work_seats-requires-clause-can_work
+work_seats-requires-clause-can_work g c κs within = λ worker below k dealt entered.
+    let deal = c.in_ok-dealer.ensures in
+    let seats = c.in_ok-dealer.seats in
+    c.requires.can_work worker k
+    (omega (arith, below, seats.ok, ap length deal.seats, length-map seats.items g.D.Dealer.number, length-range_with_len 0 c.args.workers))
+    (omega (arith, dealt, deal.dealer.0)) entered
+
 pub work_seats-requires-clause-seats : goal.work_seats-requires-clause-seats
 work_seats-requires-clause-seats g c κs within =
     let deal = c.in_ok-dealer.ensures in
