@@ -25,6 +25,7 @@ PYTHON ?= python3
 PREFIX ?= /usr/local
 
 PROGRAM := bin/trirast
+READER := crates/list_bench/out/list_bench
 SOURCES := crates.txt $(shell find crates -name out -prune -o -type f \( -name '*.rt' -o -name '*.antt' \) -print)
 LISTS := $(wildcard examples/*.json)
 PICTURES := $(LISTS:examples/%.json=out/%.pnm)
@@ -111,7 +112,7 @@ demo: $(PICTURES)
 test:
 	@$(PYTHON) scripts/gate.py --rt $(RT)
 
-checks: $(PROGRAM)
+checks: $(PROGRAM) $(READER)
 	@$(PYTHON) scripts/gate.py --without-proofs
 
 compare: $(PROGRAM)
@@ -125,7 +126,10 @@ check-compare: $(PROGRAM)
 schema:
 	$(PYTHON) scripts/check_schema.py
 
-memory: $(PROGRAM)
+$(READER): $(SOURCES)
+	cd crates/list_bench && $(RT) run < "$(CURDIR)/examples/triangle.json" > /dev/null
+
+memory: $(PROGRAM) $(READER)
 	$(PYTHON) scripts/refuse_memory.py
 
 hostile: $(PROGRAM)

@@ -5,9 +5,11 @@ A run whose growth was refused ends in one of three ways: as it would have witho
 grows by less), or with status 1, the line `trirast: out of memory` and a beginning of the file that ends where a band
 ends, or, where the refused growth is the toolchain's own record of a thread that is to be started, with `trirast: pool
 fault 2 NoWorker`: a thread was not started then, and the toolchain does not say why. There is one such place in the
-program, and no other growth may be told so. Needs gcc. The last line is 'N passed, M failed'.
+program, and no other growth may be told so. The program's line has no draw, so which draw is told with want of memory is
+seen by crates/list_bench, which prints it. Needs gcc. The last line is 'N passed, M failed'.
 """
 
+import itertools
 import json
 import os
 import shutil
@@ -20,7 +22,9 @@ from dataclasses import dataclass
 import counts
 
 HERE = os.path.dirname(os.path.abspath(__file__))
-PROGRAM = os.path.join(os.path.dirname(HERE), "bin", "trirast")
+TOP = os.path.dirname(HERE)
+PROGRAM = os.path.join(TOP, "bin", "trirast")
+READER = os.path.join(TOP, "crates", "list_bench", "out", "list_bench")
 # With several workers two runs can ask for memory in another order, so one round that meets none is not the end.
 ROUNDS_THAT_MEET_NONE = 10
 
@@ -64,6 +68,8 @@ class Run:
 
 @unittest.skipUnless(shutil.which("gcc"), "gcc is not there")
 class Refusals(unittest.TestCase):
+    program = PROGRAM
+
     @classmethod
     def setUpClass(cls):
         folder = tempfile.TemporaryDirectory()
@@ -78,7 +84,7 @@ class Refusals(unittest.TestCase):
             refused = {"LD_PRELOAD": self.shim, "REFUSE_MEMORY": str(number), "REFUSE_MEMORY_TELL": str(write_end)}
             how = {"capture_output": True, "timeout": 60, "env": {**os.environ, **refused}, "pass_fds": [write_end]}
             try:
-                done = subprocess.run([PROGRAM, *words], input=text, **how)
+                done = subprocess.run([self.program, *words], input=text, **how)
             finally:
                 os.close(write_end)
             return Run(told.read().decode() or None, done.stdout, done.stderr, done.returncode)
@@ -183,6 +189,37 @@ class Lists(Refusals):
     def test_too_many_draws(self):
         draws = [{"vertices": [], "triangles": []}] * 1025
         self.check_fault(json.dumps(scene(1, 1, *draws)).encode(), b"trirast: list fault 7 TooMany\n")
+
+
+@unittest.skipUnless(os.access(READER, os.X_OK), "crates/list_bench is not built")
+class Draws(Refusals):
+    """Want of memory is told with the draw that was being read, and without one before the first draw and after the last."""
+
+    program = READER
+    FIRST_DRAW = {"vertices": FIRST, "triangles": [[0, 1, 2]]}
+
+    def told(self, second, line):
+        """What is told in place of this line where a growth is refused, in turn, without repeats."""
+        # The draws stand first, so that the list is read by its JSON value: the one pass tells no fault.
+        text = json.dumps({"draws": [self.FIRST_DRAW, second], "height": 3, "width": 3}).encode()
+        answers = [run.output.splitlines()[0] for run in self.runs([], text) if run.output]
+        return [answer for answer, _ in itertools.groupby(answer for answer in answers if answer != line)]
+
+    def test_two_draws(self):
+        no_memory = b"no list: fault 8 OutOfMemory"
+        told = self.told(self.FIRST_DRAW, b"a list of 2 triangles")
+        self.assertEqual(told, [no_memory, no_memory + b" in draw 0", no_memory + b" in draw 1", no_memory])
+
+    def test_checks_before_the_vertices_of_the_second_draw(self):
+        no_memory = b"no list: fault 8 OutOfMemory"
+        fault = b"no list: fault 2 UnknownKey in draw 1"
+        self.assertEqual(self.told({**self.FIRST_DRAW, "fog": 1}, fault), [no_memory, no_memory + b" in draw 0"])
+
+    def test_vertices_of_the_second_draw(self):
+        no_memory = b"no list: fault 8 OutOfMemory"
+        fault = b"no list: fault 4 WrongKind in draw 1"
+        told = self.told({"vertices": [[0]], "triangles": []}, fault)
+        self.assertEqual(told, [no_memory, no_memory + b" in draw 0", no_memory + b" in draw 1"])
 
 
 class Words(Refusals):
