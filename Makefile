@@ -27,6 +27,7 @@ PREFIX ?= /usr/local
 
 PROGRAM := bin/trirast
 TILES := bin/refused_tiles
+READER := bin/list_bench
 SOURCES := crates.txt $(shell find crates -name out -prune -o -type f \( -name '*.rt' -o -name '*.antt' \) -print)
 LISTS := $(wildcard examples/*.json)
 PICTURES := $(LISTS:examples/%.json=out/%.pnm)
@@ -117,7 +118,7 @@ demo: $(PICTURES)
 test:
 	@$(PYTHON) scripts/gate.py --rt $(RT)
 
-checks: $(PROGRAM) $(TILES)
+checks: $(PROGRAM) $(TILES) $(READER)
 	@$(PYTHON) scripts/gate.py --without-proofs
 
 compare: $(PROGRAM)
@@ -131,7 +132,11 @@ check-compare: $(PROGRAM)
 schema:
 	$(PYTHON) scripts/check_schema.py
 
-memory: $(PROGRAM) $(TILES)
+$(READER): $(SOURCES)
+	cd crates/list_bench && $(RT) run < "$(CURDIR)/examples/triangle.json" > /dev/null
+	install -D -m 755 crates/list_bench/out/list_bench $@
+
+memory: $(PROGRAM) $(TILES) $(READER)
 	$(PYTHON) scripts/refuse_memory.py
 
 hostile: $(PROGRAM)

@@ -26,7 +26,7 @@ from counts import MISSING, Counts
 
 TOP = os.path.dirname(os.path.dirname(os.path.abspath(__file__)))
 # The crates whose programs the checks run, and the names under which they stand in bin/.
-PROGRAMS = {"trirast_cli": "trirast", "refused_tiles": "refused_tiles"}
+PROGRAMS = {"trirast_cli": "trirast", "refused_tiles": "refused_tiles", "list_bench": "list_bench"}
 MINUTE = 60
 
 

@@ -6,9 +6,11 @@ grows by less), or with status 1, the line `trirast: out of memory` and a beginn
 ends, or, where the refused growth is the toolchain's own record of a thread that is to be started, with `trirast: pool
 fault 2 NoWorker`: a thread was not started then, and the toolchain does not say why. There is one such place in the
 program, and no other growth may be told so. bin/refused_tiles, which draws the tiles of a list in one store, goes on after a
-refusal: the tiles that follow are right. Needs gcc. The last line is 'N passed, M failed'.
+refusal: the tiles that follow are right. The program's line has no draw, so which draw is told with want of memory is
+seen by crates/list_bench, which prints it. Needs gcc. The last line is 'N passed, M failed'.
 """
 
+import itertools
 import json
 import os
 import shutil
@@ -24,6 +26,7 @@ HERE = os.path.dirname(os.path.abspath(__file__))
 TOP = os.path.dirname(HERE)
 PROGRAM = os.path.join(TOP, "bin", "trirast")
 TILES = os.path.join(TOP, "bin", "refused_tiles")
+READER = os.path.join(TOP, "bin", "list_bench")
 # With several workers two runs can ask for memory in another order, so one round that meets none is not the end.
 ROUNDS_THAT_MEET_NONE = 10
 
@@ -67,6 +70,8 @@ class Run:
 
 @unittest.skipUnless(shutil.which("gcc"), "gcc is not there")
 class Refusals(unittest.TestCase):
+    program = PROGRAM
+
     @classmethod
     def setUpClass(cls):
         folder = tempfile.TemporaryDirectory()
@@ -75,23 +80,23 @@ class Refusals(unittest.TestCase):
         source = os.path.join(HERE, "refuse_memory.c")
         subprocess.run(["gcc", "-O2", "-Wall", "-shared", "-fPIC", "-o", cls.shim, source, "-ldl"], check=True)
 
-    def run_once(self, number, words, text, program=PROGRAM):
+    def run_once(self, number, words, text):
         read_end, write_end = os.pipe()
         with open(read_end, "rb") as told:
             refused = {"LD_PRELOAD": self.shim, "REFUSE_MEMORY": str(number), "REFUSE_MEMORY_TELL": str(write_end)}
             how = {"capture_output": True, "timeout": 60, "env": {**os.environ, **refused}, "pass_fds": [write_end]}
             try:
-                done = subprocess.run([program, *words], input=text, **how)
+                done = subprocess.run([self.program, *words], input=text, **how)
             finally:
                 os.close(write_end)
             return Run(told.read().decode() or None, done.stdout, done.stderr, done.returncode)
 
-    def runs(self, words, text, program=PROGRAM):
+    def runs(self, words, text):
         """A run for each growth, from the first on, that met its refusal."""
         found, number, met_none = [], 0, 0
         while met_none < ROUNDS_THAT_MEET_NONE:
             number += 1
-            run = self.run_once(number, words, text, program)
+            run = self.run_once(number, words, text)
             if run.place is None:
                 met_none += 1
             else:
@@ -188,6 +193,36 @@ class Lists(Refusals):
         self.check_fault(json.dumps(scene(1, 1, *draws)).encode(), b"trirast: list fault 7 TooMany\n")
 
 
+class Draws(Refusals):
+    """Want of memory is told with the draw that was being read, and without one before the first draw and after the last."""
+
+    program = READER
+    FIRST_DRAW = {"vertices": FIRST, "triangles": [[0, 1, 2]]}
+
+    def told(self, second, line):
+        """What is told in place of this line where a growth is refused, in turn, without repeats."""
+        # The draws stand first, so that the list is read by its JSON value: the one pass tells no fault.
+        text = json.dumps({"draws": [self.FIRST_DRAW, second], "height": 3, "width": 3}).encode()
+        answers = [run.output.splitlines()[0] for run in self.runs([], text) if run.output]
+        return [answer for answer, _ in itertools.groupby(answer for answer in answers if answer != line)]
+
+    def test_two_draws(self):
+        no_memory = b"no list: fault 8 OutOfMemory"
+        told = self.told(self.FIRST_DRAW, b"a list of 2 triangles")
+        self.assertEqual(told, [no_memory, no_memory + b" in draw 0", no_memory + b" in draw 1", no_memory])
+
+    def test_checks_before_the_vertices_of_the_second_draw(self):
+        no_memory = b"no list: fault 8 OutOfMemory"
+        fault = b"no list: fault 2 UnknownKey in draw 1"
+        self.assertEqual(self.told({**self.FIRST_DRAW, "fog": 1}, fault), [no_memory, no_memory + b" in draw 0"])
+
+    def test_vertices_of_the_second_draw(self):
+        no_memory = b"no list: fault 8 OutOfMemory"
+        fault = b"no list: fault 4 WrongKind in draw 1"
+        told = self.told({"vertices": [[0]], "triangles": []}, fault)
+        self.assertEqual(told, [no_memory, no_memory + b" in draw 0", no_memory + b" in draw 1"])
+
+
 class Words(Refusals):
     def check_words(self, words, status, output, line):
         for run in self.cut_runs(words, b"", status, output, line):
@@ -204,6 +239,8 @@ class Words(Refusals):
 class Tiles(Refusals):
     """A store in which a tile was refused memory draws the next tiles as the plain program does."""
 
+    program = TILES
+
     def check_tiles(self, text, tiles):
         def line(right, refused):
             return f"{right} tiles right, 0 wrong, {refused} refused\n".encode()
@@ -211,7 +248,7 @@ class Tiles(Refusals):
         none_refused, one_refused = (line(tiles, 0), 0), (line(tiles - 1, 1), 0)
         told = subprocess.run([TILES], input=text, capture_output=True, timeout=60)
         self.assertEqual((told.stdout, told.returncode), none_refused)
-        ends = [(run.output, run.status) for run in self.runs([], text, TILES)]
+        ends = [(run.output, run.status) for run in self.runs([], text)]
         # Elsewhere than in a tile a refusal is status 1, or a list that could grow ahead of need grew by less.
         self.assertLessEqual(set(ends), {none_refused, one_refused, (b"", 1)})
         self.assertEqual(ends.count(one_refused), tiles)
@@ -231,7 +268,7 @@ class Tiles(Refusals):
 
 
 if __name__ == "__main__":
-    for path in (PROGRAM, TILES):
+    for path in (PROGRAM, TILES, READER):
         if not os.access(path, os.X_OK):
             sys.exit(f"refuse_memory.py: {os.path.relpath(path, TOP)} is not there; run make memory")
     counts.run_tests()

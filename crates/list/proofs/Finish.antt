@@ -6,9 +6,10 @@ use Rattle.list.specs.declared.fault.ReadKind.TheVariants.{NotJson, UnknownKey, 
 use Rattle.list.specs.declared.fault.ReadFault.{ReadFault}
 use Rattle.list.specs.Json.{json_of}
 use Rattle.list.specs.Scene.{Scene}
-use Rattle.list.specs.Place.{Place, first_fault, IsFirstFault, ReadsAll}
+use Rattle.list.specs.Place.{Place, AllPass, first_fault, IsFirstFault, ReadsAll}
 use Rattle.list.specs.Checks.{places, value_places}
 use Rattle.list.specs.Denotes.{IsDrawList, Denotes}
+use Rattle.list.proofs.Faults.{all_pass}
 use Rattle.list.proofs.Passes.{listing_passes}
 use Rattle.list.proofs.OneValue.{same_some}
 use Rattle.list.proofs.OneList.{denotes-unique}
@@ -58,3 +59,7 @@ module _ (bytes : List ℕ) (d : Data) (json : json_of bytes ≡ Some d) where
 
 pub not_denoted : (bytes : List ℕ) → json_of bytes ≡ None → (l : Scene) → Denotes bytes l → ⊥
 not_denoted bytes none l denotes = some_none (json_of bytes) denotes.value denotes.json none
+
+-- bytes that denote a list fail no check
+pub denoted_passes : (bytes : List ℕ) (l : Scene) → Denotes bytes l → AllPass (places (json_of bytes))
+denoted_passes bytes l denotes = rw denotes.json (refl, all_pass (value_places denotes.value) (listing_passes denotes.value denotes.is.listing denotes.is.is))

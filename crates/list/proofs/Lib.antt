@@ -18,6 +18,7 @@ pub mod Draws
 pub mod Passes
 pub mod Bytes
 pub mod Finish
+pub mod Memory
 pub mod Reached
 pub mod Accepted
 pub mod Words

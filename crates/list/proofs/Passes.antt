@@ -3,7 +3,7 @@ use Rattle.std.proofs.Common.{◌≡◌, ℕ, ◌+◌, ◌≤◌, ℤ, pos, negs
 use Rattle.std.proofs.lemmas.Int.{ints}
 use Rattle.std.proofs.lemmas.List.Sums.{sum_by-append}
 use Rattle.std.proofs.lemmas.Bool.Decides.{nat_tests}
-use Rattle.std.specs.Option.{option_or, option_map}
+use Rattle.std.specs.Option.{option_map}
 use Rattle.serde_json.specs.Data.{Data, Items, no_items, item}
 use Rattle.serde_json.specs.Find.{get, at, as_object}
 use Rattle.grid.specs.Position.{Position, IsInBand}
@@ -31,10 +31,7 @@ use Rattle.list.specs.Denotes.{Each, OrDefault, IsWhole, IsDepthNumber, IsTruth,
 use Rattle.list.proofs.Convex.{convex_is_true, convex_is_false}
 use Rattle.list.proofs.Corners.{same_places, same_corner}
 use Rattle.list.proofs.Counts.{items_len_each, given_is}
-use Rattle.list.proofs.Faults.{first_fault_of_both, first_fault_told_as}
-
-both_pass : {T : Type 0} (ps qs : List (Place T)) → first_fault ps ≡ None → first_fault qs ≡ None → first_fault (ps ++ qs) ≡ None
-both_pass ps qs p q = first_fault_of_both ps qs ∙ (ap (λ o. option_or o (first_fault qs)) p ∙ q)
+use Rattle.list.proofs.Faults.{first_fault_told_as, both_pass}
 
 told_pass : {T U : Type 0} (f : T → U) (ps : List (Place T)) → first_fault ps ≡ None → first_fault (told_as f ps) ≡ None
 told_pass f ps p = first_fault_told_as f ps ∙ ap (option_map f) p

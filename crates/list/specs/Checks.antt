@@ -1,19 +1,19 @@
 -- The checks of a draw list, in their order.
-use Rattle.std.specs.Prelude.{◌≡◌, ℕ, ◌+◌, ◌||◌, ◌&&◌, ◌==◌, ℤ, pos, negsuc, int_le, ◌-ℤ◌, List, [], ◌∷◌, ◌++◌, Bool, true, false, not, nat_lt, ◌<◌, IfSome, Option, Some, None, is_some, is_none, unwrap_or, unsigned_abs, int_lt, slice_index_or, length, map, codes}
+use Rattle.std.specs.Prelude.{◌≡◌, ℕ, ◌+◌, ◌||◌, ◌&&◌, ◌==◌, ℤ, pos, negsuc, int_le, ◌-ℤ◌, List, [], ◌∷◌, ◌++◌, Bool, true, false, not, nat_lt, IfSome, Option, Some, None, is_some, is_none, unwrap_or, unsigned_abs, int_lt, slice_index_or, length, map, codes}
 use Rattle.std.specs.Option.{option_map_or}
 use Rattle.std.specs.Ordering.{int_eq}
 use Rattle.serde_json.specs.Data.{Data, Items, no_items, item}
-use Rattle.serde_json.specs.Find.{get, at, as_object}
+use Rattle.serde_json.specs.Find.{get, get_item, at, as_object}
 use Rattle.list.specs.declared.draw.Vertex.{Vertex}
 use Rattle.list.specs.declared.fault.ReadKind.{ReadKind}
-use Rattle.list.specs.declared.fault.ReadKind.TheVariants.{NotJson, UnknownKey, MissingKey, WrongKind, OutOfRange, BadIndex, TooMany, TwoLists, NotConvex}
+use Rattle.list.specs.declared.fault.ReadKind.TheVariants.{NotJson, UnknownKey, MissingKey, WrongKind, OutOfRange, BadIndex, TooMany, OutOfMemory, TwoLists, NotConvex}
 use Rattle.list.specs.declared.fault.ReadFault.{ReadFault}
 use Rattle.list.specs.Json.{whole, text, truth, array_of, element, elements, count, length_of, is_among, has_other_key}
 use Rattle.grid.specs.Position.{Position}
 use Rattle.grid.specs.Edge.{side}
 use Rattle.list.specs.Primitives.{strip_count, quads_count}
 use Rattle.list.specs.Keys.{top_keys, draw_keys, output_words, cull_words, depth_test_words, blend_words}
-use Rattle.list.specs.Place.{Place, PassesBefore, place, told_as}
+use Rattle.list.specs.Place.{Place, AllPass, PassesBefore, place, told_as}
 
 abbrev pub Checks : Type 0
 Checks = List (Place ReadKind)
@@ -226,15 +226,24 @@ has_no_list value = is_none_there (get (codes "triangles") value) (get (codes "s
 abbrev pub has_two_lists : Data → Bool
 has_two_lists value = are_two_there (get (codes "triangles") value) (get (codes "strip") value) (get (codes "quads") value)
 
--- the checks of a draw before which the draws have so many triangles
-abbrev pub draw_checks : ℕ → Data → Checks
-draw_checks earlier value =
+-- the checks of a draw that come before its vertices and primitives
+abbrev pub opening_checks : Data → Checks
+opening_checks value =
     place (is_none (as_object value)) WrongKind
     ∷ place (has_other_key draw_keys (as_object value)) UnknownKey
     ∷ place (is_absent (codes "vertices") value || has_no_list value) MissingKey
     ∷ place (has_two_lists value) TwoLists
-    ∷ (state_checks value
-    ++ part_checks earlier (get (codes "vertices") value) (get (codes "triangles") value) (get (codes "strip") value) (get (codes "quads") value))
+    ∷ state_checks value
+
+-- the checks of a draw before which the draws have so many triangles
+abbrev pub draw_checks : ℕ → Data → Checks
+draw_checks earlier value =
+    opening_checks value
+    ++ part_checks earlier (get (codes "vertices") value) (get (codes "triangles") value) (get (codes "strip") value) (get (codes "quads") value)
+
+-- the checks of a draw that come before its vertices themselves
+abbrev pub checks_before_vertices : Data → Checks
+checks_before_vertices value = opening_checks value ++ array_checks 65536 (get (codes "vertices") value)
 
 -- ---- the whole list
 
@@ -278,7 +287,15 @@ abbrev pub places : Option Data → List (Place ReadFault)
 places None = place true (outside NotJson) ∷ []
 places (Some value) = place false (outside NotJson) ∷ value_places value
 
--- A draw that is told is one of the list's, and no place before it fails.
+-- Draw n is one of these, and no check of a draw before it fails. Where want of memory is told, none of its own that come
+-- before its vertices fails either.
+pub record IsReached (draws : Items) (kind : ReadKind) (n : ℕ) : Type 0 where
+  pub draw : Data
+  pub there : get_item n draws ≡ Some draw
+  pub before : PassesBefore n (draw_places 0 0 draws)
+  pub memory : kind ≡ OutOfMemory → AllPass (checks_before_vertices draw)
+
+-- A draw that is told was reached, and no check of the top object fails.
 abbrev pub Reaches : Option Data → ReadFault → Type 0
 Reaches None fault = fault.draw ≡ None
-Reaches (Some value) fault = IfSome fault.draw (λ n. (n < count (get (codes "draws") value)) × PassesBefore n (places (Some value)))
+Reaches (Some value) fault = IfSome fault.draw (λ n. AllPass (top_checks value) × IsReached (elements (get (codes "draws") value)) fault.kind n)

@@ -14,13 +14,17 @@ pub record Place (T : Type 0) : Type 0 where
 abbrev pub place : {T : Type 0} → Bool → T → Place T
 place fails told = record { fails = fails; told = told }
 
+-- No place fails.
+abbrev pub AllPass : {T : Type 0} → List (Place T) → Type 0
+AllPass places = AllByRecursion (λ p. p.fails ≡ false) places
+
 -- The fault stands at a place that fails, and no place before it fails.
 pub record IsFirstFault {T : Type 0} (places : List (Place T)) (fault : T) : Type 0 where
   pub before : List (Place T)
   pub here : Place T
   pub after : List (Place T)
   pub order : places ≡ before ++ here ∷ after
-  pub passed : AllByRecursion (λ p. p.fails ≡ false) before
+  pub passed : AllPass before
   pub fails : here.fails ≡ true
   pub told : here.told ≡ fault
 

@@ -164,7 +164,7 @@ impl DrawList {
     }
 
     /// The rows of pixels of the screen from that of the least y of this triangle's vertices to that of the greatest, where a y
-    /// by 256, rounded down, is its row.
+    /// by 256, rounded down, is its row. They may begin and end below the picture, whose height does not cut them.
     pub fn rows(&self, number: usize) -> RowSpan
         requires { number < length self.now.triangles }
         ensures { IfSome (slice_get self.now.triangles number) (λ triangle. IsRowSpan triangle.tri result) }

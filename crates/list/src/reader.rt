@@ -1,13 +1,13 @@
-ghost use Rattle.std.specs.Prelude.{◌≡◌, ◌≢◌, ◌≤◌, ◌<◌, ◌⊎◌, pos, ◌≤ℤ◌, length, map, sum_by, Some, IfSome, IfOk, IfErr, MatchResult};
+ghost use Rattle.std.specs.Prelude.{◌≡◌, ◌≢◌, ◌≤◌, ◌⊎◌, ℕ, ◌+◌, pos, ◌≤ℤ◌, length, map, sum_by, Some, None, IfOk, IfErr, MatchResult};
 ghost use Rattle.serde_json.specs.View.{view, items_view};
 ghost use Rattle.list.specs.declared.fault.ReadKind.TheVariants.{NotJson, OutOfMemory};
 ghost use Rattle.serde_json.specs.Errors.{IsMemory};
 ghost use Rattle.list.specs.Json.{json_of};
-ghost use Rattle.list.specs.Place.{ReadsAll, IsFirstFault, PassesBefore};
-ghost use Rattle.list.specs.Primitives.{count_of_triangles};
+ghost use Rattle.list.specs.Place.{ReadsAll, IsFirstFault, AllPass, first_fault};
+ghost use Rattle.list.specs.Primitives.{primitive_listing, count_of_triangles};
 ghost use Rattle.list.specs.Listing.{draw_listing};
 ghost use Rattle.list.specs.Scene.{Scene};
-ghost use Rattle.list.specs.Checks.{draw_places, value_places, places, Reaches};
+ghost use Rattle.list.specs.Checks.{outside, draw_checks, checks_before_vertices, draw_places, value_places, places, IsReached, Reaches};
 ghost use Rattle.list.specs.Denotes.{Each, picture_box, IsDraw, IsDrawList, Denotes};
 
 mod array;
@@ -21,7 +21,7 @@ mod quads;
 mod state;
 mod strip;
 #[cfg(test)]
-mod tests;
+pub(crate) mod tests;
 mod triangles;
 mod vertices;
 mod word;
@@ -37,29 +37,48 @@ use header::Header;
 use serde_json::{Error, Value};
 use std::alloc::Global;
 
-/// The most bytes that are read: 64 MiB.
+/// The most bytes that are read: 64 MiB. It is the number in the contract of `read`.
 pub const MOST_BYTES: usize = 67_108_864;
 
-/// The draws on a picture of these pixels.
+/// The draw of this number, before which the draws have `earlier` triangles.
+fn numbered_draw(
+    alloc: Global,
+    value: &Value,
+    number: u32,
+    picture: PixelBox,
+    earlier: usize,
+) -> Result<Draw, ReadFault>
+    requires { earlier ≤ MOST_TRIANGLES }
+    ensures told { let checks = draw_checks earlier (view value.now) in MatchResult result
+        (λ d. (first_fault checks ≡ None) × IsDraw picture (view value.now) (draw_listing d))
+        (λ fault. fault.kind ≢ OutOfMemory → first_fault checks ≡ Some fault.kind) }
+    ensures named { IfErr result (λ fault. fault.draw ≡ Some number) }
+    ensures memory { IfErr result (λ fault. fault.kind ≡ OutOfMemory
+        → first_fault (checks_before_vertices (view value.now)) ≡ None) }
+    ensures room { IfOk result (λ d. earlier + count_of_triangles (primitive_listing d.primitives) ≤ MOST_TRIANGLES) }
+{
+    match read_draw(alloc, value, picture, earlier) {
+        Ok(draw) => Ok(draw),
+        Err(kind) => Err(ReadFault::in_draw(kind, number)),
+    }
+}
+
+/// The draws on a picture of these pixels. Each fault tells its draw.
 fn draws_of(alloc: Global, list: &[Value], picture: PixelBox) -> Result<Vec<Draw>, ReadFault>
     requires { length list.now ≤ 1024 }
     ensures told { let items = items_view list.now in ReadsAll (draw_places 0 0 items)
         (λ found. let draws = map draw_listing found.items in
         Each (IsDraw picture) items draws × (sum_by (λ d. count_of_triangles d.primitives) draws ≤ MOST_TRIANGLES)) result }
-    ensures reached { IfErr result (λ fault. IfSome fault.draw
-        (λ n. (n < length list.now) × PassesBefore n (draw_places 0 0 (items_view list.now)))) }
+    ensures reached { IfErr result (λ fault. (n : ℕ) × (fault.draw ≡ Some n) × IsReached (items_view list.now) fault.kind n) }
 {
-    let Ok(mut found) = Vec::with_capacity(alloc, list.len()) else {
-        return Err(ReadFault::outside(ReadKind::OutOfMemory));
-    };
+    let mut found = Vec::new(alloc);
     let mut earlier = 0;
     for (number, value) in list.iter().enumerate() {
-        let next = match read_draw(alloc, value, picture, earlier) {
-            Ok(next) => next,
-            Err(kind) => return Err(ReadFault::in_draw(kind, number as u32)),
-        };
+        let next = numbered_draw(alloc, value, number as u32, picture, earlier)?;
         earlier += next.primitives.triangles();
-        found.push_reserved(next);
+        if found.push(next).is_err() {
+            return Err(ReadFault::in_draw(ReadKind::OutOfMemory, number as u32));
+        }
     }
     Ok(found)
 }
@@ -79,10 +98,12 @@ fn picture_of(width: u32, height: u32) -> PixelBox
 }
 
 /// The draw list that a value denotes, or the first fault of it.
-#[tactic(auto, using(crate::proofs::Faults::first_fault_of_both, crate::proofs::Faults::first_fault_told_as))]
+#[tactic(auto, using(crate::proofs::Faults::first_fault_of_both, crate::proofs::Faults::first_fault_told_as, crate::proofs::Memory::top_never))]
 fn read_value(alloc: Global, value: &Value) -> Result<DrawList, ReadFault>
     ensures told { ReadsAll (value_places (view value.now)) (IsDrawList (view value.now)) result }
     ensures reached { IfErr result (Reaches (Some (view value.now))) }
+    // Want of memory is told without a draw only after the last.
+    ensures after_all { IfErr result (λ fault. fault ≡ outside OutOfMemory → first_fault (value_places (view value.now)) ≡ None) }
 {
     let header = match Header::read(value) {
         Ok(header) => header,
@@ -142,9 +163,10 @@ pub(crate) fn read_by_value(alloc: Global, bytes: &[u8]) -> Result<DrawList, Rea
 /// A fault of a draw tells the draw's number.
 ///
 /// `OutOfMemory` is told where a growth of memory was refused, in place of whatever would have come later: with the number of
-/// the draw that was being read, and without one before the first draw and after the last. Nothing of the bytes is kept.
+/// the draw that was being read, where no check before that draw's vertices fails, and without one before the first draw and
+/// after the last. Nothing of the bytes is kept.
 pub fn read(alloc: Global, bytes: &[u8]) -> Result<DrawList, ReadFault>
-    requires { length bytes.now ≤ MOST_BYTES }
+    requires { length bytes.now ≤ 67_108_864 }
     // What is read is denoted.
     ensures ok { IfOk result (Denotes bytes.now) }
     // Where the bytes denote a list, that very list is read, or memory ran out.
@@ -153,8 +175,10 @@ pub fn read(alloc: Global, bytes: &[u8]) -> Result<DrawList, ReadFault>
     // A fault is the first one, unless memory ran out.
     ensures first { IfErr result (λ fault. fault.kind ≢ OutOfMemory
         → IsFirstFault (places (json_of bytes.now)) fault) }
-    // Want of memory too names a draw only where all before that draw is right.
+    // Want of memory too names a draw only where all before that draw is right, and all of it before its vertices.
     ensures reached { IfErr result (Reaches (json_of bytes.now)) }
+    // Bytes that denote a list fail no check.
+    ensures passed { (list : Scene) → Denotes bytes.now list → AllPass (places (json_of bytes.now)) }
 {
     if let Some(list) = read_list(alloc, bytes) {
         return Ok(list);

@@ -13,7 +13,8 @@ use std::alloc::{AllocError, Global};
 /// How many rows of pixels the screen has.
 const SCREEN_ROWS: i32 = 4096;
 
-/// Rows of pixels of the screen, from `first` to before `end`. There are none where `end` is at most `first`.
+/// Rows of pixels of the screen, from `first` to before `end`. There are none where `end` is at most `first`, as for a triangle
+/// above the screen or below it.
 #[derive(Clone, Copy, Debug, PartialEq, Eq)]
 pub struct RowSpan {
     /// The first row, at most 32767: past the screen where the triangle lies below it.

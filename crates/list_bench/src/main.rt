@@ -1,11 +1,12 @@
 //! Reading by itself: a draw list from standard input is read in one pass, as the program reads it, and by `serde_json` into its
-//! tree of values alone. By default it prints how many triangles the list draws and whether the tree is an object. With `--time`
-//! both are read again and again in turn, and it prints the least time of each and their ratio.
+//! tree of values alone. By default it prints how many triangles the list draws, or the fault that is told in its place, and
+//! whether the tree is an object. With `--time` both are read again and again in turn, and it prints the least time of each and
+//! their ratio.
 #![tactic(auto)]
 
 ghost use Rattle.std.specs.Prelude.{◌≤◌, IfOk, length, vec_len};
 
-use list::{MOST_BYTES, read};
+use list::{MOST_BYTES, ReadFault, read};
 use serde_json::Value;
 use std::alloc::Global;
 use std::io::{ErrorKind, Read};
@@ -27,13 +28,20 @@ fn input(rt: &HostRuntime) -> io::Result<Vec<u8>>
     Ok(bytes)
 }
 
-/// How many triangles the list draws, or none where the bytes are no draw list or memory ran out.
-fn triangles(alloc: Global, bytes: &[u8]) -> Option<usize>
+/// How many triangles the list draws, or the fault that is told in its place.
+fn triangles(alloc: Global, bytes: &[u8]) -> Result<usize, ReadFault>
     requires { length bytes.now ≤ MOST_BYTES }
 {
-    match read(alloc, bytes) {
-        Ok(list) => Some(list.triangles()),
-        Err(_) => None,
+    let list = read(alloc, bytes)?;
+    Ok(list.triangles())
+}
+
+/// Prints a fault of a list, with its draw where it has one.
+fn print_fault(rt: &impl Print, fault: ReadFault) -> io::Result<()> {
+    let (number, name) = (fault.kind.number(), fault.kind.name());
+    match fault.draw {
+        Some(draw) => println!(rt; "no list: fault {number} {name} in draw {draw}"),
+        None => println!(rt; "no list: fault {number} {name}"),
     }
 }
 
@@ -83,8 +91,8 @@ fn main(rt: HostRuntime) -> io::Result<()> {
     }
     let bytes = input(&rt)?;
     match triangles(rt.alloc(), &bytes) {
-        Some(number) => println!(rt; "a list of {number} triangles")?,
-        None => println!(rt; "no list")?,
+        Ok(number) => println!(rt; "a list of {number} triangles")?,
+        Err(fault) => print_fault(&rt, fault)?,
     }
     let kind = if is_object(rt.alloc(), &bytes) {
         "an object"

@@ -1,10 +1,11 @@
-ghost use Rattle.std.specs.Prelude.{◌≡◌, ◌≤◌, ◌+◌, Some, IfOk};
+ghost use Rattle.std.specs.Prelude.{◌≡◌, ◌≤◌, ◌+◌, Some, None, IfOk, IfErr};
 ghost use Rattle.serde_json.specs.View.{view};
-ghost use Rattle.list.specs.Place.{Reads};
+ghost use Rattle.list.specs.declared.fault.ReadKind.TheVariants.{OutOfMemory};
+ghost use Rattle.list.specs.Place.{Reads, first_fault};
 ghost use Rattle.list.specs.Primitives.{primitive_listing, count_of_triangles};
 ghost use Rattle.list.specs.Listing.{draw_listing};
 ghost use Rattle.list.specs.Given.{given_triangles, given_strip, given_quads};
-ghost use Rattle.list.specs.Checks.{part_checks, draw_checks};
+ghost use Rattle.list.specs.Checks.{array_checks, part_checks, draw_checks, checks_before_vertices};
 ghost use Rattle.list.specs.Denotes.{IsVertex, IsPrimitives, IsArrayOf, IsDraw};
 
 use crate::draw::{Draw, Vertex};
@@ -34,6 +35,8 @@ fn parts(
         Reads (part_checks earlier vertices triangles strip quads)
         (λ found. IsArrayOf MOST_VERTICES IsVertex vertices found.0.items
         × IsPrimitives found.0.items triangles strip quads (primitive_listing found.1)) result }
+    ensures memory { IfErr result (λ kind. kind ≡ OutOfMemory
+        → first_fault (array_checks MOST_VERTICES (Some (view vertex_array.now))) ≡ None) }
     ensures room { IfOk result (λ found. earlier + count_of_triangles (primitive_listing found.1) ≤ MOST_TRIANGLES) }
 {
     let vertices = read_vertices(alloc, vertex_array)?;
@@ -52,6 +55,8 @@ pub(crate) fn read_draw(
     requires { earlier ≤ MOST_TRIANGLES }
     ensures told { Reads (draw_checks earlier (view value.now))
         (λ d. IsDraw picture (view value.now) (draw_listing d)) result }
+    ensures memory { IfErr result (λ kind. kind ≡ OutOfMemory
+        → first_fault (checks_before_vertices (view value.now)) ≡ None) }
     ensures room { IfOk result (λ d. earlier + count_of_triangles (primitive_listing d.primitives) ≤ MOST_TRIANGLES) }
 {
     let Some(object) = value.as_object() else {

@@ -4,5 +4,5 @@ mod draws;
 mod kinds;
 mod order;
 mod primitives;
-mod support;
+pub(crate) mod support;
 mod values;

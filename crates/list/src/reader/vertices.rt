@@ -1,7 +1,8 @@
-ghost use Rattle.std.specs.Prelude.{◌≡◌, ◌≤◌, length, Some};
+ghost use Rattle.std.specs.Prelude.{◌≡◌, ◌≤◌, length, Some, None, IfErr};
 ghost use Rattle.serde_json.specs.View.{view, items_view};
-ghost use Rattle.list.specs.Place.{Tells, Reads};
-ghost use Rattle.list.specs.Checks.{vertex_checks, vertices_checks, each};
+ghost use Rattle.list.specs.declared.fault.ReadKind.TheVariants.{OutOfMemory};
+ghost use Rattle.list.specs.Place.{Tells, Reads, first_fault};
+ghost use Rattle.list.specs.Checks.{array_checks, vertex_checks, vertices_checks, each};
 ghost use Rattle.list.specs.Denotes.{IsVertex, IsArrayOf, Each};
 
 use crate::draw::Vertex;
@@ -49,8 +50,10 @@ fn vertices_of(alloc: Global, list: &[Value]) -> Result<Vec<Vertex>, ReadKind>
 /// The vertices of a draw.
 #[tactic(auto, using(crate::proofs::Counts::items_len_each), unfolding(crate::specs::Checks::vertices_checks))]
 pub(crate) fn read_vertices(alloc: Global, value: &Value) -> Result<Vec<Vertex>, ReadKind>
-    ensures { let seen = Some (view value.now) in
+    ensures told { let seen = Some (view value.now) in
         Reads (vertices_checks seen) (λ found. IsArrayOf MOST_VERTICES IsVertex seen found.items) result }
+    ensures memory { IfErr result (λ kind. kind ≡ OutOfMemory
+        → first_fault (array_checks MOST_VERTICES (Some (view value.now))) ≡ None) }
 {
     vertices_of(alloc, array_of(value, MOST_VERTICES)?)
 }

@@ -1,4 +1,5 @@
 use crate::reader::read_by_value;
+use crate::reader::tests::support::repeated;
 use crate::tokens::read_list;
 use crate::{DrawList, MOST_BYTES, read};
 use std::alloc::AllocGlobal;
@@ -295,18 +296,6 @@ fn gives_none_of_numbers_past_the_ranges(rt: HostRuntime) {
         assert!(rt; by_tokens(&rt, text.as_str()).is_none(), "{number}");
         assert!(rt; by_value(&rt, text.as_str()).is_none(), "{number}");
     }
-}
-
-/// So many copies of a part, between commas.
-fn repeated(rt: &(impl Abort + AllocGlobal), part: &str, count: u32) -> String {
-    let mut text = String::new(rt.alloc());
-    for number in 0..count {
-        if number > 0 {
-            text.push_str(",").expect(rt, "memory");
-        }
-        text.push_str(part).expect(rt, "memory");
-    }
-    text
 }
 
 /// The draws of a list may be so many, and the triangles of all draws together.

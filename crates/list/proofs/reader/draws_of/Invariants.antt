@@ -1,4 +1,4 @@
-use Rattle.std.proofs.Common.{◌≡◌, ◌≤◌, length, map, sum_by, vec_len, vec_capacity}
+use Rattle.std.proofs.Common.{◌≡◌, ◌≤◌, map, sum_by}
 use Rattle.list.specs.Denotes.{IsDraw}
 use Rattle.list.specs.Primitives.{count_of_triangles}
 use Rattle.list.specs.Listing.{draw_listing}
@@ -14,6 +14,4 @@ invariant-loop-number l = record {
   read : Continues (IsDraw l.picture) l.list l.number (map draw_listing l.found.items);
   counted : l.earlier ≡ sum_by (λ d. count_of_triangles d.primitives) (map draw_listing l.found.items);
   room : l.earlier ≤ 65536;
-  held : vec_len l.found ≡ l.number;
-  reserved : vec_capacity l.found ≡ length l.list;
 }

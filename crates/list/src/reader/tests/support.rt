@@ -87,7 +87,7 @@ pub(super) fn quad_fault(rt: &(impl Abort + AllocGlobal), quad: &str) -> Option<
 }
 
 /// So many copies of a part, between commas.
-pub(super) fn repeated(rt: &(impl Abort + AllocGlobal), part: &str, count: u32) -> String {
+pub(crate) fn repeated(rt: &(impl Abort + AllocGlobal), part: &str, count: u32) -> String {
     let mut text = String::new(rt.alloc());
     for number in 0..count {
         if number > 0 {
