@@ -143,7 +143,7 @@ typedef struct {
     uint32_t cull;           /* TRIRAST_CULL_NONE to TRIRAST_CULL_BACK */
     uint32_t depth_test;     /* TRIRAST_NEVER to TRIRAST_ALWAYS */
     uint32_t depth_write;    /* 1 where the new depth is stored where the test passes, else 0 */
-    uint32_t blend;          /* 1 where the new colour is laid over the stored one by its alpha, 0 where it replaces it */
+    uint32_t blend;          /* 1 where the new colour is blended over the stored one by its alpha, 0 where it replaces it */
     uint32_t write_red;      /* 1 where the channel is written, else 0 */
     uint32_t write_green;
     uint32_t write_blue;

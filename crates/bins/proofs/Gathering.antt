@@ -16,15 +16,15 @@ use Rattle.cover.proofs.Box.{box_holds}
 use Rattle.list.specs.Rows.{IsRowSpan}
 use Rattle.list.specs.declared.rows.RowSpan.{RowSpan}
 use Rattle.std.proofs.lemmas.Int.{ints, clamps}
-use Rattle.cover.specs.Drawn.{IsDrawn}
+use Rattle.cover.specs.Rasterized.{IsRasterized}
 use Rattle.shade.specs.declared.placed.Placed.{Placed}
 use Rattle.list.specs.Scene.{Scene}
 use Rattle.bins.specs.declared.reach.Columns.{Columns}
-use Rattle.bins.specs.declared.run.Run.{Run}
+use Rattle.bins.specs.declared.tile_run.TileRun.{TileRun}
 use Rattle.bins.specs.Bin.{MeetsRect}
 use Rattle.bins.specs.Grid.{TileGrid, columns_of, rows_of, rect_at, rect_of, IsWithinLimits}
 use Rattle.bins.specs.Reach.{HasColumn, ReachesTile, HaveReached}
-use Rattle.bins.specs.Runs.{has_tile, triangles_at, IsRunOver, IsBefore, AreRuns}
+use Rattle.bins.specs.TileRuns.{has_tile, triangles_at, IsTileRunOver, IsVisitedBefore, AreTileRuns}
 use Rattle.bins.proofs.Tiles.{column_of, row_of, rect_of_place, few_tiles}
 use Rattle.bins.proofs.Placing.{triangles-push, triangles-has, triangles-has_not}
 
@@ -59,23 +59,23 @@ increasing-push xs n h below k more =
     ]
 
 -- the triangles at a tile are of runs that have it
-pub all_at : (P : ℕ → Type 0) (runs : List Run) (tile : ℕ) → All (λ (run : Run). has_tile tile run ≡ true → P run.number) runs → All P (triangles_at runs tile)
+pub all_at : (P : ℕ → Type 0) (runs : List TileRun) (tile : ℕ) → All (λ (run : TileRun). has_tile tile run ≡ true → P run.number) runs → All P (triangles_at runs tile)
 all_at P [] tile all = All-nil P
 all_at P (run ∷ runs) tile all =
-    let rest = all_at P runs tile (All-tail (λ (run : Run). has_tile tile run ≡ true → P run.number) run runs all) in
+    let rest = all_at P runs tile (All-tail (λ (run : TileRun). has_tile tile run ≡ true → P run.number) run runs all) in
     elim (cases_Bool (has_tile tile run)) [
-      | inl has ↦ rw has (All-cons P run.number (triangles_at runs tile) (All-head (λ (run : Run). has_tile tile run ≡ true → P run.number) run runs all has) rest)
+      | inl has ↦ rw has (All-cons P run.number (triangles_at runs tile) (All-head (λ (run : TileRun). has_tile tile run ≡ true → P run.number) run runs all has) rest)
       | inr lacks ↦ rw lacks rest
     ]
 
-record IsTileOfRun (tile : ℕ) (run : Run) : Type 0 where
+record IsTileOfRun (tile : ℕ) (run : TileRun) : Type 0 where
   from : run.first ≤ tile
   below : tile < run.end
 
-tile_of_run : (tile : ℕ) (run : Run) → has_tile tile run ≡ true → IsTileOfRun tile run
+tile_of_run : (tile : ℕ) (run : TileRun) → has_tile tile run ≡ true → IsTileOfRun tile run
 tile_of_run tile run h = record { from = grind (arith, nat_tests); below = grind (arith, nat_tests) }
 
-kept : (runs : List Run) (run : Run) (tile m : ℕ) → Contains (triangles_at runs tile) m → Contains (triangles_at (runs ++ run ∷ []) tile) m
+kept : (runs : List TileRun) (run : TileRun) (tile m : ℕ) → Contains (triangles_at runs tile) m → Contains (triangles_at (runs ++ run ∷ []) tile) m
 kept runs run tile m h = rw (triangles-push runs run tile) (Contains-append_left (triangles_at runs tile) (cond (has_tile tile run) (run.number ∷ []) []) m h)
 
 -- tiles of a row are before those of the next, and within all rows
@@ -92,22 +92,22 @@ row_within row rows columns place h k =
 
 module _ (l : Scene) (g : TileGrid) (first_row rows : ℕ) where
   -- none before the first triangle
-  pub no_runs : AreRuns l g first_row rows 0 0 []
+  pub no_runs : AreTileRuns l g first_row rows 0 0 []
   no_runs = record {
     few = omega arith;
-    over = All-nil (IsRunOver (rows * columns_of g));
-    earlier = All-nil (λ (run : Run). (run.number < 0) ⊎ ((run.number ≡ 0) × (run.end ≤ 0 * columns_of g)));
+    over = All-nil (IsTileRunOver (rows * columns_of g));
+    earlier = All-nil (λ (run : TileRun). (run.number < 0) ⊎ ((run.number ≡ 0) × (run.end ≤ 0 * columns_of g)));
     ascending = λ tile k h. absurd (omega arith);
     whole = λ m tile t before below e meets. absurd (elim before [ inl h ↦ omega arith | inr h ↦ omega (arith, h.1) ]);
   }
 
-  module _ (n : ℕ) (runs : List Run) where
-    next : (row : ℕ) (run : Run) → (run.number < n) ⊎ ((run.number ≡ n) × (run.end ≤ row * columns_of g)) → (run.number < n + 1) ⊎ ((run.number ≡ n + 1) × (run.end ≤ 0 * columns_of g))
+  module _ (n : ℕ) (runs : List TileRun) where
+    next : (row : ℕ) (run : TileRun) → (run.number < n) ⊎ ((run.number ≡ n) × (run.end ≤ row * columns_of g)) → (run.number < n + 1) ⊎ ((run.number ≡ n + 1) × (run.end ≤ 0 * columns_of g))
     next row run (inl h) = inl (omega arith)
     next row run (inr h) = inl (omega (arith, h.0))
 
     -- all rows of a triangle are done
-    pub runs_done : AreRuns l g first_row rows n rows runs → AreRuns l g first_row rows (n + 1) 0 runs
+    pub runs_done : AreTileRuns l g first_row rows n rows runs → AreTileRuns l g first_row rows (n + 1) 0 runs
     runs_done are = record {
       few = omega (arith, are.few);
       over = are.over;
@@ -116,13 +116,13 @@ module _ (l : Scene) (g : TileGrid) (first_row rows : ℕ) where
       whole = λ m tile t before below e meets. are.whole m tile t (elim before [ inl h ↦ done m tile h below | inr h ↦ absurd (omega (arith, h.1)) ]) below e meets;
     }
       where
-        done : (m tile : ℕ) → m < n + 1 → tile < rows * columns_of g → IsBefore g n rows m tile
+        done : (m tile : ℕ) → m < n + 1 → tile < rows * columns_of g → IsVisitedBefore g n rows m tile
         done m tile h below = elim (cases_lt m n) [ inl less ↦ inl less | inr more ↦ inr (omega arith, below) ]
 
     -- a triangle that meets no tile of these rows
-    pub runs_past : AreRuns l g first_row rows n 0 runs
+    pub runs_past : AreTileRuns l g first_row rows n 0 runs
         → ((t : Placed) (tile : ℕ) → slice_get l.triangles n ≡ Some t → tile < rows * columns_of g → ¬ MeetsRect t l.count (rect_of g (first_row * columns_of g + tile)))
-        → AreRuns l g first_row rows (n + 1) 0 runs
+        → AreTileRuns l g first_row rows (n + 1) 0 runs
     runs_past are none = record {
       few = omega (arith, are.few);
       over = are.over;
@@ -138,8 +138,8 @@ module _ (l : Scene) (g : TileGrid) (first_row rows : ℕ) where
     }
 
     module _ (row : ℕ) (t : Placed) (columns : Columns) (known : slice_get l.triangles n ≡ Some t) (below : row < rows) (within : columns.end ≤ columns_of g)
-        (met : (column : ℕ) → MeetsRect t l.count (rect_at g column (first_row + row)) → HasColumn columns column) (are : AreRuns l g first_row rows n row runs) where
-      further : (run : Run) → (run.number < n) ⊎ ((run.number ≡ n) × (run.end ≤ row * columns_of g)) → (run.number < n) ⊎ ((run.number ≡ n) × (run.end ≤ (row + 1) * columns_of g))
+        (met : (column : ℕ) → MeetsRect t l.count (rect_at g column (first_row + row)) → HasColumn columns column) (are : AreTileRuns l g first_row rows n row runs) where
+      further : (run : TileRun) → (run.number < n) ⊎ ((run.number ≡ n) × (run.end ≤ row * columns_of g)) → (run.number < n) ⊎ ((run.number ≡ n) × (run.end ≤ (row + 1) * columns_of g))
       further run (inl h) = inl h
       further run (inr h) = inr (h.0, omega (arith, h.1))
 
@@ -152,7 +152,7 @@ module _ (l : Scene) (g : TileGrid) (first_row rows : ℕ) where
           let same : other ≡ t = same_placed other t (sym e ∙ known) in
           met column (rw (rect, same) at meets)
 
-      pub row_empty : columns.end ≤ columns.first → AreRuns l g first_row rows n (row + 1) runs
+      pub row_empty : columns.end ≤ columns.first → AreTileRuns l g first_row rows n (row + 1) runs
       row_empty empty = record {
         few = omega (arith, are.few);
         over = are.over;
@@ -167,19 +167,19 @@ module _ (l : Scene) (g : TileGrid) (first_row rows : ℕ) where
         ];
       }
 
-      older : (tile : ℕ) (other : Run) → row * columns_of g ≤ tile → (other.number < n) ⊎ ((other.number ≡ n) × (other.end ≤ row * columns_of g)) → has_tile tile other ≡ true → other.number < n
+      older : (tile : ℕ) (other : TileRun) → row * columns_of g ≤ tile → (other.number < n) ⊎ ((other.number ≡ n) × (other.end ≤ row * columns_of g)) → has_tile tile other ≡ true → other.number < n
       older tile other from (inl h) has = h
       older tile other from (inr h) has = let place = tile_of_run tile other has in absurd (omega (arith, h.1, place.below))
 
-      run : Run
+      run : TileRun
       run = record { number = n; first = row * columns_of g + columns.first; end = row * columns_of g + columns.end }
 
-      pub row_pushed : columns.first < columns.end → AreRuns l g first_row rows n (row + 1) (runs ++ record { number = n; first = row * columns_of g + columns.first; end = row * columns_of g + columns.end } ∷ [])
+      pub row_pushed : columns.first < columns.end → AreTileRuns l g first_row rows n (row + 1) (runs ++ record { number = n; first = row * columns_of g + columns.first; end = row * columns_of g + columns.end } ∷ [])
       unfolding run
       row_pushed some = record {
         few = omega (arith, are.few, length_push runs run);
-        over = All-push (IsRunOver (rows * columns_of g)) runs run are.over (record { rising = omega arith; within = row_within row rows (columns_of g) columns.end below within });
-        earlier = All-push (λ (run : Run). (run.number < n) ⊎ ((run.number ≡ n) × (run.end ≤ (row + 1) * columns_of g))) runs run (All-weaker _ _ further runs are.earlier) (inr (refl, row_next row (columns_of g) columns.end within));
+        over = All-push (IsTileRunOver (rows * columns_of g)) runs run are.over (record { rising = omega arith; within = row_within row rows (columns_of g) columns.end below within });
+        earlier = All-push (λ (run : TileRun). (run.number < n) ⊎ ((run.number ≡ n) × (run.end ≤ (row + 1) * columns_of g))) runs run (All-weaker _ _ further runs are.earlier) (inr (refl, row_next row (columns_of g) columns.end within));
         ascending = λ tile. elim (cases_Bool (has_tile tile run)) [
           | inl has ↦ (
               let place = tile_of_run tile run has in
@@ -200,7 +200,7 @@ module _ (l : Scene) (g : TileGrid) (first_row rows : ℕ) where
         ];
       }
 
-pub drawn_of_meets : (t : Placed) (count : SampleCount) (r : PixelBox) → MeetsRect t count r → IsDrawn t.tri t.state.cull
+pub drawn_of_meets : (t : Placed) (count : SampleCount) (r : PixelBox) → MeetsRect t count r → IsRasterized t.tri t.state.cull
 drawn_of_meets t count r meets = record { area = meets.meets.covered.area; kept = meets.meets.kept }
 
 -- what the columns of a row have
@@ -238,8 +238,8 @@ missed_rows t count g first_row rows tile span limits is apart below meets =
     apart meets.row least most (omega (arith, along.from)) (omega (arith, along.below))
 
 -- few runs in a picture's rows of tiles
-pub few_runs : (l : Scene) (g : TileGrid) (first_row rows : ℕ) (runs : List Run) → IsWithinLimits g → first_row + rows ≤ rows_of g → length l.triangles ≤ 65536
-    → AreRuns l g first_row rows (length l.triangles) 0 runs → length runs ≤ 2 ^ 25
+pub few_runs : (l : Scene) (g : TileGrid) (first_row rows : ℕ) (runs : List TileRun) → IsWithinLimits g → first_row + rows ≤ rows_of g → length l.triangles ≤ 65536
+    → AreTileRuns l g first_row rows (length l.triangles) 0 runs → length runs ≤ 2 ^ 25
 few_runs l g first_row rows runs limits within few are =
     let rows_few : rows ≤ 512 = omega (arith, few_tiles g.side g.height limits.height) in
     let most : length l.triangles * rows ≤ 65536 * 512 = mul-le-mul few rows_few in

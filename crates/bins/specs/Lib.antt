@@ -2,5 +2,5 @@ pub mod Grid
 pub mod Bin
 pub mod Parts
 pub mod Reach
-pub mod Runs
+pub mod TileRuns
 pub mod Sorting

@@ -3,8 +3,8 @@
 
 mod bins;
 mod reach;
-mod run;
 mod sorting;
+mod tile_run;
 mod tiling;
 
 pub use bins::Bins;

@@ -14,7 +14,7 @@ use Rattle.grid.proofs.Diagonals.{passes_reversed, either_diagonal}
 use Rattle.cover.specs.declared.edge.Edge.{Edge}
 use Rattle.cover.specs.declared.masks.Masks.{Masks}
 use Rattle.cover.specs.declared.quad.Sides.{Sides}
-use Rattle.cover.specs.Block.{IsOnScreen}
+use Rattle.cover.specs.Block.{IsScreenBounded}
 use Rattle.cover.specs.Edge.{value_at, grown, IsTestOf}
 use Rattle.cover.specs.Masks.{AreMasksWhere, to_column, to_row}
 use Rattle.cover.specs.Quad.{AreMasksOfQuad, IsJoinedFrom}
@@ -71,10 +71,10 @@ counterclockwise_sides q a b c d e ea eb ec ed h ab bc cd da =
     subst T (corners_are q a b c d ea eb ec ed) (sides_left a b c d e ab bc cd da) h
 
 -- ---- the values at the first position of the box
-pub small_at : (e : Edge) (v : ℤ) (x y : ℕ) → x < 2 ^ 20 → y < 2 ^ 20 → v ≡ value_at e (record { x = pos x; y = pos y }) → IsOnScreen (bits64 v)
+pub small_at : (e : Edge) (v : ℤ) (x y : ℕ) → x < 2 ^ 20 → y < 2 ^ 20 → v ≡ value_at e (record { x = pos x; y = pos y }) → IsScreenBounded (bits64 v)
 small_at e v x y lx ly is =
-    let small : IsOnScreen v = rw is (small_value e x y lx ly) in
-    subst IsOnScreen (sym (kept v small)) small
+    let small : IsScreenBounded v = rw is (small_value e x y lx ly) in
+    subst IsScreenBounded (sym (kept v small)) small
 
 pub value_kept : (e : Edge) (v : ℤ) (x y : ℕ) → x < 2 ^ 20 → y < 2 ^ 20 → v ≡ value_at e (record { x = pos x; y = pos y }) → bits64 v ≡ value_at e (record { x = pos x; y = pos y })
 value_kept e v x y lx ly is = kept v (rw is (small_value e x y lx ly)) ∙ is

@@ -15,8 +15,8 @@ use Rattle.cover.specs.declared.edges.Edges.{Edges}
 use Rattle.cover.specs.declared.edges.Values.{Values}
 use Rattle.cover.specs.declared.masks.Masks.{Masks}
 use Rattle.cover.specs.Edge.{grown}
-use Rattle.cover.specs.Block.{IsOnScreen}
-use Rattle.cover.specs.Edges.{AreOnScreen, IsInsideAfter}
+use Rattle.cover.specs.Block.{IsScreenBounded}
+use Rattle.cover.specs.Edges.{AreScreenBounded, IsInsideAfter}
 use Rattle.cover.specs.Inside.{IsSquareOf}
 use Rattle.cover.specs.Masks.{AreMasksWhere, AreMasksOf, to_column, to_row}
 use Rattle.cover.specs.Square.{box_start, box_reach}
@@ -88,7 +88,7 @@ is_near e at m n m' n' under over hm hn hm' hn' =
 abbrev pub bits64 : ℤ → ℤ
 bits64 z = to_z w64 (of_z w64 z)
 
-pub kept : (z : ℤ) → IsOnScreen z → bits64 z ≡ z
+pub kept : (z : ℤ) → IsScreenBounded z → bits64 z ≡ z
 kept z h = to_z-of_z w64 z (omega (arith, ints, h))
 
 abbrev pub Passes : Edge → ℤ → SampleCount → ℕ → ℕ → ℕ → Type 0
@@ -103,7 +103,7 @@ all_pass e at count m pass each empty = record {
 }
 
 -- with the number as a call was given it
-pub all_pass_kept : (e : Edge) (at least : ℤ) (reach : ℕ) (count : SampleCount) (m : Masks) → IsOnScreen at → reach ≡ box_reach T8 count → pos 0 ≤ℤ least → ((k l : ℕ) → k ≤ reach → l ≤ reach → least ≤ℤ grown e (bits64 at) k l)
+pub all_pass_kept : (e : Edge) (at least : ℤ) (reach : ℕ) (count : SampleCount) (m : Masks) → IsScreenBounded at → reach ≡ box_reach T8 count → pos 0 ≤ℤ least → ((k l : ℕ) → k ≤ reach → l ≤ reach → least ≤ℤ grown e (bits64 at) k l)
     → ((s : ℕ) → s < count_of count → slice_index m.plane s ≡ 2 ^ 64 - 1) → ((s : ℕ) → count_of count ≤ s → slice_index m.plane s ≡ 0) → AreMasksWhere (Passes e at count) count m
 all_pass_kept e at least reach count m small is over bound each empty =
     all_pass e at count m (λ k l hk hl. subst (λ (z : ℤ). pos 0 ≤ℤ grown e z k l) (kept at small) (trans _ (bound k l (omega (arith, is, hk)) (omega (arith, is, hl))))) each empty
@@ -121,7 +121,7 @@ none_pass e at count m fail each empty = record {
   empty = empty;
 }
 
-pub none_pass_kept : (e : Edge) (at greatest : ℤ) (reach : ℕ) (count : SampleCount) (m : Masks) → IsOnScreen at → reach ≡ box_reach T8 count → greatest <ℤ pos 0 → ((k l : ℕ) → k ≤ reach → l ≤ reach → grown e (bits64 at) k l ≤ℤ greatest)
+pub none_pass_kept : (e : Edge) (at greatest : ℤ) (reach : ℕ) (count : SampleCount) (m : Masks) → IsScreenBounded at → reach ≡ box_reach T8 count → greatest <ℤ pos 0 → ((k l : ℕ) → k ≤ reach → l ≤ reach → grown e (bits64 at) k l ≤ℤ greatest)
     → ((s : ℕ) → s < count_of count → slice_index m.plane s ≡ 0) → ((s : ℕ) → count_of count ≤ s → slice_index m.plane s ≡ 0) → AreMasksWhere (Passes e at count) count m
 none_pass_kept e at greatest reach count m small is under bound each empty =
     none_pass e at count m (λ k l hk hl. subst (λ (z : ℤ). grown e z k l <ℤ pos 0) (kept at small) (trans _ (bound k l (omega (arith, is, hk)) (omega (arith, is, hl))))) each empty
@@ -194,7 +194,7 @@ means {P} {Q} count m same h = record {
 }
 
 -- ---- a triangle's block
-pub inside_is : (e : Edges) (at : Values) (m n : ℕ) → AreOnScreen at
+pub inside_is : (e : Edges) (at : Values) (m n : ℕ) → AreScreenBounded at
     → (((pos 0 ≤ℤ grown e.ab (bits64 at.ab) m n) × (pos 0 ≤ℤ grown e.bc (bits64 at.bc) m n)) × (pos 0 ≤ℤ grown e.ca (bits64 at.ca) m n)) ↔ IsInsideAfter e at m n
 inside_is e at m n h =
     let ab = kept at.ab h.ab in

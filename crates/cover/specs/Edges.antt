@@ -3,7 +3,7 @@ use Rattle.std.specs.Prelude.{◌≡◌, ℕ, pos, ◌≤ℤ◌}
 use Rattle.grid.specs.Position.{Position}
 use Rattle.cover.specs.declared.edges.Edges.{Edges}
 use Rattle.cover.specs.declared.edges.Values.{Values}
-use Rattle.cover.specs.Block.{IsOnScreen}
+use Rattle.cover.specs.Block.{IsScreenBounded}
 use Rattle.cover.specs.Edge.{value_at, grown}
 
 -- None of the three functions is negative at p.
@@ -30,7 +30,7 @@ pub record IsInsideAfter (e : Edges) (at : Values) (m n : ℕ) : Type 0 where
   pub ca : pos 0 ≤ℤ grown e.ca at.ca m n
 
 -- The three functions are as small as on the screen.
-pub record AreOnScreen (v : Values) : Type 0 where
-  pub ab : IsOnScreen v.ab
-  pub bc : IsOnScreen v.bc
-  pub ca : IsOnScreen v.ca
+pub record AreScreenBounded (v : Values) : Type 0 where
+  pub ab : IsScreenBounded v.ab
+  pub bc : IsScreenBounded v.bc
+  pub ca : IsScreenBounded v.ca

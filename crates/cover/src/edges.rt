@@ -23,7 +23,7 @@ pub(crate) struct Values {
 }
 
 impl Edges {
-    ghost use Rattle.cover.specs.Edges.{AreValuesAt, AreOnScreen, AreGrown, IsInsideAfter};
+    ghost use Rattle.cover.specs.Edges.{AreValuesAt, AreScreenBounded, AreGrown, IsInsideAfter};
     ghost use Rattle.cover.specs.Masks.{AreMasksWhere, to_column, to_row};
     ghost use Rattle.cover.specs.Setup.{AreEdgesOf};
 
@@ -65,7 +65,7 @@ impl Edges {
     /// The three functions so far to the right and down in 1/256 pixel.
     #[inline(always)]
     pub(crate) fn further(&self, at: &Values, right: u32, down: u32) -> Values
-        requires at { AreOnScreen at.now }
+        requires at { AreScreenBounded at.now }
         requires right { right < 2 ^ 15 }
         requires down { down < 2 ^ 15 }
         ensures { AreGrown self.now at.now right down result }
@@ -79,7 +79,7 @@ impl Edges {
 
     /// Whether none of the functions is negative within `reach` to the right and down.
     pub(crate) fn pass_everywhere(&self, at: &Values, reach: u32) -> bool
-        requires at { AreOnScreen at.now }
+        requires at { AreScreenBounded at.now }
         requires reach { reach < 2 ^ 15 }
         ensures { IsTrue result ↔ ((m n : ℕ) → m ≤ reach → n ≤ reach → IsInsideAfter self.now at.now m n) }
     {
@@ -90,7 +90,7 @@ impl Edges {
 
     /// Whether one of the functions is negative all over that box.
     pub(crate) fn pass_nowhere(&self, at: &Values, reach: u32) -> bool
-        requires at { AreOnScreen at.now }
+        requires at { AreScreenBounded at.now }
         requires reach { reach < 2 ^ 15 }
         ensures { IsTrue result → (m n : ℕ) → m ≤ reach → n ≤ reach → ¬ IsInsideAfter self.now at.now m n }
     {
@@ -103,7 +103,7 @@ impl Edges {
     /// block's samples.
     #[inline(always)]
     pub(crate) fn masks(&self, at: &Values, count: SampleCount) -> Masks
-        requires { AreOnScreen at.now }
+        requires { AreScreenBounded at.now }
         ensures { AreMasksWhere (λ s row column. IsInsideAfter self.now at.now (to_column count s column) (to_row count s row)) count result }
     {
         self.ab

@@ -170,30 +170,30 @@ fn joined(sum: u64, masks: &Masks, bx: u32, by: u32) -> u64
 
 /// How masks are made.
 #[derive(Clone, Copy)]
-enum Way {
+enum Method {
     Lanes,
     Squares,
     Plain,
 }
 
-fn checksum(all: &[Scene], way: Way, count: SampleCount, start: u64) -> u64 {
+fn checksum(all: &[Scene], method: Method, count: SampleCount, start: u64) -> u64 {
     let mut sum = start;
     for scene in all {
-        sum = match way {
-            Way::Squares => masks_by_squares(scene, count, sum),
-            Way::Lanes | Way::Plain => masks_by_blocks(scene, way, count, sum),
+        sum = match method {
+            Method::Squares => masks_by_squares(scene, count, sum),
+            Method::Lanes | Method::Plain => masks_by_blocks(scene, method, count, sum),
         };
     }
     sum
 }
 
 /// The masks of the blocks on a triangle's border, row by row.
-fn masks_by_blocks(scene: &Scene, way: Way, count: SampleCount, start: u64) -> u64 {
+fn masks_by_blocks(scene: &Scene, method: Method, count: SampleCount, start: u64) -> u64 {
     let mut sum = start;
     for block in &scene.border {
-        let masks = match way {
-            Way::Plain => plain_masks(scene, *block, count),
-            Way::Lanes | Way::Squares => lane_masks(scene, *block, count),
+        let masks = match method {
+            Method::Plain => plain_masks(scene, *block, count),
+            Method::Lanes | Method::Squares => lane_masks(scene, *block, count),
         };
         let (bx, by) = place(*block);
         sum = joined(sum, &masks, bx, by);
@@ -249,17 +249,20 @@ fn main(rt: HostRuntime) -> io::Result<()> {
             "{samples}, mixed quarters: {}",
             mixed_by_quarters(&all, count)
         )?;
-        for (name, way) in [
-            ("lanes", Way::Lanes),
-            ("squares", Way::Squares),
-            ("plain test", Way::Plain),
+        for (name, method) in [
+            ("lanes", Method::Lanes),
+            ("squares", Method::Squares),
+            ("plain test", Method::Plain),
         ] {
-            println!(rt; "{samples}, {name}: {:016x}", checksum(&all, way, count, 0))?;
+            println!(rt;
+                "{samples}, {name}: {:016x}",
+                checksum(&all, method, count, 0)
+            )?;
             if timed {
                 let (mut least, mut sum) = (u64::MAX, 0u64);
                 for _ in 0..ROUNDS {
                     let start = Instant::now(&rt)?;
-                    sum = checksum(&all, way, count, sum);
+                    sum = checksum(&all, method, count, sum);
                     least = least.min(tenths(start.elapsed(&rt)?.as_nanos(), blocks));
                 }
                 let (whole, tenth) = (least / 10, least % 10);

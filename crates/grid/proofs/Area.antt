@@ -9,7 +9,7 @@ use Rattle.grid.specs.Position.{Position, IsInGuardBand}
 use Rattle.grid.specs.Edge.{side}
 use Rattle.grid.proofs.Identities.{side-turn, side-steps}
 
--- two ways in the same direction, together at most w, each times at most w
+-- two differences of the same sign, together at most w, each times at most w
 steps_bound : (p q u v : ℤ) (w : ℕ) → unsigned_abs p + unsigned_abs q ≤ w → unsigned_abs u ≤ w → unsigned_abs v ≤ w
     → unsigned_abs (p *ℤ u) + unsigned_abs (q *ℤ v) ≤ w * w
 steps_bound p q u v w h k l =
@@ -24,8 +24,8 @@ area_between a b c h k l between =
     let e = side-steps a b c in
     let ax = h.x in let bx = k.x in let cx = l.x in
     let ay = h.y in let by = k.y in let cy = l.y in
-    let ways : unsigned_abs (b.x -ℤ a.x) + unsigned_abs (c.x -ℤ b.x) ≤ 2 ^ 24 = omega (arith, ints, between) in
-    let bound = steps_bound (b.x -ℤ a.x) (c.x -ℤ b.x) (c.y -ℤ b.y) (b.y -ℤ a.y) (2 ^ 24) ways (omega (arith, ints)) (omega (arith, ints)) in
+    let differences : unsigned_abs (b.x -ℤ a.x) + unsigned_abs (c.x -ℤ b.x) ≤ 2 ^ 24 = omega (arith, ints, between) in
+    let bound = steps_bound (b.x -ℤ a.x) (c.x -ℤ b.x) (c.y -ℤ b.y) (b.y -ℤ a.y) (2 ^ 24) differences (omega (arith, ints)) (omega (arith, ints)) in
     rw e (record { low = omega (arith, ints, bound); high = omega (arith, ints, bound) })
 
 order : (x y : ℤ) → (x ≤ℤ y) ⊎ (y ≤ℤ x)

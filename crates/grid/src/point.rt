@@ -72,7 +72,7 @@ impl Point {
 }
 
 /// How far `end` is from `start` times how far `to` is from `from`, for coordinates of the guard band.
-fn product_of_ways(start: i32, end: i32, from: i32, to: i32) -> i64
+fn product_of_differences(start: i32, end: i32, from: i32, to: i32) -> i64
     requires start { IsInBand start }
     requires end { IsInBand end }
     requires from { IsInBand from }
@@ -80,19 +80,20 @@ fn product_of_ways(start: i32, end: i32, from: i32, to: i32) -> i64
     ensures value { result ≡ (end -ℤ start) *ℤ (to -ℤ from) }
     ensures size { IsWithin (2 ^ 48) result }
 {
-    let way = i64::from(end - start);
-    let other_way = i64::from(to - from);
-    way * other_way
+    let difference = i64::from(end - start);
+    let other_difference = i64::from(to - from);
+    difference * other_difference
 }
 
 /// The edge function of Pineda 1988 with the sign reversed, in 1/65536 square pixel: the distance of `p` from the line ab times
-/// the length of ab, over zero on the right of the way from `a` to `b` as the screen shows it. It is exact for all points.
+/// the length of ab, over zero on the right of the direction from `a` to `b` as the screen shows it. It is exact for all points.
 #[tactic(auto, unfolding(crate::specs::Edge::side))]
 pub fn side(a: Point, b: Point, p: Point) -> i64
     ensures value { result ≡ edge.side a b p }
     ensures size { IsWithin (2 ^ 48) result }
 {
-    product_of_ways(a.x(), b.x(), a.y(), p.y()) - product_of_ways(a.y(), b.y(), a.x(), p.x())
+    product_of_differences(a.x(), b.x(), a.y(), p.y())
+        - product_of_differences(a.y(), b.y(), a.x(), p.x())
 }
 
 /// Whether the triangle abc runs clockwise on the screen.

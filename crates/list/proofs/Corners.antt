@@ -6,7 +6,7 @@ use Rattle.list.specs.declared.draw.Vertex.{Vertex}
 use Rattle.std.specs.Option.{option_or}
 use Rattle.list.specs.declared.fault.ReadKind.{ReadKind}
 use Rattle.list.specs.Json.{elements, count}
-use Rattle.list.specs.Place.{first_fault}
+use Rattle.list.specs.FirstFault.{first_fault}
 use Rattle.list.specs.Primitives.{position_of}
 use Rattle.list.specs.Checks.{Checks, where_there, vertices_checks, primitive_checks, part_checks, position_written, positions_written, corner_written}
 use Rattle.list.specs.Denotes.{Each, IsArrayOf, IsVertex, IsIndex}

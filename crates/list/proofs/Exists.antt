@@ -8,10 +8,10 @@ use Rattle.shade.specs.Resolve.{IsResolved}
 use Rattle.shade.proofs.Values.{quotient}
 use Rattle.list.specs.declared.output.Output.{Output}
 use Rattle.list.specs.declared.output.Output.TheVariants.{Color, Depth}
-use Rattle.list.specs.Begun.{IsBegun}
+use Rattle.list.specs.PixelPrefix.{IsPixelPrefix}
 use Rattle.list.specs.Scene.{Scene}
 use Rattle.list.specs.Picture.{IsEnd, IsColour, IsPixel, PixelOf, IsPart}
-use Rattle.list.proofs.Begun.{nothing_begun, run_of_one, begun_run, part_of_rows}
+use Rattle.list.proofs.PixelPrefix.{empty_prefix, run_of_one, prefix_run, part_of_rows}
 use Rattle.shade.proofs.Endings.{ends}
 
 resolved : (count : SampleCount) (channel : ℕ → ℕ) → (q : ℕ) × IsResolved count channel q
@@ -41,19 +41,19 @@ pixel_of Depth l i j =
 pub pixel-exists : (l : Scene) (i j : ℕ) → (bytes : List ℕ) × IsPixel l i j bytes
 pixel-exists l i j = pixel_of l.output l i j
 
-begun-exists : (l : Scene) (x y width n : ℕ) → 0 < width → (bytes : List ℕ) × IsBegun l x y width n bytes
-begun-exists l x y width zero wide = ([], nothing_begun l x y width 0 refl)
-begun-exists l x y width (suc n) wide =
-    let before = begun-exists l x y width n wide in
+prefix-exists : (l : Scene) (x y width n : ℕ) → 0 < width → (bytes : List ℕ) × IsPixelPrefix l x y width n bytes
+prefix-exists l x y width zero wide = ([], empty_prefix l x y width 0 refl)
+prefix-exists l x y width (suc n) wide =
+    let before = prefix-exists l x y width n wide in
     let column : n % width < width = mod-lt n wide in
     let pixel = pixel-exists l (x + n % width) (y + n / width) in
     let place : n ≡ n / width * width + n % width = omega (arith, div-add-mod' n width) in
     let run = run_of_one l (x + n % width) (y + n / width) pixel.0 pixel.1 in
-    let all = begun_run l x y width n (n % width) (n / width) 1 before.0 pixel.0 before.1 (omega arith) place run in
+    let all = prefix_run l x y width n (n % width) (n / width) 1 before.0 pixel.0 before.1 (omega arith) place run in
     (before.0 ++ pixel.0, rw add-one at all)
 
 -- a rectangle of it
 pub part-exists : (l : Scene) (x y width height : ℕ) → 0 < width → (bytes : List ℕ) × IsPart l x y width height bytes
 part-exists l x y width height wide =
-    let rows = begun-exists l x y width (height * width) wide in
+    let rows = prefix-exists l x y width (height * width) wide in
     (rows.0, part_of_rows l x y width height rows.0 rows.1)

@@ -6,22 +6,22 @@ use Rattle.list.specs.declared.fault.ReadKind.TheVariants.{NotJson, UnknownKey, 
 use Rattle.list.specs.declared.fault.ReadFault.{ReadFault}
 use Rattle.list.specs.Json.{json_of}
 use Rattle.list.specs.Scene.{Scene}
-use Rattle.list.specs.Place.{Place, AllPass, first_fault, IsFirstFault, ReadsAll}
-use Rattle.list.specs.Checks.{places, value_places}
+use Rattle.list.specs.FirstFault.{Check, AllPass, first_fault, IsFirstFault, ReadsAll}
+use Rattle.list.specs.Checks.{all_checks, value_checks}
 use Rattle.list.specs.Denotes.{IsDrawList, Denotes}
 use Rattle.list.proofs.Faults.{all_pass}
 use Rattle.list.proofs.Passes.{listing_passes}
 use Rattle.list.proofs.OneValue.{same_some}
 use Rattle.list.proofs.OneList.{denotes-unique}
 
-is_first-cons : {T : Type 0} (p : Place T) (ps : List (Place T)) (fault : T) (b : Bool) → p.fails ≡ b → (first_fault ps ≡ Some fault → IsFirstFault ps fault)
+is_first-cons : {T : Type 0} (p : Check T) (ps : List (Check T)) (fault : T) (b : Bool) → p.fails ≡ b → (first_fault ps ≡ Some fault → IsFirstFault ps fault)
     → cond b (Some p.told) (first_fault ps) ≡ Some fault → IsFirstFault (p ∷ ps) fault
 is_first-cons p ps fault true fails later is = record { before = []; here = p; after = ps; order = refl; passed = tt; fails = fails; told = cc }
 is_first-cons p ps fault false fails later is =
     let rest = later is in
     record { before = p ∷ rest.before; here = rest.here; after = rest.after; order = ap (λ qs. p ∷ qs) rest.order; passed = (fails, rest.passed); fails = rest.fails; told = rest.told }
 
-pub is_first : {T : Type 0} (ps : List (Place T)) (fault : T) → first_fault ps ≡ Some fault → IsFirstFault ps fault
+pub is_first : {T : Type 0} (ps : List (Check T)) (fault : T) → first_fault ps ≡ Some fault → IsFirstFault ps fault
 is_first [] fault is = absurd (cc)
 is_first (p ∷ ps) fault is = is_first-cons p ps fault p.fails refl (is_first ps fault) is
 
@@ -42,24 +42,24 @@ some_none None a e f = cc
 some_none (Some b) a e f = cc
 
 module _ (bytes : List ℕ) (d : Data) (json : json_of bytes ≡ Some d) where
-  pub read_ok : (r : Result Scene ReadFault) → length bytes ≤ 67108864 → ReadsAll (value_places d) (IsDrawList d) r → IfOk r (Denotes bytes)
+  pub read_ok : (r : Result Scene ReadFault) → length bytes ≤ 67108864 → ReadsAll (value_checks d) (IsDrawList d) r → IfOk r (Denotes bytes)
   read_ok (Ok l) short h = record { size = short; value = d; json = json; is = h.1 }
   read_ok (Err e) short h = tt
 
-  pub read_only : (r : Result Scene ReadFault) → ReadsAll (value_places d) (IsDrawList d) r → (l : Scene) → Denotes bytes l → MatchResult r (λ found. found ≡ l) (λ e. e.kind ≡ OutOfMemory)
+  pub read_only : (r : Result Scene ReadFault) → ReadsAll (value_checks d) (IsDrawList d) r → (l : Scene) → Denotes bytes l → MatchResult r (λ found. found ≡ l) (λ e. e.kind ≡ OutOfMemory)
   read_only (Ok found) h l denotes = denotes-unique bytes found l (read_ok (Ok found) denotes.size h) denotes
   read_only (Err e) h l denotes =
       let same : d ≡ denotes.value = same_some (json_of bytes) d denotes.value json denotes.json in
-      let none : first_fault (value_places d) ≡ None = ap (λ v. first_fault (value_places v)) same ∙ listing_passes denotes.value denotes.is.listing denotes.is.is in
-      no_other e.kind (λ other. some_none (first_fault (value_places d)) e (h other) none)
+      let none : first_fault (value_checks d) ≡ None = ap (λ v. first_fault (value_checks v)) same ∙ listing_passes denotes.value denotes.is.listing denotes.is.is in
+      no_other e.kind (λ other. some_none (first_fault (value_checks d)) e (h other) none)
 
-  pub read_first : (r : Result Scene ReadFault) → ReadsAll (value_places d) (IsDrawList d) r → IfErr r (λ e. e.kind ≢ OutOfMemory → IsFirstFault (places (json_of bytes)) e)
+  pub read_first : (r : Result Scene ReadFault) → ReadsAll (value_checks d) (IsDrawList d) r → IfErr r (λ e. e.kind ≢ OutOfMemory → IsFirstFault (all_checks (json_of bytes)) e)
   read_first (Ok found) h = tt
-  read_first (Err e) h = λ other. is_first (places (json_of bytes)) e (ap (λ v. first_fault (places v)) json ∙ h other)
+  read_first (Err e) h = λ other. is_first (all_checks (json_of bytes)) e (ap (λ v. first_fault (all_checks v)) json ∙ h other)
 
 pub not_denoted : (bytes : List ℕ) → json_of bytes ≡ None → (l : Scene) → Denotes bytes l → ⊥
 not_denoted bytes none l denotes = some_none (json_of bytes) denotes.value denotes.json none
 
 -- bytes that denote a list fail no check
-pub denoted_passes : (bytes : List ℕ) (l : Scene) → Denotes bytes l → AllPass (places (json_of bytes))
-denoted_passes bytes l denotes = rw denotes.json (refl, all_pass (value_places denotes.value) (listing_passes denotes.value denotes.is.listing denotes.is.is))
+pub denoted_passes : (bytes : List ℕ) (l : Scene) → Denotes bytes l → AllPass (all_checks (json_of bytes))
+denoted_passes bytes l denotes = rw denotes.json (refl, all_pass (value_checks denotes.value) (listing_passes denotes.value denotes.is.listing denotes.is.is))

@@ -7,7 +7,7 @@ pub mod Pixels
 pub mod Parts
 pub mod Spans
 pub mod Starting
-pub mod Begun
+pub mod PixelPrefix
 pub mod Exists
 pub mod Colours
 pub mod Faults

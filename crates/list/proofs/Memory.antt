@@ -7,7 +7,7 @@ use Rattle.list.specs.declared.fault.ReadKind.{ReadKind}
 use Rattle.list.specs.declared.fault.ReadKind.TheVariants.{WrongKind, OutOfRange, OutOfMemory}
 use Rattle.list.specs.Json.{elements, count}
 use Rattle.list.specs.Keys.{output_words, cull_words, depth_test_words, blend_words}
-use Rattle.list.specs.Place.{first_fault}
+use Rattle.list.specs.FirstFault.{first_fault}
 use Rattle.list.specs.Checks.{Checks, where_there, word_checks, truth_checks, write_mask_checks, sample_mask_checks, scissor_checks, sample_count_checks, colour_checks, depth_checks, clear_checks, top_checks, array_checks, each, vertex_checks, positions_written, merge_checks, state_checks, vertices_checks, primitive_checks, part_checks, opening_checks, has_no_list, is_absent, draw_checks, checks_before_vertices}
 use Rattle.list.proofs.Faults.{all_pass, both_pass, both_passed}
 

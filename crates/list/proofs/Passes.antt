@@ -25,15 +25,15 @@ use Rattle.list.specs.declared.output.Output.TheVariants as output
 use Rattle.list.specs.Keys.{output_words, cull_words, depth_test_words, blend_words}
 use Rattle.list.specs.Primitives.{PrimitiveListing, triangle_list, triangle_strip, quad_list, strip_count, quads_count, count_of_triangles, IsConvexOver}
 use Rattle.list.specs.Listing.{DrawListing, Listing}
-use Rattle.list.specs.Place.{Place, first_fault, told_as}
-use Rattle.list.specs.Checks.{Checks, each, is_from_to, number_checks, depth_checks, vertex_checks, triangle_checks, strip_index_checks, quad_checks, quad_checks_over, has_length, corner_written, positions_written, is_strictly_convex, is_none_there, are_two_there, array_checks, sum_check, where_there, word_checks, truth_checks, colour_checks, write_mask_checks, sample_mask_checks, scissor_checks, sample_count_checks, merge_checks, state_checks, vertices_checks, triangles_checks, strip_checks, quads_checks, primitive_checks, part_checks, triangles_counted, draw_checks, clear_checks, top_checks, in_draw, outside, draw_places, value_places}
+use Rattle.list.specs.FirstFault.{Check, first_fault, told_as}
+use Rattle.list.specs.Checks.{Checks, each, is_from_to, number_checks, depth_checks, vertex_checks, triangle_checks, strip_index_checks, quad_checks, quad_checks_over, has_length, corner_written, positions_written, is_strictly_convex, is_none_there, are_two_there, array_checks, sum_check, where_there, word_checks, truth_checks, colour_checks, write_mask_checks, sample_mask_checks, scissor_checks, sample_count_checks, merge_checks, state_checks, vertices_checks, triangles_checks, strip_checks, quads_checks, primitive_checks, part_checks, triangles_counted, draw_checks, clear_checks, top_checks, in_draw, outside, draws_checks, value_checks}
 use Rattle.list.specs.Denotes.{Each, OrDefault, IsWhole, IsDepthNumber, IsTruth, IsVertex, IsIndex, IsTriangle, IsStripIndex, IsQuad, IsPrimitives, IsArrayOf, IsCull, IsDepthTest, IsBlend, IsWriteMask, IsSampleMask, IsScissor, IsMerge, IsState, IsDraw, IsSampleCount, IsClearColour, IsOutput, IsListing}
 use Rattle.list.proofs.Convex.{convex_is_true, convex_is_false}
 use Rattle.list.proofs.Corners.{same_places, same_corner}
 use Rattle.list.proofs.Counts.{items_len_each, given_is}
 use Rattle.list.proofs.Faults.{first_fault_told_as, both_pass}
 
-told_pass : {T U : Type 0} (f : T → U) (ps : List (Place T)) → first_fault ps ≡ None → first_fault (told_as f ps) ≡ None
+told_pass : {T U : Type 0} (f : T → U) (ps : List (Check T)) → first_fault ps ≡ None → first_fault (told_as f ps) ≡ None
 told_pass f ps p = first_fault_told_as f ps ∙ ap (option_map f) p
 
 there : {A : Type 0} (o : Option A) → IsSome o → is_none o ≡ false
@@ -338,7 +338,7 @@ draw_passes picture earlier d draw is room =
     rw (there (as_object d) is.object, is.keys, array_there vertices is.vertices.array, one.0, one.1) rest
 
 pub draws_pass : (picture : PixelBox) (number earlier : ℕ) (ds : Items) (xs : List DrawListing) → Each (IsDraw picture) ds xs
-    → earlier + sum_by (λ d. count_of_triangles d.primitives) xs ≤ 65536 → first_fault (draw_places number earlier ds) ≡ None
+    → earlier + sum_by (λ d. count_of_triangles d.primitives) xs ≤ 65536 → first_fault (draws_checks number earlier ds) ≡ None
 draws_pass picture number earlier no_items xs h room = refl
 draws_pass picture number earlier (item d ds) [] h room = absurd h
 draws_pass picture number earlier (item d ds) (x ∷ xs) h room =
@@ -386,11 +386,11 @@ top_passes d l is =
     ) rest
 
 -- the top object passes, and its draws do
-pub value_passes : (d : Data) (draws : Items) → draws ≡ elements (get (codes "draws") d) → first_fault (top_checks d) ≡ None → first_fault (draw_places 0 0 draws) ≡ None
-    → first_fault (value_places d) ≡ None
+pub value_passes : (d : Data) (draws : Items) → draws ≡ elements (get (codes "draws") d) → first_fault (top_checks d) ≡ None → first_fault (draws_checks 0 0 draws) ≡ None
+    → first_fault (value_checks d) ≡ None
 value_passes d draws are top later =
-    both_pass (told_as outside (top_checks d)) (draw_places 0 0 (elements (get (codes "draws") d))) (told_pass outside (top_checks d) top) (rw are at later)
+    both_pass (told_as outside (top_checks d)) (draws_checks 0 0 (elements (get (codes "draws") d))) (told_pass outside (top_checks d) top) (rw are at later)
 
-pub listing_passes : (d : Data) (l : Listing) → IsListing d l → first_fault (value_places d) ≡ None
+pub listing_passes : (d : Data) (l : Listing) → IsListing d l → first_fault (value_checks d) ≡ None
 listing_passes d l is =
     value_passes d (elements (get (codes "draws") d)) refl (top_passes d l is) (draws_pass _ 0 0 (elements (get (codes "draws") d)) l.draws is.draws.parts (omega (arith, is.triangles)))

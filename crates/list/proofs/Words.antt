@@ -5,7 +5,7 @@ use Rattle.std.proofs.lemmas.Slice.Eq.{bytes_eq-Decides}
 use Rattle.serde_json.specs.Data.{Data}
 use Rattle.list.specs.declared.fault.ReadKind.TheVariants.{OutOfRange}
 use Rattle.list.specs.Json.{text, is_among}
-use Rattle.list.specs.Place.{first_fault}
+use Rattle.list.specs.FirstFault.{first_fault}
 use Rattle.list.specs.Checks.{where_there, word_checks}
 
 decided : (b : Bool) (P : Type 0) → (b ≡ true → P) → (P → ⊥) → b ≡ false

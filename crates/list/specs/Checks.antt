@@ -13,10 +13,10 @@ use Rattle.grid.specs.Position.{Position}
 use Rattle.grid.specs.Edge.{side}
 use Rattle.list.specs.Primitives.{strip_count, quads_count}
 use Rattle.list.specs.Keys.{top_keys, draw_keys, output_words, cull_words, depth_test_words, blend_words}
-use Rattle.list.specs.Place.{Place, AllPass, PassesBefore, place, told_as}
+use Rattle.list.specs.FirstFault.{Check, AllPass, PassesBefore, check, told_as}
 
 abbrev pub Checks : Type 0
-Checks = List (Place ReadKind)
+Checks = List (Check ReadKind)
 
 -- ---- numbers, words and truth values
 
@@ -26,8 +26,8 @@ is_from_to low high z = int_le low z && int_le z high
 -- a whole number, and in its range, else `outside` is told
 abbrev pub number_checks : (ℤ → Bool) → ReadKind → Option Data → Checks
 number_checks is_inside outside value =
-    place (is_none (whole value)) WrongKind
-    ∷ place (option_map_or (λ z. not (is_inside z)) (whole value) false) outside
+    check (is_none (whole value)) WrongKind
+    ∷ check (option_map_or (λ z. not (is_inside z)) (whole value) false) outside
     ∷ []
 
 -- a coordinate of the guard band
@@ -62,12 +62,12 @@ index_checks n value = number_checks (is_from_to (pos 0) (pos n -ℤ pos 1)) Bad
 -- a text, and one of the words
 abbrev pub word_checks : List (List ℕ) → Option Data → Checks
 word_checks words value =
-    place (is_none (text value)) WrongKind
-    ∷ place (option_map_or (λ t. not (is_among words t)) (text value) false) OutOfRange
+    check (is_none (text value)) WrongKind
+    ∷ check (option_map_or (λ t. not (is_among words t)) (text value) false) OutOfRange
     ∷ []
 
 abbrev pub truth_checks : Option Data → Checks
-truth_checks value = place (is_none (truth value)) WrongKind ∷ []
+truth_checks value = check (is_none (truth value)) WrongKind ∷ []
 
 -- the checks of a key that may be absent
 abbrev pub where_there : (Option Data → Checks) → Option Data → Checks
@@ -83,12 +83,12 @@ is_absent name value = is_none (get name value)
 abbrev pub has_length : ℕ → Option Data → Bool
 has_length n value = option_map_or (λ m. m == n) (length_of value) false
 
-abbrev pub length_check : ℕ → Option Data → Place ReadKind
-length_check n value = place (not (has_length n value)) WrongKind
+abbrev pub length_check : ℕ → Option Data → Check ReadKind
+length_check n value = check (not (has_length n value)) WrongKind
 
 -- an array of at most so many elements
 abbrev pub array_checks : ℕ → Option Data → Checks
-array_checks most value = place (is_none (array_of value)) WrongKind ∷ place (nat_lt most (count value)) TooMany ∷ []
+array_checks most value = check (is_none (array_of value)) WrongKind ∷ check (nat_lt most (count value)) TooMany ∷ []
 
 -- the checks of each element in turn
 abbrev pub each : (Data → Checks) → Items → Checks
@@ -131,7 +131,7 @@ quad_checks n positions value =
     let corner : ℕ → Position = λ i. corner_written positions (at i value) in
     length_check 4 (Some value)
     ∷ (index_checks n (at 0 value) ++ (index_checks n (at 1 value) ++ (index_checks n (at 2 value) ++ (index_checks n (at 3 value)
-    ++ place (not (is_strictly_convex (corner 0) (corner 1) (corner 2) (corner 3))) NotConvex ∷ []))))
+    ++ check (not (is_strictly_convex (corner 0) (corner 1) (corner 2) (corner 3))) NotConvex ∷ []))))
 
 -- the same over vertices that were read
 abbrev pub quad_checks_over : List Vertex → Data → Checks
@@ -174,8 +174,8 @@ unfoldable pub vertices_checks : Option Data → Checks
 vertices_checks value = array_checks 65536 value ++ each vertex_checks (elements value)
 
 -- so many triangles are too many where the draws before have so many
-abbrev pub sum_check : ℕ → ℕ → Place ReadKind
-sum_check earlier triangles = place (nat_lt 65536 (earlier + triangles)) TooMany
+abbrev pub sum_check : ℕ → ℕ → Check ReadKind
+sum_check earlier triangles = check (nat_lt 65536 (earlier + triangles)) TooMany
 
 -- the triangle list of a draw of n vertices, before which the draws have so many triangles
 unfoldable pub triangles_checks : ℕ → ℕ → Option Data → Checks
@@ -229,10 +229,10 @@ has_two_lists value = are_two_there (get (codes "triangles") value) (get (codes 
 -- the checks of a draw that come before its vertices and primitives
 abbrev pub opening_checks : Data → Checks
 opening_checks value =
-    place (is_none (as_object value)) WrongKind
-    ∷ place (has_other_key draw_keys (as_object value)) UnknownKey
-    ∷ place (is_absent (codes "vertices") value || has_no_list value) MissingKey
-    ∷ place (has_two_lists value) TwoLists
+    check (is_none (as_object value)) WrongKind
+    ∷ check (has_other_key draw_keys (as_object value)) UnknownKey
+    ∷ check (is_absent (codes "vertices") value || has_no_list value) MissingKey
+    ∷ check (has_two_lists value) TwoLists
     ∷ state_checks value
 
 -- the checks of a draw before which the draws have so many triangles
@@ -258,9 +258,9 @@ clear_checks value =
 -- the checks of the top object, without those of the draws themselves
 unfoldable pub top_checks : Data → Checks
 top_checks value =
-    place (is_none (as_object value)) WrongKind
-    ∷ place (has_other_key top_keys (as_object value)) UnknownKey
-    ∷ place (is_absent (codes "width") value || is_absent (codes "height") value || is_absent (codes "draws") value) MissingKey
+    check (is_none (as_object value)) WrongKind
+    ∷ check (has_other_key top_keys (as_object value)) UnknownKey
+    ∷ check (is_absent (codes "width") value || is_absent (codes "height") value || is_absent (codes "draws") value) MissingKey
     ∷ (size_checks (get (codes "width") value)
     ++ (size_checks (get (codes "height") value)
     ++ (clear_checks value
@@ -272,27 +272,27 @@ outside kind = record { kind = kind; draw = None }
 abbrev pub in_draw : ℕ → ReadKind → ReadFault
 in_draw number kind = record { kind = kind; draw = Some number }
 
--- The places of the draws from this number on, before which the draws have so many triangles.
-abbrev pub draw_places : ℕ → ℕ → Items → List (Place ReadFault)
-draw_places number earlier no_items = []
-draw_places number earlier (item value rest) =
+-- The checks of the draws from this number on, before which the draws have so many triangles.
+abbrev pub draws_checks : ℕ → ℕ → Items → List (Check ReadFault)
+draws_checks number earlier no_items = []
+draws_checks number earlier (item value rest) =
     told_as (in_draw number) (draw_checks earlier value)
-    ++ draw_places (number + 1) (earlier + triangles_counted value) rest
+    ++ draws_checks (number + 1) (earlier + triangles_counted value) rest
 
-abbrev pub value_places : Data → List (Place ReadFault)
-value_places value = told_as outside (top_checks value) ++ draw_places 0 0 (elements (get (codes "draws") value))
+abbrev pub value_checks : Data → List (Check ReadFault)
+value_checks value = told_as outside (top_checks value) ++ draws_checks 0 0 (elements (get (codes "draws") value))
 
--- All places of an input, in their order: first that its bytes are no JSON.
-abbrev pub places : Option Data → List (Place ReadFault)
-places None = place true (outside NotJson) ∷ []
-places (Some value) = place false (outside NotJson) ∷ value_places value
+-- All checks of an input, in their order: first that its bytes are no JSON.
+abbrev pub all_checks : Option Data → List (Check ReadFault)
+all_checks None = check true (outside NotJson) ∷ []
+all_checks (Some value) = check false (outside NotJson) ∷ value_checks value
 
 -- Draw n is one of these, and no check of a draw before it fails. Where want of memory is told, none of its own that come
 -- before its vertices fails either.
 pub record IsReached (draws : Items) (kind : ReadKind) (n : ℕ) : Type 0 where
   pub draw : Data
   pub there : get_item n draws ≡ Some draw
-  pub before : PassesBefore n (draw_places 0 0 draws)
+  pub before : PassesBefore n (draws_checks 0 0 draws)
   pub memory : kind ≡ OutOfMemory → AllPass (checks_before_vertices draw)
 
 -- A draw that is told was reached, and no check of the top object fails.

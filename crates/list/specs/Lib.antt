@@ -5,11 +5,11 @@ pub mod Rows
 pub mod Starts
 pub mod Picture
 pub mod View
-pub mod Begun
+pub mod PixelPrefix
 pub mod Json
 pub mod Keys
 pub mod Fault
-pub mod Place
+pub mod FirstFault
 pub mod Checks
 pub mod Denotes
 pub mod Header

@@ -3,11 +3,11 @@ ghost use Rattle.serde_json.specs.View.{view, items_view};
 ghost use Rattle.list.specs.declared.fault.ReadKind.TheVariants.{NotJson, OutOfMemory};
 ghost use Rattle.serde_json.specs.Errors.{IsMemory};
 ghost use Rattle.list.specs.Json.{json_of};
-ghost use Rattle.list.specs.Place.{ReadsAll, IsFirstFault, AllPass, first_fault};
+ghost use Rattle.list.specs.FirstFault.{ReadsAll, IsFirstFault, AllPass, first_fault};
 ghost use Rattle.list.specs.Primitives.{primitive_listing, count_of_triangles};
 ghost use Rattle.list.specs.Listing.{draw_listing};
 ghost use Rattle.list.specs.Scene.{Scene};
-ghost use Rattle.list.specs.Checks.{outside, draw_checks, checks_before_vertices, draw_places, value_places, places, IsReached, Reaches};
+ghost use Rattle.list.specs.Checks.{outside, draw_checks, checks_before_vertices, draws_checks, value_checks, all_checks, IsReached, Reaches};
 ghost use Rattle.list.specs.Denotes.{Each, picture_box, IsDraw, IsDrawList, Denotes};
 
 mod array;
@@ -66,7 +66,7 @@ fn numbered_draw(
 /// The draws on a picture of these pixels. Each fault tells its draw.
 fn draws_of(alloc: Global, list: &[Value], picture: PixelBox) -> Result<Vec<Draw>, ReadFault>
     requires { length list.now ≤ 1024 }
-    ensures told { let items = items_view list.now in ReadsAll (draw_places 0 0 items)
+    ensures told { let items = items_view list.now in ReadsAll (draws_checks 0 0 items)
         (λ found. let draws = map draw_listing found.items in
         Each (IsDraw picture) items draws × (sum_by (λ d. count_of_triangles d.primitives) draws ≤ MOST_TRIANGLES)) result }
     ensures reached { IfErr result (λ fault. (n : ℕ) × (fault.draw ≡ Some n) × IsReached (items_view list.now) fault.kind n) }
@@ -100,10 +100,10 @@ fn picture_of(width: u32, height: u32) -> PixelBox
 /// The draw list that a value denotes, or the first fault of it.
 #[tactic(auto, using(crate::proofs::Faults::first_fault_of_both, crate::proofs::Faults::first_fault_told_as, crate::proofs::Memory::top_never))]
 fn read_value(alloc: Global, value: &Value) -> Result<DrawList, ReadFault>
-    ensures told { ReadsAll (value_places (view value.now)) (IsDrawList (view value.now)) result }
+    ensures told { ReadsAll (value_checks (view value.now)) (IsDrawList (view value.now)) result }
     ensures reached { IfErr result (Reaches (Some (view value.now))) }
     // Want of memory is told without a draw only after the last.
-    ensures after_all { IfErr result (λ fault. fault ≡ outside OutOfMemory → first_fault (value_places (view value.now)) ≡ None) }
+    ensures after_all { IfErr result (λ fault. fault ≡ outside OutOfMemory → first_fault (value_checks (view value.now)) ≡ None) }
 {
     let header = match Header::read(value) {
         Ok(header) => header,
@@ -143,7 +143,7 @@ pub(crate) fn read_by_value(alloc: Global, bytes: &[u8]) -> Result<DrawList, Rea
     ensures only { (list : Scene) → Denotes bytes.now list
         → MatchResult result (λ found. found ≡ list) (λ fault. fault.kind ≡ OutOfMemory) }
     ensures first { IfErr result (λ fault. fault.kind ≢ OutOfMemory
-        → IsFirstFault (places (json_of bytes.now)) fault) }
+        → IsFirstFault (all_checks (json_of bytes.now)) fault) }
     ensures reached { IfErr result (Reaches (json_of bytes.now)) }
 {
     let value = match Value::from_slice(alloc, bytes) {
@@ -174,11 +174,11 @@ pub fn read(alloc: Global, bytes: &[u8]) -> Result<DrawList, ReadFault>
         → MatchResult result (λ found. found ≡ list) (λ fault. fault.kind ≡ OutOfMemory) }
     // A fault is the first one, unless memory ran out.
     ensures first { IfErr result (λ fault. fault.kind ≢ OutOfMemory
-        → IsFirstFault (places (json_of bytes.now)) fault) }
+        → IsFirstFault (all_checks (json_of bytes.now)) fault) }
     // Want of memory too names a draw only where all before that draw is right, and all of it before its vertices.
     ensures reached { IfErr result (Reaches (json_of bytes.now)) }
     // Bytes that denote a list fail no check.
-    ensures passed { (list : Scene) → Denotes bytes.now list → AllPass (places (json_of bytes.now)) }
+    ensures passed { (list : Scene) → Denotes bytes.now list → AllPass (all_checks (json_of bytes.now)) }
 {
     if let Some(list) = read_list(alloc, bytes) {
         return Ok(list);

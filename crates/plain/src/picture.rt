@@ -1,5 +1,5 @@
 ghost use Rattle.std.specs.Prelude.{◌≡◌, ◌<◌, ◌+◌, ◌*◌, ◌/◌, ◌%◌, ℕ, List, [], ◌∷◌, ◌++◌, IfOk, OnOk};
-ghost use Rattle.list.specs.Begun.{AddsPixel, IsBegun};
+ghost use Rattle.list.specs.PixelPrefix.{AddsPixel, IsPixelPrefix};
 ghost use Rattle.list.specs.Picture.{IsPicture};
 
 use crate::pixel::{Colour, colour_at, end_at};
@@ -38,8 +38,8 @@ fn push_pixel(list: &DrawList, px: u32, py: u32, bytes: &mut Vec<u8>) -> Result<
 /// Appends the row of the picture with this number to the rows above it.
 fn push_row(list: &DrawList, py: u32, bytes: &mut Vec<u8>) -> Result<(), OutOfMemory>
     requires row { py < 4096 }
-    requires above { IsBegun list.now 0 0 list.now.width (py * list.now.width) bytes.old.items }
-    ensures { OnOk result (IsBegun list.now 0 0 list.now.width ((py + 1) * list.now.width) bytes.new.items) }
+    requires above { IsPixelPrefix list.now 0 0 list.now.width (py * list.now.width) bytes.old.items }
+    ensures { OnOk result (IsPixelPrefix list.now 0 0 list.now.width ((py + 1) * list.now.width) bytes.new.items) }
 {
     for px in 0..list.width() {
         push_pixel(list, px, py, bytes)?;

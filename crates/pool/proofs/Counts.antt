@@ -11,7 +11,7 @@ use Rattle.atomic_table.specs.Table.{State, Me, step, keeps, stepped, Allows, Sp
 use Rattle.atomic_table.proofs.Lists.{at_set, at_snoc, set_else}
 use Rattle.pool.specs.declared.known.Known.{Known}
 use Rattle.pool.specs.declared.known.Limits.{Limits}
-use Rattle.pool.specs.Lines.{times, once_below, total, FitsLine, IsCounted, Counted, with_number, with_mark, Drawn, without_one, one_seat, both, spent}
+use Rattle.pool.specs.Lines.{times, once_below, total, FitsLine, IsCounted, LineInvariant, with_number, with_mark, DrawsNumber, without_one, one_seat, both, spent}
 
 -- the total after a change of one view
 pub total_set : (f : Known → ℕ) (views : List Known) (id : ℕ) (v w : Known) → get_elem? views id ≡ some v → total f (set views id w) + f v ≡ total f views + f w
@@ -118,7 +118,7 @@ module _ (limits : Limits) where
 
   -- the rule of the state whose word is one more
   placed : (s : State (Unit {0}) Known) (id : ℕ) (me : Me (Unit {0}) Known) (w : Known) → length s.words ≡ 1
-      → IsCounted limits (get_or s.words 0 0 + 1) (set s.views id w) → Counted limits (stepped s 0 ((get_or s.words 0 0 + 1) % 2 ^ 64) id me.1 w keeps)
+      → IsCounted limits (get_or s.words 0 0 + 1) (set s.views id w) → LineInvariant limits (stepped s 0 ((get_or s.words 0 0 + 1) % 2 ^ 64) id me.1 w keeps)
   placed s id me w one r =
       let x : ℕ = get_or s.words 0 0 in
       let few = marks_le (x + 1) (set s.views id w) r in
@@ -138,7 +138,7 @@ module _ (limits : Limits) where
       )
 
   pub draws : (slots id : ℕ) (me : Me (Unit {0}) Known) → me.0.marks < me.0.seats → me.0.count ≡ limits.count
-      → Allows (Counted limits) slots id me 0 (λ n. (n + 1) % 2 ^ 64) (Drawn (step slots 0 1 0 none) me)
+      → Allows (LineInvariant limits) slots id me 0 (λ n. (n + 1) % 2 ^ 64) (DrawsNumber (step slots 0 1 0 none) me)
   draws slots id me unmarked count s r _ at _ =
       let x : ℕ = get_or s.words 0 0 in
       dite (dec_le me.0.count x)
@@ -158,7 +158,7 @@ module _ (limits : Limits) where
       ))
 
   -- the rule after one view gave way to two that have the same together
-  pub cuts : (id : ℕ) (v : Known) → 1 < v.seats → v.marks < v.seats → v.count ≡ limits.count → Splits (Counted limits) id v (without_one v) (one_seat v)
+  pub cuts : (id : ℕ) (v : Known) → 1 < v.seats → v.marks < v.seats → v.count ≡ limits.count → Splits (LineInvariant limits) id v (without_one v) (one_seat v)
   cuts id v several unmarked count s r at =
       let w = without_one v in let o = one_seat v in
       let same : (f : Known → ℕ) → f w + f o ≡ f v → total f (set s.views id w ++ o ∷ []) ≡ total f s.views
@@ -185,7 +185,7 @@ module _ (limits : Limits) where
       )
 
   -- the rule after one view took in another
-  pub joins : (id other : ℕ) (v w : Known) → v.count ≡ limits.count → Joins (Counted limits) id v other w (both v w) spent
+  pub joins : (id other : ℕ) (v w : Known) → v.count ≡ limits.count → Joins (LineInvariant limits) id v other w (both v w) spent
   joins id other v w count s r at apart at' =
       let b = both v w in
       let same : (f : Known → ℕ) → f b ≡ f v + f w → f spent ≡ 0 → total f (set (set s.views id b) other spent) ≡ total f s.views

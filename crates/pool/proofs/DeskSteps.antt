@@ -12,7 +12,7 @@ use Rattle.pool.specs.declared.line.Place.{Place}
 use Rattle.pool.specs.Lines.{times, once_below, with_number, with_mark, without_one, one_seat}
 use Rattle.pool.specs.Places.{count_of, known_of, IsIn}
 use Rattle.pool.specs.Rows.{desk_count, turns_to, IsRow, AreDesks, AreUncut}
-use Rattle.pool.specs.Desks.{IsDeskSeat, IsBefore}
+use Rattle.pool.specs.Desks.{IsDeskSeat, PrecedesInTurn}
 use Rattle.pool.proofs.Counts.{times_push}
 use Rattle.pool.proofs.Turns.{turn_forth, turn_back, turn_of_number, same_desk, other_desk, desk_below, none_above, stands, short}
 
@@ -162,7 +162,7 @@ module _ (n : ℕ) (lines : List Line) (number passed : ℕ) (places : List Plac
           let t = times_push (d + i * length lines) numbers drawn in omega arith) d);
       once = once_kept;
       turn = All-push (λ k. turns_to (length lines) number k ≤ passed) numbers drawn is.turn (let t = drawn_turn in omega arith);
-      order = all_pairs_push (IsBefore (length lines) number) numbers drawn is.order after;
+      order = all_pairs_push (PrecedesInTurn (length lines) number) numbers drawn is.order after;
     }
 
     -- there is room for it

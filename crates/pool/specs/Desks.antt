@@ -11,12 +11,12 @@ use Rattle.pool.specs.declared.desks.Desks.{Desks}
 use Rattle.pool.specs.declared.desks.DeskSeat.{DeskSeat}
 
 -- y comes after x: its desk does, or it is greater at the same desk
-abbrev pub IsBefore : ℕ → ℕ → ℕ → ℕ → Type 0
-IsBefore w s x y = (turns_to w s x < turns_to w s y) ⊎ ((turns_to w s x ≡ turns_to w s y) × (x < y))
+abbrev pub PrecedesInTurn : ℕ → ℕ → ℕ → ℕ → Type 0
+PrecedesInTurn w s x y = (turns_to w s x < turns_to w s y) ⊎ ((turns_to w s x ≡ turns_to w s y) × (x < y))
 
 -- along the list the desks come in turn, and at each desk the numbers ascend
 abbrev pub GoesRound : ℕ → ℕ → List ℕ → Type 0
-GoesRound w s xs = AllPairs (IsBefore w s) xs
+GoesRound w s xs = AllPairs (PrecedesInTurn w s) xs
 
 -- The seat has a place in each line, has marked those that it passed, and its numbers are those that its places were given
 pub record IsDeskSeat (n : ℕ) (lines : List Line) (number passed : ℕ) (places : List Place) (numbers : List ℕ) : Type 0 where

@@ -6,7 +6,7 @@ use Rattle.grid.specs.declared.OutOfMemory.{OutOfMemory}
 use Rattle.pool.specs.declared.dealer.Dealer as Dealer
 use Rattle.pool.specs.declared.gate.Gate as Gate
 use Rattle.pool.specs.declared.job.Job as Job
-use Rattle.pool.specs.declared.worker.Harvest.{Harvest}
+use Rattle.pool.specs.declared.worker.WorkerAnswers.{WorkerAnswers}
 use Rattle.pool.specs.declared.worker.WorksThrough.{WorksThrough}
 
 -- the answer at each place is right for the number of the place
@@ -30,20 +30,20 @@ pub record AreDealt {D Seat : Type 0} (d : Dealer.Ghosts D Seat) (dealer : D) (s
 
 module _ {D Seat : Type 0} (d : Dealer.Ghosts D Seat) {J Out Scratch : Type 0} (j : Job.Ghosts J Out Scratch) where
   -- What a worker brings back: its seat has been told that none is left, and just the numbers that it was given have an answer, in their order
-  pub record IsHarvest (dealer : D) (job : J) (worker : ℕ) (harvest : Harvest Seat Out) : Type 0 where
-    pub fits : d.fits dealer harvest.seat
-    pub number : d.number harvest.seat ≡ worker
-    pub ended : d.ended harvest.seat ≡ true
-    pub numbers : map (λ pair. pair.0) harvest.pairs.items ≡ d.given harvest.seat
-    pub right : All (IsRight (j.right job) (d.count dealer)) harvest.pairs.items
+  pub record AreWorkerAnswers (dealer : D) (job : J) (worker : ℕ) (answers : WorkerAnswers Seat Out) : Type 0 where
+    pub fits : d.fits dealer answers.seat
+    pub number : d.number answers.seat ≡ worker
+    pub ended : d.ended answers.seat ≡ true
+    pub numbers : map (λ pair. pair.0) answers.pairs.items ≡ d.given answers.seat
+    pub right : All (IsRight (j.right job) (d.count dealer)) answers.pairs.items
 
   -- the same, if the worker was not refused memory
-  abbrev pub IsBrought : D → J → ℕ → Result (Harvest Seat Out) OutOfMemory → Type 0
-  IsBrought dealer job worker brought = IfOk brought (IsHarvest dealer job worker)
+  abbrev pub IsWorkerResult : D → J → ℕ → Result (WorkerAnswers Seat Out) OutOfMemory → Type 0
+  IsWorkerResult dealer job worker result = IfOk result (AreWorkerAnswers dealer job worker)
 
-  -- what the workers brought, in the order of their numbers
-  abbrev pub AreBrought : D → J → ℕ → List (Result (Harvest Seat Out) OutOfMemory) → Type 0
-  AreBrought dealer job workers brought = EachFrom (IsBrought dealer job) 0 brought × (length brought ≡ workers)
+  -- the workers' results, in the order of their numbers
+  abbrev pub AreWorkerResults : D → J → ℕ → List (Result (WorkerAnswers Seat Out) OutOfMemory) → Type 0
+  AreWorkerResults dealer job workers results = EachFrom (IsWorkerResult dealer job) 0 results × (length results ≡ workers)
 
   module _ {G : Type 0} (g : Gate.Ghosts G) where
     -- the worker of this number can do the job for each number that is dealt, once it has entered for it

@@ -1,11 +1,11 @@
 //! The answers of all workers, put at the places of their numbers.
 ghost use Rattle.std.specs.Prelude.{◌≡◌, ◌<◌, ℕ, Some, None, IsTrue, is_some, All, map, IfOk, vec_len};
 ghost use Rattle.pool.specs.Lines.{times};
-ghost use Rattle.pool.specs.Work.{AreBrought, IsRight, RightInOrder, AreRight, HasAnswer};
+ghost use Rattle.pool.specs.Work.{AreWorkerResults, IsRight, RightInOrder, AreRight, HasAnswer};
 
 use crate::dealer::Dealer;
 use crate::job::Job;
-use crate::worker::{Brought, Harvest};
+use crate::worker::{WorkerAnswers, WorkerResult};
 use grid::OutOfMemory;
 use std::alloc::Global;
 
@@ -55,18 +55,18 @@ pub(crate) fn gather<D: Dealer, J: Job>(
     dealer: D,
     job: &J,
     n: u32,
-    brought: Vec<Brought<D, J>>,
+    results: Vec<WorkerResult<D, J>>,
 ) -> Result<Vec<J::Out>, OutOfMemory>
     requires count { D.count dealer ≡ n }
     requires seats { 0 < D.seat_count dealer }
-    requires brought { AreBrought D.Dealer J.Job dealer job.now (D.seat_count dealer) brought.items }
+    requires results { AreWorkerResults D.Dealer J.Job dealer job.now (D.seat_count dealer) results.items }
     ensures len { IfOk result (λ answers. vec_len answers ≡ n) }
     ensures right { IfOk result (λ answers. RightInOrder (J.right job.now) answers.items) }
 {
-    let mut seats = Vec::with_capacity(alloc, brought.len())?;
+    let mut seats = Vec::with_capacity(alloc, results.len())?;
     let mut places = empty_places(alloc, n)?;
-    for worker in brought {
-        let Harvest { seat, pairs } = worker?;
+    for worker in results {
+        let WorkerAnswers { seat, pairs } = worker?;
         put(job, &mut places, pairs);
         seats.push_reserved(seat);
     }

@@ -1,6 +1,6 @@
 //! One worker: a seat, a scratch, and the answers that it gathers.
 ghost use Rattle.std.specs.Prelude.{◌≡◌, [], IfOk};
-ghost use Rattle.pool.specs.Work.{IsHarvest, CanWork};
+ghost use Rattle.pool.specs.Work.{AreWorkerAnswers, CanWork};
 
 use crate::dealer::Dealer;
 use crate::gate::Gate;
@@ -12,13 +12,16 @@ use std::thread::Promise;
 
 /// What a worker brings back: its seat, and each number that the seat was given with its answer.
 #[derive(Drop)]
-pub(crate) struct Harvest<S, T> {
+pub(crate) struct WorkerAnswers<S, T> {
     pub(crate) seat: S,
     pub(crate) pairs: Vec<(u32, T)>,
 }
 
 /// What a worker brings back, if it was not refused memory.
-pub(crate) type Brought<D, J> = Result<Harvest<<D as Dealer>::Seat, <J as Job>::Out>, OutOfMemory>;
+pub(crate) type WorkerResult<D, J> = Result<
+    WorkerAnswers<<D as Dealer>::Seat, <J as Job>::Out>,
+    OutOfMemory,
+>;
 
 /// The promise of the worker with this number: it works through all that its seat is given.
 #[derive(Drop)]
@@ -28,9 +31,9 @@ pub(crate) struct WorksThrough<D, J> {
     pub(crate) number: u32,
 }
 
-impl<D: Dealer, J: Job> Promise<Result<Harvest<D::Seat, J::Out>, OutOfMemory>>
+impl<D: Dealer, J: Job> Promise<Result<WorkerAnswers<D::Seat, J::Out>, OutOfMemory>>
     for WorksThrough<D, J> {
-    ghost kept_by = { λ p r. IfOk r (IsHarvest D.Dealer J.Job p.dealer.value p.job.value p.number) };
+    ghost kept_by = { λ p r. IfOk r (AreWorkerAnswers D.Dealer J.Job p.dealer.value p.job.value p.number) };
 }
 
 /// Works on each number that the seat is given, until none is left.
@@ -41,12 +44,12 @@ pub(crate) fn work_through<D: Dealer, J: Job, G: Gate>(
     gate: &G,
     number: u32,
     mut seat: D::Seat,
-) -> Brought<D, J>
+) -> WorkerResult<D, J>
     requires seat { D.fits dealer.now seat }
     requires number { D.number seat ≡ number }
     requires nothing { D.given seat ≡ [] }
     requires can_work { CanWork D.Dealer J.Job G.Gate dealer.now job.now gate.now number }
-    ensures { IfOk result (IsHarvest D.Dealer J.Job dealer.now job.now number) }
+    ensures { IfOk result (AreWorkerAnswers D.Dealer J.Job dealer.now job.now number) }
 {
     let mut scratch = job.scratch(alloc)?;
     let mut pairs = Vec::new(alloc);
@@ -57,5 +60,5 @@ pub(crate) fn work_through<D: Dealer, J: Job, G: Gate>(
             return Err(OutOfMemory);
         }
     }
-    Ok(Harvest { seat, pairs })
+    Ok(WorkerAnswers { seat, pairs })
 }

@@ -1,13 +1,13 @@
 //! A run: the workers are started, each in a thread of its own, and joined.
 ghost use Rattle.std.specs.Prelude.{◌≡◌, ◌<◌, ◌≤◌, ℕ, true, [], IfOk, vec_len, vec_capacity};
-ghost use Rattle.pool.specs.Work.{EachFrom, IsHarvest, IsPromised, AreDealt, AreBrought, AllCanWork, CanWork, RightInOrder};
+ghost use Rattle.pool.specs.Work.{EachFrom, AreWorkerAnswers, IsPromised, AreDealt, AreWorkerResults, AllCanWork, CanWork, RightInOrder};
 
 use crate::answers::gather;
 use crate::dealer::Dealer;
 use crate::fault::PoolFault;
 use crate::gate::Gate;
 use crate::job::Job;
-use crate::worker::{Brought, WorksThrough, work_through};
+use crate::worker::{WorkerResult, WorksThrough, work_through};
 use std::alloc::Global;
 use std::snapshot::Snapshot;
 use std::sync::Wait;
@@ -15,7 +15,7 @@ use std::thread;
 use std::thread::{PromisedHandle, Scope, Threads};
 
 /// A worker that was started.
-type Worker<D, J> = PromisedHandle<Brought<D, J>, WorksThrough<D, J>>;
+type Worker<D, J> = PromisedHandle<WorkerResult<D, J>, WorksThrough<D, J>>;
 
 /// Starts a worker for each seat, in a thread of its own. The answer is whether all were started.
 fn start_all<'s, E, D: Dealer, J: Job, G: Gate>(
@@ -43,9 +43,9 @@ fn start_all<'s, E, D: Dealer, J: Job, G: Gate>(
         };
         let started = scope.spawn_with(
             promise,
-            move || -> Brought<D, J>
+            move || -> WorkerResult<D, J>
                 requires { D.fits dealer.now seat × (D.number seat ≡ number) × (D.given seat ≡ []) × CanWork D.Dealer J.Job G.Gate dealer.now job.now gate.now number }
-                ensures { IfOk result (IsHarvest D.Dealer J.Job dealer.entry.now job.entry.now number) }
+                ensures { IfOk result (AreWorkerAnswers D.Dealer J.Job dealer.entry.now job.entry.now number) }
             { work_through(alloc, dealer, job, gate, number, seat) },
         );
         match started {
@@ -56,20 +56,20 @@ fn start_all<'s, E, D: Dealer, J: Job, G: Gate>(
     true
 }
 
-/// Joins each worker, and keeps what it brought. The contract alone speaks of the dealer and the job.
+/// Joins each worker, and keeps its result. The contract alone speaks of the dealer and the job.
 fn join_all<R: Threads, D: Dealer, J: Job>(
     rt: &R,
     workers: Vec<Worker<D, J>>,
-    brought: &mut Vec<Brought<D, J>>,
+    results: &mut Vec<WorkerResult<D, J>>,
     _dealer: &D,
     _job: &J,
 )
     requires promised { EachFrom (IsPromised _dealer.now _job.now) 0 workers.items }
-    requires room { (vec_len brought.old ≡ 0) × (vec_len workers ≤ vec_capacity brought.old) }
-    ensures { AreBrought D.Dealer J.Job _dealer.now _job.now (vec_len workers) brought.new.items }
+    requires room { (vec_len results.old ≡ 0) × (vec_len workers ≤ vec_capacity results.old) }
+    ensures { AreWorkerResults D.Dealer J.Job _dealer.now _job.now (vec_len workers) results.new.items }
 {
     for worker in workers {
-        brought.push_reserved(worker.join(rt));
+        results.push_reserved(worker.join(rt));
     }
 }
 
@@ -83,17 +83,17 @@ fn work_all<'s, E, R: Threads, D: Dealer, J: Job, G: Gate>(
     job: &'s J,
     gate: &'s G,
     seats: Vec<D::Seat>,
-) -> Result<Vec<Brought<D, J>>, PoolFault>
+) -> Result<Vec<WorkerResult<D, J>>, PoolFault>
     requires can_work { AllCanWork D.Dealer J.Job G.Gate dealer.now job.now gate.now (vec_len seats) }
     requires seats { AreDealt D.Dealer dealer.now seats.items }
-    ensures { IfOk result (λ brought. AreBrought D.Dealer J.Job dealer.now job.now (vec_len seats) brought.items) }
+    ensures { IfOk result (λ results. AreWorkerResults D.Dealer J.Job dealer.now job.now (vec_len seats) results.items) }
 {
     let mut workers = Vec::with_capacity(alloc, seats.len()).map_err(|_| PoolFault::OutOfMemory)?;
-    let mut brought = Vec::with_capacity(alloc, seats.len()).map_err(|_| PoolFault::OutOfMemory)?;
+    let mut results = Vec::with_capacity(alloc, seats.len()).map_err(|_| PoolFault::OutOfMemory)?;
     let all_started = start_all(alloc, scope, dealer, job, gate, seats, &mut workers);
-    join_all(rt, workers, &mut brought, dealer, job);
+    join_all(rt, workers, &mut results, dealer, job);
     if all_started {
-        Ok(brought)
+        Ok(results)
     } else {
         Err(PoolFault::NoWorker)
     }
@@ -107,17 +107,17 @@ fn work_seats<'a, R: Threads + Wait + Sync, D: Dealer, J: Job, G: Gate>(
     job: &'a J,
     gate: &'a G,
     seats: Vec<D::Seat>,
-) -> Result<Vec<Brought<D, J>>, PoolFault>
+) -> Result<Vec<WorkerResult<D, J>>, PoolFault>
     requires can_work { AllCanWork D.Dealer J.Job G.Gate dealer.now job.now gate.now (vec_len seats) }
     requires seats { AreDealt D.Dealer dealer.now seats.items }
-    ensures { IfOk result (λ brought. AreBrought D.Dealer J.Job dealer.now job.now (vec_len seats) brought.items) }
+    ensures { IfOk result (λ results. AreWorkerResults D.Dealer J.Job dealer.now job.now (vec_len seats) results.items) }
 {
     thread::scope(
         thread::scope_env(),
         rt,
-        move |scope| -> Result<Vec<Brought<D, J>>, PoolFault>
+        move |scope| -> Result<Vec<WorkerResult<D, J>>, PoolFault>
             requires { AllCanWork D.Dealer J.Job G.Gate dealer.now job.now gate.now (vec_len seats) × AreDealt D.Dealer dealer.now seats.items }
-            ensures { IfOk result (λ brought. AreBrought D.Dealer J.Job dealer.entry.now job.entry.now (vec_len seats) brought.items) }
+            ensures { IfOk result (λ results. AreWorkerResults D.Dealer J.Job dealer.entry.now job.entry.now (vec_len seats) results.items) }
         { work_all(rt, alloc, scope, dealer, job, gate, seats) },
     )
 }
@@ -147,6 +147,6 @@ pub fn run<R: Threads + Wait + Sync, D: Dealer, J: Job, G: Gate>(
     ensures right { IfOk result (λ answers. RightInOrder (J.right job.now) answers.items) }
 {
     let (dealer, seats) = D::deal(alloc, n, workers)?;
-    let brought = work_seats(rt, alloc, &dealer, job, gate, seats)?;
-    Ok(gather(alloc, dealer, job, n, brought)?)
+    let results = work_seats(rt, alloc, &dealer, job, gate, seats)?;
+    Ok(gather(alloc, dealer, job, n, results)?)
 }

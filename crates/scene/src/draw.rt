@@ -29,7 +29,7 @@ pub struct SceneDraw {
     pub depth_test: u32,
     /// 1 where the new depth is stored where the test passes, else 0.
     pub depth_write: u32,
-    /// 1 where the new colour is laid over the stored one by its alpha, and 0 where it replaces it.
+    /// 1 where the new colour is blended over the stored one by its alpha, and 0 where it replaces it.
     pub blend: u32,
     /// 1 where red is written, else 0.
     pub write_red: u32,

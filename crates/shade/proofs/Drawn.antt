@@ -7,9 +7,9 @@ use Rattle.grid.specs.declared.sample_count.SampleCount.{SampleCount}
 use Rattle.shade.specs.declared.sample.Sample.{Sample}
 use Rattle.shade.specs.declared.sample.Shaded.{Shaded}
 use Rattle.shade.specs.declared.sample.Merge.{Merge}
-use Rattle.shade.specs.Blend.{IsDrawn}
+use Rattle.shade.specs.Blend.{IsBlended}
 use Rattle.shade.specs.Depth.{Passes}
-use Rattle.shade.specs.Merging.{IsMerged, IsApplied, IsChannelDrawn}
+use Rattle.shade.specs.Merging.{IsMerged, IsApplied, IsChannelMerged}
 use Rattle.shade.proofs.Values.{quotient, quotient-unique, area_positive}
 use Rattle.shade.specs.declared.placed.Placed.{Placed}
 use Rattle.shade.specs.Placed.{channel, IsInterpolated, IsFragmentAt, Meets, Draws}
@@ -54,17 +54,17 @@ fragment-unique t p f f' h k =
     same_shaded f f' (quotient-unique _ _ _ _ h.red k.red) (quotient-unique _ _ _ _ h.green k.green) (quotient-unique _ _ _ _ h.blue k.blue) (quotient-unique _ _ _ _ h.alpha k.alpha) (quotient-unique _ _ _ _ h.depth k.depth)
 
 -- ---- what it makes of a sample
-drawn : (written over : Bool) (source alpha stored : ℕ) → (new : ℕ) × IsDrawn written over source alpha stored new
+drawn : (written over : Bool) (source alpha stored : ℕ) → (new : ℕ) × IsBlended written over source alpha stored new
 drawn false over source alpha stored = (stored, refl)
 drawn true false source alpha stored = (source, refl)
 drawn true true source alpha stored = (_, quotient (source * alpha + stored * (255 - alpha) + 127) 255 (omega arith))
 
-drawn-unique : (written over : Bool) (source alpha stored new new' : ℕ) → IsDrawn written over source alpha stored new → IsDrawn written over source alpha stored new' → new ≡ new'
+drawn-unique : (written over : Bool) (source alpha stored new new' : ℕ) → IsBlended written over source alpha stored new → IsBlended written over source alpha stored new' → new ≡ new'
 drawn-unique false over source alpha stored new new' h k = h ∙ sym k
 drawn-unique true false source alpha stored new new' h k = h ∙ sym k
 drawn-unique true true source alpha stored new new' h k = quotient-unique _ _ _ _ h k
 
-channel_drawn : (m : Merge) (f : Shaded) (place source stored : ℕ) → (new : ℕ) × IsChannelDrawn m f place source stored new
+channel_drawn : (m : Merge) (f : Shaded) (place source stored : ℕ) → (new : ℕ) × IsChannelMerged m f place source stored new
 channel_drawn m f place source stored = drawn (slice_index_or m.write place false) m.over source f.a stored
 
 merged : (m : Merge) (f : Shaded) (old : Sample) → (new : Sample) × IsMerged m f old new

@@ -6,9 +6,9 @@ use Rattle.shade.specs.declared.sample.Merge.{Merge}
 use Rattle.shade.specs.declared.sample.Sample.{Sample}
 use Rattle.shade.specs.declared.sample.Shaded.{Shaded}
 use Rattle.shade.specs.declared.placed.Placed.{Placed}
-use Rattle.shade.specs.Blend.{IsDrawn}
+use Rattle.shade.specs.Blend.{IsBlended}
 use Rattle.shade.specs.Depth.{Passes}
-use Rattle.shade.specs.Lanes.{Tells}
+use Rattle.shade.specs.Lanes.{IsMaskLane}
 use Rattle.shade.specs.Merging.{IsTested, IsMerged}
 use Rattle.shade.specs.Placed.{channel, IsInterpolated, IsFragmentAt, IsDrawnAt}
 use Rattle.shade.specs.Sources.{NeedsNoDepth}
@@ -17,7 +17,7 @@ use Rattle.shade.proofs.Drawn.{fragment, same_sample}
 use Rattle.shade.proofs.Values.{quotient-unique}
 
 -- ---- the depth test
-pub tested_lane : (m : Merge) (z old read new lane told : ℕ) → read ≡ old → Tells told (Passes m.test z read) → lane ≡ told
+pub tested_lane : (m : Merge) (z old read new lane told : ℕ) → read ≡ old → IsMaskLane told (Passes m.test z read) → lane ≡ told
     → (lane ≡ 65535 → new ≡ (if m.depth_write then z else old)) → (lane ≡ 0 → new ≡ old) → IsTested m z old new lane
 tested_lane m z old read new lane told e (inl pass) same stored kept = record {
   passed = λ _. (same ∙ pass.0, stored (same ∙ pass.0));
@@ -42,14 +42,14 @@ pub tested_as : (t : Placed) (p : Position) (m : Merge) (z given old new lane : 
 tested_as t p m z given old new lane is has tested = subst (λ v. IsTested m v old new lane) (quotient-unique _ _ _ _ has is) tested
 
 -- ---- a channel
-drawn_by : (written over : Bool) (s a s' a' d n : ℕ) → s ≡ s' → (over ≡ true → a ≡ a') → IsDrawn written over s a d n → IsDrawn written over s' a' d n
+drawn_by : (written over : Bool) (s a s' a' d n : ℕ) → s ≡ s' → (over ≡ true → a ≡ a') → IsBlended written over s a d n → IsBlended written over s' a' d n
 drawn_by false over s a s' a' d n e f h = h
 drawn_by true false s a s' a' d n e f h = h ∙ e
 drawn_by true true s a s' a' d n e f h = rw (← e, ← f refl) h
 
 -- a channel that is drawn where the mask's lane is set, and stays where it is not
 pub record IsMasked (written over : Bool) (lane s a old new : ℕ) : Type 0 where
-  pub set : lane ≡ 65535 → IsDrawn written over s a old new
+  pub set : lane ≡ 65535 → IsBlended written over s a old new
   pub clear : lane ≡ 0 → new ≡ old
 
 -- ---- a sample

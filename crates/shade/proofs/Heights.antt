@@ -12,7 +12,7 @@ use Rattle.shade.specs.declared.slope.Slope.{Slope}
 use Rattle.shade.specs.Candidate.{IsCandidate}
 use Rattle.shade.specs.Reciprocal.{IsGradient, IsExactGradient}
 use Rattle.shade.specs.Modulo.{IsModulo}
-use Rattle.shade.specs.Plane.{IsPlane, IsHeight, IsPart, IsReached}
+use Rattle.shade.specs.Plane.{IsPlane, IsHeight, IsIncrement, IsReached}
 use Rattle.shade.proofs.Gradients.{over_product}
 use Rattle.shade.proofs.Modulos.{modulo_sum, modulo_through}
 
@@ -54,7 +54,7 @@ above_high k n area z h most =
     let product : z * area < 2 ^ 64 * area = omega (arith, h.high, most) in
     lt_of_mul-lt-mul_right area product
 
--- the error of the height, multiplied by the area, is the gradients' errors by the ways
+-- the error of the height, multiplied by the area, is the gradients' errors by the distances
 error : (v f s ax ay gx gy x y r b up nx ny : ℤ)
     → (v *ℤ f -ℤ ax *ℤ gx -ℤ ay *ℤ gy +ℤ up +ℤ (x *ℤ gx +ℤ y *ℤ gy) +ℤ (r *ℤ gx +ℤ b *ℤ gy)) *ℤ s
     ≡ (v *ℤ s +ℤ (x +ℤ r -ℤ ax) *ℤ nx +ℤ (y +ℤ b -ℤ ay) *ℤ ny) *ℤ f +ℤ up *ℤ s +ℤ (x +ℤ r -ℤ ax) *ℤ (gx *ℤ s -ℤ nx *ℤ f) +ℤ (y +ℤ b -ℤ ay) *ℤ (gy *ℤ s -ℤ ny *ℤ f)
@@ -146,12 +146,12 @@ high k n area s p x y r b plane reached =
       | inr e ↦ rw e.0 (high_exact k n area s p x y r b plane reached e.1 e.2)
     ]
 
-height_modulo : (bits area : ℕ) (s : Slope) (p : Plane) (x y r b : ℤ) (m n : ℕ) → (plane : IsPlane bits area s p) → IsHeight p x y m → IsPart p r b n → IsModulo (height (2 ^ bits) plane.above s p x y r b) (m + n)
+height_modulo : (bits area : ℕ) (s : Slope) (p : Plane) (x y r b : ℤ) (m n : ℕ) → (plane : IsPlane bits area s p) → IsHeight p x y m → IsIncrement p r b n → IsModulo (height (2 ^ bits) plane.above s p x y r b) (m + n)
 unfolding height
 height_modulo bits area s p x y r b m n plane whole part =
     modulo_sum _ (r *ℤ p.across +ℤ b *ℤ p.down) m n (modulo_through _ (x *ℤ p.across +ℤ y *ℤ p.down) p.start m plane.start whole) part
 
-pub candidate_is : (k n area : ℕ) (s : Slope) (p : Plane) (x y r b : ℤ) (m w : ℕ) → m < 2 ^ 64 → w < 2 ^ 64 → IsPlane (32 + k) area s p → IsHeight p x y m → IsPart p r b w
+pub candidate_is : (k n area : ℕ) (s : Slope) (p : Plane) (x y r b : ℤ) (m w : ℕ) → m < 2 ^ 64 → w < 2 ^ 64 → IsPlane (32 + k) area s p → IsHeight p x y m → IsIncrement p r b w
     → IsReached k area s (x +ℤ r) (y +ℤ b) n → IsCandidate k n area ((m / 2 ^ 32 + w / 2 ^ 32) % 2 ^ 32)
 candidate_is k n area s p x y r b m w m_fits w_fits plane whole part reached =
     let up = high k n area s p x y r b plane reached in

@@ -7,7 +7,7 @@ use Rattle.std.proofs.lemmas.List.{get_or-map}
 use Rattle.std.proofs.lemmas.Bool.{leb-true}
 use Rattle.std.proofs.lemmas.Bool.Decides.{Decides-not, Decides-eqb, nat_tests}
 use Rattle.std.proofs.lemmas.Nat.Bits.{bit_at-zero}
-use Rattle.shade.specs.Lanes.{HasLanes, Tells, IsMask}
+use Rattle.shade.specs.Lanes.{HasLanes, IsMaskLane, IsMask}
 
 pub itself : (v : List ℕ) → length v ≡ 16 → HasLanes v (λ k. get_or v k 0)
 itself v long = record { long = long; each = λ k l. refl }
@@ -55,7 +55,7 @@ told t P decides a b f h p q =
           tells (t (f k) (h k)) (P (f k) (h k)) (decides (f k) (h k)) _ is;
     }
   where
-    tells : (x : Bool) (Q : Type 0) → Decides x Q → (lane : ℕ) → lane ≡ cond x 65535 0 → Tells lane Q
+    tells : (x : Bool) (Q : Type 0) → Decides x Q → (lane : ℕ) → lane ≡ cond x 65535 0 → IsMaskLane lane Q
     tells true Q d lane e = inl (e, d.0 refl)
     tells false Q d lane e = inr (e, λ holds. let bad : ◌≡◌ {A = Bool} false true = d.1 holds in cc)
 

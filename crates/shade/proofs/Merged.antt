@@ -4,9 +4,9 @@ use Rattle.grid.specs.Position.{Position}
 use Rattle.grid.specs.Triangle.{Covers}
 use Rattle.shade.specs.declared.sample.Sample.{Sample}
 use Rattle.shade.specs.declared.sample.Shaded.{Shaded}
-use Rattle.shade.specs.Blend.{IsDrawn, IsOver}
+use Rattle.shade.specs.Blend.{IsBlended, IsOver}
 use Rattle.shade.specs.Depth.{Passes}
-use Rattle.shade.specs.Merging.{IsChannelDrawn}
+use Rattle.shade.specs.Merging.{IsChannelMerged}
 use Rattle.shade.specs.Value.{IsValueAt}
 use Rattle.shade.specs.Weights.{TriangleAndPoint}
 use Rattle.shade.proofs.Values.{quotient-unique}
@@ -25,22 +25,22 @@ colour_value t p (suc zero) v f below h value = quotient-unique _ _ _ _ value h.
 colour_value t p (suc (suc zero)) v f below h value = quotient-unique _ _ _ _ value h.blue
 colour_value t p (suc (suc (suc k))) v f below h value = absurd (omega arith)
 
-drawn_source : (written over : Bool) (source alpha stored new : ℕ) → written ≡ true → over ≡ false → new ≡ source → IsDrawn written over source alpha stored new
+drawn_source : (written over : Bool) (source alpha stored new : ℕ) → written ≡ true → over ≡ false → new ≡ source → IsBlended written over source alpha stored new
 drawn_source written over source alpha stored new e f h = rw (e, f) h
 
-drawn_over : (written over : Bool) (source alpha stored new s a : ℕ) → written ≡ true → over ≡ true → s ≡ source → a ≡ alpha → IsOver s a stored new → IsDrawn written over source alpha stored new
+drawn_over : (written over : Bool) (source alpha stored new s a : ℕ) → written ≡ true → over ≡ true → s ≡ source → a ≡ alpha → IsOver s a stored new → IsBlended written over source alpha stored new
 drawn_over written over source alpha stored new s a e f h k blended = rw (e, f, ← h, ← k) blended
 
 -- a written channel without blending, and with it
 pub source_drawn : (t : Placed) (w : TriangleAndPoint) (k stored new : ℕ) (given : List ℕ) (f : Shaded) → k < 3 → AreWeightsOf t w → slice_index_or t.state.merge.write k false ≡ true → t.state.merge.over ≡ false
-    → given ≡ channel t k → IsValueAt w.a w.b w.c w.p (slice_index given 0) (slice_index given 1) (slice_index given 2) new → IsFragmentAt t w.p f → IsChannelDrawn t.state.merge f k (colour_of f k) stored new
+    → given ≡ channel t k → IsValueAt w.a w.b w.c w.p (slice_index given 0) (slice_index given 1) (slice_index given 2) new → IsFragmentAt t w.p f → IsChannelMerged t.state.merge f k (colour_of f k) stored new
 source_drawn t w k stored new given f below h written plain e value is =
     drawn_source _ _ _ _ _ _ written plain (colour_value t w.p k new f below is (interpolated t w (channel t k) given new h e value))
 
 pub blend_drawn : (t : Placed) (w : TriangleAndPoint) (k stored new source alpha : ℕ) (given given' : List ℕ) (f : Shaded) → k < 3 → AreWeightsOf t w → slice_index_or t.state.merge.write k false ≡ true → t.state.merge.over ≡ true
     → given ≡ channel t k → IsValueAt w.a w.b w.c w.p (slice_index given 0) (slice_index given 1) (slice_index given 2) source
     → given' ≡ channel t 3 → IsValueAt w.a w.b w.c w.p (slice_index given' 0) (slice_index given' 1) (slice_index given' 2) alpha
-    → IsOver source alpha stored new → IsFragmentAt t w.p f → IsChannelDrawn t.state.merge f k (colour_of f k) stored new
+    → IsOver source alpha stored new → IsFragmentAt t w.p f → IsChannelMerged t.state.merge f k (colour_of f k) stored new
 blend_drawn t w k stored new source alpha given given' f below h written blends e value e' value' blended is =
     drawn_over _ _ _ _ _ _ _ _ written blends (colour_value t w.p k source f below is (interpolated t w (channel t k) given source h e value))
     (quotient-unique _ _ _ _ (interpolated t w (channel t 3) given' alpha h e' value') is.alpha) blended
@@ -54,9 +54,9 @@ test_failed t p old z covered value fails =
 
 -- it passed
 pub test_passed : (t : Placed) (p : Position) (old new : Sample) (z : ℕ) → Covers t.tri.a t.tri.b t.tri.c p → IsInterpolated t p t.z z → Passes t.state.merge.test z old.z
-    → ((f : Shaded) → IsFragmentAt t p f → IsChannelDrawn t.state.merge f 0 f.r old.r new.r)
-    → ((f : Shaded) → IsFragmentAt t p f → IsChannelDrawn t.state.merge f 1 f.g old.g new.g)
-    → ((f : Shaded) → IsFragmentAt t p f → IsChannelDrawn t.state.merge f 2 f.b old.b new.b)
+    → ((f : Shaded) → IsFragmentAt t p f → IsChannelMerged t.state.merge f 0 f.r old.r new.r)
+    → ((f : Shaded) → IsFragmentAt t p f → IsChannelMerged t.state.merge f 1 f.g old.g new.g)
+    → ((f : Shaded) → IsFragmentAt t p f → IsChannelMerged t.state.merge f 2 f.b old.b new.b)
     → new.z ≡ (if t.state.merge.depth_write then z else old.z) → IsDrawnAt t p old new
 test_passed t p old new z covered value passes red green blue depth =
     let f = fragment t p covered in

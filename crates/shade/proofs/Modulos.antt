@@ -71,14 +71,14 @@ modulo_through z w m n h k =
 
 -- ---- as the code forms them
 -- a coordinate times a gradient
-pub scaled_is : (way way' g : ℤ) (m n : ℕ) → FitsSigned w32 way → FitsSigned w64 g → way' ≡ to_z w32 (of_z w32 way) → m ≡ of_z w64 (to_z w64 (of_z w64 way')) → n ≡ of_z w64 (to_z w64 (of_z w64 g))
-    → IsModulo (way *ℤ g) (m * n % 2 ^ 64)
-scaled_is way way' g m n fits fits' e f k =
-    let wide : FitsSigned w64 way = omega (arith, ints, fits.sfits) in
-    let same : way' ≡ way = e ∙ to_z-of_z w32 way fits in
-    let first : m ≡ of_z w64 way = f ∙ ap (λ z. of_z w64 (to_z w64 (of_z w64 z))) same ∙ ap (of_z w64) (to_z-of_z w64 way wide) in
+pub scaled_is : (distance distance' g : ℤ) (m n : ℕ) → FitsSigned w32 distance → FitsSigned w64 g → distance' ≡ to_z w32 (of_z w32 distance) → m ≡ of_z w64 (to_z w64 (of_z w64 distance')) → n ≡ of_z w64 (to_z w64 (of_z w64 g))
+    → IsModulo (distance *ℤ g) (m * n % 2 ^ 64)
+scaled_is distance distance' g m n fits fits' e f k =
+    let wide : FitsSigned w64 distance = omega (arith, ints, fits.sfits) in
+    let same : distance' ≡ distance = e ∙ to_z-of_z w32 distance fits in
+    let first : m ≡ of_z w64 distance = f ∙ ap (λ z. of_z w64 (to_z w64 (of_z w64 z))) same ∙ ap (of_z w64) (to_z-of_z w64 distance wide) in
     let second : n ≡ of_z w64 g = k ∙ ap (of_z w64) (to_z-of_z w64 g fits') in
-    rw (first, second) (modulo_rest (way *ℤ g) _ (modulo_product way g _ _ (modulo_bits way wide) (modulo_bits g fits')))
+    rw (first, second) (modulo_rest (distance *ℤ g) _ (modulo_product distance g _ _ (modulo_bits distance wide) (modulo_bits g fits')))
 
 -- a wrapping sum and a wrapping difference
 pub wrapped_sum : (x y : ℤ) (m n : ℕ) → IsModulo x m → IsModulo y n → IsModulo (x +ℤ y) ((m + n) % 2 ^ 64)

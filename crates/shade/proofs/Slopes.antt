@@ -56,7 +56,7 @@ sum_counterclockwise a b c p u v w across down negative growths covered =
     ]
 
 -- ---- numbers as the code passes them
--- a change of a value times a way
+-- a change of a value times a distance
 pub record IsExactGrowth (x y u v : ℤ) : Type 0 where
   pub fits : FitsSigned w64 (to_z w64 (of_z w64 x) *ℤ to_z w64 (of_z w64 y))
   pub value : to_z w64 (of_z w64 (to_z w64 (of_z w64 x) *ℤ to_z w64 (of_z w64 y))) ≡ u *ℤ v

@@ -13,7 +13,7 @@ use Rattle.grid.proofs.Identities.{side-right}
 use Rattle.grid.proofs.Ring.{var, lit, plus, neg, times, ring, mul_add, add_mul}
 use Rattle.shade.specs.Value.{weighted_sum}
 use Rattle.shade.specs.declared.step.Step.{Step}
-use Rattle.shade.specs.Row.{IsChange, IsSplit, IsDivided, IsSmall, IsRowAt}
+use Rattle.shade.specs.Row.{IsChange, IsSplit, IsDivided, Are16Bit, IsRowAt}
 use Rattle.shade.proofs.Values.{weighted_sum-bound}
 
 -- ---- the change of an edge function
@@ -163,7 +163,7 @@ pub record IsNextValue (a b c p : Position) (u v w : ℕ) (q : ℤ) (r : ℕ) : 
   pub few : value ≤ 65535
   pub divided : IsDivided (weighted_sum a b c (right_of p) u v w) (unsigned_abs (doubled_area a b c)) value r
 
-next_value : (a b c p : Position) (u v w s r : ℕ) (q : ℤ) → Covers a b c (right_of p) → IsSmall u v w → s ≡ unsigned_abs (doubled_area a b c) → r < s
+next_value : (a b c p : Position) (u v w s r : ℕ) (q : ℤ) → Covers a b c (right_of p) → Are16Bit u v w → s ≡ unsigned_abs (doubled_area a b c) → r < s
     → pos (weighted_sum a b c (right_of p) u v w) ≡ q *ℤ pos s +ℤ pos r → IsNextValue a b c p u v w q r
 next_value a b c p u v w s r q covered small area less sum =
     let after = next (weighted_sum a b c (right_of p) u v w) s r q less sum in

@@ -4,7 +4,7 @@ use Rattle.std.specs.Int.RustNames.{unsigned_abs}
 use Rattle.grid.specs.Position.{Position}
 use Rattle.grid.specs.Triangle.{doubled_area, Covers}
 use Rattle.shade.specs.Value.{weighted_sum, IsValueAt}
-use Rattle.shade.specs.Row.{IsSmall}
+use Rattle.shade.specs.Row.{Are16Bit}
 use Rattle.shade.specs.Block.{position_in}
 use Rattle.shade.specs.Candidate.{IsCandidate, IsNear}
 use Rattle.shade.specs.Slope.{IsSlope, IsBounded}
@@ -51,7 +51,7 @@ pub record AreBytes (values : List ℕ) : Type 0 where
 
 -- The values of depth leave 16 fractional bits of 32, and those of a channel 24.
 abbrev pub IsNarrow : ℕ → List ℕ → Type 0
-IsNarrow k values = ((k ≡ 16) × IsSmall (slice_index values 0) (slice_index values 1) (slice_index values 2)) ⊎ ((k ≡ 24) × AreBytes values)
+IsNarrow k values = ((k ≡ 16) × Are16Bit (slice_index values 0) (slice_index values 1) (slice_index values 2)) ⊎ ((k ≡ 24) × AreBytes values)
 
 -- The plane of the values at the vertices a, b, c, for candidates of k fractional bits.
 pub record IsAttributePlane (k : ℕ) (a b c : Position) (values : List ℕ) (p : AttributePlane) : Type 0 where

@@ -7,7 +7,7 @@ abbrev pub IsOver : ℕ → ℕ → ℕ → ℕ → Type 0
 IsOver source alpha stored = IsQuotient (source * alpha + stored * (255 - alpha) + 127) 255
 
 -- The channel that a drawn sample takes: unchanged where it is not written, else the source, or the source over it.
-abbrev pub IsDrawn : Bool → Bool → ℕ → ℕ → ℕ → ℕ → Type 0
-IsDrawn false over source alpha stored new = new ≡ stored
-IsDrawn true false source alpha stored new = new ≡ source
-IsDrawn true true source alpha stored new = IsOver source alpha stored new
+abbrev pub IsBlended : Bool → Bool → ℕ → ℕ → ℕ → ℕ → Type 0
+IsBlended false over source alpha stored new = new ≡ stored
+IsBlended true false source alpha stored new = new ≡ source
+IsBlended true true source alpha stored new = IsOver source alpha stored new

@@ -7,10 +7,10 @@ pub record HasLanes (v : List ℕ) (f : ℕ → ℕ) : Type 0 where
   pub each : (k : ℕ) → k < 16 → slice_index v k ≡ f k
 
 -- A lane of a mask says whether P holds: all its bits are set where it does, and none where it does not.
-abbrev pub Tells : ℕ → Type 0 → Type 0
-Tells lane P = ((lane ≡ 65535) × P) ⊎ ((lane ≡ 0) × (¬ P))
+abbrev pub IsMaskLane : ℕ → Type 0 → Type 0
+IsMaskLane lane P = ((lane ≡ 65535) × P) ⊎ ((lane ≡ 0) × (¬ P))
 
 -- m has sixteen lanes, and lane k says whether P k holds.
 pub record IsMask (m : List ℕ) (P : ℕ → Type 0) : Type 0 where
   pub long : length m ≡ 16
-  pub each : (k : ℕ) → k < 16 → Tells (slice_index m k) (P k)
+  pub each : (k : ℕ) → k < 16 → IsMaskLane (slice_index m k) (P k)

@@ -11,7 +11,7 @@ pub mod Block
 pub mod BlockMask
 pub mod Lanes
 pub mod Sources
-pub mod Way
+pub mod Mode
 pub mod Ending
 pub mod Candidate
 pub mod Modulo

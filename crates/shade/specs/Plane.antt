@@ -34,9 +34,9 @@ pub record IsNumeratorPlane (area : ℕ) (s : Slope) (p : Plane) : Type 0 where
   pub down : p.down ≡ s.down
   pub start : IsModulo (pos (s.first * area) -ℤ s.x *ℤ s.across -ℤ s.y *ℤ s.down) p.start
 
--- The plane's growth over a way, and its height at a point, modulo 2^64.
-abbrev pub IsPart : Plane → ℤ → ℤ → ℕ → Type 0
-IsPart p x y n = IsModulo (x *ℤ p.across +ℤ y *ℤ p.down) n
+-- The plane's growth over a distance, and its height at a point, modulo 2^64.
+abbrev pub IsIncrement : Plane → ℤ → ℤ → ℕ → Type 0
+IsIncrement p x y n = IsModulo (x *ℤ p.across +ℤ y *ℤ p.down) n
 
 abbrev pub IsHeight : Plane → ℤ → ℤ → ℕ → Type 0
 IsHeight p x y n = IsModulo (pos p.start +ℤ (x *ℤ p.across +ℤ y *ℤ p.down)) n
@@ -48,9 +48,9 @@ pub record IsReached (k area : ℕ) (s : Slope) (x y : ℤ) (n : ℕ) : Type 0 w
   pub near_x : IsWithin (2 ^ 23 + 2 ^ 20) (x -ℤ s.x)
   pub near_y : IsWithin (2 ^ 23 + 2 ^ 20) (y -ℤ s.y)
 
--- h is the high half of the plane's growth over a way.
+-- h is the high half of the plane's growth over a distance.
 pub record IsHighPart (p : Plane) (x y : ℤ) (h : ℕ) : Type 0 where
   pub part : ℕ
   pub fits : part < 2 ^ 64
-  pub is_part : IsPart p x y part
+  pub is_part : IsIncrement p x y part
   pub is : h ≡ part / 2 ^ 32

@@ -55,7 +55,7 @@ pub record IsStep (a b c : Position) (u v w : ℕ) (step : Step) : Type 0 where
   pub split : IsSplit change area step
 
 -- The values of an attribute fit 16 bits.
-pub record IsSmall (u v w : ℕ) : Type 0 where
+pub record Are16Bit (u v w : ℕ) : Type 0 where
   pub first : u ≤ 65535
   pub second : v ≤ 65535
   pub third : w ≤ 65535
@@ -65,4 +65,4 @@ pub record IsRowAt (a b c p : Position) (u v w value remainder : ℕ) (step : St
   pub covered : Covers a b c p
   pub divided : IsDivided (weighted_sum a b c p u v w) (unsigned_abs (doubled_area a b c)) value remainder
   pub is_step : IsStep a b c u v w step
-  pub small : IsSmall u v w
+  pub small : Are16Bit u v w

@@ -6,7 +6,7 @@ ghost use Rattle.shade.specs.Placed.{IsInterpolated};
 ghost use Rattle.shade.specs.Block.{position_in};
 ghost use Rattle.shade.specs.Group.{IsGroupOnScreen};
 ghost use Rattle.shade.specs.AttributePlane.{IsDepthPlane};
-ghost use Rattle.shade.specs.Row.{IsSmall};
+ghost use Rattle.shade.specs.Row.{Are16Bit};
 ghost use Rattle.shade.specs.Slope.{IsSlope};
 ghost use Rattle.shade.specs.Plane.{IsLevel};
 
@@ -28,7 +28,7 @@ impl DepthPlane {
     pub(crate) fn new(slope: &Slope, reciprocal: Reciprocal) -> DepthPlane
         requires { IsLevel 48 reciprocal.area slope.now }
         ensures { (t : Triangle) → reciprocal.area ≡ unsigned_abs (doubled_area t.tri.a t.tri.b t.tri.c)
-            → IsSlope t.tri.a t.tri.b t.tri.c (slice_index t.z 0) (slice_index t.z 1) (slice_index t.z 2) slope.now → IsSmall (slice_index t.z 0) (slice_index t.z 1) (slice_index t.z 2) → IsDepthPlane t result }
+            → IsSlope t.tri.a t.tri.b t.tri.c (slice_index t.z 0) (slice_index t.z 1) (slice_index t.z 2) slope.now → Are16Bit (slice_index t.z 0) (slice_index t.z 1) (slice_index t.z 2) → IsDepthPlane t result }
     {
         DepthPlane {
             depth: AttributePlane::new(slope, reciprocal, 16),

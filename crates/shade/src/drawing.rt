@@ -5,17 +5,17 @@ ghost use Rattle.shade.specs.declared.placed.Placed.{Placed as Triangle};
 ghost use Rattle.shade.specs.Block.{position_in, IsOnScreen, CoversMask, AreDrawn};
 ghost use Rattle.shade.specs.BlockMask.{CoversBlock, IsBlockDrawn};
 ghost use Rattle.shade.specs.Lanes.{IsMask};
-ghost use Rattle.shade.specs.Way.{AreSourcesOf, WritesAll};
+ghost use Rattle.shade.specs.Mode.{AreSourcesOf, WritesAllChannels};
 
 use crate::block::BlockSamples;
 use crate::block_mask::BlockMask;
 use crate::group::draw_group;
 use crate::interpolants::Interpolants;
 use crate::lane_mask::lanes_of_mask;
+use crate::mode::DrawMode;
 use crate::placed::Placed;
 use crate::sample::Merge;
 use crate::sources::{ColourSource, DepthSource};
-use crate::way::Way;
 use grid::Point;
 use std::simd::prelude::*;
 
@@ -213,7 +213,7 @@ fn draw_planes(
 /// Whether a merge writes all three channels.
 #[inline(always)]
 fn writes_all(merge: &Merge) -> bool
-    ensures { IsTrue result → WritesAll merge.now }
+    ensures { IsTrue result → WritesAllChannels merge.now }
 {
     let [red, green, blue] = merge.write;
     red && green && blue
@@ -223,7 +223,7 @@ fn writes_all(merge: &Merge) -> bool
 #[inline(always)]
 fn known<const OVER: bool>(merge: &Merge) -> Merge
     requires over { merge.now.over ≡ OVER }
-    requires all { WritesAll merge.now }
+    requires all { WritesAllChannels merge.now }
     ensures { result ≡ merge.now }
 {
     Merge {
@@ -245,7 +245,7 @@ fn draw_by_sources<const OVER: bool>(
     samples: &mut [BlockSamples],
 )
     requires over { merge.now.over ≡ OVER }
-    requires all { WritesAll merge.now }
+    requires all { WritesAllChannels merge.now }
     requires samples { length samples.old ≡ count_of mask.now.count }
     ensures drawn { (t : Triangle) → AreSourcesOf t merge.now depth.now colour.now → CoversBlock t mask.now → IsBlockDrawn t mask.now samples.old samples.new }
     ensures samples { length samples.new ≡ length samples.old }
@@ -285,7 +285,7 @@ fn draw_by_sources<const OVER: bool>(
     }
 }
 
-/// The same with code of its own where all channels are written: laid over the stored ones, or not.
+/// The same with code of its own where all channels are written: blended over the stored ones, or not.
 fn draw_by_merge(
     merge: &Merge,
     depth: &DepthSource<'_>,
@@ -315,9 +315,9 @@ impl Interpolants {
         ensures drawn { IsBlockDrawn self.now mask.now samples.old samples.new }
         ensures samples { length samples.new ≡ length samples.old }
     {
-        match self.way {
-            Way::Each => self.placed.draw_each(mask, samples),
-            Way::Groups(depth, colour) => {
+        match self.mode {
+            DrawMode::Each => self.placed.draw_each(mask, samples),
+            DrawMode::Groups(depth, colour) => {
                 let depth = depth.source(&self.placed, &self.depth);
                 let colour = colour.source(&self.placed, &self.colour);
                 draw_by_merge(&self.placed.state.merge, &depth, &colour, mask, samples);

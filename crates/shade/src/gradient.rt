@@ -17,13 +17,13 @@ pub struct Gradient {
 
 impl Model for Gradient {
     ghost use Rattle.std.specs.Prelude.{slice_index};
-    ghost use Rattle.shade.specs.Row.{Attribute, IsStep, IsSmall};
+    ghost use Rattle.shade.specs.Row.{Attribute, IsStep, Are16Bit};
 
     ghost Value = { Attribute };
 
     ghost view = { λ g. record { a = g.triangle.a; b = g.triangle.b; c = g.triangle.c; u = slice_index g.values 0; v = slice_index g.values 1; w = slice_index g.values 2 } };
 
-    ghost invariant = { λ g. IsStep g.triangle.a g.triangle.b g.triangle.c (slice_index g.values 0) (slice_index g.values 1) (slice_index g.values 2) g.step × IsSmall (slice_index g.values 0) (slice_index g.values 1) (slice_index g.values 2) };
+    ghost invariant = { λ g. IsStep g.triangle.a g.triangle.b g.triangle.c (slice_index g.values 0) (slice_index g.values 1) (slice_index g.values 2) g.step × Are16Bit (slice_index g.values 0) (slice_index g.values 1) (slice_index g.values 2) };
 }
 
 impl Gradient {

@@ -2,7 +2,7 @@
 ghost use Rattle.std.specs.Prelude.{◌≡◌, ◌⊎◌, ℕ, true, if◌then◌else◌, ◌+◌, ◌<◌, ◌≤◌, length, slice_index};
 ghost use Rattle.std.specs.Simd.Lanes.{Each1};
 ghost use Rattle.grid.specs.Triangle.{Covers};
-ghost use Rattle.shade.specs.Blend.{IsDrawn};
+ghost use Rattle.shade.specs.Blend.{IsBlended};
 ghost use Rattle.shade.specs.Merging.{IsTested};
 ghost use Rattle.shade.specs.declared.placed.Placed.{Placed as Triangle};
 ghost use Rattle.shade.specs.Placed.{IsInterpolated, IsDrawnAt};
@@ -25,7 +25,7 @@ use std::simd::prelude::*;
 fn drawn_lanes(over: bool, mask: u16x16, s: u16x16, a: u16x16, d: u8x16) -> u8x16
     requires bytes { Each1 (λ n. n ≤ 255) s × Each1 (λ n. n ≤ 255) a }
     ensures whole { length result ≡ 16 }
-    ensures set { (i : ℕ) → i < 16 → slice_index mask i ≡ 65535 → IsDrawn true over (slice_index s i) (slice_index a i) (slice_index d i) (slice_index result i) }
+    ensures set { (i : ℕ) → i < 16 → slice_index mask i ≡ 65535 → IsBlended true over (slice_index s i) (slice_index a i) (slice_index d i) (slice_index result i) }
     ensures clear { (i : ℕ) → i < 16 → slice_index mask i ≡ 0 → slice_index result i ≡ slice_index d i }
 {
     let new = if over {
@@ -50,7 +50,7 @@ fn draw_channel(
     requires room { at + 16 ≤ length stored.old }
     requires bytes { Each1 (λ n. n ≤ 255) s × Each1 (λ n. n ≤ 255) a }
     ensures set { (i : ℕ) → i < 16 → slice_index mask i ≡ 65535
-        → IsDrawn written over (slice_index s i) (slice_index a i) (slice_index stored.old (at + i)) (slice_index stored.new (at + i)) }
+        → IsBlended written over (slice_index s i) (slice_index a i) (slice_index stored.old (at + i)) (slice_index stored.new (at + i)) }
     ensures clear { (i : ℕ) → i < 16 → slice_index mask i ≡ 0 → slice_index stored.new (at + i) ≡ slice_index stored.old (at + i) }
     ensures elsewhere { (k : ℕ) → (k < at) ⊎ (at + 16 ≤ k) → slice_index stored.new k ≡ slice_index stored.old k }
     ensures room { length stored.new ≡ length stored.old }

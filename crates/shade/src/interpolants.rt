@@ -4,33 +4,33 @@ ghost use Rattle.grid.specs.Triangle.{doubled_area};
 
 use crate::colour_planes::{ColourPlanes, ColourSlopes};
 use crate::depth_plane::DepthPlane;
+use crate::mode::{ColourMode, DepthMode, DrawMode};
 use crate::placed::Placed;
 use crate::reciprocal::Reciprocal;
 use crate::slope::Slope;
-use crate::way::{ColourWay, DepthWay, Way};
 use std::marker::Model;
 
-/// A triangle made ready to be drawn: how its depth, its colour and its alpha change from pixel to pixel, and which way of
+/// A triangle made ready to be drawn: how its depth, its colour and its alpha change from pixel to pixel, and which mode of
 /// drawing suits it, which is found once for all its samples (attribute setup). Contracts see the triangle.
 #[derive(Debug, Drop)]
 pub struct Interpolants {
     pub(crate) placed: Placed,
-    pub(crate) way: Way,
-    /// The depth, where the way needs a plane of it.
+    pub(crate) mode: DrawMode,
+    /// The depth, where the mode needs a plane of it.
     pub(crate) depth: DepthPlane,
-    /// The colour, where the way needs planes of it.
+    /// The colour, where the mode needs planes of it.
     pub(crate) colour: ColourPlanes,
 }
 
 impl Model for Interpolants {
     ghost use Rattle.shade.specs.declared.placed.Placed.{Placed as Triangle};
-    ghost use Rattle.shade.specs.Way.{IsWayOf};
+    ghost use Rattle.shade.specs.Mode.{IsDrawModeOf};
 
     ghost Value = { Triangle };
 
     ghost view = { λ i. i.placed };
 
-    ghost invariant = { λ i. IsWayOf i.placed i.way i.depth i.colour };
+    ghost invariant = { λ i. IsDrawModeOf i.placed i.mode i.depth i.colour };
 }
 
 /// The doubled area of a triangle that has one, with its reciprocal.
@@ -47,12 +47,12 @@ impl Interpolants {
         requires { ¬ (doubled_area placed.now.tri.a placed.now.tri.b placed.now.tri.c ≡ pos 0) }
         ensures { result ≡ placed.now }
     {
-        let (depth, colour) = (DepthWay::of(placed), ColourWay::of(placed));
+        let (depth, colour) = (DepthMode::of(placed), ColourMode::of(placed));
         let (by_plane, by_planes) = (depth.is_by_plane(), colour.is_by_planes());
         if !by_plane && !by_planes {
             return Interpolants {
                 placed: *placed,
-                way: Way::Groups(depth, colour),
+                mode: DrawMode::Groups(depth, colour),
                 depth: DepthPlane::none(),
                 colour: ColourPlanes::none(),
             };
@@ -63,14 +63,14 @@ impl Interpolants {
         if !depth_slope.is_level(reciprocal, 48) || !slopes.are_level(reciprocal) {
             return Interpolants {
                 placed: *placed,
-                way: Way::Each,
+                mode: DrawMode::Each,
                 depth: DepthPlane::none(),
                 colour: ColourPlanes::none(),
             };
         }
         Interpolants {
             placed: *placed,
-            way: Way::Groups(depth, colour),
+            mode: DrawMode::Groups(depth, colour),
             depth: DepthPlane::new(&depth_slope, reciprocal),
             colour: ColourPlanes::new(&slopes, reciprocal),
         }

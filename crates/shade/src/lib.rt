@@ -17,6 +17,7 @@ mod interpolants;
 mod lane_bytes;
 mod lane_mask;
 mod merging;
+mod mode;
 mod placed;
 mod plane;
 mod reciprocal;
@@ -28,7 +29,6 @@ mod sources;
 mod state;
 mod step;
 mod value;
-mod way;
 mod weights;
 
 pub use blend::over;

@@ -1,5 +1,5 @@
 ghost use Rattle.std.specs.Prelude.{◌≡◌, ◌↔◌, IsTrue, slice_index};
-ghost use Rattle.shade.specs.Blend.{IsDrawn};
+ghost use Rattle.shade.specs.Blend.{IsBlended};
 ghost use Rattle.shade.specs.Depth.{Passes};
 ghost use Rattle.shade.specs.Lanes.{IsMask};
 ghost use Rattle.shade.specs.Merging.{IsApplied};
@@ -54,7 +54,7 @@ pub fn apply(m: &Merge, new: &Shaded, old: Sample) -> Sample
 
 /// A channel after a triangle's sample that passed the depth test.
 fn drawn(written: bool, over_stored: bool, source: u8, alpha: u8, stored: u8) -> u8
-    ensures { IsDrawn written over_stored source alpha stored result }
+    ensures { IsBlended written over_stored source alpha stored result }
 {
     if !written {
         stored

@@ -19,7 +19,7 @@ pub struct Placed {
 }
 
 impl Placed {
-    ghost use Rattle.shade.specs.Merging.{IsChannelDrawn};
+    ghost use Rattle.shade.specs.Merging.{IsChannelMerged};
     ghost use Rattle.shade.specs.declared.sample.Shaded.{Shaded as Fragment};
     ghost use Rattle.shade.specs.Placed.{channel as channel_of, colour_of, AreWeightsOf, IsFragmentAt, IsDrawnAt};
 
@@ -73,7 +73,7 @@ impl Placed {
     fn channel_drawn(&self, weights: &Weights, number: usize, stored: u8) -> u8
         requires number { number < 3 }
         requires triangle { AreWeightsOf self.now weights.now }
-        ensures { (f : Fragment) → IsFragmentAt self.now weights.now.p f → IsChannelDrawn self.now.state.merge f number (colour_of f number) stored result }
+        ensures { (f : Fragment) → IsFragmentAt self.now weights.now.p f → IsChannelMerged self.now.state.merge f number (colour_of f number) stored result }
     {
         let merge = self.state.merge;
         if !merge.write[number] {

@@ -25,10 +25,10 @@ const ABOVE_EXACT: u64 = 3 << 32;
 
 /// A coordinate times a gradient, modulo 2^64.
 #[inline(always)]
-fn scaled(way: i32, gradient: i64) -> u64
-    ensures { IsModulo (way *ℤ gradient) result }
+fn scaled(distance: i32, gradient: i64) -> u64
+    ensures { IsModulo (distance *ℤ gradient) result }
 {
-    i64::from(way)
+    i64::from(distance)
         .cast_unsigned()
         .wrapping_mul(gradient.cast_unsigned())
 }
@@ -51,7 +51,7 @@ fn margin(slope: Slope, reciprocal: Reciprocal, across: i64, down: i64, bits: u3
 }
 
 impl Plane {
-    ghost use Rattle.shade.specs.Plane.{IsLevel, IsPlane, IsNumeratorPlane, IsPart, IsHeight, IsHighPart};
+    ghost use Rattle.shade.specs.Plane.{IsLevel, IsPlane, IsNumeratorPlane, IsIncrement, IsHeight, IsHighPart};
 
     /// The plane of a slope that is not steep, with so many fractional bits.
     #[inline(always)]
@@ -98,10 +98,10 @@ impl Plane {
         }
     }
 
-    /// The growth over a way, modulo 2^64.
+    /// The growth over a distance, modulo 2^64.
     #[inline(always)]
     pub(crate) fn part(&self, x: i32, y: i32) -> u64
-        ensures { IsPart self.now x y result }
+        ensures { IsIncrement self.now x y result }
     {
         scaled(x, self.across).wrapping_add(scaled(y, self.down))
     }
@@ -118,7 +118,7 @@ impl Plane {
     #[inline(always)]
     fn parts(&self) -> u64x16
         ensures length { length result ≡ 16 }
-        ensures each { (i : ℕ) → i < 16 → IsPart self.now (pos (256 * (i % 8))) (pos (256 * (i / 8))) (slice_index result i) }
+        ensures each { (i : ℕ) → i < 16 → IsIncrement self.now (pos (256 * (i % 8))) (pos (256 * (i / 8))) (slice_index result i) }
     {
         let (across, down) = (scaled(256, self.across), scaled(256, self.down));
         let mut parts = [0; 16];

@@ -178,7 +178,7 @@ fn finds_values_just_over_and_under_a_whole_number(rt: HostRuntime) {
     }
 }
 
-// The triangle is 1/256 pixel wide. A depth that grows by 32768 on that way is too steep, and a channel that grows by 128.
+// The triangle is 1/256 pixel wide. A depth that grows by 32768 over that distance is too steep, and a channel that grows by 128.
 #[test]
 fn tells_what_is_too_steep(rt: HostRuntime) {
     let at = [(0, 0), (1, 0), (0, 65_536)];

@@ -30,6 +30,6 @@ pub struct Merge {
     pub depth_write: bool,
     /// Which of red, green and blue are written.
     pub write: [bool; 3],
-    /// Whether the new colour is laid over the stored one by its alpha, and does not replace it.
+    /// Whether the new colour is blended over the stored one by its alpha, and does not replace it.
     pub over: bool,
 }

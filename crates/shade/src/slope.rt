@@ -16,7 +16,7 @@ pub(crate) struct Slope {
     pub(crate) down: i64,
 }
 
-/// How far `to` is from `from`, times the way from `start` to `end`.
+/// How far `to` is from `from`, times the distance from `start` to `end`.
 fn growth(from: u16, to: u16, start: i32, end: i32) -> i64
     requires start { IsInBand start }
     requires end { IsInBand end }
@@ -24,14 +24,14 @@ fn growth(from: u16, to: u16, start: i32, end: i32) -> i64
     ensures size { IsWithin (65535 * 2 ^ 24) result }
 {
     let change = i64::from(to) - i64::from(from);
-    let way = i64::from(end - start);
-    change * way
+    let distance = i64::from(end - start);
+    change * distance
 }
 
 impl Slope {
     ghost use Rattle.shade.specs.Slope.{AreGrowths, IsSlope, IsBounded};
     ghost use Rattle.shade.specs.Plane.{IsLevel};
-    ghost use Rattle.shade.specs.Row.{IsSmall};
+    ghost use Rattle.shade.specs.Row.{Are16Bit};
 
     /// How the sum of the values, each times the edge function of the opposite edge, grows with x and with y.
     fn growths(t: &Tri, values: [u16; 3]) -> (i64, i64)
@@ -77,7 +77,7 @@ impl Slope {
     pub(crate) fn of_used(used: bool, t: &Tri, values: [u16; 3]) -> Slope
         ensures slope { IsTrue used → IsSlope t.now.a t.now.b t.now.c (slice_index values 0) (slice_index values 1) (slice_index values 2) result }
         ensures bounded { IsBounded result }
-        ensures small { IsSmall (slice_index values 0) (slice_index values 1) (slice_index values 2) }
+        ensures small { Are16Bit (slice_index values 0) (slice_index values 1) (slice_index values 2) }
     {
         if used {
             return Slope::of(t, values);

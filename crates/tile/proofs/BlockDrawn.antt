@@ -5,7 +5,7 @@ use Rattle.grid.specs.Pixels.{side_of, IsInBox}
 use Rattle.grid.specs.Samples.{count_of, sample_position, offsets_x, offsets_y}
 use Rattle.grid.specs.declared.sample_count.SampleCount.{SampleCount}
 use Rattle.grid.specs.declared.sample_count.SampleCount.TheVariants.{One, Four}
-use Rattle.cover.specs.Drawn.{IsDrawn}
+use Rattle.cover.specs.Rasterized.{IsRasterized}
 use Rattle.cover.specs.Masks.{IsPlaneOf}
 use Rattle.shade.specs.declared.block.BlockSamples.{BlockSamples}
 use Rattle.shade.specs.declared.block_mask.BlockMask.{BlockMask}
@@ -22,7 +22,7 @@ use Rattle.tile.proofs.Places.{within, same_place, whole_blocks}
 
 -- ---- which samples are met
 -- those of one sample index
-module _ (t : Placed) (bx by : ℕ) (count : SampleCount) (d : IsDrawn t.tri t.state.cull) (scissor : ℕ)
+module _ (t : Placed) (bx by : ℕ) (count : SampleCount) (d : IsRasterized t.tri t.state.cull) (scissor : ℕ)
     (inside : (row column : ℕ) → row < 8 → column < 8 → (IsBitSet scissor (8 * row + column) ↔ IsInBox t.state.scissor (8 * bx + column) (8 * by + row))) where
   pub met_plane : (s covered in_mask : ℕ) → IsPlaneOf t.tri bx by count s covered → ((k : ℕ) → k < 64 → (IsBitSet in_mask k ↔ (t.state.sample_mask / 2 ^ s % 2 ≡ 1))) → (row column : ℕ) → row < 8 → column < 8
       → (IsBitSet (bit_and (bit_and covered scissor) in_mask) (8 * row + column) ↔ Meets t count (8 * bx + column) (8 * by + row) s)

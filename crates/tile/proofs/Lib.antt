@@ -6,4 +6,4 @@ pub mod BlockDrawn
 pub mod Rows
 pub mod Ends
 pub mod Shown
-pub mod Runs
+pub mod PixelRuns

@@ -26,7 +26,7 @@ use Rattle.tile.proofs.Bits.{is_set}
 use Rattle.tile.proofs.Parts.{no_part, missed_part, joined, same_part}
 
 -- the pixel is in the region, in a row of blocks before by, or in that row and before the column bx
-pub record IsBefore (tile : Tile) (r : Region) (by bx : ℕ) (row column s : ℕ) : Type 0 where
+pub record IsScannedBefore (tile : Tile) (r : Region) (by bx : ℕ) (row column s : ℕ) : Type 0 where
   pub region : IsInRegion tile r row column
   pub before : (8 * tile.by + row < 8 * by) ⊎ ((8 * tile.by + row < 8 * by + 8) × (8 * tile.bx + column < 8 * bx))
 
@@ -80,7 +80,7 @@ module _ (t : Placed) (tile : Tile) (r : Region) (within : IsRegionIn tile r) wh
       record { left = omega (arith, within.left); right = omega (arith, within.right); top = omega (arith, within.top); bottom = omega (arith, within.bottom) }
 
   -- before the first block
-  pub none_before : (xs : List BlockSamples) → DrawsPart t tile (IsBefore tile r r.top r.left) xs xs
+  pub none_before : (xs : List BlockSamples) → DrawsPart t tile (IsScannedBefore tile r r.top r.left) xs xs
   none_before xs = no_part t tile _ xs (λ row column s h p.
       let region = p.region in
       elim p.before [
@@ -89,9 +89,9 @@ module _ (t : Placed) (tile : Tile) (r : Region) (within : IsRegionIn tile r) wh
       ])
 
   -- one block more
-  module _ (by bx : ℕ) (a b c : List BlockSamples) (begun : DrawsPart t tile (IsBefore tile r by bx) a b) (block : DrawsPart t tile (IsInSquare tile bx by 8) b c)
+  module _ (by bx : ℕ) (a b c : List BlockSamples) (begun : DrawsPart t tile (IsScannedBefore tile r by bx) a b) (block : DrawsPart t tile (IsInSquare tile bx by 8) b c)
       (from : r.left ≤ bx) (to : bx < r.right) (above : r.top ≤ by) (below : by < r.bottom) where
-    from_block : (row column s : ℕ) → IsSampleOf tile row column s → IsBefore tile r by (bx + 1) row column s → IsBefore tile r by bx row column s ⊎ IsInSquare tile bx by 8 row column s
+    from_block : (row column s : ℕ) → IsSampleOf tile row column s → IsScannedBefore tile r by (bx + 1) row column s → IsScannedBefore tile r by bx row column s ⊎ IsInSquare tile bx by 8 row column s
     from_block row column s h p =
         elim p.before [
           | inl over ↦ inl (record { region = p.region; before = inl over })
@@ -106,7 +106,7 @@ module _ (t : Placed) (tile : Tile) (r : Region) (within : IsRegionIn tile r) wh
               ]
         ]
 
-    into_blocks : (row column s : ℕ) → IsSampleOf tile row column s → IsBefore tile r by bx row column s ⊎ IsInSquare tile bx by 8 row column s → IsBefore tile r by (bx + 1) row column s
+    into_blocks : (row column s : ℕ) → IsSampleOf tile row column s → IsScannedBefore tile r by bx row column s ⊎ IsInSquare tile bx by 8 row column s → IsScannedBefore tile r by (bx + 1) row column s
     into_blocks row column s h (inl p) =
         record {
           region = p.region;
@@ -121,18 +121,18 @@ module _ (t : Placed) (tile : Tile) (r : Region) (within : IsRegionIn tile r) wh
           before = inr (i.bottom, omega (arith, i.right));
         }
 
-    apart : (row column s : ℕ) → IsSampleOf tile row column s → IsBefore tile r by bx row column s → IsInSquare tile bx by 8 row column s → ⊥
+    apart : (row column s : ℕ) → IsSampleOf tile row column s → IsScannedBefore tile r by bx row column s → IsInSquare tile bx by 8 row column s → ⊥
     apart row column s h p i =
         elim p.before [
           | inl over ↦ omega (arith, over, i.top)
           | inr beside ↦ omega (arith, beside.1, i.left)
         ]
 
-    pub one_more : DrawsPart t tile (IsBefore tile r by (bx + 1)) a c
+    pub one_more : DrawsPart t tile (IsScannedBefore tile r by (bx + 1)) a c
     one_more = joined t tile _ _ _ a b c begun block apart from_block into_blocks
 
   -- the next row of blocks
-  pub next_row : (by bx : ℕ) (a b : List BlockSamples) → r.right ≤ bx → DrawsPart t tile (IsBefore tile r by bx) a b → DrawsPart t tile (IsBefore tile r (by + 1) r.left) a b
+  pub next_row : (by bx : ℕ) (a b : List BlockSamples) → r.right ≤ bx → DrawsPart t tile (IsScannedBefore tile r by bx) a b → DrawsPart t tile (IsScannedBefore tile r (by + 1) r.left) a b
   next_row by bx a b end begun =
       same_part t tile _ _ a b begun
       (λ row column s h p. record {
@@ -154,7 +154,7 @@ module _ (t : Placed) (tile : Tile) (r : Region) (within : IsRegionIn tile r) wh
   module _ (bounds : PixelBox) (covering : HoldsCovered t.tri bounds) (holds : HoldsCommon tile bounds t.state.scissor r) where
     module _ (by bx : ℕ) (end : r.bottom ≤ by) (row column s : ℕ) (h : IsSampleOf tile row column s) where
       -- a sample that is met
-      met_before : Meets t tile.count (8 * tile.bx + column) (8 * tile.by + row) s → IsBefore tile r by bx row column s
+      met_before : Meets t tile.count (8 * tile.bx + column) (8 * tile.by + row) s → IsScannedBefore tile r by bx row column s
       met_before m =
           let across = corner_on_screen tile.side tile.bx tile.column in
           let down = corner_on_screen tile.side tile.by tile.row in
@@ -163,7 +163,7 @@ module _ (t : Placed) (tile : Tile) (r : Region) (within : IsRegionIn tile r) wh
           record { region = region; before = inl (omega (arith, region.bottom, end)) }
 
       -- a sample is in the region or not
-      decided : IsBefore tile r by bx row column s ⊎ ¬ IsBefore tile r by bx row column s
+      decided : IsScannedBefore tile r by bx row column s ⊎ ¬ IsScannedBefore tile r by bx row column s
       decided =
           elim (cases_lt (8 * tile.bx + column) (8 * r.left)) [
             | inl less ↦ inr (λ p. let region = p.region in omega (arith, region.left, less))
@@ -182,14 +182,14 @@ module _ (t : Placed) (tile : Tile) (r : Region) (within : IsRegionIn tile r) wh
                 ]
           ]
 
-      sample_drawn : (a b : List BlockSamples) → DrawsPart t tile (IsBefore tile r by bx) a b → DrawsAt t tile a b row column s
+      sample_drawn : (a b : List BlockSamples) → DrawsPart t tile (IsScannedBefore tile r by bx) a b → DrawsAt t tile a b row column s
       sample_drawn a b begun =
           elim decided [
             | inl p ↦ begun.drawn row column s h p
             | inr n ↦ let same = begun.kept row column s h n in record { met = λ m. absurd (n (met_before m)); missed = λ _. same }
           ]
 
-    pub scanned : (by bx : ℕ) (a b : List BlockSamples) → r.bottom ≤ by → DrawsPart t tile (IsBefore tile r by bx) a b → DrawsTile t tile a b
+    pub scanned : (by bx : ℕ) (a b : List BlockSamples) → r.bottom ≤ by → DrawsPart t tile (IsScannedBefore tile r by bx) a b → DrawsTile t tile a b
     scanned by bx a b end begun row column s h = sample_drawn by bx end row column s h a b begun
 
 -- no sample of a block is covered

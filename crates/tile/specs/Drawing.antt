@@ -8,7 +8,7 @@ use Rattle.grid.specs.declared.sample_count.SampleCount.{SampleCount}
 use Rattle.shade.specs.declared.block.BlockSamples.{BlockSamples}
 use Rattle.shade.specs.declared.block_mask.BlockMask.{BlockMask}
 use Rattle.cover.specs.Masks.{IsPlaneOf}
-use Rattle.cover.specs.Square.{Place}
+use Rattle.cover.specs.Square.{TestedSquare}
 use Rattle.shade.specs.declared.placed.Placed.{Placed}
 use Rattle.shade.specs.Placed.{Meets, Draws}
 use Rattle.tile.specs.declared.tile.Tile.{Tile}
@@ -47,11 +47,11 @@ pub record LiesIn (tile : Tile) (bx by side : ℕ) : Type 0 where
   pub bottom : 8 * by + side ≤ 8 * tile.by + side_of tile.side
 
 -- The samples of the tile, and a triangle.
-abbrev pub square_of : Tri → Tile → Place
+abbrev pub square_of : Tri → Tile → TestedSquare
 square_of t tile = record { triangle = t; bx = tile.bx; by = tile.by; side = tile.side; count = tile.count }
 
 -- The samples of block (bx, by) of the tile, and a triangle.
-abbrev pub block_of : Tri → Tile → ℕ → ℕ → Place
+abbrev pub block_of : Tri → Tile → ℕ → ℕ → TestedSquare
 block_of t tile bx by = record { triangle = t; bx = bx; by = by; side = T8; count = tile.count }
 
 -- The bits of the mask tell which samples of its block the triangle meets.

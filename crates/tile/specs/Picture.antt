@@ -6,7 +6,7 @@ use Rattle.shade.specs.declared.block.BlockSamples.{BlockSamples}
 use Rattle.shade.specs.Resolve.{IsResolved}
 use Rattle.shade.specs.Placed.{Meets}
 use Rattle.list.specs.Scene.{Scene}
-use Rattle.list.specs.Begun.{IsRun}
+use Rattle.list.specs.PixelPrefix.{IsPixelRun}
 use Rattle.list.specs.Picture.{IsEnd, IsPart}
 use Rattle.bins.specs.Grid.{TileGrid, columns_of}
 use Rattle.bins.specs.Bin.{IsBin}
@@ -70,7 +70,7 @@ AreInterleaved r g b bytes =
     (i : ℕ) → i < 8 → (slice_index bytes (3 * i) ≡ slice_index r i) × (slice_index bytes (3 * i + 1) ≡ slice_index g i) × (slice_index bytes (3 * i + 2) ≡ slice_index b i)
 
 -- The new bytes are the old ones, and behind them those of so many pixels of one row of the picture, from pixel (i, j) on.
-pub record AddsRun (l : Scene) (i j many : ℕ) (old new : List ℕ) : Type 0 where
+pub record AddsPixelRun (l : Scene) (i j many : ℕ) (old new : List ℕ) : Type 0 where
   pub run : List ℕ
-  pub is : IsRun l i j many run
+  pub is : IsPixelRun l i j many run
   pub behind : new ≡ old ++ run

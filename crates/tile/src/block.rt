@@ -2,7 +2,7 @@
 ghost use Rattle.std.specs.Prelude.{◌≡◌, ◌↔◌, ℕ, ◌+◌, ◌-◌, ◌*◌, ◌/◌, ◌%◌, ◌^◌, ◌<◌, length, slice_index, IsBitSet, IsTrue};
 ghost use Rattle.grid.specs.Pixels.{IsInBox};
 ghost use Rattle.grid.specs.Samples.{count_of};
-ghost use Rattle.cover.specs.Drawn.{IsDrawn};
+ghost use Rattle.cover.specs.Rasterized.{IsRasterized};
 ghost use Rattle.shade.specs.declared.placed.Placed.{Placed as Triangle};
 ghost use Rattle.tile.specs.Samples.{planes_of};
 ghost use Rattle.tile.specs.Region.{HoldsTile};
@@ -38,7 +38,7 @@ fn met(
 ) -> BlockMask
     requires column { bx < 512 }
     requires row { by < 512 }
-    requires drawn { IsDrawn triangle.now.tri triangle.now.state.cull }
+    requires drawn { IsRasterized triangle.now.tri triangle.now.state.cull }
     requires covered { ArePlanesOf triangle.now.tri bx by count covered.now }
     requires scissor { (row column : ℕ) → row < 8 → column < 8 → (IsBitSet scissor (8 * row + column) ↔ IsInBox triangle.now.state.scissor (8 * bx + column) (8 * by + row)) }
     ensures met { AreMet triangle.now result }
@@ -70,7 +70,7 @@ pub(crate) fn draw_block(
 )
     requires samples { length samples.old ≡ planes_of tile.now.side tile.now.count }
     requires block { LiesIn tile.now bx by 8 }
-    requires drawn { IsDrawn triangle.now.tri triangle.now.state.cull }
+    requires drawn { IsRasterized triangle.now.tri triangle.now.state.cull }
     requires covered { ArePlanesOf triangle.now.tri bx by tile.now.count covered.now }
     requires whole { IsTrue whole → HoldsTile triangle.now.state.scissor tile.now }
     ensures { DrawsPart triangle.now tile.now (IsInSquare tile.now bx by 8) samples.old samples.new }

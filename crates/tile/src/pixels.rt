@@ -1,10 +1,10 @@
 //! The bytes of a tile's pixels.
 ghost use Rattle.std.specs.Prelude.{◌≡◌, ℕ, ◌+◌, ◌*◌, ◌/◌, ◌%◌, ◌<◌, ◌≤◌, ◌++◌, length, take, IfOk, OnOk};
 ghost use Rattle.grid.specs.Pixels.{side_of};
-ghost use Rattle.list.specs.Begun.{IsBegun};
+ghost use Rattle.list.specs.PixelPrefix.{IsPixelPrefix};
 ghost use Rattle.list.specs.Picture.{IsPart};
 ghost use Rattle.tile.specs.Samples.{planes_of};
-ghost use Rattle.tile.specs.Picture.{IsShown, AreEnds, AddsRun};
+ghost use Rattle.tile.specs.Picture.{IsShown, AreEnds, AddsPixelRun};
 
 use crate::eight::{colours, depths};
 use crate::tile::Tile;
@@ -29,7 +29,7 @@ fn push_first(run: &[u8], many: u32, bytes: &mut Vec<u8>) -> Result<(), OutOfMem
 
 /// Appends the bytes of the first pixels, so many of them, of a row of eight: those in a row of the tile, in a column of its
 /// blocks.
-fn push_run(
+fn push_pixel_run(
     list: &DrawList,
     tile: &Tile,
     samples: &[BlockSamples],
@@ -45,7 +45,7 @@ fn push_run(
     requires column { column < side_of tile.now.side / 8 }
     requires many { many ≤ 8 }
     requires shown { (i : ℕ) → i < many → IsShown list.now tile.now row (8 * column + i) 0 }
-    ensures { OnOk result (AddsRun list.now (8 * tile.now.bx + 8 * column) (8 * tile.now.by + row) many bytes.old.items bytes.new.items) }
+    ensures { OnOk result (AddsPixelRun list.now (8 * tile.now.bx + 8 * column) (8 * tile.now.by + row) many bytes.old.items bytes.new.items) }
 {
     match list.output() {
         Output::Color => push_first(&colours(tile, samples, row, column), 3 * many, bytes),
@@ -68,12 +68,12 @@ fn push_row(
     requires row { row < side_of tile.now.side }
     requires width { width ≤ side_of tile.now.side }
     requires shown { (column : ℕ) → column < width → IsShown list.now tile.now row column 0 }
-    requires above { IsBegun list.now (8 * tile.now.bx) (8 * tile.now.by) width (row * width) bytes.old.items }
-    ensures { OnOk result (IsBegun list.now (8 * tile.now.bx) (8 * tile.now.by) width ((row + 1) * width) bytes.new.items) }
+    requires above { IsPixelPrefix list.now (8 * tile.now.bx) (8 * tile.now.by) width (row * width) bytes.old.items }
+    ensures { OnOk result (IsPixelPrefix list.now (8 * tile.now.bx) (8 * tile.now.by) width ((row + 1) * width) bytes.new.items) }
 {
     for column in 0..(width + 7) / 8 {
         let many = (width - 8 * column).min(8);
-        push_run(list, tile, samples, row, column, many, bytes)?;
+        push_pixel_run(list, tile, samples, row, column, many, bytes)?;
     }
     Ok(())
 }

@@ -1,7 +1,7 @@
 //! The blocks of a tile that a triangle meets, row by row.
 ghost use Rattle.std.specs.Prelude.{◌≡◌, length, IfSome, IsTrue, None};
 ghost use Rattle.grid.specs.declared.pixels.TileSide.TheVariants.{T8};
-ghost use Rattle.cover.specs.Drawn.{IsDrawn};
+ghost use Rattle.cover.specs.Rasterized.{IsRasterized};
 ghost use Rattle.cover.specs.Square.{CoversAll, CoversNone};
 ghost use Rattle.tile.specs.Samples.{planes_of};
 ghost use Rattle.tile.specs.Drawing.{DrawsTile, ArePlanesOf, LiesIn, square_of, block_of};
@@ -73,7 +73,7 @@ fn covers_tile(setup: &Setup, tile: &Tile, region: &Region) -> bool
 fn draw_blocks(triangle: &Placed, setup: &Setup, tile: &Tile, samples: &mut [BlockSamples])
     requires samples { length samples.old ≡ planes_of tile.now.side tile.now.count }
     requires setup { setup.now ≡ triangle.now.tri }
-    requires drawn { IsDrawn triangle.now.tri triangle.now.state.cull }
+    requires drawn { IsRasterized triangle.now.tri triangle.now.state.cull }
     ensures { DrawsTile triangle.now tile.now samples.old samples.new }
 {
     let region = Region::of(tile, &setup.bounds(), &triangle.state.scissor);

@@ -18,11 +18,11 @@ fn before(side: i32, first: u32) -> u32
     ensures before { (i : ℕ) → i < result → pos (first + i) <ℤ side }
     ensures beyond { (i : ℕ) → i < 8 → result ≤ i → side ≤ℤ pos (first + i) }
 {
-    let way = i64::from(side) - i64::from(first);
-    if way <= 0 {
+    let distance = i64::from(side) - i64::from(first);
+    if distance <= 0 {
         0
-    } else if way < 8 {
-        way as u32
+    } else if distance < 8 {
+        distance as u32
     } else {
         8
     }

@@ -8,14 +8,14 @@ use Rattle.std.proofs.Math.Nat.{mod-lt, div-add-mod'}
 use Rattle.std.proofs.lemmas.Int.{ints}
 use Rattle.grid.specs.Pixels.{side_of}
 use Rattle.grid.specs.declared.pixels.PixelBox.{PixelBox}
-use Rattle.list.specs.Begun.{IsBegun, IsRun}
+use Rattle.list.specs.PixelPrefix.{IsPixelPrefix, IsPixelRun}
 use Rattle.list.specs.Scene.{Scene}
 use Rattle.list.specs.Picture.{IsPixel, pixel_at}
-use Rattle.list.proofs.Begun.{begun_run, nothing_begun, part_of_rows}
+use Rattle.list.proofs.PixelPrefix.{prefix_run, empty_prefix, part_of_rows}
 use Rattle.list.proofs.Pixels.{bytes_of_both, bytes_of_none, same_pixel, pixel_before, pixel_behind}
 use Rattle.bins.specs.Bin.{TileBins, HasTile, AreBins}
 use Rattle.bins.specs.Grid.{TileGrid, columns_of, rect_at, rect_of, tiles_over}
-use Rattle.tile.specs.Picture.{AddsRun, IsPictureIn}
+use Rattle.tile.specs.Picture.{AddsPixelRun, IsPictureIn}
 use Rattle.tile.specs.declared.drawing.TilePixels.{TilePixels}
 use Rattle.trirast.specs.Band.{AddsBand, AreColumns, IsColumn, band_height, band_top, column_left, column_width}
 use Rattle.trirast.proofs.Strips.{strip_next, strip_before}
@@ -59,21 +59,21 @@ has_tile l g row column columns b e h bins =
     record { from = omega arith; below = omega arith }
 
 -- two runs side by side
-module _ (l : Scene) (i j m n : ℕ) (a b : List ℕ) (h : IsRun l i j m a) (k : IsRun l (i + m) j n b) where
+module _ (l : Scene) (i j m n : ℕ) (a b : List ℕ) (h : IsPixelRun l i j m a) (k : IsPixelRun l (i + m) j n b) where
   pixel : (t : ℕ) → t < m + n → (t < m) ⊎ (m ≤ t) → IsPixel l (i + t) j (pixel_at l.output t (a ++ b))
   pixel t below (inl left) = same_pixel l (i + t) j (i + t) j _ _ refl refl (sym (pixel_before l.output m t a b h.size left)) (h.pixels t left)
   pixel t below (inr right) =
       let column : (i + m) + (t - m) ≡ i + t = omega arith in
       same_pixel l ((i + m) + (t - m)) j (i + t) j _ _ column refl (sym (pixel_behind l.output m (t - m) t a b h.size (omega arith))) (k.pixels (t - m) (omega arith))
 
-  pub run_append : IsRun l i j (m + n) (a ++ b)
+  pub run_append : IsPixelRun l i j (m + n) (a ++ b)
   run_append = record {
     size = omega (arith, length-append a b, h.size, k.size, bytes_of_both l.output m n);
     pixels = λ t below. pixel t below (cases_lt t m);
   }
 
 -- nothing was added yet
-pub no_run : (l : Scene) (i j many : ℕ) (bytes : List ℕ) → many ≡ 0 → AddsRun l i j many bytes bytes
+pub no_run : (l : Scene) (i j many : ℕ) (bytes : List ℕ) → many ≡ 0 → AddsPixelRun l i j many bytes bytes
 no_run l i j many bytes none = record {
   run = [];
   is = record { size = sym (bytes_of_none l.output many none); pixels = λ m below. absurd (omega arith) };
@@ -82,10 +82,10 @@ no_run l i j many bytes none = record {
 
 -- a tile's run behind those of the tiles on its left
 pub column_added : (l : Scene) (g : TileGrid) (y column : ℕ) (old bytes run all : List ℕ) → column < columns_of g → g.width ≡ l.width
-    → AddsRun l 0 y (min l.width (side_of g.side * column)) old bytes
-    → IsRun l (column_left g column) y (column_width g column) run
+    → AddsPixelRun l 0 y (min l.width (side_of g.side * column)) old bytes
+    → IsPixelRun l (column_left g column) y (column_width g column) run
     → all ≡ bytes ++ run
-    → AddsRun l 0 y (min l.width (side_of g.side * (column + 1))) old all
+    → AddsPixelRun l 0 y (min l.width (side_of g.side * (column + 1))) old all
 column_added l g y column old bytes run all h same added more e =
     let left : ℕ = side_of g.side * column in
     let many : ℕ = min l.width (left + side_of g.side) - left in
@@ -93,28 +93,28 @@ column_added l g y column old bytes run all h same added more e =
     let before : min l.width left ≡ left = strip_before column l.width g.side within in
     let next : min l.width (side_of g.side * (column + 1)) ≡ left + many = strip_next column l.width g.side within in
     let wide : column_width g column ≡ many = ap (λ n. min n (left + side_of g.side) - left) same in
-    let is : IsRun l 0 y left added.run = subst (λ n. IsRun l 0 y n added.run) before added.is in
-    let run' : IsRun l (0 + left) y many run = subst (λ x. IsRun l x y many run) (sym (zero-add left)) (subst (λ n. IsRun l left y n run) wide more) in
+    let is : IsPixelRun l 0 y left added.run = subst (λ n. IsPixelRun l 0 y n added.run) before added.is in
+    let run' : IsPixelRun l (0 + left) y many run = subst (λ x. IsPixelRun l x y many run) (sym (zero-add left)) (subst (λ n. IsPixelRun l left y n run) wide more) in
     let both = run_append l 0 y left many added.run run is run' in
     record {
       run = added.run ++ run;
-      is = subst (λ n. IsRun l 0 y n (added.run ++ run)) (sym next) both;
+      is = subst (λ n. IsPixelRun l 0 y n (added.run ++ run)) (sym next) both;
       behind = e ∙ (ap (λ b. b ++ run) added.behind ∙ append_assoc old added.run run);
     }
 
 -- The new bytes are the old ones, and behind them the first pixels of the picture's rows from this one on, so many of them.
-pub record AddsBegun (l : Scene) (y n : ℕ) (old new : List ℕ) : Type 0 where
+pub record AddsPixelPrefix (l : Scene) (y n : ℕ) (old new : List ℕ) : Type 0 where
   pub rows : List ℕ
-  pub is : IsBegun l 0 y l.width n rows
+  pub is : IsPixelPrefix l 0 y l.width n rows
   pub behind : new ≡ old ++ rows
 
-pub no_rows_begun : (l : Scene) (y n : ℕ) (bytes : List ℕ) → n ≡ 0 → AddsBegun l y n bytes bytes
-no_rows_begun l y n bytes none = record { rows = []; is = nothing_begun l 0 y l.width n none; behind = sym (append-nil bytes) }
+pub no_rows_yet : (l : Scene) (y n : ℕ) (bytes : List ℕ) → n ≡ 0 → AddsPixelPrefix l y n bytes bytes
+no_rows_yet l y n bytes none = record { rows = []; is = empty_prefix l 0 y l.width n none; behind = sym (append-nil bytes) }
 
 -- a row behind those above it
-pub row_added : (l : Scene) (y j : ℕ) (old bytes all : List ℕ) → AddsBegun l y (j * l.width) old bytes → AddsRun l 0 (y + j) l.width bytes all → AddsBegun l y ((j + 1) * l.width) old all
+pub row_added : (l : Scene) (y j : ℕ) (old bytes all : List ℕ) → AddsPixelPrefix l y (j * l.width) old bytes → AddsPixelRun l 0 (y + j) l.width bytes all → AddsPixelPrefix l y ((j + 1) * l.width) old all
 row_added l y j old bytes all above added =
-    let more = begun_run l 0 y l.width (j * l.width) 0 j l.width above.rows added.run above.is (omega arith) (omega arith) added.is in
+    let more = prefix_run l 0 y l.width (j * l.width) 0 j l.width above.rows added.run above.is (omega arith) (omega arith) added.is in
     let count : (j + 1) * l.width ≡ j * l.width + l.width = omega arith in
     record {
       rows = above.rows ++ added.run;
@@ -123,7 +123,7 @@ row_added l y j old bytes all above added =
     }
 
 -- all rows of a band were added
-pub band_added : (l : Scene) (g : TileGrid) (row j : ℕ) (old new : List ℕ) → j ≡ band_height g row → AddsBegun l (band_top g row) (j * l.width) old new → AddsBand l g row old new
+pub band_added : (l : Scene) (g : TileGrid) (row j : ℕ) (old new : List ℕ) → j ≡ band_height g row → AddsPixelPrefix l (band_top g row) (j * l.width) old new → AddsBand l g row old new
 band_added l g row j old new all added = record {
   band = added.rows;
   is = part_of_rows l 0 (band_top g row) l.width (band_height g row) added.rows (rw all at added.is);

@@ -9,10 +9,10 @@ use Rattle.pool.specs.declared.fault.PoolFault.TheVariants.{NoWorker}
 use Rattle.list.specs.declared.fault.ReadFault.{ReadFault}
 use Rattle.trirast.specs.declared.fault.Fault.{Fault}
 use Rattle.trirast.specs.declared.fault.Fault.TheVariants.{List as BadList, Pool, InputFailed, InputTooLong, WriteFailed, OutOfMemory}
-use Rattle.list.specs.Checks.{places}
+use Rattle.list.specs.Checks.{all_checks}
 use Rattle.list.specs.Denotes.{Denotes}
 use Rattle.list.specs.Json.{json_of}
-use Rattle.list.specs.Place.{IsFirstFault}
+use Rattle.list.specs.FirstFault.{IsFirstFault}
 use Rattle.trirast.specs.File.{header_of, IsPictureFile}
 
 -- a reader that had `left` gave these bytes, and then was at its end
@@ -86,7 +86,7 @@ pub record WritesWholeBands (side : TileSide) (left left_after held held_after :
 pub record HasFault (left left_after : Option (List ℕ)) (fault : ReadFault) : Type 0 where
   pub bytes : List ℕ
   pub input : GivesAll left left_after bytes
-  pub first : IsFirstFault (places (json_of bytes)) fault
+  pub first : IsFirstFault (all_checks (json_of bytes)) fault
 
 -- As many bytes came.
 pub record Gives (left left_after : Option (List ℕ)) (count : ℕ) : Type 0 where

@@ -65,8 +65,8 @@ impl Job for BandJob<'_> {
 }
 
 impl<'a> Band<'a> {
-    ghost use Rattle.list.specs.Begun.{IsRun};
-    ghost use Rattle.tile.specs.Picture.{AddsRun};
+    ghost use Rattle.list.specs.PixelPrefix.{IsPixelRun};
+    ghost use Rattle.tile.specs.Picture.{AddsPixelRun};
     ghost use Rattle.trirast.specs.Band.{band_top, band_height, column_left, column_width as width_of_column, IsColumn, AreColumns, IsBand, AddsBand};
 
     /// The band of this number, counted from the top.
@@ -106,7 +106,7 @@ impl<'a> Band<'a> {
         requires column { column < columns_of self.now.tiling.now }
         requires tile { IsColumn self.now.list.now self.now.tiling.now self.now.row column tile.now }
         requires row { j < band_height self.now.tiling.now self.now.row }
-        ensures { IsRun self.now.list.now (column_left self.now.tiling.now column) (band_top self.now.tiling.now self.now.row + j)
+        ensures { IsPixelRun self.now.list.now (column_left self.now.tiling.now column) (band_top self.now.tiling.now self.now.row + j)
             (width_of_column self.now.tiling.now column) result.now }
     {
         let across = (self.list.output().pixel_bytes() * self.column_width(column)) as usize;
@@ -118,7 +118,7 @@ impl<'a> Band<'a> {
     fn push_row(&self, tiles: &[TilePixels], j: u32, bytes: &mut Vec<u8>) -> Result<(), OutOfMemory>
         requires tiles { AreColumns self.now.list.now self.now.tiling.now self.now.row tiles.now }
         requires row { j < band_height self.now.tiling.now self.now.row }
-        ensures { OnOk result (AddsRun self.now.list.now 0 (band_top self.now.tiling.now self.now.row + j) self.now.list.now.width bytes.old.items bytes.new.items) }
+        ensures { OnOk result (AddsPixelRun self.now.list.now 0 (band_top self.now.tiling.now self.now.row + j) self.now.list.now.width bytes.old.items bytes.new.items) }
     {
         for column in 0..self.tiling.columns() {
             bytes.extend_from_slice(self.row_of(&tiles[column as usize], column, j))?;

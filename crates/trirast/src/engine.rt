@@ -2,10 +2,10 @@
 ghost use Rattle.std.specs.Prelude.{◌≡◌, ◌<◌, ◌≤◌, ◌↔◌, ◌⊎◌, ℕ, ◌+◌, length, Ok, OnOk, IfOk, IfErr, IsErrOf, vec_len};
 ghost use Rattle.grid.specs.Pixels.{side_of};
 ghost use Rattle.list.specs.declared.fault.ReadFault.{ReadFault};
-ghost use Rattle.list.specs.Checks.{places};
+ghost use Rattle.list.specs.Checks.{all_checks};
 ghost use Rattle.list.specs.Denotes.{Denotes};
 ghost use Rattle.list.specs.Json.{json_of};
-ghost use Rattle.list.specs.Place.{IsFirstFault};
+ghost use Rattle.list.specs.FirstFault.{IsFirstFault};
 ghost use Rattle.trirast.specs.Runs.{WritesAll, WritesFile, WritesPicture, Explains, ExplainsOutput};
 
 use crate::band::Band;
@@ -27,7 +27,7 @@ use std::thread::Threads;
 pub fn read_list(alloc: Global, bytes: &[u8]) -> Result<DrawList, Fault>
     requires { length bytes.now ≤ MOST_BYTES }
     ensures ok { IfOk result (Denotes bytes.now) }
-    ensures fault { IfErr result (λ e. (e ≡ Fault.OutOfMemory) ⊎ ((fault : ReadFault) × (e ≡ Fault.List fault) × IsFirstFault (places (json_of bytes.now)) fault)) }
+    ensures fault { IfErr result (λ e. (e ≡ Fault.OutOfMemory) ⊎ ((fault : ReadFault) × (e ≡ Fault.List fault) × IsFirstFault (all_checks (json_of bytes.now)) fault)) }
 {
     match read(alloc, bytes) {
         Ok(list) => Ok(list),

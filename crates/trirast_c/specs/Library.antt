@@ -3,11 +3,11 @@
 use Rattle.std.specs.Prelude.{◌≡◌, ℕ, ◌<◌, ◌≤◌, List, ◌++◌, length, drop, ⊤}
 use Rattle.grid.specs.Pixels.{side_of}
 use Rattle.grid.specs.declared.pixels.TileSide.{TileSide}
-use Rattle.list.specs.Checks.{places}
+use Rattle.list.specs.Checks.{all_checks}
 use Rattle.list.specs.Denotes.{Denotes}
 use Rattle.list.specs.Json.{json_of}
 use Rattle.list.specs.Picture.{pixel_bytes}
-use Rattle.list.specs.Place.{IsFirstFault}
+use Rattle.list.specs.FirstFault.{IsFirstFault}
 use Rattle.list.specs.Scene.{Scene}
 use Rattle.list.specs.declared.fault.ReadFault.{ReadFault}
 use Rattle.scene.specs.Checks.{IsListOf, IsFirstFault as IsFirstOfArrays}
@@ -109,7 +109,7 @@ pub record Given : Type 1 where
 
 -- a list as bytes
 abbrev pub text : List ℕ → Given
-text bytes = record { Means = Denotes bytes; IsFirst = IsFirstFault (places (json_of bytes)); IsTooLong = 67_108_864 < length bytes }
+text bytes = record { Means = Denotes bytes; IsFirst = IsFirstFault (all_checks (json_of bytes)); IsTooLong = 67_108_864 < length bytes }
 
 -- a list as arrays, which may have any length
 abbrev pub arrays : SceneHead → List SceneDraw → List SceneVertex → List ℕ → Given

@@ -1,7 +1,7 @@
 ghost use Rattle.std.specs.Prelude.{◌≡◌, ◌≤◌, length, Some, IfOk};
 ghost use Rattle.serde_json.specs.View.{view, items_view};
 ghost use Rattle.list.specs.Json.{elements, count};
-ghost use Rattle.list.specs.Place.{Tells};
+ghost use Rattle.list.specs.FirstFault.{Tells};
 ghost use Rattle.list.specs.Checks.{array_checks, has_length as has_length_of};
 
 use crate::fault::ReadKind;

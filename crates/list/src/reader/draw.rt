@@ -1,7 +1,7 @@
 ghost use Rattle.std.specs.Prelude.{◌≡◌, ◌≤◌, ◌+◌, Some, None, IfOk, IfErr};
 ghost use Rattle.serde_json.specs.View.{view};
 ghost use Rattle.list.specs.declared.fault.ReadKind.TheVariants.{OutOfMemory};
-ghost use Rattle.list.specs.Place.{Reads, first_fault};
+ghost use Rattle.list.specs.FirstFault.{Reads, first_fault};
 ghost use Rattle.list.specs.Primitives.{primitive_listing, count_of_triangles};
 ghost use Rattle.list.specs.Listing.{draw_listing};
 ghost use Rattle.list.specs.Given.{given_triangles, given_strip, given_quads};

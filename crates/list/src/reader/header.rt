@@ -2,7 +2,7 @@ ghost use Rattle.std.specs.Prelude.{◌≡◌, ◌≤◌, pos, Some, length, opt
 ghost use Rattle.serde_json.specs.View.{view, items_view};
 ghost use Rattle.grid.specs.declared.sample_count.SampleCount.TheVariants as count_of;
 ghost use Rattle.list.specs.Header.{IsBeginning};
-ghost use Rattle.list.specs.Place.{Tells};
+ghost use Rattle.list.specs.FirstFault.{Tells};
 ghost use Rattle.list.specs.Checks.{where_there, size_checks, sample_count_checks, colour_checks, depth_checks, clear_checks, top_checks};
 ghost use Rattle.list.specs.Denotes.{OrDefault, IsSize, IsSampleCount, IsClearColour, IsDepthNumber};
 

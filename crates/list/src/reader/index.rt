@@ -1,6 +1,6 @@
 ghost use Rattle.std.specs.Prelude.{◌≤◌, option_map};
 ghost use Rattle.serde_json.specs.View.{view};
-ghost use Rattle.list.specs.Place.{Tells};
+ghost use Rattle.list.specs.FirstFault.{Tells};
 ghost use Rattle.list.specs.Checks.{index_checks};
 ghost use Rattle.list.specs.Denotes.{IsIndex};
 

@@ -1,6 +1,6 @@
 ghost use Rattle.std.specs.Prelude.{◌≡◌, pos, ◌≤ℤ◌, option_map};
 ghost use Rattle.serde_json.specs.View.{view};
-ghost use Rattle.list.specs.Place.{Tells};
+ghost use Rattle.list.specs.FirstFault.{Tells};
 ghost use Rattle.list.specs.Checks.{number_checks, coordinate_checks, depth_checks, channel_checks, is_from_to};
 ghost use Rattle.list.specs.Denotes.{IsWhole, IsCoordinate, IsDepthNumber, IsChannel};
 

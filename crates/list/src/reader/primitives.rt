@@ -1,7 +1,7 @@
 ghost use Rattle.std.specs.Prelude.{◌≤◌, ◌+◌, [], ◌∷◌, IfOk, length, map};
 ghost use Rattle.serde_json.specs.View.{view};
 ghost use Rattle.list.specs.declared.fault.ReadKind.TheVariants.{MissingKey, TwoLists};
-ghost use Rattle.list.specs.Place.{Tells, Reads, place};
+ghost use Rattle.list.specs.FirstFault.{Tells, Reads, check};
 ghost use Rattle.list.specs.Primitives.{primitive_listing, count_of_triangles};
 ghost use Rattle.list.specs.Given.{given_triangles, given_strip, given_quads, IsGiven};
 ghost use Rattle.list.specs.Checks.{primitive_checks, has_no_list, has_two_lists};
@@ -28,7 +28,7 @@ pub(crate) enum PrimitiveArray<'v> {
 /// The list of primitives of a draw, which has just one.
 pub(crate) fn primitive_array(value: &Value) -> Result<PrimitiveArray<'_>, ReadKind>
     ensures { let seen = view value.now in
-        Tells (place (has_no_list seen) MissingKey ∷ place (has_two_lists seen) TwoLists ∷ []) (IsGiven seen) result }
+        Tells (check (has_no_list seen) MissingKey ∷ check (has_two_lists seen) TwoLists ∷ []) (IsGiven seen) result }
 {
     match (
         value.get("triangles"),

@@ -1,6 +1,6 @@
 ghost use Rattle.std.specs.Prelude.{◌≡◌, ◌≤◌, ◌+◌, Some, IfOk, length, vec_len, map};
 ghost use Rattle.serde_json.specs.View.{view, items_view};
-ghost use Rattle.list.specs.Place.{Tells, Reads};
+ghost use Rattle.list.specs.FirstFault.{Tells, Reads};
 ghost use Rattle.list.specs.Primitives.{quads_count as count_of_quads};
 ghost use Rattle.list.specs.Checks.{quad_checks_over, quads_checks, each};
 ghost use Rattle.list.specs.Denotes.{IsQuad, IsArrayOf, Each};

@@ -1,6 +1,6 @@
 ghost use Rattle.std.specs.Prelude.{◌≡◌, pos, option_map, true, false, [], ◌∷◌};
 ghost use Rattle.serde_json.specs.View.{view};
-ghost use Rattle.list.specs.Place.{Tells};
+ghost use Rattle.list.specs.FirstFault.{Tells};
 ghost use Rattle.list.specs.Checks.{where_there, truth_checks, write_mask_checks, sample_mask_checks, scissor_side_checks, scissor_checks, merge_checks, state_checks};
 ghost use Rattle.list.specs.Denotes.{OrDefault, IsTruth, IsWriteMask, IsSampleMask, IsScissorSide, IsScissor, IsMerge, IsState};
 

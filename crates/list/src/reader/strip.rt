@@ -1,6 +1,6 @@
 ghost use Rattle.std.specs.Prelude.{◌≡◌, ◌≤◌, ◌+◌, Some, IfOk, vec_len};
 ghost use Rattle.serde_json.specs.View.{view, items_view};
-ghost use Rattle.list.specs.Place.{Reads};
+ghost use Rattle.list.specs.FirstFault.{Reads};
 ghost use Rattle.list.specs.Primitives.{strip_count as count_of_strip};
 ghost use Rattle.list.specs.Checks.{strip_index_checks, strip_checks, each};
 ghost use Rattle.list.specs.Denotes.{IsStripIndex, IsArrayOf, Each};

@@ -1,6 +1,6 @@
 ghost use Rattle.std.specs.Prelude.{◌≡◌, ◌≤◌, ◌+◌, Some, IfOk, vec_len};
 ghost use Rattle.serde_json.specs.View.{view, items_view};
-ghost use Rattle.list.specs.Place.{Tells, Reads};
+ghost use Rattle.list.specs.FirstFault.{Tells, Reads};
 ghost use Rattle.list.specs.Checks.{triangle_checks, triangles_checks, each};
 ghost use Rattle.list.specs.Denotes.{IsTriangle, IsArrayOf, Each};
 

@@ -1,7 +1,7 @@
 ghost use Rattle.std.specs.Prelude.{◌≡◌, ◌≤◌, length, Some, None, IfErr};
 ghost use Rattle.serde_json.specs.View.{view, items_view};
 ghost use Rattle.list.specs.declared.fault.ReadKind.TheVariants.{OutOfMemory};
-ghost use Rattle.list.specs.Place.{Tells, Reads, first_fault};
+ghost use Rattle.list.specs.FirstFault.{Tells, Reads, first_fault};
 ghost use Rattle.list.specs.Checks.{array_checks, vertex_checks, vertices_checks, each};
 ghost use Rattle.list.specs.Denotes.{IsVertex, IsArrayOf, Each};
 

@@ -4,7 +4,7 @@ ghost use Rattle.grid.specs.declared.cull.Cull.TheVariants as cull_of;
 ghost use Rattle.shade.specs.declared.depth.DepthTest.TheVariants as test_of;
 ghost use Rattle.list.specs.declared.output.Output.TheVariants as output_of;
 ghost use Rattle.list.specs.Keys.{output_words, cull_words, depth_test_words, blend_words};
-ghost use Rattle.list.specs.Place.{Tells};
+ghost use Rattle.list.specs.FirstFault.{Tells};
 ghost use Rattle.list.specs.Checks.{where_there, word_checks};
 ghost use Rattle.list.specs.Denotes.{OrDefault, IsOutput, IsCull, IsDepthTest, IsBlend};
 

@@ -5,7 +5,7 @@ ghost use Rattle.std.specs.Vec.{vec_len, vec_capacity};
 ghost use Rattle.pool.specs.Dealing.{lists_of, NoneTwice, DealtOnce, SomeEnded};
 ghost use Rattle.pool.specs.Desks.{IsSeatOf, GoesRound, desks_count, desks_seats, seat_number, seat_given, seat_ended, seat_list};
 
-use super::deals::{cut_row, lay};
+use super::deals::{cut_row, make_desks};
 use super::rows::{close_all, join_row};
 use super::{DeskSeat, Desks};
 use crate::dealer::Dealer;
@@ -124,7 +124,7 @@ impl Dealer for Desks {
     fn deal(alloc: Global, n: u32, seats: u32) -> Result<(Desks, Vec<DeskSeat>), OutOfMemory> {
         let lists = Vec::with_capacity(alloc, seats as usize)?;
         let mut row = Vec::with_capacity(alloc, seats as usize)?;
-        let (lines, mut rest) = lay(alloc, n, seats)?;
+        let (lines, mut rest) = make_desks(alloc, n, seats)?;
         for number in 0..seats - 1 {
             let places = cut_row(alloc, &lines, &mut rest)?;
             row.push_reserved(DeskSeat::new(alloc, number, n, places)?);

@@ -1,4 +1,4 @@
-//! Laying the lines, and cutting a seat's places from them.
+//! Making the lines, and cutting a seat's places from them.
 ghost use Rattle.std.specs.Prelude.{◌≡◌, ◌+◌, ◌≤◌, ◌<◌, ℕ, [], length, slice_index_or, IfOk};
 ghost use Rattle.std.specs.Vec.{vec_capacity};
 ghost use Rattle.pool.specs.Lines.{without_one, one_seat};
@@ -11,7 +11,11 @@ use grid::OutOfMemory;
 use std::alloc::Global;
 
 /// The desks, and the place of all seats at each.
-pub(super) fn lay(alloc: Global, n: u32, desks: u32) -> Result<(Vec<Line>, Vec<Place>), OutOfMemory>
+pub(super) fn make_desks(
+    alloc: Global,
+    n: u32,
+    desks: u32,
+) -> Result<(Vec<Line>, Vec<Place>), OutOfMemory>
     requires { (n ≤ 262144) × (0 < desks) × (desks ≤ 16) }
     ensures lines { IfOk result (λ r. (length r.0.items ≡ desks) × AreDesks n r.0.items) }
     ensures row { IfOk result (λ r. IsRow r.0.items r.1.items × AreUncut desks r.0.items r.1.items) }

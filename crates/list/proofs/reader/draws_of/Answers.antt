@@ -4,9 +4,9 @@ use Rattle.std.proofs.lemmas.List.{map-append, drop_all}
 use Rattle.std.proofs.lemmas.List.Sums.{sum_by-append}
 use Rattle.serde_json.specs.View.{view, items_view}
 use Rattle.list.specs.declared.fault.ReadFault.{ReadFault}
-use Rattle.list.specs.Place.{first_fault}
+use Rattle.list.specs.FirstFault.{first_fault}
 use Rattle.list.specs.declared.fault.ReadKind.TheVariants.{OutOfMemory}
-use Rattle.list.specs.Checks.{draw_places, in_draw, triangles_counted}
+use Rattle.list.specs.Checks.{draws_checks, in_draw, triangles_counted}
 use Rattle.list.specs.Denotes.{IsDraw}
 use Rattle.list.specs.Primitives.{count_of_triangles}
 use Rattle.list.specs.Listing.{draw_listing, DrawListing}
@@ -68,7 +68,7 @@ pub returns-clause-told : goal.returns-clause-told
 returns-clause-told c =
     let vs = c.args.list.now in
     let past : length vs ≤ c.loop-number.number = omega arith in (
-      sym c.loop-number.invariant.passed ∙ ap (λ xs. first_fault (draw_places c.loop-number.number c.loop-number.earlier (items_view xs))) (drop_all _ vs past),
+      sym c.loop-number.invariant.passed ∙ ap (λ xs. first_fault (draws_checks c.loop-number.number c.loop-number.earlier (items_view xs))) (drop_all _ vs past),
       (
         all_read (IsDraw c.args.picture) vs _ _ past c.loop-number.invariant.read,
         omega (arith, c.loop-number.invariant.counted, c.loop-number.invariant.room),

@@ -2,7 +2,7 @@ use Rattle.std.proofs.Common.{inl, inr, ap, refl, ◌∙◌}
 use Rattle.serde_json.specs.View.{view}
 use Rattle.list.specs.declared.fault.ReadFault.{ReadFault}
 use Rattle.list.specs.Json.{json_of}
-use Rattle.list.specs.Checks.{places}
+use Rattle.list.specs.Checks.{all_checks}
 use Rattle.list.proofs.Bytes.{json_value, no_json}
 use Rattle.list.proofs.Finish.{read_ok, read_only, read_first, is_first, not_denoted}
 use Rattle.list.proofs.reader.read_by_value.Goals as goal
@@ -38,7 +38,7 @@ returns-in-Err-clause-first c told =
       | inl memory ↦ absurd (told (ap (λ (f : ReadFault). f.kind) c.outside.ensures ∙ memory.1))
       | inr other ↦
           let none = no_json c.args.bytes.now (λ utf8. c.in-Err.ensures.err other.0 utf8) in
-          is_first (places (json_of c.args.bytes.now)) c.outside.result (rw (none, c.outside.ensures, other.1) refl)
+          is_first (all_checks (json_of c.args.bytes.now)) c.outside.result (rw (none, c.outside.ensures, other.1) refl)
     ]
 
 pub returns-clause-reached : goal.returns-clause-reached

@@ -1,5 +1,5 @@
 use Rattle.std.proofs.Common.{sym, ◌∙◌}
-use Rattle.list.proofs.Begun.{adds_pixel}
+use Rattle.list.proofs.PixelPrefix.{adds_pixel}
 use Rattle.list.proofs.Pixels.{pixel_of_colour, pixel_of_depth}
 use Rattle.plain.proofs.picture.push_pixel.Goals as goal
 

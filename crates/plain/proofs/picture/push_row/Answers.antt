@@ -1,5 +1,5 @@
 use Rattle.std.proofs.Common.{◌≡◌, refl, ◌+◌, ◌*◌, ◌<◌, zero-add, arith}
-use Rattle.list.proofs.Begun.{begun_pixel}
+use Rattle.list.proofs.PixelPrefix.{prefix_pixel}
 use Rattle.plain.proofs.picture.push_row.Goals as goal
 
 pub loop-px-preserved : goal.loop-px-preserved
@@ -9,4 +9,4 @@ loop-px-preserved c =
     let py = c.args.py in
     let place : py * list.width + (px + 1) ≡ (py * list.width + px) + 1 = omega arith in
     let below : px < list.width = omega arith in
-    begun_pixel list 0 0 list.width _ _ px py _ _ c.loop-px.invariant below refl place (rw (zero-add px, zero-add py) c.in_ok-push_pixel.ensures)
+    prefix_pixel list 0 0 list.width _ _ px py _ _ c.loop-px.invariant below refl place (rw (zero-add px, zero-add py) c.in_ok-push_pixel.ensures)

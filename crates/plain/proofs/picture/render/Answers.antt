@@ -1,5 +1,5 @@
 use Rattle.std.proofs.Common.{◌≡◌, arith}
-use Rattle.list.proofs.Begun.{part_of_rows}
+use Rattle.list.proofs.PixelPrefix.{part_of_rows}
 use Rattle.list.proofs.Unique.{part-unique}
 use Rattle.plain.proofs.picture.render.Goals as goal
 

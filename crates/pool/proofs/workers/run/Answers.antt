@@ -26,9 +26,9 @@ work_seats-requires-clause-seats g c κs within =
       few = omega (arith, c.requires.workers);
     }
 
-pub gather-requires-clause-brought : goal.gather-requires-clause-brought
-gather-requires-clause-brought g c κs within =
+pub gather-requires-clause-results : goal.gather-requires-clause-results
+gather-requires-clause-results g c κs within =
     let deal = c.in_ok-dealer.ensures in
     let seats = c.in_ok-dealer.seats in
-    let brought = c.in_ok-brought.ensures in
-    (brought.0, omega (arith, brought.1, seats.ok, deal.dealer.1, ap length deal.seats, length-map seats.items g.D.Dealer.number, length-range_with_len 0 c.args.workers))
+    let results = c.in_ok-results.ensures in
+    (results.0, omega (arith, results.1, seats.ok, deal.dealer.1, ap length deal.seats, length-map seats.items g.D.Dealer.number, length-range_with_len 0 c.args.workers))

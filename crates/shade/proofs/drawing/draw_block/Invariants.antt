@@ -1,7 +1,7 @@
 use Rattle.std.proofs.Common.{◌*◌}
 use Rattle.shade.specs.declared.placed.Placed.{Placed}
 use Rattle.shade.specs.Block.{CoversMask}
-use Rattle.shade.specs.Way.{AreSourcesOf}
+use Rattle.shade.specs.Mode.{AreSourcesOf}
 use Rattle.shade.proofs.Blocks.{IsDrawnBefore}
 use Rattle.shade.proofs.drawing.draw_block.Given as goal
 

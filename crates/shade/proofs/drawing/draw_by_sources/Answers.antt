@@ -3,7 +3,7 @@ use Rattle.shade.specs.declared.placed.Placed.{Placed}
 use Rattle.shade.specs.declared.sample.Merge.{Merge}
 use Rattle.shade.specs.declared.sources.DepthSource.{DepthSource}
 use Rattle.shade.specs.declared.sources.ColourSource.{ColourSource}
-use Rattle.shade.specs.Way.{AreSourcesOf}
+use Rattle.shade.specs.Mode.{AreSourcesOf}
 use Rattle.shade.proofs.drawing.draw_by_sources.Goals as goal
 
 -- what is made again is the same

@@ -1,6 +1,6 @@
 use Rattle.shade.specs.declared.placed.Placed.{Placed}
 use Rattle.shade.specs.BlockMask.{CoversBlock}
-use Rattle.shade.specs.Way.{AreSourcesOf}
+use Rattle.shade.specs.Mode.{AreSourcesOf}
 use Rattle.shade.proofs.BlockPlanes.{AreDoneBefore}
 use Rattle.shade.proofs.drawing.draw_planes.Given as goal
 

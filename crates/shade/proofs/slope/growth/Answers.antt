@@ -3,7 +3,7 @@ use Rattle.std.proofs.lemmas.Int.{ints}
 use Rattle.shade.proofs.Slopes.{IsExactGrowth, exact_growth}
 use Rattle.shade.proofs.slope.growth.Goals as goal
 
-product : (c : goal.After-from-way) → IsExactGrowth (to_z w64 (of_z w64 c.from.result) -ℤ to_z w64 (of_z w64 c.from-2.result)) c.from-way.result (pos c.args.to -ℤ pos c.args.from) (c.args.end -ℤ c.args.start)
+product : (c : goal.After-from-distance) → IsExactGrowth (to_z w64 (of_z w64 c.from.result) -ℤ to_z w64 (of_z w64 c.from-2.result)) c.from-distance.result (pos c.args.to -ℤ pos c.args.from) (c.args.end -ℤ c.args.start)
 product c =
     exact_growth (to_z w64 (of_z w64 c.from.result) -ℤ to_z w64 (of_z w64 c.from-2.result)) _ _ _ (omega (arith, ints)) (omega (arith, ints)) (record { low = omega (arith, ints); high = omega (arith, ints) }) (record { low = omega (arith, ints); high = omega (arith, ints) })
 

@@ -1,6 +1,6 @@
 use Rattle.std.proofs.Common.{◌≡◌, ℕ, List, [], ◌∙◌, ◌+◌, ◌-◌, ◌*◌, ◌%◌, ◌<◌, take, drop, get_or-take, get_or-drop, slice_index, slice_index_or, arith}
 use Rattle.shade.specs.declared.block.BlockSamples.{BlockSamples}
-use Rattle.tile.proofs.Runs.{one_resolved, four_resolved, four_of_sixteen}
+use Rattle.tile.proofs.PixelRuns.{one_resolved, four_resolved, four_of_sixteen}
 use Rattle.tile.proofs.eight.colours.Goals as goal
 
 pub returns-in-One : goal.returns-in-One

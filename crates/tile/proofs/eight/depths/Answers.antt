@@ -1,4 +1,4 @@
-use Rattle.tile.proofs.Runs.{depth_in}
+use Rattle.tile.proofs.PixelRuns.{depth_in}
 use Rattle.tile.proofs.eight.depths.Goals as goal
 
 pub returns : goal.returns

@@ -1,5 +1,5 @@
 use Rattle.std.proofs.Common.{◌≡◌, ap, ◌+◌, ◌*◌, ◌/◌, ◌%◌, ◌∙◌, slice_index, length-set, arith}
-use Rattle.tile.proofs.Runs.{set_two_more}
+use Rattle.tile.proofs.PixelRuns.{set_two_more}
 use Rattle.tile.proofs.eight.in_bytes.Goals as goal
 
 pub loop-i-preserved : goal.loop-i-preserved

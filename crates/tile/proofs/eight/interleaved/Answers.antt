@@ -1,5 +1,5 @@
 use Rattle.std.proofs.Common.{slice_index}
-use Rattle.tile.proofs.Runs.{interleaved_is}
+use Rattle.tile.proofs.PixelRuns.{interleaved_is}
 use Rattle.tile.proofs.eight.interleaved.Goals as goal
 
 pub returns : goal.returns

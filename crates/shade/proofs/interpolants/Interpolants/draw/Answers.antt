@@ -4,19 +4,19 @@ use Rattle.shade.specs.declared.sources.DepthSource.{DepthSource}
 use Rattle.shade.specs.declared.sources.ColourSource.{ColourSource}
 use Rattle.shade.specs.declared.depth_plane.DepthPlane.{DepthPlane}
 use Rattle.shade.specs.declared.colour_planes.ColourPlanes.{ColourPlanes}
-use Rattle.shade.specs.declared.way.DepthWay.{DepthWay}
-use Rattle.shade.specs.declared.way.ColourWay.{ColourWay}
-use Rattle.shade.specs.declared.way.Way.{Way}
-use Rattle.shade.specs.declared.way.Way.TheVariants.{Groups}
+use Rattle.shade.specs.declared.mode.DepthMode.{DepthMode}
+use Rattle.shade.specs.declared.mode.ColourMode.{ColourMode}
+use Rattle.shade.specs.declared.mode.DrawMode.{DrawMode}
+use Rattle.shade.specs.declared.mode.DrawMode.TheVariants.{Groups}
 use Rattle.shade.specs.Sources.{IsDepthOf, IsColourOf}
-use Rattle.shade.specs.Way.{IsDepthBy, IsColourBy, IsWayOf, AreSourcesOf}
+use Rattle.shade.specs.Mode.{IsDepthBy, IsColourBy, IsDrawModeOf, AreSourcesOf}
 use Rattle.shade.proofs.interpolants.Interpolants.draw.Goals as goal
 
 -- the sources of a triangle that is drawn by them
-sources : (t placed : Placed) (way : Way) (p : DepthPlane) (q : ColourPlanes) (d : DepthWay) (k : ColourWay) (depth : DepthSource) (colour : ColourSource) → placed ≡ t → IsWayOf placed way p q → way ≡ Groups d k
+sources : (t placed : Placed) (mode : DrawMode) (p : DepthPlane) (q : ColourPlanes) (d : DepthMode) (k : ColourMode) (depth : DepthSource) (colour : ColourSource) → placed ≡ t → IsDrawModeOf placed mode p q → mode ≡ Groups d k
     → (IsDepthBy placed d p → IsDepthOf placed depth) → (IsColourBy placed k q → IsColourOf placed colour) → AreSourcesOf t placed.state.merge depth colour
-sources t placed way p q d k depth colour same is e depth_of colour_of =
-    let both = subst (λ (w : Way). IsWayOf placed w p q) e is in
+sources t placed mode p q d k depth colour same is e depth_of colour_of =
+    let both = subst (λ (w : DrawMode). IsDrawModeOf placed w p q) e is in
     record {
       merge_of = ap (λ (s : Placed). s.state.merge) (sym same);
       depth_of = subst (λ (s : Placed). IsDepthOf s depth) same (depth_of both.0);
@@ -27,4 +27,4 @@ pub returns-in-Groups-clause-drawn : goal.returns-in-Groups-clause-drawn
 returns-in-Groups-clause-drawn c =
     let t = c.args.self.now in
     let i = c.self.inside in
-    c.draw_by_merge.ensures.drawn t (sources t i.placed i.way i.depth i.colour c.in-Groups.depth c.in-Groups.colour c.source-depth.result c.source-colour.result c.self.view_is c.self.invariant c.in-Groups.is c.source-depth.ensures c.source-colour.ensures) c.requires.covered
+    c.draw_by_merge.ensures.drawn t (sources t i.placed i.mode i.depth i.colour c.in-Groups.depth c.in-Groups.colour c.source-depth.result c.source-colour.result c.self.view_is c.self.invariant c.in-Groups.is c.source-depth.ensures c.source-colour.ensures) c.requires.covered

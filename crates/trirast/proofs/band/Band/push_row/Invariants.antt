@@ -1,10 +1,10 @@
 use Rattle.std.proofs.Common.{◌+◌, ◌*◌, min}
 use Rattle.grid.specs.Pixels.{side_of}
-use Rattle.tile.specs.Picture.{AddsRun}
+use Rattle.tile.specs.Picture.{AddsPixelRun}
 use Rattle.trirast.specs.Band.{band_top}
 use Rattle.trirast.proofs.band.Band.push_row.Given as goal
 
 -- the tiles so far have their pixels of the row
 abbrev pub invariant-loop-column : goal.invariant-loop-column
 invariant-loop-column l =
-    AddsRun l.self.list.now 0 (band_top l.self.tiling.now l.self.row + l.j) (min l.self.list.now.width (side_of l.self.tiling.now.side * l.column)) l.initial.bytes.items l.bytes.items
+    AddsPixelRun l.self.list.now 0 (band_top l.self.tiling.now l.self.row + l.j) (min l.self.list.now.width (side_of l.self.tiling.now.side * l.column)) l.initial.bytes.items l.bytes.items

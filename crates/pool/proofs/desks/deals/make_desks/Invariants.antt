@@ -2,7 +2,7 @@ use Rattle.std.proofs.Common.{◌≡◌, ℕ, ◌<◌, ◌≤◌, get_or, vec_le
 use Rattle.pool.specs.Places.{count_of, seats_of}
 use Rattle.pool.specs.Rows.{desk_count, IsRow, AreUncut}
 use Rattle.pool.specs.declared.line.Line.{Line}
-use Rattle.pool.proofs.desks.deals.lay.Given as goal
+use Rattle.pool.proofs.desks.deals.make_desks.Given as goal
 
 abbrev pub invariant-loop-desk : goal.invariant-loop-desk
 invariant-loop-desk l =

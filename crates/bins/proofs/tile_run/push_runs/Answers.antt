@@ -1,8 +1,8 @@
 use Rattle.std.proofs.Common.{◌≡◌, sym, ◌∙◌, ◌+◌, arith}
 use Rattle.std.proofs.lemmas.Bool.{false≢true}
 use Rattle.bins.proofs.Gathering.{same_placed, runs_past, runs_done, row_empty, row_pushed, drawn_of_meets, met_columns}
-use Rattle.bins.proofs.run.push_runs.Goals as goal
-use Rattle.bins.proofs.run.push_runs.Goals.{then-columns+in_ok-push, else-columns}
+use Rattle.bins.proofs.tile_run.push_runs.Goals as goal
+use Rattle.bins.proofs.tile_run.push_runs.Goals.{then-columns+in_ok-push, else-columns}
 
 pub returns-in_default : goal.returns-in_default
 returns-in_default c =

@@ -3,21 +3,21 @@ use Rattle.std.proofs.Common.{◌≡◌, ◌⊎◌, inl, inr, refl, sym, ap, ◌
 use Rattle.std.proofs.Math.Nat.{mul-le-mul_right}
 use Rattle.std.proofs.lemmas.Bool.{cases_lt}
 use Rattle.std.proofs.lemmas.Nat.{mul-add-lt, same_from_place}
-use Rattle.list.specs.Begun.{AddsPixel, IsBegun, IsRun}
+use Rattle.list.specs.PixelPrefix.{AddsPixel, IsPixelPrefix, IsPixelRun}
 use Rattle.list.specs.Scene.{Scene}
 use Rattle.list.specs.Picture.{IsPixel, IsPart, pixel_bytes, pixel_at}
 use Rattle.list.proofs.Pixels.{bytes_of_both, bytes_of_none, bytes_of_one, bytes_of_rows, bytes_up_to, same_pixel, pixel_size, pixel_alone, pixel_before, pixel_behind, pixel_of_part}
 
-pub nothing_begun : (l : Scene) (x y width n : ℕ) → n ≡ 0 → IsBegun l x y width n []
-nothing_begun l x y width n e = record { size = sym (bytes_of_none l.output n e); pixels = λ i j h k. absurd (omega arith) }
+pub empty_prefix : (l : Scene) (x y width n : ℕ) → n ≡ 0 → IsPixelPrefix l x y width n []
+empty_prefix l x y width n e = record { size = sym (bytes_of_none l.output n e); pixels = λ i j h k. absurd (omega arith) }
 
 -- one pixel is a run
-pub run_of_one : (l : Scene) (i j : ℕ) (bytes : List ℕ) → IsPixel l i j bytes → IsRun l i j 1 bytes
+pub run_of_one : (l : Scene) (i j : ℕ) (bytes : List ℕ) → IsPixel l i j bytes → IsPixelRun l i j 1 bytes
 run_of_one l i j bytes h =
     let size = pixel_size l i j bytes h in
     record { size = size ∙ sym (bytes_of_one l.output); pixels = λ m below. same_pixel l i j (i + m) j _ _ (omega arith) refl (sym (pixel_alone l.output m bytes (omega arith) size)) h }
 
-module _ (l : Scene) (x y width n i j many : ℕ) (bytes run : List ℕ) (begun : IsBegun l x y width n bytes) (fits : i + many ≤ width) (place : n ≡ j * width + i) (h : IsRun l (x + i) (y + j) many run) where
+module _ (l : Scene) (x y width n i j many : ℕ) (bytes run : List ℕ) (begun : IsPixelPrefix l x y width n bytes) (fits : i + many ≤ width) (place : n ≡ j * width + i) (h : IsPixelRun l (x + i) (y + j) many run) where
   pixel : (i' j' : ℕ) → i' < width → j' * width + i' < n + many → (j' * width + i' < n) ⊎ (n ≤ j' * width + i') → IsPixel l (x + i') (y + j') (pixel_at l.output (j' * width + i') (bytes ++ run))
   pixel i' j' wide below (inl before) =
       same_pixel l (x + i') (y + j') (x + i') (y + j') _ _ refl refl (sym (pixel_before l.output n (j' * width + i') bytes run begun.size before)) (begun.pixels i' j' wide before)
@@ -29,8 +29,8 @@ module _ (l : Scene) (x y width n i j many : ℕ) (bytes run : List ℕ) (begun 
       let row : y + j ≡ y + j' = ap (λ r. y + r) (sym same.0) in
       same_pixel l ((x + i) + m) (y + j) (x + i') (y + j') _ _ column row (sym (pixel_behind l.output n m (j' * width + i') bytes run begun.size (omega arith))) (h.pixels m (omega arith))
 
-  pub begun_run : IsBegun l x y width (n + many) (bytes ++ run)
-  begun_run = record {
+  pub prefix_run : IsPixelPrefix l x y width (n + many) (bytes ++ run)
+  prefix_run = record {
     size = omega (arith, length-append bytes run, begun.size, h.size, bytes_of_both l.output n many);
     pixels = λ i' j' wide below. pixel i' j' wide below (cases_lt (j' * width + i') n);
   }
@@ -41,13 +41,13 @@ adds_pixel (Ok x) l i j pixel old new h behind = record { pixel = pixel; is = h;
 adds_pixel (Err e) l i j pixel old new h behind = tt
 
 -- one pixel more
-pub begun_pixel : (l : Scene) (x y width n m i j : ℕ) (old new : List ℕ) → IsBegun l x y width n old → i < width → n ≡ j * width + i → m ≡ n + 1 → AddsPixel l (x + i) (y + j) old new
-    → IsBegun l x y width m new
-begun_pixel l x y width n m i j old new begun wide place more h =
-    rw (more, h.behind) (begun_run l x y width n i j 1 old h.pixel begun (omega arith) place (run_of_one l (x + i) (y + j) h.pixel h.is))
+pub prefix_pixel : (l : Scene) (x y width n m i j : ℕ) (old new : List ℕ) → IsPixelPrefix l x y width n old → i < width → n ≡ j * width + i → m ≡ n + 1 → AddsPixel l (x + i) (y + j) old new
+    → IsPixelPrefix l x y width m new
+prefix_pixel l x y width n m i j old new begun wide place more h =
+    rw (more, h.behind) (prefix_run l x y width n i j 1 old h.pixel begun (omega arith) place (run_of_one l (x + i) (y + j) h.pixel h.is))
 
 -- all rows are the rectangle
-pub part_of_rows : (l : Scene) (x y width height : ℕ) (bytes : List ℕ) → IsBegun l x y width (height * width) bytes → IsPart l x y width height bytes
+pub part_of_rows : (l : Scene) (x y width height : ℕ) (bytes : List ℕ) → IsPixelPrefix l x y width (height * width) bytes → IsPart l x y width height bytes
 part_of_rows l x y width height bytes begun = record {
   size = begun.size;
   pixels = λ i j wide high. begun.pixels i j wide (omega (arith, mul-add-lt j width i height high wide));
@@ -69,7 +69,7 @@ module _ (l : Scene) (x y width height : ℕ) (bytes : List ℕ) (h : IsPart l x
       let up = bytes_up_to l.output (j * width + width) (height * width) (omega arith) in
       omega (arith, first)
 
-  pub part_run : IsRun l x (y + j) width row
+  pub part_run : IsPixelRun l x (y + j) width row
   part_run =
       let all = row_within in
       let rest : start + across - start ≡ across = omega arith in

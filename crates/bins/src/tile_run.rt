@@ -11,15 +11,15 @@ use std::alloc::{AllocError, Global};
 /// Consecutive tiles of a row which a triangle can meet, from `first` to before `end`. They are counted from the first tile of
 /// the rows that are asked for.
 #[derive(Clone, Copy, Debug, PartialEq, Eq)]
-pub(crate) struct Run {
+pub(crate) struct TileRun {
     /// The triangle's number in draw order.
     pub(crate) number: u32,
     pub(crate) first: u32,
     pub(crate) end: u32,
 }
 
-impl Run {
-    ghost use Rattle.bins.specs.Runs.{AreRuns};
+impl TileRun {
+    ghost use Rattle.bins.specs.TileRuns.{AreTileRuns};
 
     /// The runs of all triangles in `rows` rows of tiles from `first_row` on, in draw order.
     pub(crate) fn of_list(
@@ -28,10 +28,10 @@ impl Run {
         tiling: &Tiling,
         first_row: u32,
         rows: u32,
-    ) -> Result<Vec<Run>, AllocError>
+    ) -> Result<Vec<TileRun>, AllocError>
         requires { first_row + rows ≤ rows_of tiling.now }
         ensures few { IfOk result (λ runs. length runs.items ≤ 2 ^ 25) }
-        ensures runs { IfOk result (λ runs. AreRuns list.now tiling.now first_row rows (length list.now.triangles) 0 runs.items) }
+        ensures runs { IfOk result (λ runs. AreTileRuns list.now tiling.now first_row rows (length list.now.triangles) 0 runs.items) }
     {
         let (top, bottom) = tiling.pixel_rows(first_row, rows);
         let mut runs = Vec::new(alloc);
@@ -54,7 +54,7 @@ fn has_row(rows: RowSpan, top: u32, bottom: u32) -> bool
     u32::from(rows.first).max(top) < u32::from(rows.end).min(bottom)
 }
 
-ghost use Rattle.bins.specs.Runs.{AreRuns};
+ghost use Rattle.bins.specs.TileRuns.{AreTileRuns};
 
 /// Appends the runs of the triangle of this number to those of the triangles before it.
 fn push_runs(
@@ -63,13 +63,13 @@ fn push_runs(
     tiling: &Tiling,
     first_row: u32,
     rows: u32,
-    runs: &mut Vec<Run>,
+    runs: &mut Vec<TileRun>,
 ) -> Result<(), AllocError>
     requires number { number < length list.now.triangles }
     requires limits { IsWithinLimits tiling.now }
     requires rows { first_row + rows ≤ rows_of tiling.now }
-    requires before { AreRuns list.now tiling.now first_row rows number 0 runs.old.items }
-    ensures { OnOk result (AreRuns list.now tiling.now first_row rows (number + 1) 0 runs.new.items) }
+    requires before { AreTileRuns list.now tiling.now first_row rows number 0 runs.old.items }
+    ensures { OnOk result (AreTileRuns list.now tiling.now first_row rows (number + 1) 0 runs.new.items) }
 {
     let triangle = list.triangle(number as usize);
     let Some(setup) = Setup::new(&triangle.tri, triangle.state.cull) else {
@@ -80,7 +80,7 @@ fn push_runs(
         let columns = Columns::reached(&setup, list.count(), &rect, tiling, first_row + row);
         if columns.first < columns.end {
             let before = row * tiling.columns();
-            runs.push(Run {
+            runs.push(TileRun {
                 number,
                 first: before + columns.first,
                 end: before + columns.end,

@@ -1,4 +1,4 @@
-//! The way in which a triangle is drawn, which is chosen once for all its samples.
+//! The mode in which a triangle is drawn, which is chosen once for all its samples.
 ghost use Rattle.std.specs.Prelude.{◌≡◌, IsTrue};
 ghost use Rattle.shade.specs.Sources.{IsDepthOf, IsColourOf};
 
@@ -10,7 +10,7 @@ use crate::sources::{ColourSource, DepthSource};
 
 /// How the depth is had.
 #[derive(Clone, Copy, Debug)]
-pub(crate) enum DepthWay {
+pub(crate) enum DepthMode {
     /// Each depth passes and none is stored, so there is no need of it.
     Unused,
     /// The three vertices have this depth.
@@ -21,7 +21,7 @@ pub(crate) enum DepthWay {
 
 /// How colour and alpha are had.
 #[derive(Clone, Copy, Debug)]
-pub(crate) enum ColourWay {
+pub(crate) enum ColourMode {
     /// The three vertices have this colour, and this alpha where they are blended.
     Flat([u8; 4]),
     /// By planes.
@@ -30,29 +30,29 @@ pub(crate) enum ColourWay {
 
 /// How a triangle is drawn.
 #[derive(Clone, Copy, Debug)]
-pub(crate) enum Way {
+pub(crate) enum DrawMode {
     /// One sample after another by the definition: a value changes too fast from pixel to pixel for a plane.
     Each,
     /// Sixteen samples at once.
-    Groups(DepthWay, ColourWay),
+    Groups(DepthMode, ColourMode),
 }
 
-impl DepthWay {
-    ghost use Rattle.shade.specs.Way.{IsDepthWay, IsDepthBy, IsByPlane};
+impl DepthMode {
+    ghost use Rattle.shade.specs.Mode.{IsDepthMode, IsDepthBy, IsByPlane};
 
-    /// The way of a triangle's depth.
-    pub(crate) fn of(placed: &Placed) -> DepthWay
-        ensures { IsDepthWay placed.now result }
+    /// The mode of a triangle's depth.
+    pub(crate) fn of(placed: &Placed) -> DepthMode
+        ensures { IsDepthMode placed.now result }
     {
         let merge = placed.state.merge;
         if merge.test == DepthTest::Always && !merge.depth_write {
-            return DepthWay::Unused;
+            return DepthMode::Unused;
         }
         let [a, b, c] = placed.z;
         if a == b && b == c {
-            return DepthWay::Flat(a);
+            return DepthMode::Flat(a);
         }
-        DepthWay::Plane
+        DepthMode::Plane
     }
 
     /// Whether there is need of a plane.
@@ -61,31 +61,31 @@ impl DepthWay {
         ensures { IsByPlane self → IsTrue result }
     {
         match self {
-            DepthWay::Unused => false,
-            DepthWay::Flat(_) => false,
-            DepthWay::Plane => true,
+            DepthMode::Unused => false,
+            DepthMode::Flat(_) => false,
+            DepthMode::Plane => true,
         }
     }
 
-    /// The depth in this way, by the plane of the triangle where there is need of it.
+    /// The depth in this mode, by the plane of the triangle where there is need of it.
     #[inline(always)]
     pub(crate) fn source<'a>(self, placed: &'a Placed, plane: &'a DepthPlane) -> DepthSource<'a>
         ensures { IsDepthBy placed.now self plane.now → IsDepthOf placed.now result }
     {
         match self {
-            DepthWay::Unused => DepthSource::Unused,
-            DepthWay::Flat(z) => DepthSource::Flat(z),
-            DepthWay::Plane => DepthSource::Plane(placed, plane),
+            DepthMode::Unused => DepthSource::Unused,
+            DepthMode::Flat(z) => DepthSource::Flat(z),
+            DepthMode::Plane => DepthSource::Plane(placed, plane),
         }
     }
 }
 
-impl ColourWay {
-    ghost use Rattle.shade.specs.Way.{IsColourWay, IsColourBy, IsByPlanes};
+impl ColourMode {
+    ghost use Rattle.shade.specs.Mode.{IsColourMode, IsColourBy, IsByPlanes};
 
-    /// The way of a triangle's colour.
-    pub(crate) fn of(placed: &Placed) -> ColourWay
-        ensures { IsColourWay placed.now result }
+    /// The mode of a triangle's colour.
+    pub(crate) fn of(placed: &Placed) -> ColourMode
+        ensures { IsColourMode placed.now result }
     {
         let [[r, g, b, a], second, third] = placed.rgba;
         let blended = placed.state.merge.over;
@@ -98,9 +98,9 @@ impl ColourWay {
             && b == third[2]
             && (!blended || a == third[3])
         {
-            return ColourWay::Flat([r, g, b, a]);
+            return ColourMode::Flat([r, g, b, a]);
         }
-        ColourWay::Planes
+        ColourMode::Planes
     }
 
     /// Whether there is need of planes.
@@ -109,19 +109,19 @@ impl ColourWay {
         ensures { IsByPlanes self → IsTrue result }
     {
         match self {
-            ColourWay::Flat(_) => false,
-            ColourWay::Planes => true,
+            ColourMode::Flat(_) => false,
+            ColourMode::Planes => true,
         }
     }
 
-    /// The colour in this way, by the planes of the triangle where there is need of them.
+    /// The colour in this mode, by the planes of the triangle where there is need of them.
     #[inline(always)]
     pub(crate) fn source<'a>(self, placed: &'a Placed, planes: &'a ColourPlanes) -> ColourSource<'a>
         ensures { IsColourBy placed.now self planes.now → IsColourOf placed.now result }
     {
         match self {
-            ColourWay::Flat(rgba) => ColourSource::Flat(rgba),
-            ColourWay::Planes => ColourSource::Planes(placed, planes),
+            ColourMode::Flat(rgba) => ColourSource::Flat(rgba),
+            ColourMode::Planes => ColourSource::Planes(placed, planes),
         }
     }
 }

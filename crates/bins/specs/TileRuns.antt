@@ -4,31 +4,31 @@ use Rattle.std.specs.List.{All, Contains, filter}
 use Rattle.std.specs.List.Sorted.{IsStrictlyIncreasing}
 use Rattle.shade.specs.declared.placed.Placed.{Placed}
 use Rattle.list.specs.Scene.{Scene}
-use Rattle.bins.specs.declared.run.Run.{Run}
+use Rattle.bins.specs.declared.tile_run.TileRun.{TileRun}
 use Rattle.bins.specs.Bin.{MeetsRect}
 use Rattle.bins.specs.Grid.{TileGrid, columns_of, rect_of}
 
-abbrev pub has_tile : ℕ → Run → Bool
+abbrev pub has_tile : ℕ → TileRun → Bool
 has_tile tile run = nat_le run.first tile && nat_lt tile run.end
 
 -- The triangles whose runs have the tile, in the order of the runs.
-abbrev pub triangles_at : List Run → ℕ → List ℕ
-triangles_at runs tile = map (λ (run : Run). run.number) (filter (has_tile tile) runs)
+abbrev pub triangles_at : List TileRun → ℕ → List ℕ
+triangles_at runs tile = map (λ (run : TileRun). run.number) (filter (has_tile tile) runs)
 
 -- The run goes over tiles of so many.
-pub record IsRunOver (tiles : ℕ) (run : Run) : Type 0 where
+pub record IsTileRunOver (tiles : ℕ) (run : TileRun) : Type 0 where
   pub rising : run.first ≤ run.end
   pub within : run.end ≤ tiles
 
 -- Triangle m comes before triangle n; or it is that one, and the tile stands above the row.
-abbrev pub IsBefore : TileGrid → ℕ → ℕ → ℕ → ℕ → Type 0
-IsBefore g n row m tile = (m < n) ⊎ ((m ≡ n) × (tile < row * columns_of g))
+abbrev pub IsVisitedBefore : TileGrid → ℕ → ℕ → ℕ → ℕ → Type 0
+IsVisitedBefore g n row m tile = (m < n) ⊎ ((m ≡ n) × (tile < row * columns_of g))
 
 -- The runs, over tiles of so many rows from `first_row` on, of the triangles before number n, and of that one in the first of
 -- these rows. Tiles are counted from the first of these rows on.
-pub record AreRuns (l : Scene) (g : TileGrid) (first_row rows : ℕ) (n row : ℕ) (runs : List Run) : Type 0 where
+pub record AreTileRuns (l : Scene) (g : TileGrid) (first_row rows : ℕ) (n row : ℕ) (runs : List TileRun) : Type 0 where
   pub few : length runs ≤ n * rows + row
-  pub over : All (IsRunOver (rows * columns_of g)) runs
-  pub earlier : All (λ (run : Run). (run.number < n) ⊎ ((run.number ≡ n) × (run.end ≤ row * columns_of g))) runs
+  pub over : All (IsTileRunOver (rows * columns_of g)) runs
+  pub earlier : All (λ (run : TileRun). (run.number < n) ⊎ ((run.number ≡ n) × (run.end ≤ row * columns_of g))) runs
   pub ascending : (tile : ℕ) → IsStrictlyIncreasing (triangles_at runs tile)
-  pub whole : (m tile : ℕ) (t : Placed) → IsBefore g n row m tile → tile < rows * columns_of g → slice_get l.triangles m ≡ Some t → MeetsRect t l.count (rect_of g (first_row * columns_of g + tile)) → Contains (triangles_at runs tile) m
+  pub whole : (m tile : ℕ) (t : Placed) → IsVisitedBefore g n row m tile → tile < rows * columns_of g → slice_get l.triangles m ≡ Some t → MeetsRect t l.count (rect_of g (first_row * columns_of g + tile)) → Contains (triangles_at runs tile) m

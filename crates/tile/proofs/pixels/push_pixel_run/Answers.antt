@@ -1,6 +1,6 @@
 use Rattle.std.proofs.Common.{sym, ◌∙◌, ◌*◌, ◌+◌, arith}
-use Rattle.tile.proofs.Runs.{adds_run, run_of_colours, run_of_depths}
-use Rattle.tile.proofs.pixels.push_run.Goals as goal
+use Rattle.tile.proofs.PixelRuns.{adds_run, run_of_colours, run_of_depths}
+use Rattle.tile.proofs.pixels.push_pixel_run.Goals as goal
 
 pub returns-in-Color : goal.returns-in-Color
 returns-in-Color c =

@@ -2,8 +2,8 @@ use Rattle.std.proofs.Common.{◌≡◌, sym, ◌∙◌, length, arith}
 use Rattle.std.proofs.lemmas.Bool.{false≢true}
 use Rattle.list.specs.Rows.{IsRowSpan}
 use Rattle.bins.proofs.Gathering.{no_runs, runs_past, missed_rows, few_runs}
-use Rattle.bins.proofs.run.Run.of_list.Goals as goal
-use Rattle.bins.proofs.run.Run.of_list.Goals.{then-has_row+in_ok-push_runs, else-has_row}
+use Rattle.bins.proofs.tile_run.TileRun.of_list.Goals as goal
+use Rattle.bins.proofs.tile_run.TileRun.of_list.Goals.{then-has_row+in_ok-push_runs, else-has_row}
 
 pub loop-number-init : goal.loop-number-init
 loop-number-init c = rw c.new-runs.ensures.items (no_runs c.args.list.now c.args.tiling.now c.args.first_row c.args.rows)

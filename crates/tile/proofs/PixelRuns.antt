@@ -5,15 +5,15 @@ use Rattle.grid.specs.declared.sample_count.SampleCount.TheVariants.{One, Four}
 use Rattle.shade.specs.declared.block.BlockSamples.{BlockSamples}
 use Rattle.shade.specs.Quotient.{IsQuotient}
 use Rattle.shade.specs.Resolve.{IsResolved}
-use Rattle.list.specs.Begun.{IsBegun, IsRun}
+use Rattle.list.specs.PixelPrefix.{IsPixelPrefix, IsPixelRun}
 use Rattle.list.specs.Picture.{pixel_at}
 use Rattle.list.specs.Scene.{Scene}
 use Rattle.list.specs.declared.output.Output.TheVariants.{Color, Depth}
-use Rattle.list.proofs.Begun.{begun_run}
+use Rattle.list.proofs.PixelPrefix.{prefix_run}
 use Rattle.list.proofs.Pixels.{same_pixel, pixel_of_part, pixel_of_three, pixel_of_two, pixel_of_colour, pixel_of_depth}
 use Rattle.tile.specs.declared.tile.Tile.{Tile}
 use Rattle.tile.specs.Samples.{place_of, stored}
-use Rattle.tile.specs.Picture.{IsShown, AreEnds, IsColourAt, AreColoursAt, AreDepthsAt, AddsRun}
+use Rattle.tile.specs.Picture.{IsShown, AreEnds, IsColourAt, AreColoursAt, AreDepthsAt, AddsPixelRun}
 use Rattle.tile.proofs.Shown.{colour_shown}
 
 -- ---- lists
@@ -101,20 +101,20 @@ four_of_sixteen first second third fourth means begin skip from i q e h same =
     rw same (subst (λ n. IsQuotient (slice_index first n + slice_index second n + slice_index third n + slice_index fourth n + 2) 4 (slice_index means (skip + i))) e h)
 
 -- ---- runs of pixels
-pub adds_run : {X E : Type 0} (r : Result X E) (l : Scene) (i j many : ℕ) (run old new : List ℕ) → IsRun l i j many run → OnOk r (new ≡ old ++ run) → OnOk r (AddsRun l i j many old new)
+pub adds_run : {X E : Type 0} (r : Result X E) (l : Scene) (i j many : ℕ) (run old new : List ℕ) → IsPixelRun l i j many run → OnOk r (new ≡ old ++ run) → OnOk r (AddsPixelRun l i j many old new)
 adds_run (Ok x) l i j many run old new h behind = record { run = run; is = h; behind = behind }
 adds_run (Err e) l i j many run old new h behind = tt
 
-pub begun_more : (l : Scene) (x y width n m i j many : ℕ) (old new : List ℕ) → IsBegun l x y width n old → i + many ≤ width → n ≡ j * width + i → m ≡ n + many → AddsRun l (x + i) (y + j) many old new
-    → IsBegun l x y width m new
-begun_more l x y width n m i j many old new begun fits place more h = rw (more, h.behind) (begun_run l x y width n i j many old h.run begun fits place h.is)
+pub prefix_more : (l : Scene) (x y width n m i j many : ℕ) (old new : List ℕ) → IsPixelPrefix l x y width n old → i + many ≤ width → n ≡ j * width + i → m ≡ n + many → AddsPixelRun l (x + i) (y + j) many old new
+    → IsPixelPrefix l x y width m new
+prefix_more l x y width n m i j many old new begun fits place more h = rw (more, h.behind) (prefix_run l x y width n i j many old h.run begun fits place h.is)
 
 module _ (l : Scene) (tile : Tile) (samples : List BlockSamples) (row column many : ℕ) (ends : AreEnds l tile samples) (count : tile.count ≡ l.count) (few : many ≤ 8)
     (shown : (i : ℕ) → i < many → IsShown l tile row (8 * column + i) 0) (bytes : List ℕ) where
   across : (i : ℕ) → 8 * tile.bx + (8 * column + i) ≡ 8 * tile.bx + 8 * column + i
   across i = omega arith
 
-  pub run_of_colours : l.output ≡ Color → 24 ≤ length bytes → AreColoursAt tile samples row column bytes → IsRun l (8 * tile.bx + 8 * column) (8 * tile.by + row) many (take (3 * many) bytes)
+  pub run_of_colours : l.output ≡ Color → 24 ≤ length bytes → AreColoursAt tile samples row column bytes → IsPixelRun l (8 * tile.bx + 8 * column) (8 * tile.by + row) many (take (3 * many) bytes)
   run_of_colours e long colours = record {
     size = rw e (omega (arith, length-take (3 * many) bytes));
     pixels = λ i below.
@@ -124,7 +124,7 @@ module _ (l : Scene) (tile : Tile) (samples : List BlockSamples) (row column man
         (pixel_of_colour l (8 * tile.bx + (8 * column + i)) (8 * tile.by + row) _ _ _ e (colour_shown l tile samples row (8 * column + i) _ _ _ ends count (shown i below) (colours i (omega arith))));
   }
 
-  pub run_of_depths : l.output ≡ Depth → 16 ≤ length bytes → AreDepthsAt tile samples row column bytes → IsRun l (8 * tile.bx + 8 * column) (8 * tile.by + row) many (take (2 * many) bytes)
+  pub run_of_depths : l.output ≡ Depth → 16 ≤ length bytes → AreDepthsAt tile samples row column bytes → IsPixelRun l (8 * tile.bx + 8 * column) (8 * tile.by + row) many (take (2 * many) bytes)
   run_of_depths e long depths = record {
     size = rw e (omega (arith, length-take (2 * many) bytes));
     pixels = λ i below.
