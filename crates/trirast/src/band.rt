@@ -26,18 +26,20 @@ pub(crate) struct Band<'a> {
     ghost few: { row < 512 },
 }
 
-/// The tiles of a band as numbered work: number n is the tile in column n.
+/// The tiles of a band as numbered work: number n is the tile in column n, and may begin once a worker has entered the gate for it.
 #[derive(Drop)]
-struct BandJob<'a> {
+struct BandJob<'a, G> {
     band: &'a Band<'a>,
     bins: &'a Bins,
+    gate: &'a G,
 }
 
-impl Job for BandJob<'_> {
+impl<G: Gate> Job for BandJob<'_, G> {
     type Out = TilePixels;
 
     type Scratch = Store;
 
+    ghost use Rattle.std.specs.Prelude.{ℕ};
     ghost use Rattle.bins.specs.Bin.{AreBins};
     ghost use Rattle.bins.specs.Grid.{columns_of};
     ghost use Rattle.trirast.specs.Band.{IsColumn};
@@ -46,7 +48,7 @@ impl Job for BandJob<'_> {
 
     ghost fits = { λ job store. store ≡ record { side = job.band.now.tiling.now.side; count = job.band.now.list.now.count } };
 
-    ghost can_work = { λ job column. (column < columns_of job.band.now.tiling.now) × AreBins job.band.now.list.now job.band.now.tiling.now job.band.now.row 1 job.bins.now };
+    ghost can_work = { λ job column. (column < columns_of job.band.now.tiling.now) × AreBins job.band.now.list.now job.band.now.tiling.now job.band.now.row 1 job.bins.now × ((worker : ℕ) × G.entered job.gate.now worker column) };
 
     fn scratch(&self, alloc: Global) -> Result<Store, OutOfMemory> {
         Store::new(alloc, self.band.tiling.side(), self.band.list.count())
@@ -160,6 +162,7 @@ impl<'a> Band<'a> {
         let job = BandJob {
             band: self,
             bins: &bins,
+            gate,
         };
         match run::<_, Desks, _, _>(rt, alloc, columns, workers, &job, gate) {
             Ok(tiles) => Ok(tiles),
@@ -184,6 +187,7 @@ impl<'a> Band<'a> {
         let job = BandJob {
             band: self,
             bins: &bins,
+            gate,
         };
         let columns = self.tiling.columns();
         let mut tiles = Vec::with_capacity(alloc, columns as usize)?;
