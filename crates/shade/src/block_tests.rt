@@ -50,16 +50,22 @@ fn plane_of(t: &Tri, p: Point) -> u64
 
 /// The samples of block (10, 15) that the triangle covers, of the pixels in `wanted`.
 fn mask_of(t: &Tri, count: SampleCount, wanted: u64) -> BlockMask {
-    let mut mask = BlockMask {
+    let empty = BlockMask {
         bx: 10,
         by: 15,
         count,
         plane: [0; 4],
     };
+    let mut plane = [0; 4];
     for s in 0..count.count() {
-        mask.plane[s as usize] = plane_of(t, mask.first(s)) & wanted;
+        plane[s as usize] = plane_of(t, empty.first(s)) & wanted;
     }
-    mask
+    BlockMask {
+        bx: 10,
+        by: 15,
+        count,
+        plane,
+    }
 }
 
 /// A linear congruential generator (Knuth's MMIX).
@@ -165,12 +171,12 @@ fn compare(rt: &impl Abort, t: &Placed, count: SampleCount, wanted: u64, old: &[
     let mask = mask_of(&t.tri, count, wanted);
     assert!(rt; covers_mask(&t.tri, &mask));
     assert!(rt; t.tri.area2() != 0);
-    assert!(rt; old.len() == count.count() as usize);
+    assert!(rt; old.len() == mask.count.count() as usize);
     let mut new = [old[0]; 4];
     let new = &mut new[..old.len()];
     new.copy_from_slice(old);
     Interpolants::new(t).draw(&mask, new);
-    for s in 0..count.count() {
+    for s in 0..mask.count.count() {
         let plane = mask.plane[s as usize];
         compare_plane(
             rt,
