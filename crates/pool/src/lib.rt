@@ -25,4 +25,4 @@ pub use gate::{Gate, Open};
 pub use job::Job;
 pub use settled::Settled;
 pub use tickets::{TicketSeat, Tickets};
-pub use workers::run;
+pub use workers::{run, run_beside};

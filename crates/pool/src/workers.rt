@@ -73,9 +73,9 @@ fn join_all<R: Threads, D: Dealer, J: Job>(
     }
 }
 
-/// Starts a worker for each seat, and joins all that were started. There is room for all of them
+/// Starts a worker for each seat, makes the call beside them, and joins all that were started. There is room for all of them
 /// before the first one starts, so that none is left behind for want of memory.
-fn work_all<'s, E, R: Threads, D: Dealer, J: Job, G: Gate>(
+fn work_all<'s, E, R: Threads, D: Dealer, J: Job, G: Gate, T: Drop, F: FnOnce() -> T>(
     rt: &R,
     alloc: Global,
     scope: &'s Scope<'s, E>,
@@ -83,55 +83,86 @@ fn work_all<'s, E, R: Threads, D: Dealer, J: Job, G: Gate>(
     job: &'s J,
     gate: &'s G,
     seats: Vec<D::Seat>,
-) -> Result<Vec<WorkerResult<D, J>>, PoolFault>
+    beside: F,
+) -> Result<(Vec<WorkerResult<D, J>>, T), PoolFault>
     requires can_work { AllCanWork D.Dealer J.Job G.Gate dealer.now job.now gate.now (vec_len seats) }
     requires seats { AreDealt D.Dealer dealer.now seats.items }
-    ensures { IfOk result (λ results. AreWorkerResults D.Dealer J.Job dealer.now job.now (vec_len seats) results.items) }
+    requires beside { F.pre beside }
+    ensures results { IfOk result (λ r. AreWorkerResults D.Dealer J.Job dealer.now job.now (vec_len seats) r.0.items) }
+    ensures beside { IfOk result (λ r. F.post beside r.1) }
 {
     let mut workers = Vec::with_capacity(alloc, seats.len()).map_err(|_| PoolFault::OutOfMemory)?;
     let mut results = Vec::with_capacity(alloc, seats.len()).map_err(|_| PoolFault::OutOfMemory)?;
     let all_started = start_all(alloc, scope, dealer, job, gate, seats, &mut workers);
+    let answer = beside();
     join_all(rt, workers, &mut results, dealer, job);
     if all_started {
-        Ok(results)
+        Ok((results, answer))
     } else {
         Err(PoolFault::NoWorker)
     }
 }
 
-/// Has the numbers that these seats are given worked on, by a worker for each seat, and waits for them all.
-fn work_seats<'a, R: Threads + Wait + Sync, D: Dealer, J: Job, G: Gate>(
+/// Has the numbers that these seats are given worked on, by a worker for each seat, makes the call beside them, and waits for
+/// them all.
+fn work_seats<'a, R: Threads + Wait + Sync, D: Dealer, J: Job, G: Gate, T: Drop, F: FnOnce() -> T>(
     rt: &'a R,
     alloc: Global,
     dealer: &'a D,
     job: &'a J,
     gate: &'a G,
     seats: Vec<D::Seat>,
-) -> Result<Vec<WorkerResult<D, J>>, PoolFault>
+    beside: F,
+) -> Result<(Vec<WorkerResult<D, J>>, T), PoolFault>
     requires can_work { AllCanWork D.Dealer J.Job G.Gate dealer.now job.now gate.now (vec_len seats) }
     requires seats { AreDealt D.Dealer dealer.now seats.items }
-    ensures { IfOk result (λ results. AreWorkerResults D.Dealer J.Job dealer.now job.now (vec_len seats) results.items) }
+    requires beside { F.pre beside }
+    ensures results { IfOk result (λ r. AreWorkerResults D.Dealer J.Job dealer.now job.now (vec_len seats) r.0.items) }
+    ensures beside { IfOk result (λ r. F.post beside r.1) }
 {
     thread::scope(
         thread::scope_env(),
         rt,
-        move |scope| -> Result<Vec<WorkerResult<D, J>>, PoolFault>
-            requires { AllCanWork D.Dealer J.Job G.Gate dealer.now job.now gate.now (vec_len seats) × AreDealt D.Dealer dealer.now seats.items }
-            ensures { IfOk result (λ results. AreWorkerResults D.Dealer J.Job dealer.entry.now job.entry.now (vec_len seats) results.items) }
-        { work_all(rt, alloc, scope, dealer, job, gate, seats) },
+        move |scope| -> Result<(Vec<WorkerResult<D, J>>, T), PoolFault>
+            requires { AllCanWork D.Dealer J.Job G.Gate dealer.now job.now gate.now (vec_len seats) × AreDealt D.Dealer dealer.now seats.items × F.pre beside }
+            ensures { IfOk result (λ r. AreWorkerResults D.Dealer J.Job dealer.entry.now job.entry.now (vec_len seats) r.0.items × F.post beside r.1) }
+        { work_all(rt, alloc, scope, dealer, job, gate, seats, beside) },
     )
 }
 
-/// The answers of the job for the numbers below `n`, in their order.
+/// The answers of the job for the numbers below `n`, in their order, and what the call beside the workers answered.
 ///
 /// `workers` workers do it, each in a thread of its own with a seat and a scratch of its own. The
-/// calling thread does none of it and waits for them all, also where the answer is a fault. A worker
-/// enters the gate for a number before it works on it, under the number of its seat: what the gate
+/// calling thread does none of it: once they are started it makes the call `beside`, and then waits for them all, also where the
+/// answer is a fault. A worker enters the gate for a number before it works on it, under the number of its seat: what the gate
 /// lets know then is there for the job to rest on.
 ///
 /// A fault comes only where a growth of memory was refused (`PoolFault::OutOfMemory`) or a thread
 /// was not started (`PoolFault::NoWorker`): dealing gives each number once, so there is no number
-/// without an answer and none with two.
+/// without an answer and none with two. After a fault the answer of `beside` is lost.
+pub fn run_beside<R: Threads + Wait + Sync, D: Dealer, J: Job, G: Gate, T: Drop, F: FnOnce() -> T>(
+    rt: &R,
+    alloc: Global,
+    n: u32,
+    workers: u32,
+    job: &J,
+    gate: &G,
+    beside: F,
+) -> Result<(Vec<J::Out>, T), PoolFault>
+    requires n { n ≤ 262144 }
+    requires workers { (1 ≤ workers) × (workers ≤ 16) }
+    requires can_work { (worker k : ℕ) → worker < workers → k < n → G.entered gate.now worker k → J.can_work job.now k }
+    requires beside { F.pre beside }
+    ensures len { IfOk result (λ r. vec_len r.0 ≡ n) }
+    ensures right { IfOk result (λ r. RightInOrder (J.right job.now) r.0.items) }
+    ensures beside { IfOk result (λ r. F.post beside r.1) }
+{
+    let (dealer, seats) = D::deal(alloc, n, workers)?;
+    let (results, answer) = work_seats(rt, alloc, &dealer, job, gate, seats, beside)?;
+    Ok((gather(alloc, dealer, job, n, results)?, answer))
+}
+
+/// The answers of the job for the numbers below `n`, in their order: `run_beside` where the calling thread has nothing else to do.
 pub fn run<R: Threads + Wait + Sync, D: Dealer, J: Job, G: Gate>(
     rt: &R,
     alloc: Global,
@@ -146,7 +177,6 @@ pub fn run<R: Threads + Wait + Sync, D: Dealer, J: Job, G: Gate>(
     ensures len { IfOk result (λ answers. vec_len answers ≡ n) }
     ensures right { IfOk result (λ answers. RightInOrder (J.right job.now) answers.items) }
 {
-    let (dealer, seats) = D::deal(alloc, n, workers)?;
-    let results = work_seats(rt, alloc, &dealer, job, gate, seats)?;
-    Ok(gather(alloc, dealer, job, n, results)?)
+    let (answers, ()) = run_beside::<_, D, _, _, _, _>(rt, alloc, n, workers, job, gate, || {})?;
+    Ok(answers)
 }

@@ -1,5 +1,5 @@
 -- What a writer has of a picture's file, band after band.
-use Rattle.std.proofs.Common.{◌≡◌, refl, sym, ap, subst, ◌∙◌, ℕ, ◌+◌, ◌-◌, ◌*◌, ◌<◌, ◌≤◌, ◌⊎◌, inl, inr, min, List, [], ◌++◌, length, take, Option, zero-add, append_assoc, append-nil, length-append, arith}
+use Rattle.std.proofs.Common.{◌≡◌, refl, sym, ap, subst, ◌∙◌, ℕ, ◌+◌, ◌-◌, ◌*◌, ◌<◌, ◌≤◌, ◌⊎◌, inl, inr, min, List, [], ◌++◌, length, take, Option, IfSome, zero-add, append_assoc, append-nil, length-append, arith}
 use Rattle.std.proofs.lemmas.List.{take-append-le}
 use Rattle.std.proofs.Math.Seq.{take-append_seam}
 use Rattle.std.proofs.KnownBytes.{Appends-trans}
@@ -12,6 +12,7 @@ use Rattle.list.specs.Picture.{IsPart}
 use Rattle.list.proofs.Exists.{part-exists}
 use Rattle.list.proofs.Parts.{part-append}
 use Rattle.list.proofs.Pixels.{bytes_of_none}
+use Rattle.bins.specs.Bin.{TileBins, AreBins}
 use Rattle.bins.specs.Grid.{TileGrid, tiles_over}
 use Rattle.pool.specs.declared.fault.PoolFault.TheVariants.{NoWorker}
 use Rattle.trirast.specs.declared.fault.Fault.{Fault}
@@ -70,6 +71,10 @@ header_written l side output width height count held held_after d e f many writt
 -- the bytes of a band by what its parts are called
 pub band_of : (l l' : Scene) (g g' : TileGrid) (row row' : ℕ) (bytes : List ℕ) → l' ≡ l → g' ≡ g → row' ≡ row → IsBand l' g' row' bytes → IsBand l g row bytes
 band_of l l' g g' row row' bytes e f h band = rw (← e, ← f, ← h) band
+
+-- the bins of the band below by what its parts are called
+pub below_of : (l l' : Scene) (g g' : TileGrid) (row row' : ℕ) (bins : Option TileBins) → l' ≡ l → g' ≡ g → row' ≡ row → IfSome bins (AreBins l' g' (row' + 1) 1) → IfSome bins (AreBins l g (row + 1) 1)
+below_of l l' g g' row row' bins e f h below = rw (← e, ← f, ← h) below
 
 module _ (l : Scene) (g : TileGrid) (row count : ℕ) (held held' : Option (List ℕ)) (wide : 1 ≤ l.width) (same : g.height ≡ l.height) (within : row < tiles_over g.height g.side) (h : HasWritten l g.side row count held held') where
   abbrev header : List ℕ

@@ -1,6 +1,7 @@
 //! One row of tiles, drawn by several workers or on the calling thread, and put together.
-ghost use Rattle.std.specs.Prelude.{◌≡◌, ◌+◌, ◌*◌, ◌<◌, ◌≤◌, IfOk, OnOk, IfErr, ◌⊎◌};
+ghost use Rattle.std.specs.Prelude.{◌≡◌, ◌+◌, ◌*◌, ◌<◌, ◌≤◌, IfOk, OnOk, IfErr, IfSome, ◌⊎◌};
 ghost use Rattle.grid.specs.Pixels.{side_of};
+ghost use Rattle.bins.specs.Bin.{AreBins};
 ghost use Rattle.bins.specs.Grid.{columns_of, rows_of};
 ghost use Rattle.trirast.specs.declared.fault.Fault.TheVariants as fault;
 
@@ -8,7 +9,7 @@ use crate::fault::Fault;
 use bins::{Bins, Tiling};
 use grid::OutOfMemory;
 use list::DrawList;
-use pool::{Desks, Gate, Job, Open, PoolFault, run};
+use pool::{Desks, Gate, Job, Open, PoolFault, run_beside};
 use std::alloc::Global;
 use std::sync::Wait;
 use std::thread::Threads;
@@ -139,36 +140,80 @@ impl<'a> Band<'a> {
         Ok(())
     }
 
-    /// Has the tiles of the band drawn by so many workers.
+    /// The bins of the band's tiles.
+    fn bins(&self, alloc: Global) -> Result<Bins, OutOfMemory>
+        ensures { IfOk result (AreBins self.now.list.now self.now.tiling.now self.now.row 1) }
+    {
+        Bins::build(alloc, self.list, self.tiling, self.row, 1)
+    }
+
+    /// The bins of the band below, where there is one and memory is not refused. Where it is, that band asks for it again, so that
+    /// this one is written before the fault is told.
+    fn bins_below(&self, alloc: Global) -> Option<Bins>
+        ensures { IfSome result (AreBins self.now.list.now self.now.tiling.now (self.now.row + 1) 1) }
+    {
+        let below = self.row + 1;
+        if below < self.tiling.rows() {
+            Bins::build(alloc, self.list, self.tiling, below, 1).ok()
+        } else {
+            None
+        }
+    }
+
+    /// Has the tiles of the band drawn by so many workers. Meanwhile the calling thread makes the bins of the band below.
+    fn draw_beside<R: Threads + Wait + Sync, G: Gate>(
+        &self,
+        rt: &R,
+        alloc: Global,
+        workers: u32,
+        gate: &G,
+        bins: &Bins,
+    ) -> Result<(Vec<TilePixels>, Option<Bins>), Fault>
+        requires workers { (1 ≤ workers) × (workers ≤ 16) }
+        requires bins { AreBins self.now.list.now self.now.tiling.now self.now.row 1 bins.now }
+        ensures tiles { IfOk result (λ drawn. AreColumns self.now.list.now self.now.tiling.now self.now.row drawn.0.items) }
+        ensures below { IfOk result (λ drawn. IfSome drawn.1 (AreBins self.now.list.now self.now.tiling.now (self.now.row + 1) 1)) }
+        ensures fault { IfErr result (λ e. (e ≡ fault.OutOfMemory) ⊎ (e ≡ fault.Pool PoolFault.NoWorker)) }
+    {
+        let columns = self.tiling.columns();
+        let job = BandJob {
+            band: &*self,
+            bins: &*bins,
+            gate: &*gate,
+        };
+        let below = || -> Option<Bins>
+            ensures { IfSome result (AreBins self.entry.now.list.now self.entry.now.tiling.now (self.entry.now.row + 1) 1) }
+        { self.bins_below(alloc) };
+        match run_beside::<_, Desks, _, _, _, _>(rt, alloc, columns, workers, &job, gate, below) {
+            Ok(drawn) => Ok(drawn),
+            Err(PoolFault::OutOfMemory) => Err(Fault::OutOfMemory),
+            Err(PoolFault::NoWorker) => Err(Fault::Pool(PoolFault::NoWorker)),
+        }
+    }
+
+    /// Has the tiles of the band drawn by so many workers, or on the calling thread where one is enough, and the bins of the band
+    /// below made where the calling thread has nothing else to do.
     fn draw<R: Threads + Wait + Sync, G: Gate>(
         &self,
         rt: &R,
         alloc: Global,
         workers: u32,
         gate: &G,
-    ) -> Result<Vec<TilePixels>, Fault>
-        requires { (1 ≤ workers) × (workers ≤ 16) }
-        ensures tiles { IfOk result (λ tiles. AreColumns self.now.list.now self.now.tiling.now self.now.row tiles.items) }
+        bins: &Bins,
+    ) -> Result<(Vec<TilePixels>, Option<Bins>), Fault>
+        requires workers { (1 ≤ workers) × (workers ≤ 16) }
+        requires bins { AreBins self.now.list.now self.now.tiling.now self.now.row 1 bins.now }
+        ensures tiles { IfOk result (λ drawn. AreColumns self.now.list.now self.now.tiling.now self.now.row drawn.0.items) }
+        ensures below { IfOk result (λ drawn. IfSome drawn.1 (AreBins self.now.list.now self.now.tiling.now (self.now.row + 1) 1)) }
         ensures fault { IfErr result (λ e. (e ≡ fault.OutOfMemory) ⊎ (e ≡ fault.Pool PoolFault.NoWorker)) }
     {
-        let columns = self.tiling.columns();
         // A worker without a tile would be a thread started for nothing, and so would one that nobody works beside.
-        let workers = workers.min(columns);
+        let workers = workers.min(self.tiling.columns());
         if workers == 1 {
             let mut store = Store::new(alloc, self.tiling.side(), self.list.count())?;
-            return Ok(self.draw_alone(alloc, &mut store, gate)?);
+            return Ok((self.draw_alone(alloc, &mut store, gate, bins)?, None));
         }
-        let bins = Bins::build(alloc, self.list, self.tiling, self.row, 1)?;
-        let job = BandJob {
-            band: self,
-            bins: &bins,
-            gate,
-        };
-        match run::<_, Desks, _, _>(rt, alloc, columns, workers, &job, gate) {
-            Ok(tiles) => Ok(tiles),
-            Err(PoolFault::OutOfMemory) => Err(Fault::OutOfMemory),
-            Err(PoolFault::NoWorker) => Err(Fault::Pool(PoolFault::NoWorker)),
-        }
+        self.draw_beside(rt, alloc, workers, gate, bins)
     }
 
     /// Has the tiles of the band drawn one after another on the calling thread, in this store. It passes through the gate as the
@@ -178,16 +223,17 @@ impl<'a> Band<'a> {
         alloc: Global,
         store: &mut Store,
         gate: &G,
+        bins: &Bins,
     ) -> Result<Vec<TilePixels>, OutOfMemory>
-        requires { store.old ≡ record { side = self.now.tiling.now.side; count = self.now.list.now.count } }
+        requires store { store.old ≡ record { side = self.now.tiling.now.side; count = self.now.list.now.count } }
+        requires bins { AreBins self.now.list.now self.now.tiling.now self.now.row 1 bins.now }
         ensures tiles { IfOk result (λ tiles. AreColumns self.now.list.now self.now.tiling.now self.now.row tiles.items) }
         ensures store { store.new ≡ store.old }
     {
-        let bins = Bins::build(alloc, self.list, self.tiling, self.row, 1)?;
         let job = BandJob {
-            band: self,
-            bins: &bins,
-            gate,
+            band: &*self,
+            bins: &*bins,
+            gate: &*gate,
         };
         let columns = self.tiling.columns();
         let mut tiles = Vec::with_capacity(alloc, columns as usize)?;
@@ -198,23 +244,31 @@ impl<'a> Band<'a> {
         Ok(tiles)
     }
 
-    /// Draws the band by so many workers, and puts the bytes of its rows of pixels into `bytes`, in place of what was there.
+    /// Draws the band by so many workers, and puts the bytes of its rows of pixels into `bytes`, in place of what was there. Its
+    /// bins are made where they are not given; those of the band below are answered where they were made meanwhile.
     pub(crate) fn render<R: Threads + Wait + Sync, G: Gate>(
         &self,
         rt: &R,
         alloc: Global,
         workers: u32,
         gate: &G,
+        bins: Option<Bins>,
         bytes: &mut Vec<u8>,
-    ) -> Result<(), Fault>
-        requires { (1 ≤ workers) × (workers ≤ 16) }
+    ) -> Result<Option<Bins>, Fault>
+        requires workers { (1 ≤ workers) × (workers ≤ 16) }
+        requires bins { IfSome bins (AreBins self.now.list.now self.now.tiling.now self.now.row 1) }
         ensures band { OnOk result (IsBand self.now.list.now self.now.tiling.now self.now.row bytes.new.items) }
+        ensures below { IfOk result (λ below. IfSome below (AreBins self.now.list.now self.now.tiling.now (self.now.row + 1) 1)) }
         ensures fault { IfErr result (λ e. (e ≡ fault.OutOfMemory) ⊎ (e ≡ fault.Pool PoolFault.NoWorker)) }
     {
-        let tiles = self.draw(rt, alloc, workers, gate)?;
+        let bins = match bins {
+            Some(bins) => bins,
+            None => self.bins(alloc)?,
+        };
+        let (tiles, below) = self.draw(rt, alloc, workers, gate, &bins)?;
         bytes.clear();
         self.join(&tiles, bytes)?;
-        Ok(())
+        Ok(below)
     }
 
     /// Draws the band on the calling thread, its tiles in this store, and appends the bytes of its rows of pixels.
@@ -228,7 +282,8 @@ impl<'a> Band<'a> {
         ensures band { OnOk result (AddsBand self.now.list.now self.now.tiling.now self.now.row bytes.old.items bytes.new.items) }
         ensures store { store.new ≡ store.old }
     {
-        let tiles = self.draw_alone(alloc, store, &Open)?;
+        let bins = self.bins(alloc)?;
+        let tiles = self.draw_alone(alloc, store, &Open, &bins)?;
         self.join(&tiles, bytes)
     }
 }

@@ -66,8 +66,10 @@ fn write_bands<R: Threads + Wait + Sync, W: Write, G: Gate>(
         Ok(length) => length,
         Err(fault) => return Err(Fault::WriteFailed(fault.written)),
     };
+    let mut bins = None;
     for row in 0..tiling.rows() {
-        Band::new(list, &tiling, row).render(rt, alloc, options.workers, gate, &mut bytes)?;
+        let band = Band::new(list, &tiling, row);
+        bins = band.render(rt, alloc, options.workers, gate, bins, &mut bytes)?;
         written = match ppm_rows(&bytes, written, output) {
             Ok(written) => written,
             Err(fault) => return Err(Fault::WriteFailed(fault.written)),

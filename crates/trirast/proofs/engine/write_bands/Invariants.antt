@@ -1,12 +1,14 @@
-use Rattle.std.proofs.Common.{◌≡◌, ◌≤◌, length}
+use Rattle.std.proofs.Common.{◌≡◌, ◌≤◌, length, IfSome}
+use Rattle.bins.specs.Bin.{AreBins}
 use Rattle.trirast.specs.File.{header_of}
 use Rattle.trirast.proofs.Written.{HasWritten}
 use Rattle.trirast.proofs.engine.write_bands.Given as goal
 
--- the header and the bands so far went out
+-- the header and the bands so far went out, and what is there of bins are those of the next band
 abbrev pub invariant-loop-row : goal.invariant-loop-row
 invariant-loop-row g l = record {
   bands : HasWritten l.list l.options.tile l.row l.written (g.W.Write.contents l.fn.output.inner) (g.W.Write.contents l.output.inner);
+  bins : IfSome l.bins (AreBins l.list l.tiling l.row 1);
   same_failures : l.output.failures ≡ l.fn.output.failures;
   short : length (header_of l.list.output l.list.width l.list.height) ≤ 19;
 }

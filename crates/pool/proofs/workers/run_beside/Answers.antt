@@ -3,7 +3,7 @@ use Rattle.std.specs.List.{range_with_len}
 use Rattle.std.proofs.lemmas.List.{length-map}
 use Rattle.std.proofs.lemmas.List.Elements.{All-weaker}
 use Rattle.std.proofs.lemmas.List.FromFn.{length-range_with_len}
-use Rattle.pool.proofs.workers.run.Goals as goal
+use Rattle.pool.proofs.workers.run_beside.Goals as goal
 
 pub work_seats-requires-clause-can_work : goal.work_seats-requires-clause-can_work
 work_seats-requires-clause-can_work g c κs within = λ worker below k dealt entered.
@@ -30,5 +30,5 @@ pub gather-requires-clause-results : goal.gather-requires-clause-results
 gather-requires-clause-results g c κs within =
     let deal = c.in_ok-dealer.ensures in
     let seats = c.in_ok-dealer.seats in
-    let results = c.in_ok-results.ensures in
+    let results = c.in_ok-results.ensures.results in
     (results.0, omega (arith, results.1, seats.ok, deal.dealer.1, ap length deal.seats, length-map seats.items g.D.Dealer.number, length-range_with_len 0 c.args.workers))
