@@ -1,5 +1,5 @@
 -- What a run from an input to an output does.
-use Rattle.std.specs.Prelude.{◌≡◌, ℕ, ◌+◌, ◌*◌, ◌<◌, ◌≤◌, ◌⊎◌, List, ◌++◌, length, take, Option}
+use Rattle.std.specs.Prelude.{◌≡◌, ◌↔◌, ℕ, ◌+◌, ◌*◌, ◌<◌, ◌≤◌, ◌⊎◌, List, ◌++◌, length, take, Option, Result, OnOk, IfErr, IsErrOf}
 use Rattle.std.specs.Io.KnownBytes.{Keeps, Appends, Consumes, IsAtEnd}
 use Rattle.grid.specs.Pixels.{side_of}
 use Rattle.grid.specs.declared.pixels.TileSide.{TileSide}
@@ -103,6 +103,14 @@ Explains side InputFailed left left_after held held_after = Keeps held held_afte
 Explains side InputTooLong left left_after held held_after = Gives left left_after 67_108_865 × Keeps held held_after
 Explains side (WriteFailed count) left left_after held held_after = WritesBeginning left left_after held held_after count
 Explains side OutOfMemory left left_after held held_after = Keeps held held_after ⊎ WritesWholeBands side left left_after held held_after
+
+-- How a run ends: the picture's file was written, or the fault explains what was. It is a failed input exactly where a read failed,
+-- and a failed output exactly where a write did.
+pub record EndsAs {Done : Type 0} (side : TileSide) (result : Result Done Fault) (left left_after held held_after : Option (List ℕ)) (ReadHasFailed WriteHasFailed : Type 0) : Type 0 where
+  pub picture : OnOk result (WritesPicture left left_after held held_after)
+  pub fault : IfErr result (λ e. Explains side e left left_after held held_after)
+  pub input_failed : IsErrOf result InputFailed ↔ ReadHasFailed
+  pub write_failed : ((count : ℕ) × IsErrOf result (WriteFailed count)) ↔ WriteHasFailed
 
 -- What a fault in drawing and writing says of the output's bytes.
 abbrev pub ExplainsOutput : Scene → TileSide → Fault → Option (List ℕ) → Option (List ℕ) → Type 0

@@ -160,39 +160,8 @@ impl<'a> Band<'a> {
         }
     }
 
-    /// Has the tiles of the band drawn by so many workers. Meanwhile the calling thread makes the bins of the band below.
-    fn draw_beside<R: Threads + Wait + Sync, G: Gate>(
-        &self,
-        rt: &R,
-        alloc: Global,
-        workers: u32,
-        gate: &G,
-        bins: &Bins,
-    ) -> Result<(Vec<TilePixels>, Option<Bins>), Fault>
-        requires workers { (1 ≤ workers) × (workers ≤ 16) }
-        requires bins { AreBins self.now.list.now self.now.tiling.now self.now.row 1 bins.now }
-        ensures tiles { IfOk result (λ drawn. AreColumns self.now.list.now self.now.tiling.now self.now.row drawn.0.items) }
-        ensures below { IfOk result (λ drawn. IfSome drawn.1 (AreBins self.now.list.now self.now.tiling.now (self.now.row + 1) 1)) }
-        ensures fault { IfErr result (λ e. (e ≡ fault.OutOfMemory) ⊎ (e ≡ fault.Pool PoolFault.NoWorker)) }
-    {
-        let columns = self.tiling.columns();
-        let job = BandJob {
-            band: &*self,
-            bins: &*bins,
-            gate: &*gate,
-        };
-        let below = || -> Option<Bins>
-            ensures { IfSome result (AreBins self.entry.now.list.now self.entry.now.tiling.now (self.entry.now.row + 1) 1) }
-        { self.bins_below(alloc) };
-        match run_beside::<_, Desks, _, _, _, _>(rt, alloc, columns, workers, &job, gate, below) {
-            Ok(drawn) => Ok(drawn),
-            Err(PoolFault::OutOfMemory) => Err(Fault::OutOfMemory),
-            Err(PoolFault::NoWorker) => Err(Fault::Pool(PoolFault::NoWorker)),
-        }
-    }
-
-    /// Has the tiles of the band drawn by so many workers, or on the calling thread where one is enough, and the bins of the band
-    /// below made where the calling thread has nothing else to do.
+    /// Has the tiles of the band drawn by so many workers, or on the calling thread where one is enough. Where it has nothing else
+    /// to do, the calling thread makes the bins of the band below meanwhile.
     fn draw<R: Threads + Wait + Sync, G: Gate>(
         &self,
         rt: &R,
@@ -207,13 +176,26 @@ impl<'a> Band<'a> {
         ensures below { IfOk result (λ drawn. IfSome drawn.1 (AreBins self.now.list.now self.now.tiling.now (self.now.row + 1) 1)) }
         ensures fault { IfErr result (λ e. (e ≡ fault.OutOfMemory) ⊎ (e ≡ fault.Pool PoolFault.NoWorker)) }
     {
+        let columns = self.tiling.columns();
         // A worker without a tile would be a thread started for nothing, and so would one that nobody works beside.
-        let workers = workers.min(self.tiling.columns());
+        let workers = workers.min(columns);
         if workers == 1 {
             let mut store = Store::new(alloc, self.tiling.side(), self.list.count())?;
             return Ok((self.draw_alone(alloc, &mut store, gate, bins)?, None));
         }
-        self.draw_beside(rt, alloc, workers, gate, bins)
+        let job = BandJob {
+            band: &*self,
+            bins: &*bins,
+            gate: &*gate,
+        };
+        let below = || -> Option<Bins>
+            ensures { IfSome result (AreBins self.entry.now.list.now self.entry.now.tiling.now (self.entry.now.row + 1) 1) }
+        { self.bins_below(alloc) };
+        match run_beside::<_, Desks, _, _, _, _>(rt, alloc, columns, workers, &job, gate, below) {
+            Ok(drawn) => Ok(drawn),
+            Err(PoolFault::OutOfMemory) => Err(Fault::OutOfMemory),
+            Err(PoolFault::NoWorker) => Err(Fault::Pool(PoolFault::NoWorker)),
+        }
     }
 
     /// Has the tiles of the band drawn one after another on the calling thread, in this store. It passes through the gate as the

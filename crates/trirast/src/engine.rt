@@ -6,7 +6,7 @@ ghost use Rattle.list.specs.Checks.{all_checks};
 ghost use Rattle.list.specs.Denotes.{Denotes};
 ghost use Rattle.list.specs.Json.{json_of};
 ghost use Rattle.list.specs.FirstFault.{IsFirstFault};
-ghost use Rattle.trirast.specs.Runs.{WritesAll, WritesFile, WritesPicture, Explains, ExplainsOutput};
+ghost use Rattle.trirast.specs.Runs.{WritesAll, WritesFile, EndsAs, ExplainsOutput};
 
 use crate::band::Band;
 use crate::counted::Counted;
@@ -114,10 +114,8 @@ pub fn run_with<Rt: Threads + Wait + Sync, R: Read, W: Write, G: Gate>(
     requires workers { (1 ≤ options.workers) × (options.workers ≤ 16) }
     requires input { input.old.failures < u64.MAX }
     requires output { output.old.failures < u64.MAX }
-    ensures picture { OnOk result (WritesPicture (R.remaining input.old.inner) (R.remaining input.new.inner) (W.contents output.old.inner) (W.contents output.new.inner)) }
-    ensures fault { IfErr result (λ e. Explains options.tile e (R.remaining input.old.inner) (R.remaining input.new.inner) (W.contents output.old.inner) (W.contents output.new.inner)) }
-    ensures input_failed { IsErrOf result Fault.InputFailed ↔ (input.old.failures < input.new.failures) }
-    ensures write_failed { ((count : ℕ) × IsErrOf result (Fault.WriteFailed count)) ↔ (output.old.failures < output.new.failures) }
+    ensures { EndsAs options.tile result (R.remaining input.old.inner) (R.remaining input.new.inner) (W.contents output.old.inner) (W.contents output.new.inner)
+        (input.old.failures < input.new.failures) (output.old.failures < output.new.failures) }
 {
     let bytes = read_input(alloc, input)?;
     let list = read_list(alloc, bytes.as_slice())?;
@@ -137,10 +135,8 @@ pub fn run<Rt: Threads + Wait + Sync, R: Read, W: Write>(
     requires workers { (1 ≤ options.workers) × (options.workers ≤ 16) }
     requires input { input.old.failures < u64.MAX }
     requires output { output.old.failures < u64.MAX }
-    ensures picture { OnOk result (WritesPicture (R.remaining input.old.inner) (R.remaining input.new.inner) (W.contents output.old.inner) (W.contents output.new.inner)) }
-    ensures fault { IfErr result (λ e. Explains options.tile e (R.remaining input.old.inner) (R.remaining input.new.inner) (W.contents output.old.inner) (W.contents output.new.inner)) }
-    ensures input_failed { IsErrOf result Fault.InputFailed ↔ (input.old.failures < input.new.failures) }
-    ensures write_failed { ((count : ℕ) × IsErrOf result (Fault.WriteFailed count)) ↔ (output.old.failures < output.new.failures) }
+    ensures { EndsAs options.tile result (R.remaining input.old.inner) (R.remaining input.new.inner) (W.contents output.old.inner) (W.contents output.new.inner)
+        (input.old.failures < input.new.failures) (output.old.failures < output.new.failures) }
 {
     run_with(rt, alloc, input, output, options, &Open)
 }

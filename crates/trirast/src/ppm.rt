@@ -41,28 +41,9 @@ pub fn write_ppm<W: Write>(
     ensures written { IfErr result (λ e. e.written ≤ length (file_of width height pixels.now)) }
     ensures failures { MatchResult result (λ _. out.new.failures ≡ out.old.failures) (λ _. out.new.failures ≡ out.old.failures + 1) }
 {
-    match write_file(width, height, pixels, out) {
+    let header = ppm_header(width, height, out)?;
+    match ppm_rows(pixels, header, out) {
         Ok(_length) => Ok(()),
         Err(fault) => Err(fault),
     }
-}
-
-/// Writes the file of a picture of colours, and answers its length.
-pub(crate) fn write_file<W: Write>(
-    width: u32,
-    height: u32,
-    pixels: &[u8],
-    out: &mut Counted<W>,
-) -> Result<u64, WriteFault>
-    requires size { (1 ≤ width) × (width ≤ 4096) × (1 ≤ height) × (height ≤ 4096) }
-    requires pixels { length pixels.now ≡ 3 * (height * width) }
-    requires failures { out.old.failures < u64.MAX }
-    ensures count { IfOk result (λ n. n ≡ length (file_of width height pixels.now)) }
-    ensures all { OnOk result (Appends (W.contents out.old.inner) (W.contents out.new.inner) (file_of width height pixels.now)) }
-    ensures beginning { IfErr result (λ e. Appends (W.contents out.old.inner) (W.contents out.new.inner) (take e.written (file_of width height pixels.now))) }
-    ensures written { IfErr result (λ e. e.written ≤ length (file_of width height pixels.now)) }
-    ensures failures { MatchResult result (λ _. out.new.failures ≡ out.old.failures) (λ _. out.new.failures ≡ out.old.failures + 1) }
-{
-    let header = ppm_header(width, height, out)?;
-    ppm_rows(pixels, header, out)
 }
