@@ -5,6 +5,7 @@
 #![tactic(auto)]
 
 mod cull;
+mod extent;
 mod out_of_memory;
 mod pixels;
 mod point;
@@ -14,6 +15,7 @@ mod sample_count;
 mod triangle;
 
 pub use cull::Cull;
+pub use extent::{greatest, least};
 pub use out_of_memory::OutOfMemory;
 pub use pixels::{PixelBox, TileSide};
 pub use point::{Point, side};

@@ -2,10 +2,10 @@ ghost use Rattle.std.specs.Prelude.{◌≡◌, ◌↔◌, ◌⊎◌, ◌^◌, Is
 ghost use Rattle.grid.specs.Bounds.{IsWithin};
 ghost use Rattle.grid.specs.Edge.{IsTopEdge, IsLeftEdge, PassesEdge};
 ghost use Rattle.grid.specs.Seam.{IsSeam, IsOnOpenEdge, NoOverlap, NoCrack};
-ghost use Rattle.std.specs.Int.{int_max};
 ghost use Rattle.grid.specs.Position.{IsInBand, right_of};
 ghost use Rattle.grid.specs.Triangle.{doubled_area, Covers};
 
+use crate::extent::greatest;
 use crate::point::{Point, side};
 
 /// A triangle by its vertices, in either orientation and perhaps without area.
@@ -59,17 +59,6 @@ impl Tri {
         let rightmost = greatest(self.a.x(), self.b.x(), self.c.x());
         Point::new(next_x(p.x(), rightmost), p.y()).unwrap()
     }
-}
-
-/// The greatest of three coordinates of the guard band.
-fn greatest(a: i32, b: i32, c: i32) -> i32
-    requires a { IsInBand a }
-    requires b { IsInBand b }
-    requires c { IsInBand c }
-    ensures value { result ≡ int_max (int_max a b) c }
-    ensures in_band { IsInBand result }
-{
-    a.max(b).max(c)
 }
 
 /// The x one pixel to the right, which is at most `limit`.

@@ -1,5 +1,4 @@
 ghost use Rattle.std.specs.Prelude.{◌≡◌, ◌≤ℤ◌, pos, negsuc, List, ◌++◌, IfOk, OnOk, map};
-ghost use Rattle.std.specs.Int.{int_min, int_max};
 ghost use Rattle.std.specs.List.{flat_map, All};
 ghost use Rattle.grid.specs.Position.{IsInBand};
 ghost use Rattle.shade.specs.declared.placed.Placed.{Placed};
@@ -7,7 +6,7 @@ ghost use Rattle.list.specs.Listing.{draw_listing, placed_all, IsDrawWithinLimit
 ghost use Rattle.list.specs.Rows as rows;
 
 use crate::draw::Draw;
-use grid::Tri;
+use grid::{Tri, greatest, least};
 use std::alloc::{AllocError, Global};
 
 /// How many rows of pixels the screen has.
@@ -31,28 +30,6 @@ fn row_of(y: i32) -> i32
     ensures high { result ≤ℤ pos 32767 }
 {
     y.div_euclid(256)
-}
-
-/// The least of three coordinates of the guard band.
-fn least(a: i32, b: i32, c: i32) -> i32
-    requires a { IsInBand a }
-    requires b { IsInBand b }
-    requires c { IsInBand c }
-    ensures value { result ≡ int_min (int_min a b) c }
-    ensures in_band { IsInBand result }
-{
-    a.min(b).min(c)
-}
-
-/// The greatest of three coordinates of the guard band.
-fn greatest(a: i32, b: i32, c: i32) -> i32
-    requires a { IsInBand a }
-    requires b { IsInBand b }
-    requires c { IsInBand c }
-    ensures value { result ≡ int_max (int_max a b) c }
-    ensures in_band { IsInBand result }
-{
-    a.max(b).max(c)
 }
 
 impl RowSpan {
