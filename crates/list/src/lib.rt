@@ -15,7 +15,7 @@ mod tokens;
 pub use draw::{Draw, Vertex};
 pub use draw_list::{DrawList, ListFault};
 pub use fault::{ReadFault, ReadKind};
-pub use output::Output;
+pub use output::{Output, depth_bytes};
 pub use primitives::Primitives;
 pub use reader::{MOST_BYTES, read};
 pub use rows::RowSpan;

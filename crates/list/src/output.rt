@@ -1,4 +1,4 @@
-ghost use Rattle.std.specs.Prelude.{◌≡◌, ◌≤◌};
+ghost use Rattle.std.specs.Prelude.{◌≡◌, ◌≤◌, ◌/◌, ◌%◌, [], ◌∷◌};
 
 /// What the picture of a draw list shows.
 #[derive(Clone, Copy, Debug, PartialEq, Eq)]
@@ -22,4 +22,12 @@ impl Output {
             Output::Depth => 2,
         }
     }
+}
+
+/// The two bytes that a picture of depths has for a depth, the more significant one first.
+#[inline(always)]
+pub fn depth_bytes(depth: u16) -> [u8; 2]
+    ensures { result ≡ depth / 256 ∷ depth % 256 ∷ [] }
+{
+    depth.to_be_bytes()
 }

@@ -4,7 +4,7 @@ ghost use Rattle.list.specs.Picture.{IsPicture};
 
 use crate::pixel::{Colour, colour_at, end_at};
 use grid::OutOfMemory;
-use list::{DrawList, Output};
+use list::{DrawList, Output, depth_bytes};
 use std::alloc::Global;
 
 /// Appends the bytes of a colour.
@@ -19,7 +19,7 @@ fn push_colour(colour: Colour, bytes: &mut Vec<u8>) -> Result<(), OutOfMemory>
 fn push_depth(depth: u16, bytes: &mut Vec<u8>) -> Result<(), OutOfMemory>
     ensures { OnOk result (bytes.new.items ≡ bytes.old.items ++ depth / 256 ∷ depth % 256 ∷ []) }
 {
-    bytes.extend_from_slice(&depth.to_be_bytes())?;
+    bytes.extend_from_slice(&depth_bytes(depth))?;
     Ok(())
 }
 

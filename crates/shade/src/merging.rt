@@ -2,7 +2,7 @@ ghost use Rattle.std.specs.Prelude.{◌≡◌, ◌↔◌, IsTrue, slice_index};
 ghost use Rattle.shade.specs.Blend.{IsBlended};
 ghost use Rattle.shade.specs.Depth.{Passes};
 ghost use Rattle.shade.specs.Lanes.{IsMask};
-ghost use Rattle.shade.specs.Merging.{IsApplied};
+ghost use Rattle.shade.specs.Merging.{IsMerged, IsApplied};
 
 use crate::blend::over;
 use crate::depth::DepthTest;
@@ -44,6 +44,14 @@ pub fn apply(m: &Merge, new: &Shaded, old: Sample) -> Sample
     if !passes(m.test, new.z, old.z) {
         return old;
     }
+    merged(m, new, old)
+}
+
+/// The stored sample after a triangle's sample that passed the depth test. A channel of the new sample is read only where it is
+/// written, and alpha only where the new colour is blended.
+pub(crate) fn merged(m: &Merge, new: &Shaded, old: Sample) -> Sample
+    ensures { IsMerged m.now new.now old result }
+{
     Sample {
         r: drawn(m.write[0], m.over, new.r, new.a, old.r),
         g: drawn(m.write[1], m.over, new.g, new.a, old.g),

@@ -1,8 +1,9 @@
-ghost use Rattle.std.specs.Prelude.{◌≡◌, ◌<◌};
+ghost use Rattle.std.specs.Prelude.{◌≡◌, ◌<◌, IsTrue};
 ghost use Rattle.grid.specs.Triangle.{Covers};
 
+use crate::merging::{merged, passes};
 use crate::state::State;
-use crate::{Sample, Shaded, Weights, over, passes};
+use crate::{Sample, Shaded, Weights};
 use grid::{Point, Tri};
 
 /// A triangle as it is drawn: what its vertices have, in their order, and its draw's state.
@@ -19,9 +20,7 @@ pub struct Placed {
 }
 
 impl Placed {
-    ghost use Rattle.shade.specs.Merging.{IsChannelMerged};
-    ghost use Rattle.shade.specs.declared.sample.Shaded.{Shaded as Fragment};
-    ghost use Rattle.shade.specs.Placed.{channel as channel_of, colour_of, AreWeightsOf, IsFragmentAt, IsDrawnAt};
+    ghost use Rattle.shade.specs.Placed.{channel as channel_of, AreWeightsOf, IsInterpolated, IsFragmentAt, IsNeededAt, IsDrawnAt};
 
     /// What the vertices have as red, green, blue or alpha, which are the channels 0 to 3.
     pub(crate) fn channel(&self, number: usize) -> [u8; 3]
@@ -61,28 +60,36 @@ impl Placed {
         if !passes(merge.test, z, stored.z) {
             return stored;
         }
-        Sample {
-            r: self.channel_drawn(&weights, 0, stored.r),
-            g: self.channel_drawn(&weights, 1, stored.g),
-            b: self.channel_drawn(&weights, 2, stored.b),
-            z: if merge.depth_write { z } else { stored.z },
+        merged(&merge, &self.needed(&weights, z), stored)
+    }
+
+    /// The fragment at the point of these weights, where `z` is its depth, as far as the draw reads it: red, green and blue where
+    /// they are written, and alpha where the draw blends. What is not read is 0.
+    fn needed(&self, weights: &Weights, z: u16) -> Shaded
+        requires triangle { AreWeightsOf self.now weights.now }
+        requires depth { IsInterpolated self.now weights.now.p self.now.z z }
+        ensures { IsNeededAt self.now weights.now.p result }
+    {
+        let merge = self.state.merge;
+        Shaded {
+            r: self.channel_if(merge.write[0], weights, 0),
+            g: self.channel_if(merge.write[1], weights, 1),
+            b: self.channel_if(merge.write[2], weights, 2),
+            a: self.channel_if(merge.over, weights, 3),
+            z,
         }
     }
 
-    /// What a stored channel becomes where the depth test has passed: red, green or blue, which are the channels 0 to 2.
-    fn channel_drawn(&self, weights: &Weights, number: usize, stored: u8) -> u8
-        requires number { number < 3 }
+    /// Red, green, blue or alpha at the point of these weights, or 0 where it is not needed.
+    fn channel_if(&self, needed: bool, weights: &Weights, number: usize) -> u8
+        requires number { number < 4 }
         requires triangle { AreWeightsOf self.now weights.now }
-        ensures { (f : Fragment) → IsFragmentAt self.now weights.now.p f → IsChannelMerged self.now.state.merge f number (colour_of f number) stored result }
+        ensures { IsTrue needed → IsInterpolated self.now weights.now.p (channel_of self.now number) result }
     {
-        let merge = self.state.merge;
-        if !merge.write[number] {
-            return stored;
+        if needed {
+            weights.channel(self.channel(number))
+        } else {
+            0
         }
-        let source = weights.channel(self.channel(number));
-        if !merge.over {
-            return source;
-        }
-        over(source, weights.channel(self.channel(3)), stored)
     }
 }

@@ -1,11 +1,12 @@
 //! The bytes of eight pixels in a row of a block.
-ghost use Rattle.std.specs.Prelude.{◌≡◌, ℕ, ◌+◌, ◌*◌, ◌/◌, ◌%◌, ◌<◌, ◌≤◌, [], ◌∷◌, length, slice_index};
+ghost use Rattle.std.specs.Prelude.{◌≡◌, ℕ, ◌+◌, ◌*◌, ◌/◌, ◌%◌, ◌<◌, ◌≤◌, length, slice_index};
 ghost use Rattle.grid.specs.Pixels.{side_of};
 ghost use Rattle.tile.specs.Samples.{planes_of};
 ghost use Rattle.tile.specs.Picture.{AreColoursAt, AreDepthsAt, AreInterleaved};
 
 use crate::tile::Tile;
 use grid::SampleCount;
+use list::depth_bytes;
 use shade::{BlockSamples, means_of_four};
 
 /// Red, green and blue of eight pixels, pixel by pixel.
@@ -22,14 +23,6 @@ fn interleaved(r: &[u8], g: &[u8], b: &[u8]) -> [u8; 24]
     ]
 }
 
-/// The more and the less significant byte of a depth.
-#[inline(always)]
-fn two_bytes(depth: u16) -> [u8; 2]
-    ensures { result ≡ depth / 256 ∷ depth % 256 ∷ [] }
-{
-    depth.to_be_bytes()
-}
-
 /// The bytes of eight depths in order, from a pixel of a block on.
 #[inline(always)]
 fn in_bytes(depths: &[u16; 64], from: usize) -> [u8; 16]
@@ -38,7 +31,7 @@ fn in_bytes(depths: &[u16; 64], from: usize) -> [u8; 16]
 {
     let mut bytes = [0; 16];
     for i in 0..8 {
-        let [high, low] = two_bytes(depths[from + i]);
+        let [high, low] = depth_bytes(depths[from + i]);
         bytes[2 * i] = high;
         bytes[2 * i + 1] = low;
     }

@@ -1,4 +1,4 @@
-use Rattle.std.proofs.Common.{refl, rules}
+use Rattle.std.proofs.Common.{rules}
 use Rattle.shade.specs.Placed.{IsInterpolated}
 use Rattle.shade.proofs.Merged.{test_failed, test_passed}
 use Rattle.shade.proofs.placed.Placed.drawn_at.Goals as goal
@@ -9,18 +9,8 @@ returns-then-not-passes c =
     let value : IsInterpolated t c.args.p t.z c.value-z.result = rw c.at-weights.ensures at c.value-z.ensures.value in
     test_failed t c.args.p c.args.stored c.value-z.result c.requires value (λ pass. let bad = c.if-not-passes.ensures.1 pass in absurd (cc))
 
-pub returns-then-merge : goal.returns-then-merge
-returns-then-merge c =
+pub returns : goal.returns
+returns c =
     let t = c.args.self.now in
     let value : IsInterpolated t c.args.p t.z c.value-z.result = rw c.at-weights.ensures at c.value-z.ensures.value in
-    test_passed t c.args.p c.args.stored _ c.value-z.result c.requires value (c.if-not-passes.ensures.0 (search rules))
-    (rw c.at-weights.ensures at c.channel_drawn.ensures) (rw c.at-weights.ensures at c.channel_drawn-2.ensures) (rw c.at-weights.ensures at c.channel_drawn-3.ensures)
-    (rw c.if-merge.true refl)
-
-pub returns-else-merge : goal.returns-else-merge
-returns-else-merge c =
-    let t = c.args.self.now in
-    let value : IsInterpolated t c.args.p t.z c.value-z.result = rw c.at-weights.ensures at c.value-z.ensures.value in
-    test_passed t c.args.p c.args.stored _ c.value-z.result c.requires value (c.if-not-passes.ensures.0 (search rules))
-    (rw c.at-weights.ensures at c.channel_drawn.ensures) (rw c.at-weights.ensures at c.channel_drawn-2.ensures) (rw c.at-weights.ensures at c.channel_drawn-3.ensures)
-    (rw c.if-merge.false refl)
+    test_passed t c.args.p c.args.stored _ c.value-z.result c.needed.result c.requires value (c.if-not-passes.ensures.0 (search rules)) (rw c.at-weights.ensures at c.needed.ensures) c.merged.ensures
