@@ -103,8 +103,7 @@ fn tells_how_much_went_out_at_each_byte(rt: HostRuntime) -> Result<(), Fail> {
 fn tells_how_much_went_out_of_a_larger_picture(rt: HostRuntime) -> Result<(), Fail> {
     let expected = half(rt.alloc())?;
     assert_eq!(rt; expected.len(), 12_688);
-    for step in 0..208usize {
-        let room = 61 * step;
+    for room in 0..12_688usize {
         for end in [End::Fails, End::TakesNothing] {
             let sink = Sink::new(rt.alloc(), room, end);
             let (result, sink) = run_into(&rt, rt.alloc(), HALF, sink, 1);

@@ -5,14 +5,15 @@ use std::alloc::{AllocError, Global};
 use std::process::Abort;
 use std::test::Fail;
 
-const BLACK: Sample = Sample {
+pub(crate) const BLACK: Sample = Sample {
     r: 0,
     g: 0,
     b: 0,
     z: 65535,
 };
 
-const STATE: State = State {
+/// The state of a draw that names none, with the greatest scissor.
+pub(crate) const STATE: State = State {
     merge: Merge {
         test: DepthTest::Always,
         depth_write: false,
@@ -29,6 +30,10 @@ const STATE: State = State {
     },
 };
 
+pub(crate) fn point(rt: &impl Abort, (x, y): (i32, i32)) -> Point {
+    Point::new(x, y).expect(rt, "inside of the guard band")
+}
+
 /// Three vertices with depths 0, 3, 0, red 0, 3, 0 and green 255, 0, 0.
 fn vertices(
     rt: &impl Abort,
@@ -39,9 +44,8 @@ fn vertices(
     let colours = [[0, 255, 0, 255], [3, 0, 0, 255], [0, 0, 0, 255]];
     let mut vertices = Vec::new(alloc);
     for number in 0..3 {
-        let (x, y) = corners[number];
         vertices.push(Vertex {
-            at: Point::new(x, y).expect(rt, "inside of the guard band"),
+            at: point(rt, corners[number]),
             z: depths[number],
             rgba: colours[number],
         })?;
@@ -160,7 +164,7 @@ fn shades_a_covered_point(rt: HostRuntime) -> Result<(), Fail> {
     let list = list(&rt, alloc, draws);
     assert!(rt; list.triangles() > 0);
     let triangle = list.triangle(0);
-    let p = Point::new(384, 128).expect(&rt, "inside of the guard band");
+    let p = point(&rt, (384, 128));
     assert!(rt; triangle.tri.covers(p));
     let expected = Shaded {
         r: 1,
@@ -313,9 +317,9 @@ fn keeps_what_the_picture_shows(rt: HostRuntime) -> Result<(), Fail> {
 /// A draw of the corners of a square, in order, and its middle, with one quad.
 fn quad_draw(rt: &impl Abort, alloc: Global, quad: [u32; 4]) -> Result<Draw, AllocError> {
     let mut vertices = vertices(rt, alloc, [(0, 0), (512, 0), (512, 512)])?;
-    for (x, y) in [(0, 512), (256, 256)] {
+    for at in [(0, 512), (256, 256)] {
         vertices.push(Vertex {
-            at: Point::new(x, y).expect(rt, "inside of the guard band"),
+            at: point(rt, at),
             z: 0,
             rgba: [0, 0, 0, 255],
         })?;

@@ -6,8 +6,9 @@ ghost use Rattle.shade.specs.Block.{position_in, IsOnScreen};
 ghost use Rattle.shade.specs.BlockMask.{first_of};
 
 use crate::drawing::sample_position;
-use crate::{BlockMask, BlockSamples, DepthTest, Interpolants, Merge, Placed, Sample, State};
-use grid::{Cull, PixelBox, Point, SampleCount, Tri};
+use crate::test_support::{everywhere, point};
+use crate::{BlockMask, BlockSamples, DepthTest, Interpolants, Merge, Placed, Sample};
+use grid::{Point, SampleCount, Tri};
 use std::process::Abort;
 
 /// Whether the triangle covers the samples in the mask that belong to one sample index.
@@ -117,7 +118,7 @@ impl Random {
     {
         let span = 2 * reach as u32;
         let (x, y) = (self.below(span) as i32, self.below(span) as i32);
-        point(rt, 21_504 + x - reach, 31_744 + y - reach)
+        point(rt, (21_504 + x - reach, 31_744 + y - reach))
     }
 
     fn sample(&mut self) -> Sample {
@@ -159,10 +160,6 @@ impl Random {
         }
         samples
     }
-}
-
-fn point(rt: &impl Abort, x: i32, y: i32) -> Point {
-    Point::new(x, y).expect(rt, "inside of the guard band")
 }
 
 /// Draws the triangle at the samples that it covers of the pixels in `wanted`, and compares each sample with the one that it becomes
@@ -238,17 +235,7 @@ fn placed(rt: &impl Abort, random: &mut Random, merge: Merge, flat: [bool; 3]) -
         tri: random.triangle(rt),
         z: random.depths(flat_z),
         rgba: random.colours(flat_colour, flat_alpha),
-        state: State {
-            merge,
-            cull: Cull::None,
-            sample_mask: 15,
-            scissor: PixelBox {
-                x0: 0,
-                y0: 0,
-                x1: 4096,
-                y1: 4096,
-            },
-        },
+        state: everywhere(merge),
     }
 }
 

@@ -53,4 +53,6 @@ mod plane_tests;
 #[cfg(test)]
 mod row_tests;
 #[cfg(test)]
+mod test_support;
+#[cfg(test)]
 mod tests;

@@ -6,8 +6,9 @@ use crate::colour_planes::{ColourPlanes, ColourSlopes};
 use crate::depth_plane::DepthPlane;
 use crate::reciprocal::Reciprocal;
 use crate::slope::Slope;
-use crate::{DepthTest, Merge, Placed, State, floor_at};
-use grid::{Cull, PixelBox, Point, Tri};
+use crate::test_support::{GREATEST, GREATEST_TURNED, everywhere, triangle};
+use crate::{DepthTest, Merge, Placed, floor_at};
+use grid::Point;
 use std::process::Abort;
 
 /// The last coordinates at which a group of two rows of eight pixels is on the screen.
@@ -34,33 +35,19 @@ fn is_on_screen(x: i32, y: i32) -> bool
 
 /// A triangle at these positions, with these depths and red; blue and alpha have the reds in other orders, and green is flat.
 fn placed(rt: &impl Abort, at: [(i32, i32); 3], z: [u16; 3], red: [u8; 3]) -> Placed {
-    let [a, b, c] = at;
     let [u, v, w] = red;
+    let merge = Merge {
+        test: DepthTest::Always,
+        depth_write: true,
+        write: [true, true, true],
+        over: true,
+    };
     Placed {
-        tri: Tri::new(point(rt, a), point(rt, b), point(rt, c)),
+        tri: triangle(rt, at),
         z,
         rgba: [[u, 7, u, w], [v, 7, u, u], [w, 7, v, v]],
-        state: State {
-            merge: Merge {
-                test: DepthTest::Always,
-                depth_write: true,
-                write: [true, true, true],
-                over: true,
-            },
-            cull: Cull::None,
-            sample_mask: 15,
-            scissor: PixelBox {
-                x0: 0,
-                y0: 0,
-                x1: 4096,
-                y1: 4096,
-            },
-        },
+        state: everywhere(merge),
     }
-}
-
-fn point(rt: &impl Abort, (x, y): (i32, i32)) -> Point {
-    Point::new(x, y).expect(rt, "inside of the guard band")
 }
 
 /// A channel at a covered point, by `floor_at`.
@@ -104,23 +91,9 @@ fn agrees(rt: &impl Abort, t: &Placed, (x, y): (i32, i32)) -> Option<bool> {
     Some(met)
 }
 
-/// The greatest triangle that covers the screen, in one orientation and in the other.
-const GREATEST: [[(i32, i32); 3]; 2] = [
-    [
-        (8_388_607, 8_388_607),
-        (-8_388_608, 8_388_607),
-        (8_388_607, -8_388_608),
-    ],
-    [
-        (8_388_607, 8_388_607),
-        (8_388_607, -8_388_608),
-        (-8_388_608, 8_388_607),
-    ],
-];
-
 #[test]
 fn finds_values_of_the_greatest_area(rt: HostRuntime) {
-    for at in GREATEST {
+    for at in [GREATEST, GREATEST_TURNED] {
         for (z, red) in [
             ([0, 65535, 65535], [0, 255, 255]),
             ([65535, 0, 0], [255, 0, 0]),

@@ -1,5 +1,6 @@
 //! Values stepped along rows of pixels: worked ones, and all 4,096 of a row beside the exact quotient at each.
 use crate::Row;
+use crate::test_support::{GREATEST, GREATEST_TURNED, point, triangle};
 use grid::{Point, Tri, side};
 use std::alloc::{AllocError, Global};
 use std::process::Abort;
@@ -11,34 +12,11 @@ const PIXELS: u32 = 4096;
 /// The centre of the first pixel of the screen.
 const FIRST: (i32, i32) = (128, 128);
 
-/// The triangle of the greatest area that covers the screen.
-const GREATEST: [(i32, i32); 3] = [
-    (8_388_607, 8_388_607),
-    (-8_388_608, 8_388_607),
-    (8_388_607, -8_388_608),
-];
-
-/// The same with two corners exchanged, so in the other orientation.
-const GREATEST_TURNED: [(i32, i32); 3] = [
-    (8_388_607, 8_388_607),
-    (8_388_607, -8_388_608),
-    (-8_388_608, 8_388_607),
-];
-
 /// A triangle that reaches little beyond the first row, and in which values change by some sixteen from pixel to pixel.
 const LOW: [(i32, i32); 3] = [(-300, -7), (1_048_583, 128), (-301, 300)];
 
 /// A triangle with a side of 4,096 pixels along the first row, at some of whose pixels nothing is left of a value.
 const EVEN: [(i32, i32); 3] = [(128, 128), (1_048_704, 128), (128, 1_048_704)];
-
-fn point(rt: &impl Abort, (x, y): (i32, i32)) -> Point {
-    Point::new(x, y).expect(rt, "inside of the guard band")
-}
-
-fn triangle(rt: &impl Abort, corners: [(i32, i32); 3]) -> Tri {
-    let [a, b, c] = corners;
-    Tri::new(point(rt, a), point(rt, b), point(rt, c))
-}
 
 /// The value at `at` and at the pixels to the right of it, with what is left of each, by steps: so many, or fewer where the
 /// next one is not covered.

@@ -1,16 +1,9 @@
+use crate::test_support::{GREATEST, point, triangle};
 use crate::{
     DepthTest, Merge, Sample, Shaded, Weights, apply, floor_at, mean_of_four, over, passes,
 };
-use grid::{Point, Tri};
+use grid::Tri;
 use std::process::Abort;
-
-fn point(rt: &impl Abort, (x, y): (i32, i32)) -> Point {
-    Point::new(x, y).expect(rt, "inside of the guard band")
-}
-
-fn triangle(rt: &impl Abort, a: (i32, i32), b: (i32, i32), c: (i32, i32)) -> Tri {
-    Tri::new(point(rt, a), point(rt, b), point(rt, c))
-}
 
 // `floor_at` is asked at covered points alone.
 fn value_at(rt: &impl Abort, t: &Tri, at: (i32, i32), v: [u16; 3]) -> Option<u16> {
@@ -24,14 +17,14 @@ fn value_at(rt: &impl Abort, t: &Tri, at: (i32, i32), v: [u16; 3]) -> Option<u16
 
 #[test]
 fn rounds_values_down(rt: HostRuntime) {
-    let half_pixel = triangle(&rt, (0, 0), (256, 0), (0, 256));
+    let half_pixel = triangle(&rt, [(0, 0), (256, 0), (0, 256)]);
     // 255 * 24576 / 65536 is 95.625, and 255 * 8192 / 65536 is 31.875.
     assert_eq!(rt; value_at(&rt, &half_pixel, (96, 32), [0, 255, 0]), Some(95));
     assert_eq!(rt;
         value_at(&rt, &half_pixel, (32, 160), [0, 255, 0]),
         Some(31)
     );
-    let three_pixels = triangle(&rt, (128, 128), (640, 128), (128, 640));
+    let three_pixels = triangle(&rt, [(128, 128), (640, 128), (128, 640)]);
     assert_eq!(rt;
         value_at(&rt, &three_pixels, (384, 128), [0, 3, 0]),
         Some(1)
@@ -53,7 +46,7 @@ fn rounds_values_down(rt: HostRuntime) {
 // The same triangle in the other orientation, with its values in the same order as its vertices.
 #[test]
 fn rounds_values_down_in_either_orientation(rt: HostRuntime) {
-    let reversed = triangle(&rt, (0, 0), (0, 256), (256, 0));
+    let reversed = triangle(&rt, [(0, 0), (0, 256), (256, 0)]);
     assert_eq!(rt; value_at(&rt, &reversed, (96, 32), [0, 0, 255]), Some(95));
     assert_eq!(rt; value_at(&rt, &reversed, (32, 160), [0, 0, 255]), Some(31));
 }
@@ -61,12 +54,7 @@ fn rounds_values_down_in_either_orientation(rt: HostRuntime) {
 // The weighted sum of the greatest value at all three vertices is 18446460399743205375, just under 2^64.
 #[test]
 fn holds_the_largest_triangle(rt: HostRuntime) {
-    let largest = triangle(
-        &rt,
-        (8_388_607, 8_388_607),
-        (-8_388_608, 8_388_607),
-        (8_388_607, -8_388_608),
-    );
+    let largest = triangle(&rt, GREATEST);
     assert_eq!(rt;
         value_at(&rt, &largest, (128, 128), [65535, 65535, 65535]),
         Some(65535)
@@ -80,7 +68,7 @@ fn holds_the_largest_triangle(rt: HostRuntime) {
 
 #[test]
 fn makes_all_values_of_the_same_weights(rt: HostRuntime) {
-    let t = triangle(&rt, (0, 0), (256, 0), (0, 256));
+    let t = triangle(&rt, [(0, 0), (256, 0), (0, 256)]);
     let p = point(&rt, (96, 32));
     assert!(rt; t.covers(p));
     let weights = Weights::at(&t, p);

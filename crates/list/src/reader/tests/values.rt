@@ -1,13 +1,9 @@
 //! What a list that is read has.
 use super::support::answer;
+use crate::tests::{BLACK, STATE, point};
 use crate::{Output, State};
-use grid::{Cull, PixelBox, Point, SampleCount, Tri};
+use grid::{Cull, PixelBox, SampleCount, Tri};
 use shade::{DepthTest, Merge, Sample};
-use std::process::Abort;
-
-fn point(rt: &impl Abort, x: i32, y: i32) -> Point {
-    Point::new(x, y).expect(rt, "inside of the guard band")
-}
 
 #[test]
 fn takes_what_is_absent_by_default(rt: HostRuntime) {
@@ -17,36 +13,23 @@ fn takes_what_is_absent_by_default(rt: HostRuntime) {
     assert_eq!(rt; (list.width(), list.height()), (3, 2));
     assert_eq!(rt; list.output(), Output::Color);
     assert_eq!(rt; list.count(), SampleCount::One);
-    let clear = Sample {
-        r: 0,
-        g: 0,
-        b: 0,
-        z: 65_535,
-    };
-    assert_eq!(rt; list.clear(), clear);
+    assert_eq!(rt; list.clear(), BLACK);
     assert!(rt; list.triangles() == 1);
     let placed = list.triangle(0);
     let state = State {
-        merge: Merge {
-            test: DepthTest::Always,
-            depth_write: false,
-            write: [true, true, true],
-            over: false,
-        },
-        cull: Cull::None,
-        sample_mask: 15,
         scissor: PixelBox {
             x0: 0,
             y0: 0,
             x1: 3,
             y1: 2,
         },
+        ..STATE
     };
     assert_eq!(rt; placed.state, state);
     let tri = Tri::new(
-        point(&rt, 131, 640),
-        point(&rt, 128, 129),
-        point(&rt, 640, 130),
+        point(&rt, (131, 640)),
+        point(&rt, (128, 129)),
+        point(&rt, (640, 130)),
     );
     assert_eq!(rt; placed.tri, tri);
     assert_eq!(rt; placed.z, [9, 7, 8]);
@@ -90,7 +73,7 @@ fn takes_what_each_key_says(rt: HostRuntime) {
         },
     };
     assert_eq!(rt; placed.state, state);
-    let corner = point(&rt, -8_388_608, 8_388_607);
+    let corner = point(&rt, (-8_388_608, 8_388_607));
     assert_eq!(rt; placed.tri, Tri::new(corner, corner, corner));
     assert_eq!(rt; placed.z, [65_535, 65_535, 65_535]);
 }
@@ -155,9 +138,9 @@ fn keeps_coordinates_by_value(rt: HostRuntime) {
     let list = answer(&rt, text).expect(&rt, "a draw list");
     assert!(rt; list.triangles() == 1);
     let tri = Tri::new(
-        point(&rt, 4_194_304, -4_194_305),
-        point(&rt, 4_194_303, -4_194_304),
-        point(&rt, 8_388_607, -8_388_608),
+        point(&rt, (4_194_304, -4_194_305)),
+        point(&rt, (4_194_303, -4_194_304)),
+        point(&rt, (8_388_607, -8_388_608)),
     );
     assert_eq!(rt; list.triangle(0).tri, tri);
 }
