@@ -58,6 +58,15 @@ def definitions():
     return set(re.findall(r"^(?:[a-z]+ )*(\w+) .*:", "".join(sources("specs/**/*.antt").values()), re.MULTILINE))
 
 
+def parts():
+    """The names of the fields of each record in the specs of any crate."""
+    found = {}
+    for text in sources("specs/**/*.antt").values():
+        for record, fields in re.findall(r"^(?:pub )?record (\w+) .*\n((?:  .*\n)*)", text, re.MULTILINE):
+            found.setdefault(record, set()).update(re.findall(r"^  pub (\w+) :", fields, re.MULTILINE))
+    return found
+
+
 def rows(text):
     """The cells of the rows of a document's tables, their heads too."""
     for line in text.split("\n"):
@@ -111,10 +120,10 @@ class Names(unittest.TestCase):
 
 
 class Proofs(unittest.TestCase):
-    """The right cells of the tables of promises: calls, and behind a colon the names of their clauses."""
+    """The right cells of the tables of promises: calls, and behind a colon the names of their clauses or of a record's parts."""
 
     def test_calls_and_clauses(self):
-        known = contracts()
+        known = {**parts(), **contracts()}
         types = set(re.findall(r"\b(?:struct|enum|trait) (\w+)", "".join(sources("src/**/*.rt").values())))
         types |= definitions()
         clauses = set()
