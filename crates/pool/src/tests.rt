@@ -1,3 +1,4 @@
+mod beside;
 mod dealing;
 mod deques;
 mod gates;

@@ -8,6 +8,7 @@ use crate::fault::PoolFault;
 use crate::gate::Gate;
 use crate::job::Job;
 use crate::worker::{WorkerResult, WorksThrough, work_through};
+use grid::OutOfMemory;
 use std::alloc::Global;
 use std::snapshot::Snapshot;
 use std::sync::Wait;
@@ -84,22 +85,27 @@ fn work_all<'s, E, R: Threads, D: Dealer, J: Job, G: Gate, T: Drop, F: FnOnce() 
     gate: &'s G,
     seats: Vec<D::Seat>,
     beside: F,
-) -> Result<(Vec<WorkerResult<D, J>>, T), PoolFault>
+) -> (Result<Vec<WorkerResult<D, J>>, PoolFault>, T)
     requires can_work { AllCanWork D.Dealer J.Job G.Gate dealer.now job.now gate.now (vec_len seats) }
     requires seats { AreDealt D.Dealer dealer.now seats.items }
     requires beside { F.pre beside }
-    ensures results { IfOk result (λ r. AreWorkerResults D.Dealer J.Job dealer.now job.now (vec_len seats) r.0.items) }
-    ensures beside { IfOk result (λ r. F.post beside r.1) }
+    ensures results { IfOk result.0 (λ results. AreWorkerResults D.Dealer J.Job dealer.now job.now (vec_len seats) results.items) }
+    ensures beside { F.post beside result.1 }
 {
-    let mut workers = Vec::with_capacity(alloc, seats.len()).map_err(|_| PoolFault::OutOfMemory)?;
-    let mut results = Vec::with_capacity(alloc, seats.len()).map_err(|_| PoolFault::OutOfMemory)?;
+    let count = seats.len();
+    let (Ok(mut workers), Ok(mut results)) = (
+        Vec::with_capacity(alloc, count),
+        Vec::with_capacity(alloc, count),
+    ) else {
+        return (Err(PoolFault::OutOfMemory), beside());
+    };
     let all_started = start_all(alloc, scope, dealer, job, gate, seats, &mut workers);
     let answer = beside();
     join_all(rt, workers, &mut results, dealer, job);
     if all_started {
-        Ok((results, answer))
+        (Ok(results), answer)
     } else {
-        Err(PoolFault::NoWorker)
+        (Err(PoolFault::NoWorker), answer)
     }
 }
 
@@ -113,19 +119,19 @@ fn work_seats<'a, R: Threads + Wait + Sync, D: Dealer, J: Job, G: Gate, T: Drop,
     gate: &'a G,
     seats: Vec<D::Seat>,
     beside: F,
-) -> Result<(Vec<WorkerResult<D, J>>, T), PoolFault>
+) -> (Result<Vec<WorkerResult<D, J>>, PoolFault>, T)
     requires can_work { AllCanWork D.Dealer J.Job G.Gate dealer.now job.now gate.now (vec_len seats) }
     requires seats { AreDealt D.Dealer dealer.now seats.items }
     requires beside { F.pre beside }
-    ensures results { IfOk result (λ r. AreWorkerResults D.Dealer J.Job dealer.now job.now (vec_len seats) r.0.items) }
-    ensures beside { IfOk result (λ r. F.post beside r.1) }
+    ensures results { IfOk result.0 (λ results. AreWorkerResults D.Dealer J.Job dealer.now job.now (vec_len seats) results.items) }
+    ensures beside { F.post beside result.1 }
 {
     thread::scope(
         thread::scope_env(),
         rt,
-        move |scope| -> Result<(Vec<WorkerResult<D, J>>, T), PoolFault>
+        move |scope| -> (Result<Vec<WorkerResult<D, J>>, PoolFault>, T)
             requires { AllCanWork D.Dealer J.Job G.Gate dealer.now job.now gate.now (vec_len seats) × AreDealt D.Dealer dealer.now seats.items × F.pre beside }
-            ensures { IfOk result (λ r. AreWorkerResults D.Dealer J.Job dealer.entry.now job.entry.now (vec_len seats) r.0.items × F.post beside r.1) }
+            ensures { IfOk result.0 (λ results. AreWorkerResults D.Dealer J.Job dealer.entry.now job.entry.now (vec_len seats) results.items) × F.post beside result.1 }
         { work_all(rt, alloc, scope, dealer, job, gate, seats, beside) },
     )
 }
@@ -139,7 +145,7 @@ fn work_seats<'a, R: Threads + Wait + Sync, D: Dealer, J: Job, G: Gate, T: Drop,
 ///
 /// A fault comes only where a growth of memory was refused (`PoolFault::OutOfMemory`) or a thread
 /// was not started (`PoolFault::NoWorker`): dealing gives each number once, so there is no number
-/// without an answer and none with two. After a fault the answer of `beside` is lost.
+/// without an answer and none with two. The call `beside` is made once, whether or not there is a fault.
 pub fn run_beside<R: Threads + Wait + Sync, D: Dealer, J: Job, G: Gate, T: Drop, F: FnOnce() -> T>(
     rt: &R,
     alloc: Global,
@@ -148,18 +154,27 @@ pub fn run_beside<R: Threads + Wait + Sync, D: Dealer, J: Job, G: Gate, T: Drop,
     job: &J,
     gate: &G,
     beside: F,
-) -> Result<(Vec<J::Out>, T), PoolFault>
+) -> (Result<Vec<J::Out>, PoolFault>, T)
     requires n { n ≤ 262144 }
     requires workers { (1 ≤ workers) × (workers ≤ 16) }
     requires can_work { (worker k : ℕ) → worker < workers → k < n → G.entered gate.now worker k → J.can_work job.now k }
     requires beside { F.pre beside }
-    ensures len { IfOk result (λ r. vec_len r.0 ≡ n) }
-    ensures right { IfOk result (λ r. RightInOrder (J.right job.now) r.0.items) }
-    ensures beside { IfOk result (λ r. F.post beside r.1) }
+    ensures len { IfOk result.0 (λ answers. vec_len answers ≡ n) }
+    ensures right { IfOk result.0 (λ answers. RightInOrder (J.right job.now) answers.items) }
+    ensures beside { F.post beside result.1 }
 {
-    let (dealer, seats) = D::deal(alloc, n, workers)?;
-    let (results, answer) = work_seats(rt, alloc, &dealer, job, gate, seats, beside)?;
-    Ok((gather(alloc, dealer, job, n, results)?, answer))
+    let Ok((dealer, seats)) = D::deal(alloc, n, workers) else {
+        return (Err(PoolFault::OutOfMemory), beside());
+    };
+    let (worked, answer) = work_seats(rt, alloc, &dealer, job, gate, seats, beside);
+    let gathered = match worked {
+        Ok(results) => match gather(alloc, dealer, job, n, results) {
+            Ok(answers) => Ok(answers),
+            Err(OutOfMemory) => Err(PoolFault::OutOfMemory),
+        },
+        Err(fault) => Err(fault),
+    };
+    (gathered, answer)
 }
 
 /// The answers of the job for the numbers below `n`, in their order: `run_beside` where the calling thread has nothing else to do.
@@ -177,6 +192,6 @@ pub fn run<R: Threads + Wait + Sync, D: Dealer, J: Job, G: Gate>(
     ensures len { IfOk result (λ answers. vec_len answers ≡ n) }
     ensures right { IfOk result (λ answers. RightInOrder (J.right job.now) answers.items) }
 {
-    let (answers, ()) = run_beside::<_, D, _, _, _, _>(rt, alloc, n, workers, job, gate, || {})?;
-    Ok(answers)
+    let (answers, ()) = run_beside::<_, D, _, _, _, _>(rt, alloc, n, workers, job, gate, || {});
+    answers
 }

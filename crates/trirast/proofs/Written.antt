@@ -1,6 +1,7 @@
 -- What a writer has of a picture's file, band after band.
 use Rattle.std.proofs.Common.{◌≡◌, refl, sym, ap, subst, ◌∙◌, ℕ, ◌+◌, ◌-◌, ◌*◌, ◌<◌, ◌≤◌, ◌⊎◌, inl, inr, min, List, [], ◌++◌, length, take, Option, IfSome, zero-add, append_assoc, append-nil, length-append, arith}
 use Rattle.std.proofs.lemmas.List.{take-append-le}
+use Rattle.std.proofs.Math.Nat.{mul-le-mul_left}
 use Rattle.std.proofs.Math.Seq.{take-append_seam}
 use Rattle.std.proofs.KnownBytes.{Appends-trans}
 use Rattle.std.specs.Io.KnownBytes.{Appends}
@@ -17,11 +18,12 @@ use Rattle.bins.specs.Grid.{TileGrid, tiles_over}
 use Rattle.pool.specs.declared.fault.PoolFault.TheVariants.{NoWorker}
 use Rattle.trirast.specs.declared.fault.Fault.{Fault}
 use Rattle.trirast.specs.declared.fault.Fault.TheVariants.{OutOfMemory, Pool}
-use Rattle.trirast.specs.Band.{IsBand}
+use Rattle.tile.specs.declared.drawing.TilePixels.{TilePixels}
+use Rattle.trirast.specs.Band.{AreBands, AreColumns}
 use Rattle.trirast.specs.File.{header_of, file_of, IsPictureFile}
 use Rattle.trirast.specs.Runs.{ExplainsOutput, WritesAll, WritesBands, WritesFileUpTo, bytes_before}
 use Rattle.trirast.proofs.Beginnings.{Appends-front}
-use Rattle.trirast.proofs.Strips.{begins_within, strip_next, strip_before, strips_all}
+use Rattle.trirast.proofs.Strips.{begins_within, strip_before, strips_all}
 
 -- rows that are there, and the others of the picture
 pub file_with : (l : Scene) (y : ℕ) (rows : List ℕ) → 1 ≤ l.width → y ≤ l.height → IsPart l 0 0 l.width y rows → (rest : List ℕ) × IsPictureFile l (file_of l.output l.width l.height (rows ++ rest))
@@ -68,61 +70,73 @@ header_written l side output width height count held held_after d e f many writt
       many = many ∙ ap length header ∙ omega arith;
     }
 
--- the bytes of a band by what its parts are called
-pub band_of : (l l' : Scene) (g g' : TileGrid) (row row' : ℕ) (bytes : List ℕ) → l' ≡ l → g' ≡ g → row' ≡ row → IsBand l' g' row' bytes → IsBand l g row bytes
-band_of l l' g g' row row' bytes e f h band = rw (← e, ← f, ← h) band
+-- before the next band all but the last one went out
+pub before_next : (l : Scene) (side : TileSide) (row count : ℕ) (held held_after : Option (List ℕ)) → HasWritten l side row count held held_after → HasWritten l side (row + 1 - 1) count held held_after
+before_next l side row count held held_after h = let back : row ≡ row + 1 - 1 = omega arith in subst (λ n. HasWritten l side n count held held_after) back h
+
+-- and behind the last row all but the last one
+pub behind_last : (l : Scene) (side : TileSide) (row rows count : ℕ) (held held_after : Option (List ℕ)) → row ≡ rows → HasWritten l side (row - 1) count held held_after → HasWritten l side (rows - 1) count held held_after
+behind_last l side row rows count held held_after e h = subst (λ n. HasWritten l side (n - 1) count held held_after) e h
+
+-- the bytes of the band above by what its parts are called
+pub above_of : (l l' : Scene) (side side' : TileSide) (row row' : ℕ) (bytes : List ℕ) → l' ≡ l → side' ≡ side → row' ≡ row → AreBands l' side' (row' - 1) row' bytes → AreBands l side (row - 1) row bytes
+above_of l l' side side' row row' bytes e f h above = rw (← e, ← f, ← h) above
 
 -- the bins of the band below by what its parts are called
 pub below_of : (l l' : Scene) (g g' : TileGrid) (row row' : ℕ) (bins : Option TileBins) → l' ≡ l → g' ≡ g → row' ≡ row → IfSome bins (AreBins l' g' (row' + 1) 1) → IfSome bins (AreBins l g (row + 1) 1)
 below_of l l' g g' row row' bins e f h below = rw (← e, ← f, ← h) below
 
-module _ (l : Scene) (g : TileGrid) (row count : ℕ) (held held' : Option (List ℕ)) (wide : 1 ≤ l.width) (same : g.height ≡ l.height) (within : row < tiles_over g.height g.side) (h : HasWritten l g.side row count held held') where
+-- and the tiles of a band
+pub tiles_of : (l l' : Scene) (g g' : TileGrid) (row row' : ℕ) (tiles : List TilePixels) → l' ≡ l → g' ≡ g → row' ≡ row → AreColumns l' g' row' tiles → AreColumns l g row tiles
+tiles_of l l' g g' row row' tiles e f h are = rw (← e, ← f, ← h) are
+
+module _ (l : Scene) (side : TileSide) (first count : ℕ) (held held' : Option (List ℕ)) (wide : 1 ≤ l.width) (within : first < tiles_over l.height side) (h : HasWritten l side first count held held') where
   abbrev header : List ℕ
   header = header_of l.output l.width l.height
 
   abbrev before : List ℕ
   before = header ++ h.rows
 
-  top : min l.height (side_of g.side * row) ≡ side_of g.side * row
-  top = strip_before row l.height g.side (rw (← same) within)
+  top : min l.height (side_of side * first) ≡ side_of side * first
+  top = strip_before first l.height side within
 
-  below_top : side_of g.side * row < l.height
-  below_top = begins_within row l.height g.side (rw (← same) within)
+  below_top : side_of side * first < l.height
+  below_top = begins_within first l.height side within
 
   -- no band more went out
-  pub whole_bands : WritesBands l g.side held held'
+  pub whole_bands : WritesBands l side held held'
   whole_bands =
-      let part : IsPart l 0 0 l.width (side_of g.side * row) h.rows = rw top at h.part in
+      let part : IsPart l 0 0 l.width (side_of side * first) h.rows = rw top at h.part in
       let start = below_top in
-      let all = file_with l (side_of g.side * row) h.rows wide (omega arith) part in
+      let all = file_with l (side_of side * first) h.rows wide (omega arith) part in
       let size = part.size in
-      let long : bytes_before l g.side row ≡ length before = omega (arith, length-append header h.rows) in
-      let front : take (bytes_before l g.side row) (before ++ all.0) ≡ before = ap (λ n. take n (before ++ all.0)) long ∙ take-append_seam before all.0 in
+      let long : bytes_before l side first ≡ length before = omega (arith, length-append header h.rows) in
+      let front : take (bytes_before l side first) (before ++ all.0) ≡ before = ap (λ n. take n (before ++ all.0)) long ∙ take-append_seam before all.0 in
       let file : file_of l.output l.width l.height (h.rows ++ all.0) ≡ before ++ all.0 = sym (append_assoc header h.rows all.0) in
       record {
         file = file_of l.output l.width l.height (h.rows ++ all.0);
         picture = all.1;
-        band = row;
+        band = first;
         within = below_top;
-        written = subst (Appends held held') (sym (ap (take (bytes_before l g.side row)) file ∙ front)) h.written;
+        written = subst (Appends held held') (sym (ap (take (bytes_before l side first)) file ∙ front)) h.written;
       }
 
-  module _ (bytes : List ℕ) (band : IsBand l g row bytes) where
-    rows_more : IsPart l 0 0 l.width (min l.height (side_of g.side * (row + 1))) (h.rows ++ bytes)
+  module _ (end : ℕ) (ordered : first ≤ end) (bytes : List ℕ) (bands : AreBands l side first end bytes) where
+    rows_more : IsPart l 0 0 l.width (min l.height (side_of side * end)) (h.rows ++ bytes)
     rows_more =
-        let next = strip_next row l.height g.side (rw (← same) within) in
         let start = below_top in
         let begin = top in
-        let high : min g.height (side_of g.side * row + side_of g.side) - side_of g.side * row ≡ min l.height (side_of g.side * row + side_of g.side) - side_of g.side * row = ap (λ n. min n (side_of g.side * row + side_of g.side) - side_of g.side * row) same in
-        let low : side_of g.side * row ≡ 0 + min l.height (side_of g.side * row) = omega arith in
-        let below = subst (λ y. IsPart l 0 y l.width (min l.height (side_of g.side * row + side_of g.side) - side_of g.side * row) bytes) low (subst (λ n. IsPart l 0 (side_of g.side * row) l.width n bytes) high band) in
-        let both = part-append l 0 0 l.width (min l.height (side_of g.side * row)) (min l.height (side_of g.side * row + side_of g.side) - side_of g.side * row) h.rows bytes h.part below in
-        let sum : min l.height (side_of g.side * (row + 1)) ≡ min l.height (side_of g.side * row) + (min l.height (side_of g.side * row + side_of g.side) - side_of g.side * row) = omega arith in
-        rw sum both
+        let more : side_of side * first ≤ side_of side * end = mul-le-mul_left (side_of side) ordered in
+        let high : ℕ = min l.height (side_of side * end) - side_of side * first in
+        let low : side_of side * first ≡ 0 + min l.height (side_of side * first) = omega arith in
+        let below = subst (λ y. IsPart l 0 y l.width high bytes) low bands in
+        let both = part-append l 0 0 l.width (min l.height (side_of side * first)) high h.rows bytes h.part below in
+        let sum : min l.height (side_of side * first) + high ≡ min l.height (side_of side * end) = omega arith in
+        subst (λ n. IsPart l 0 0 l.width n (h.rows ++ bytes)) sum both
 
-    -- the band went out whole
-    pub band_written : (count' : ℕ) (held'' : Option (List ℕ)) → count' ≡ count + length bytes → Appends held' held'' bytes → HasWritten l g.side (row + 1) count' held held''
-    band_written count' held'' more written =
+    -- the bands went out whole
+    pub bands_written : (count' : ℕ) (held'' : Option (List ℕ)) → count' ≡ count + length bytes → Appends held' held'' bytes → HasWritten l side end count' held held''
+    bands_written count' held'' more written =
         let many = h.many in record {
           rows = h.rows ++ bytes;
           part = rows_more;
@@ -130,10 +144,10 @@ module _ (l : Scene) (g : TileGrid) (row count : ℕ) (held held' : Option (List
           many = omega (arith, length-append h.rows bytes);
         }
 
-    -- or it was cut short
-    pub band_cut : (n : ℕ) (held'' : Option (List ℕ)) → (count ≤ n) × (n ≤ count + length bytes) → Appends held' held'' (take (n - count) bytes) → WritesFileUpTo l n held held''
-    band_cut n held'' within' written =
-        let all = file_with l (min l.height (side_of g.side * (row + 1))) (h.rows ++ bytes) wide (omega arith) rows_more in
+    -- or they were cut short
+    pub bands_cut : (n : ℕ) (held'' : Option (List ℕ)) → (count ≤ n) × (n ≤ count + length bytes) → Appends held' held'' (take (n - count) bytes) → WritesFileUpTo l n held held''
+    bands_cut n held'' within' written =
+        let all = file_with l (min l.height (side_of side * end)) (h.rows ++ bytes) wide (omega arith) rows_more in
         let many : count ≡ length before = h.many ∙ sym (length-append header h.rows) in
         let low = within'.0 in
         let high = within'.1 in

@@ -1,8 +1,9 @@
 //! One row of tiles, drawn by several workers or on the calling thread, and put together.
-ghost use Rattle.std.specs.Prelude.{◌≡◌, ◌+◌, ◌*◌, ◌<◌, ◌≤◌, IfOk, OnOk, IfErr, IfSome, ◌⊎◌};
+ghost use Rattle.std.specs.Prelude.{◌≡◌, ◌+◌, ◌-◌, ◌*◌, ◌<◌, ◌≤◌, IfOk, OnOk, IfErr, IfSome, ◌⊎◌};
 ghost use Rattle.grid.specs.Pixels.{side_of};
 ghost use Rattle.bins.specs.Bin.{AreBins};
 ghost use Rattle.bins.specs.Grid.{columns_of, rows_of};
+ghost use Rattle.trirast.specs.Band.{AreBands, AreColumns};
 ghost use Rattle.trirast.specs.declared.fault.Fault.TheVariants as fault;
 
 use crate::fault::Fault;
@@ -67,10 +68,42 @@ impl<G: Gate> Job for BandJob<'_, G> {
     }
 }
 
+/// What the calling thread did while the tiles of a band were drawn.
+#[derive(Drop)]
+pub(crate) struct Beside {
+    /// The bytes of the band above, and none where this is the first band.
+    pub(crate) above: Result<Vec<u8>, OutOfMemory>,
+    /// The bins of the band below, where there is one and memory was not refused.
+    pub(crate) below: Option<Bins>,
+}
+
+/// Puts the band above this row of tiles together, of its tiles and in place of the bytes that are given. Above the first row there
+/// is none, and no byte.
+pub(crate) fn join_above(
+    list: &DrawList,
+    tiling: &Tiling,
+    row: u32,
+    tiles: Vec<TilePixels>,
+    mut bytes: Vec<u8>,
+) -> Result<Vec<u8>, OutOfMemory>
+    requires width { tiling.now.width ≡ list.now.width }
+    requires height { tiling.now.height ≡ list.now.height }
+    requires within { row ≤ rows_of tiling.now }
+    requires few { row ≤ 512 }
+    requires tiles { 0 < row → AreColumns list.now tiling.now (row - 1) tiles.items }
+    ensures { IfOk result (λ bytes. AreBands list.now tiling.now.side (row - 1) row bytes.items) }
+{
+    bytes.clear();
+    if row > 0 {
+        Band::new(list, tiling, row - 1).join(&tiles, &mut bytes)?;
+    }
+    Ok(bytes)
+}
+
 impl<'a> Band<'a> {
     ghost use Rattle.list.specs.PixelPrefix.{IsPixelRun};
     ghost use Rattle.tile.specs.Picture.{AddsPixelRun};
-    ghost use Rattle.trirast.specs.Band.{band_top, band_height, column_left, column_width as width_of_column, IsColumn, AreColumns, IsBand, AddsBand};
+    ghost use Rattle.trirast.specs.Band.{band_top, band_height, column_left, column_width as width_of_column, IsColumn, AddsBand, IsBeside};
 
     /// The band of this number, counted from the top.
     pub(crate) fn new(list: &'a DrawList, tiling: &'a Tiling, row: u32) -> Band<'a>
@@ -160,41 +193,79 @@ impl<'a> Band<'a> {
         }
     }
 
-    /// Has the tiles of the band drawn by so many workers, or on the calling thread where one is enough. Where it has nothing else
-    /// to do, the calling thread makes the bins of the band below meanwhile.
-    fn draw<R: Threads + Wait + Sync, G: Gate>(
+    /// What the calling thread does while workers draw the band: it puts the band above together, of its tiles and in place of the
+    /// bytes that are given, and makes the bins of the band below.
+    fn beside(&self, alloc: Global, above: Vec<TilePixels>, bytes: Vec<u8>) -> Beside
+        requires { 0 < self.now.row → AreColumns self.now.list.now self.now.tiling.now (self.now.row - 1) above.items }
+        ensures { IsBeside self.now.list.now self.now.tiling.now self.now.row result }
+    {
+        Beside {
+            above: join_above(self.list, self.tiling, self.row, above, bytes),
+            below: self.bins_below(alloc),
+        }
+    }
+
+    /// What it does where nobody works beside it: it puts the band above together.
+    fn before(&self, above: Vec<TilePixels>, bytes: Vec<u8>) -> Beside
+        requires { 0 < self.now.row → AreColumns self.now.list.now self.now.tiling.now (self.now.row - 1) above.items }
+        ensures { IsBeside self.now.list.now self.now.tiling.now self.now.row result }
+    {
+        Beside {
+            above: join_above(self.list, self.tiling, self.row, above, bytes),
+            below: None,
+        }
+    }
+
+    /// Has the tiles of the band drawn by so many workers, or on the calling thread where one is enough. Its bins are made where
+    /// they are not given.
+    ///
+    /// The band above is put together of its tiles, also where the answer is a fault. Where workers draw, the calling thread does
+    /// it meanwhile, and makes the bins of the band below too.
+    pub(crate) fn draw<R: Threads + Wait + Sync, G: Gate>(
         &self,
         rt: &R,
         alloc: Global,
         workers: u32,
         gate: &G,
-        bins: &Bins,
-    ) -> Result<(Vec<TilePixels>, Option<Bins>), Fault>
+        bins: Option<Bins>,
+        above: Vec<TilePixels>,
+        bytes: Vec<u8>,
+    ) -> (Result<Vec<TilePixels>, Fault>, Beside)
         requires workers { (1 ≤ workers) × (workers ≤ 16) }
-        requires bins { AreBins self.now.list.now self.now.tiling.now self.now.row 1 bins.now }
-        ensures tiles { IfOk result (λ drawn. AreColumns self.now.list.now self.now.tiling.now self.now.row drawn.0.items) }
-        ensures below { IfOk result (λ drawn. IfSome drawn.1 (AreBins self.now.list.now self.now.tiling.now (self.now.row + 1) 1)) }
-        ensures fault { IfErr result (λ e. (e ≡ fault.OutOfMemory) ⊎ (e ≡ fault.Pool PoolFault.NoWorker)) }
+        requires bins { IfSome bins (AreBins self.now.list.now self.now.tiling.now self.now.row 1) }
+        requires above { 0 < self.now.row → AreColumns self.now.list.now self.now.tiling.now (self.now.row - 1) above.items }
+        ensures tiles { IfOk result.0 (λ tiles. AreColumns self.now.list.now self.now.tiling.now self.now.row tiles.items) }
+        ensures fault { IfErr result.0 (λ e. (e ≡ fault.OutOfMemory) ⊎ (e ≡ fault.Pool PoolFault.NoWorker)) }
+        ensures beside { IsBeside self.now.list.now self.now.tiling.now self.now.row result.1 }
     {
+        let bins = match bins {
+            Some(bins) => bins,
+            None => match self.bins(alloc) {
+                Ok(bins) => bins,
+                Err(OutOfMemory) => return (Err(Fault::OutOfMemory), self.before(above, bytes)),
+            },
+        };
         let columns = self.tiling.columns();
         // A worker without a tile would be a thread started for nothing, and so would one that nobody works beside.
         let workers = workers.min(columns);
         if workers == 1 {
-            let mut store = Store::new(alloc, self.tiling.side(), self.list.count())?;
-            return Ok((self.draw_alone(alloc, &mut store, gate, bins)?, None));
+            let before = self.before(above, bytes);
+            return (self.draw_in_own_store(alloc, gate, &bins), before);
         }
         let job = BandJob {
             band: &*self,
-            bins: &*bins,
+            bins: &bins,
             gate: &*gate,
         };
-        let below = || -> Option<Bins>
-            ensures { IfSome result (AreBins self.entry.now.list.now self.entry.now.tiling.now (self.entry.now.row + 1) 1) }
-        { self.bins_below(alloc) };
-        match run_beside::<_, Desks, _, _, _, _>(rt, alloc, columns, workers, &job, gate, below) {
-            Ok(drawn) => Ok(drawn),
-            Err(PoolFault::OutOfMemory) => Err(Fault::OutOfMemory),
-            Err(PoolFault::NoWorker) => Err(Fault::Pool(PoolFault::NoWorker)),
+        let (list, tiling, row) = (self.list, self.tiling, self.row);
+        let beside = || Band::new(list, tiling, row).beside(alloc, above, bytes);
+        let (drawn, beside) = run_beside::<_, Desks, _, _, _, _>(
+            rt, alloc, columns, workers, &job, gate, beside,
+        );
+        match drawn {
+            Ok(tiles) => (Ok(tiles), beside),
+            Err(PoolFault::OutOfMemory) => (Err(Fault::OutOfMemory), beside),
+            Err(PoolFault::NoWorker) => (Err(Fault::Pool(PoolFault::NoWorker)), beside),
         }
     }
 
@@ -226,31 +297,19 @@ impl<'a> Band<'a> {
         Ok(tiles)
     }
 
-    /// Draws the band by so many workers, and puts the bytes of its rows of pixels into `bytes`, in place of what was there. Its
-    /// bins are made where they are not given; those of the band below are answered where they were made meanwhile.
-    pub(crate) fn render<R: Threads + Wait + Sync, G: Gate>(
+    /// Has the tiles of the band drawn on the calling thread, in a store that is made for them.
+    fn draw_in_own_store<G: Gate>(
         &self,
-        rt: &R,
         alloc: Global,
-        workers: u32,
         gate: &G,
-        bins: Option<Bins>,
-        bytes: &mut Vec<u8>,
-    ) -> Result<Option<Bins>, Fault>
-        requires workers { (1 ≤ workers) × (workers ≤ 16) }
-        requires bins { IfSome bins (AreBins self.now.list.now self.now.tiling.now self.now.row 1) }
-        ensures band { OnOk result (IsBand self.now.list.now self.now.tiling.now self.now.row bytes.new.items) }
-        ensures below { IfOk result (λ below. IfSome below (AreBins self.now.list.now self.now.tiling.now (self.now.row + 1) 1)) }
-        ensures fault { IfErr result (λ e. (e ≡ fault.OutOfMemory) ⊎ (e ≡ fault.Pool PoolFault.NoWorker)) }
+        bins: &Bins,
+    ) -> Result<Vec<TilePixels>, Fault>
+        requires { AreBins self.now.list.now self.now.tiling.now self.now.row 1 bins.now }
+        ensures tiles { IfOk result (λ tiles. AreColumns self.now.list.now self.now.tiling.now self.now.row tiles.items) }
+        ensures fault { IfErr result (λ e. e ≡ fault.OutOfMemory) }
     {
-        let bins = match bins {
-            Some(bins) => bins,
-            None => self.bins(alloc)?,
-        };
-        let (tiles, below) = self.draw(rt, alloc, workers, gate, &bins)?;
-        bytes.clear();
-        self.join(&tiles, bytes)?;
-        Ok(below)
+        let mut store = Store::new(alloc, self.tiling.side(), self.list.count())?;
+        Ok(self.draw_alone(alloc, &mut store, gate, bins)?)
     }
 
     /// Draws the band on the calling thread, its tiles in this store, and appends the bytes of its rows of pixels.

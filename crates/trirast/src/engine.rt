@@ -8,7 +8,7 @@ ghost use Rattle.list.specs.Json.{json_of};
 ghost use Rattle.list.specs.FirstFault.{IsFirstFault};
 ghost use Rattle.trirast.specs.Runs.{WritesAll, WritesFile, EndsAs, ExplainsOutput};
 
-use crate::band::Band;
+use crate::band::{Band, Beside, join_above};
 use crate::counted::Counted;
 use crate::fault::Fault;
 use crate::header::write_header;
@@ -66,16 +66,33 @@ fn write_bands<R: Threads + Wait + Sync, W: Write, G: Gate>(
         Ok(length) => length,
         Err(fault) => return Err(Fault::WriteFailed(fault.written)),
     };
+    let mut tiles = Vec::new(alloc);
     let mut bins = None;
     for row in 0..tiling.rows() {
         let band = Band::new(list, &tiling, row);
-        bins = band.render(rt, alloc, options.workers, gate, bins, &mut bytes)?;
+        let (drawn, Beside { above, below }) = band.draw(
+            rt,
+            alloc,
+            options.workers,
+            gate,
+            bins,
+            tiles,
+            bytes,
+        );
+        bytes = above?;
         written = match ppm_rows(&bytes, written, output) {
             Ok(written) => written,
             Err(fault) => return Err(Fault::WriteFailed(fault.written)),
         };
+        // Only now, so that the band above the one that was not drawn went out.
+        tiles = drawn?;
+        bins = below;
     }
-    Ok(written)
+    let last = join_above(list, &tiling, tiling.rows(), tiles, bytes)?;
+    match ppm_rows(&last, written, output) {
+        Ok(written) => Ok(written),
+        Err(fault) => Err(Fault::WriteFailed(fault.written)),
+    }
 }
 
 /// Draws a list's picture, writes its file, and flushes the output. Each worker passes through the gate before it draws a tile.
