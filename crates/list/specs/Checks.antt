@@ -95,11 +95,15 @@ abbrev pub each : (Data → Checks) → Items → Checks
 each checks no_items = []
 each checks (item value rest) = checks value ++ each checks rest
 
+-- the channels and the alpha of a vertex
+abbrev pub rgba_checks : Data → Checks
+rgba_checks value =
+    channel_checks (at 3 value) ++ (channel_checks (at 4 value) ++ (channel_checks (at 5 value) ++ channel_checks (at 6 value)))
+
 abbrev pub vertex_checks : Data → Checks
 vertex_checks value =
     length_check 7 (Some value)
-    ∷ (coordinate_checks (at 0 value) ++ (coordinate_checks (at 1 value) ++ (depth_checks (at 2 value)
-    ++ (channel_checks (at 3 value) ++ (channel_checks (at 4 value) ++ (channel_checks (at 5 value) ++ channel_checks (at 6 value)))))))
+    ∷ (coordinate_checks (at 0 value) ++ (coordinate_checks (at 1 value) ++ (depth_checks (at 2 value) ++ rgba_checks value)))
 
 abbrev pub triangle_checks : ℕ → Data → Checks
 triangle_checks n value =

@@ -20,6 +20,3 @@ pub use primitives::Primitives;
 pub use reader::{MOST_BYTES, read};
 pub use rows::RowSpan;
 pub use shade::{Placed, State};
-
-#[cfg(test)]
-mod tests;

@@ -20,8 +20,6 @@ mod primitives;
 mod quads;
 mod state;
 mod strip;
-#[cfg(test)]
-pub(crate) mod tests;
 mod triangles;
 mod vertices;
 mod word;

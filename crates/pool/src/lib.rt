@@ -12,8 +12,6 @@ mod known;
 mod line;
 mod rule;
 mod settled;
-#[cfg(test)]
-mod tests;
 mod tickets;
 mod worker;
 mod workers;

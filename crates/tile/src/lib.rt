@@ -13,6 +13,3 @@ mod tile;
 
 pub use drawing::{TilePixels, render};
 pub use store::Store;
-
-#[cfg(test)]
-mod tests;

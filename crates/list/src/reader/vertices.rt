@@ -1,9 +1,10 @@
-ghost use Rattle.std.specs.Prelude.{◌≡◌, ◌≤◌, length, Some, None, IfErr};
+ghost use Rattle.std.specs.Prelude.{◌≡◌, ◌≤◌, length, slice_index, Some, None, IfErr};
 ghost use Rattle.serde_json.specs.View.{view, items_view};
+ghost use Rattle.serde_json.specs.Find.{at};
 ghost use Rattle.list.specs.declared.fault.ReadKind.TheVariants.{OutOfMemory};
 ghost use Rattle.list.specs.FirstFault.{Tells, Reads, first_fault};
-ghost use Rattle.list.specs.Checks.{array_checks, vertex_checks, vertices_checks, each};
-ghost use Rattle.list.specs.Denotes.{IsVertex, IsArrayOf, Each};
+ghost use Rattle.list.specs.Checks.{array_checks, rgba_checks, vertex_checks, vertices_checks, each};
+ghost use Rattle.list.specs.Denotes.{IsChannel, IsVertex, IsArrayOf, Each};
 
 use crate::draw::Vertex;
 use crate::fault::ReadKind;
@@ -14,6 +15,19 @@ use grid::Point;
 use serde_json::Value;
 use std::alloc::Global;
 
+/// The channels and the alpha of a vertex, its last four elements.
+fn rgba(value: &Value) -> Result<[u8; 4], ReadKind>
+    ensures { let seen = view value.now in Tells (rgba_checks seen)
+        (λ rgba. (length rgba ≡ 4) × IsChannel (at 3 seen) (slice_index rgba 0) × IsChannel (at 4 seen) (slice_index rgba 1)
+        × IsChannel (at 5 seen) (slice_index rgba 2) × IsChannel (at 6 seen) (slice_index rgba 3)) result }
+{
+    let red = channel(value.get(3usize))?;
+    let green = channel(value.get(4usize))?;
+    let blue = channel(value.get(5usize))?;
+    let alpha = channel(value.get(6usize))?;
+    Ok([red, green, blue, alpha])
+}
+
 /// A vertex, written as [x, y, z, red, green, blue, alpha].
 fn vertex(value: &Value) -> Result<Vertex, ReadKind>
     ensures { Tells (vertex_checks (view value.now)) (IsVertex (view value.now)) result }
@@ -23,17 +37,10 @@ fn vertex(value: &Value) -> Result<Vertex, ReadKind>
     }
     let x = coordinate(value.get(0usize))?;
     let y = coordinate(value.get(1usize))?;
-    let at = Point::new(x, y).unwrap();
     let z = depth(value.get(2usize))?;
-    let red = channel(value.get(3usize))?;
-    let green = channel(value.get(4usize))?;
-    let blue = channel(value.get(5usize))?;
-    let alpha = channel(value.get(6usize))?;
-    Ok(Vertex {
-        at,
-        z,
-        rgba: [red, green, blue, alpha],
-    })
+    let rgba = rgba(value)?;
+    let at = Point::new(x, y).unwrap();
+    Ok(Vertex { at, z, rgba })
 }
 
 fn vertices_of(alloc: Global, list: &[Value]) -> Result<Vec<Vertex>, ReadKind>

@@ -1,5 +1,4 @@
 use crate::reader::read_by_value;
-use crate::reader::tests::support::repeated;
 use crate::tokens::read_list;
 use crate::{DrawList, MOST_BYTES, read};
 use std::alloc::AllocGlobal;
@@ -301,19 +300,19 @@ fn gives_none_of_numbers_past_the_ranges(rt: HostRuntime) {
 /// The draws of a list may be so many, and the triangles of all draws together.
 #[test]
 fn reads_up_to_the_limits(rt: HostRuntime) {
-    let sound = r#"{"vertices":[],"triangles":[]}"#;
-    for (draws, is_read) in [(1024, true), (1025, false)] {
-        let draws = repeated(&rt, sound, draws);
-        let text = format!(in rt.alloc(); r#"{{"width":1,"height":1,"draws":[{draws}]}}"#).expect(
-            &rt, "memory",
-        );
+    let draw = r#"{"vertices":[],"triangles":[]},"#;
+    for (others, is_read) in [(1023, true), (1024, false)] {
+        let others = draw.repeat(rt.alloc(), others).expect(&rt, "memory");
+        let text = format!(in rt.alloc();
+            r#"{{"width":1,"height":1,"draws":[{others}{{"vertices":[],"triangles":[]}}]}}"#
+        ).expect(&rt, "memory");
         assert_eq!(rt; by_tokens(&rt, text.as_str()).is_some(), is_read);
     }
-    let many = repeated(&rt, "[0,0,0]", 32_768);
+    let others = "[0,0,0],".repeat(rt.alloc(), 32_767).expect(&rt, "memory");
     let vertices = r#""vertices":[[0,0,0,0,0,0,0]]"#;
     for (last, is_read) in [("", true), (",[0,0,0]", false)] {
         let text = format!(in rt.alloc();
-            r#"{{"width":1,"height":1,"draws":[{{{vertices},"triangles":[{many}]}},{{{vertices},"triangles":[{many}{last}]}}]}}"#
+            r#"{{"width":1,"height":1,"draws":[{{{vertices},"triangles":[{others}[0,0,0]]}},{{{vertices},"triangles":[{others}[0,0,0]{last}]}}]}}"#
         ).expect(&rt, "memory");
         assert_eq!(rt; by_tokens(&rt, text.as_str()).is_some(), is_read);
     }

@@ -1,0 +1,5 @@
+//! Tests of `cover`, through what it makes public.
+#![tactic(auto)]
+
+#[cfg(test)]
+mod coverage;

@@ -1,0 +1,19 @@
+//! Tests of `list`, through what it makes public.
+#![tactic(auto)]
+
+#[cfg(test)]
+mod counts;
+#[cfg(test)]
+mod draw_list;
+#[cfg(test)]
+mod draws;
+#[cfg(test)]
+mod kinds;
+#[cfg(test)]
+mod order;
+#[cfg(test)]
+mod primitives;
+#[cfg(test)]
+mod support;
+#[cfg(test)]
+mod values;

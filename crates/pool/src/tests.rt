@@ -1,6 +1,0 @@
-mod beside;
-mod dealing;
-mod deques;
-mod gates;
-mod running;
-mod threads;
