@@ -29,7 +29,7 @@ TOP = os.path.dirname(os.path.dirname(os.path.abspath(__file__)))
 # The crates whose programs the checks run, and the names under which they stand in bin/.
 PROGRAMS = {"trirast_cli": "trirast", "refused_tiles": "refused_tiles", "list_bench": "list_bench"}
 MINUTE = 60
-# What the check of one crate takes of memory: the most that was seen was 4.7 GB, and 2.5 GB but for one crate.
+# What the check of a crate takes of memory: 3.5 GB were seen for acceptance, 2.4 for list, and less for each other.
 LANE_BYTES = 4 << 30
 
 
