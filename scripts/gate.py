@@ -12,7 +12,6 @@ what stands in bin/. Python 3.8 or later, standard library alone.
 
 import argparse
 import os
-import re
 import shutil
 import signal
 import subprocess
@@ -29,8 +28,6 @@ TOP = os.path.dirname(os.path.dirname(os.path.abspath(__file__)))
 # The crates whose programs the checks run, and the names under which they stand in bin/.
 PROGRAMS = {"trirast_cli": "trirast", "refused_tiles": "refused_tiles", "list_bench": "list_bench"}
 MINUTE = 60
-# What the check of a crate takes of memory: 3.5 GB were seen for acceptance, 2.4 for list, and less for each other.
-LANE_BYTES = 4 << 30
 
 
 @dataclass(frozen=True)
@@ -78,9 +75,9 @@ def stop(child):
         pass
 
 
-def run(words, top, seconds=None, **more):
-    """Runs a command with more words in its environment, and passes its output on line by line."""
-    environment = dict(os.environ, PYTHONUNBUFFERED="1", **more)
+def run(words, top, seconds=None):
+    """Runs a command, and passes its output on line by line."""
+    environment = dict(os.environ, PYTHONUNBUFFERED="1")
     how = {"stdin": subprocess.DEVNULL, "stdout": subprocess.PIPE, "stderr": subprocess.STDOUT}
     late = threading.Event()
     last_line = ""
@@ -111,43 +108,9 @@ def run(words, top, seconds=None, **more):
     return Ended(None if late.is_set() else status, last_line)
 
 
-def number_in(path, pattern):
-    """The number that a file of the system has behind this pattern, or none."""
-    try:
-        with open(path, encoding="utf-8") as file:
-            found = re.search(pattern, file.read())
-    except OSError:
-        return None
-    return int(found[1]) if found else None
-
-
-def free_bytes():
-    """The memory that is free, under the limit of the control group too."""
-    group = "/sys/fs/cgroup/memory"
-    limits = (
-        number_in(f"{group}.max", r"^(\d+)"),
-        number_in(f"{group}/memory.limit_in_bytes", r"^(\d+)"),
-        1024 * (number_in("/proc/meminfo", r"MemAvailable:\s+(\d+)") or 0),
-    )
-    return min(it for it in limits if it is not None)
-
-
-def lanes(processors, free):
-    """How many crates rt ci works on side by side, or none where rt is to reckon it.
-
-    rt reckons a check's memory by the length of its text, for the largest crates nearly twice what they take: with 23 GB
-    two of them keep the proofs that others wait for from starting, while processors are idle. A number in RT_JOBS has it
-    use so many lanes of one processor. With fewer than four rt has no such wait, and gives a lone check two processors.
-    """
-    fitting = min(processors, free // LANE_BYTES)
-    return fitting if fitting >= 4 else None
-
-
 def prove(rt, top):
     """Runs rt ci. Its counts; a run that tells none, or a status against them, is a failure."""
-    number = lanes(len(os.sched_getaffinity(0)), free_bytes())
-    more = {} if number is None or "RT_JOBS" in os.environ else {"RT_JOBS": str(number)}
-    ended = run((rt, "ci"), top, **more)
+    ended = run((rt, "ci"), top)
     counts = Counts.in_line(ended.last_line)
     if counts is None:
         say("rt ci told no counts")

@@ -11,7 +11,6 @@ import sys
 import tempfile
 import textwrap
 import unittest
-import unittest.mock
 
 sys.path.insert(0, os.path.dirname(os.path.abspath(__file__)))
 
@@ -60,9 +59,8 @@ class Gate(unittest.TestCase):
         left = [gate.built(self.top, crate) for crate in (gate.PROGRAMS if builds is None else builds)]
         text = f"""\
             #!{sys.executable}
-            import os, sys
+            import sys
             assert sys.argv[1:] == ["ci"]
-            print('lanes:', os.environ.get("RT_JOBS"))
             for path in {left!r}:
                 print('the program', file=open(path, 'w'))
             print({chr(10).join(lines)!r})
@@ -97,28 +95,6 @@ class Gate(unittest.TestCase):
 
     def test_a_status_against_the_counts_is_a_failure(self):
         self.assertEqual(self.total(self.rt("5 passed, 0 failed", status=2)), Counts(5, 1, 0))
-
-    def test_lanes_fit_processors_and_memory(self):
-        for processors, gigabytes, lanes in ((4, 20, 4), (4, 16, 4), (8, 64, 8), (8, 23, 5), (4, 15, None), (2, 64, None)):
-            self.assertEqual(gate.lanes(processors, gigabytes << 30), lanes, (processors, gigabytes))
-
-    def test_rt_is_told_of_its_lanes(self):
-        rt = self.rt("5 passed, 0 failed")
-        with unittest.mock.patch.object(gate, "lanes", return_value=5), unittest.mock.patch.dict(os.environ):
-            os.environ.pop("RT_JOBS", None)
-            self.total(rt)
-            self.assertIn("lanes: 5\n", self.printed)
-            os.environ["RT_JOBS"] = "3"
-            self.total(rt)
-            self.assertIn("lanes: 3\n", self.printed)
-            del os.environ["RT_JOBS"]
-            gate.lanes.return_value = None
-            self.total(rt)
-            self.assertIn("lanes: None\n", self.printed)
-
-    def test_free_memory_is_less_than_all_there_is(self):
-        self.assertGreater(gate.free_bytes(), 0)
-        self.assertLess(gate.free_bytes(), os.sysconf("SC_PAGE_SIZE") * os.sysconf("SC_PHYS_PAGES"))
 
     def test_a_failed_check_is_a_failure(self):
         self.assertEqual(self.total(self.rt("5 passed, 0 failed"), FAILS, PASSES), Counts(6, 1, 0))
