@@ -1,5 +1,5 @@
 -- The samples of one block of a tile.
-use Rattle.std.proofs.Common.{◌≡◌, ◌≢◌, ◌∙◌, refl, ap, sym, subst, suc, zero, ℕ, ◌+◌, ◌-◌, ◌*◌, ◌/◌, ◌%◌, ◌^◌, ◌<◌, ◌≤◌, ◌↔◌, List, [], length, take, drop, IsBitSet, bit_and, pos, ◌+ℤ◌, slice_index, arith}
+use Rattle.std.proofs.Common.{◌≡◌, ◌≢◌, ◌∙◌, ap, sym, subst, suc, zero, ℕ, ◌+◌, ◌-◌, ◌*◌, ◌/◌, ◌%◌, ◌^◌, ◌<◌, ◌≤◌, ◌↔◌, List, [], length, take, drop, IsBitSet, bit_and, pos, ◌+ℤ◌, slice_index, arith}
 use Rattle.std.proofs.lemmas.Int.{ints}
 use Rattle.grid.specs.Pixels.{side_of, IsInBox}
 use Rattle.grid.specs.Samples.{count_of, sample_position, offsets_x, offsets_y}

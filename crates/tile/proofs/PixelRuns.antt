@@ -42,18 +42,18 @@ set_two_more P xs i x y below begun here k h =
           ) here
     ]
 
-pub interleaved_is : (r g b : ℕ → ℕ) (i : ℕ) → i < 8
-    → let bytes : List ℕ = r 0 ∷ g 0 ∷ b 0 ∷ r 1 ∷ g 1 ∷ b 1 ∷ r 2 ∷ g 2 ∷ b 2 ∷ r 3 ∷ g 3 ∷ b 3 ∷ r 4 ∷ g 4 ∷ b 4 ∷ r 5 ∷ g 5 ∷ b 5 ∷ r 6 ∷ g 6 ∷ b 6 ∷ r 7 ∷ g 7 ∷ b 7 ∷ [] in
+pub interleaved_is : (r g b : ℕ → ℕ) (rest : List ℕ) (i : ℕ) → i < 8
+    → let bytes : List ℕ = r 0 ∷ g 0 ∷ b 0 ∷ r 1 ∷ g 1 ∷ b 1 ∷ r 2 ∷ g 2 ∷ b 2 ∷ r 3 ∷ g 3 ∷ b 3 ∷ r 4 ∷ g 4 ∷ b 4 ∷ r 5 ∷ g 5 ∷ b 5 ∷ r 6 ∷ g 6 ∷ b 6 ∷ r 7 ∷ g 7 ∷ b 7 ∷ rest in
     (slice_index bytes (3 * i) ≡ r i) × (slice_index bytes (3 * i + 1) ≡ g i) × (slice_index bytes (3 * i + 2) ≡ b i)
-interleaved_is r g b zero h = (refl, refl, refl)
-interleaved_is r g b (suc zero) h = (refl, refl, refl)
-interleaved_is r g b (suc (suc zero)) h = (refl, refl, refl)
-interleaved_is r g b (suc (suc (suc zero))) h = (refl, refl, refl)
-interleaved_is r g b (suc (suc (suc (suc zero)))) h = (refl, refl, refl)
-interleaved_is r g b (suc (suc (suc (suc (suc zero))))) h = (refl, refl, refl)
-interleaved_is r g b (suc (suc (suc (suc (suc (suc zero)))))) h = (refl, refl, refl)
-interleaved_is r g b (suc (suc (suc (suc (suc (suc (suc zero))))))) h = (refl, refl, refl)
-interleaved_is r g b (suc (suc (suc (suc (suc (suc (suc (suc i)))))))) h = absurd (omega arith)
+interleaved_is r g b rest zero h = (refl, refl, refl)
+interleaved_is r g b rest (suc zero) h = (refl, refl, refl)
+interleaved_is r g b rest (suc (suc zero)) h = (refl, refl, refl)
+interleaved_is r g b rest (suc (suc (suc zero))) h = (refl, refl, refl)
+interleaved_is r g b rest (suc (suc (suc (suc zero)))) h = (refl, refl, refl)
+interleaved_is r g b rest (suc (suc (suc (suc (suc zero))))) h = (refl, refl, refl)
+interleaved_is r g b rest (suc (suc (suc (suc (suc (suc zero)))))) h = (refl, refl, refl)
+interleaved_is r g b rest (suc (suc (suc (suc (suc (suc (suc zero))))))) h = (refl, refl, refl)
+interleaved_is r g b rest (suc (suc (suc (suc (suc (suc (suc (suc i)))))))) h = absurd (omega arith)
 
 -- ---- eight samples in a row of a block
 module _ (tile : Tile) (samples : List BlockSamples) (row column : ℕ) where

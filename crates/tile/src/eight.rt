@@ -8,19 +8,27 @@ use crate::tile::Tile;
 use grid::SampleCount;
 use list::depth_bytes;
 use shade::{BlockSamples, means_of_four};
+use std::simd::prelude::*;
 
-/// Red, green and blue of eight pixels, pixel by pixel.
+/// Red, green and blue of eight pixels, pixel by pixel, and behind them eight bytes that nobody reads: a vector has as many lanes
+/// as a power of two.
 #[inline(always)]
-fn interleaved(r: &[u8], g: &[u8], b: &[u8]) -> [u8; 24]
-    requires red { 8 ≤ length r.now }
-    requires green { 8 ≤ length g.now }
-    requires blue { 8 ≤ length b.now }
-    ensures { AreInterleaved r.now g.now b.now result }
+fn interleaved(r: u8x8, g: u8x8, b: u8x8) -> [u8; 32]
+    requires red { length r ≡ 8 }
+    requires green { length g ≡ 8 }
+    requires blue { length b ≡ 8 }
+    ensures { AreInterleaved r g b result }
 {
-    [
-        r[0], g[0], b[0], r[1], g[1], b[1], r[2], g[2], b[2], r[3], g[3], b[3], r[4], g[4], b[4],
-        r[5], g[5], b[5], r[6], g[6], b[6], r[7], g[7], b[7],
-    ]
+    let red_green = r.shuffle(g, [0, 1, 2, 3, 4, 5, 6, 7, 8, 9, 10, 11, 12, 13, 14, 15]);
+    let blue = b.shuffle(b, [0, 1, 2, 3, 4, 5, 6, 7, 8, 9, 10, 11, 12, 13, 14, 15]);
+    let all: u8x32 = red_green.shuffle(
+        blue,
+        [
+            0, 8, 16, 1, 9, 17, 2, 10, 18, 3, 11, 19, 4, 12, 20, 5, 13, 21, 6, 14, 22, 7, 15, 23,
+            24, 25, 26, 27, 28, 29, 30, 31,
+        ],
+    );
+    all.to_array()
 }
 
 /// The bytes of eight depths in order, from a pixel of a block on.
@@ -38,9 +46,10 @@ fn in_bytes(depths: &[u16; 64], from: usize) -> [u8; 16]
     bytes
 }
 
-/// Red, green and blue of the eight pixels in a row of the tile and a column of its blocks, pixel by pixel.
+/// Red, green and blue of the eight pixels in a row of the tile and a column of its blocks, pixel by pixel: the first 24 bytes of
+/// the answer.
 #[inline]
-pub(crate) fn colours(tile: &Tile, samples: &[BlockSamples], row: u32, column: u32) -> [u8; 24]
+pub(crate) fn colours(tile: &Tile, samples: &[BlockSamples], row: u32, column: u32) -> [u8; 32]
     requires samples { length samples.now ≡ planes_of tile.now.side tile.now.count }
     requires row { row < side_of tile.now.side }
     requires column { column < side_of tile.now.side / 8 }
@@ -49,7 +58,11 @@ pub(crate) fn colours(tile: &Tile, samples: &[BlockSamples], row: u32, column: u
     let from = 8 * (row % 8) as usize;
     let first = &samples[tile.place(row / 8, column, 0)];
     match tile.count {
-        SampleCount::One => interleaved(&first.r[from..], &first.g[from..], &first.b[from..]),
+        SampleCount::One => interleaved(
+            u8x8::from_slice(&first.r[from..]),
+            u8x8::from_slice(&first.g[from..]),
+            u8x8::from_slice(&first.b[from..]),
+        ),
         SampleCount::Four => {
             let second = &samples[tile.place(row / 8, column, 1)];
             let third = &samples[tile.place(row / 8, column, 2)];
@@ -61,7 +74,11 @@ pub(crate) fn colours(tile: &Tile, samples: &[BlockSamples], row: u32, column: u
             let blue = means_of_four(&first.b, &second.b, &third.b, &fourth.b, begin);
             let (r, g, b) = (red.to_array(), green.to_array(), blue.to_array());
             let skip = from - begin;
-            interleaved(&r[skip..], &g[skip..], &b[skip..])
+            interleaved(
+                u8x8::from_slice(&r[skip..]),
+                u8x8::from_slice(&g[skip..]),
+                u8x8::from_slice(&b[skip..]),
+            )
         }
     }
 }

@@ -13,16 +13,19 @@ use list::{DrawList, Output};
 use shade::BlockSamples;
 use std::alloc::Global;
 
-/// Appends so many bytes. A whole run has a length that is known where this is inlined, so that it is copied without a call.
+/// Appends the first pixels of eight, so many of them, with `each` bytes a pixel. The length of a whole run is known where this is
+/// inlined, so that it is copied without a call.
 #[inline(always)]
-fn push_first(run: &[u8], many: u32, bytes: &mut Vec<u8>) -> Result<(), OutOfMemory>
-    requires { many ≤ length run.now }
-    ensures { OnOk result (bytes.new.items ≡ bytes.old.items ++ take many run.now) }
+fn push_first(run: &[u8], each: u32, many: u32, bytes: &mut Vec<u8>) -> Result<(), OutOfMemory>
+    requires each { each ≤ 3 }
+    requires whole { each * 8 ≤ length run.now }
+    requires many { many ≤ 8 }
+    ensures { OnOk result (bytes.new.items ≡ bytes.old.items ++ take (each * many) run.now) }
 {
-    if many as usize == run.len() {
-        bytes.extend_from_slice(run)?;
+    if many == 8 {
+        bytes.extend_from_slice(&run[..each as usize * 8])?;
     } else {
-        bytes.extend_from_slice(&run[..many as usize])?;
+        bytes.extend_from_slice(&run[..(each * many) as usize])?;
     }
     Ok(())
 }
@@ -48,8 +51,8 @@ fn push_pixel_run(
     ensures { OnOk result (AddsPixelRun list.now (8 * tile.now.bx + 8 * column) (8 * tile.now.by + row) many bytes.old.items bytes.new.items) }
 {
     match list.output() {
-        Output::Color => push_first(&colours(tile, samples, row, column), 3 * many, bytes),
-        Output::Depth => push_first(&depths(tile, samples, row, column), 2 * many, bytes),
+        Output::Color => push_first(&colours(tile, samples, row, column), 3, many, bytes),
+        Output::Depth => push_first(&depths(tile, samples, row, column), 2, many, bytes),
     }
 }
 

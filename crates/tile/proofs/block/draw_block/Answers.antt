@@ -1,4 +1,4 @@
-use Rattle.std.proofs.Common.{◌≡◌, ◌+◌, ◌-◌, ℕ, ap, subst, arith}
+use Rattle.std.proofs.Common.{◌+◌, ◌-◌, ℕ, subst, arith}
 use Rattle.shade.specs.declared.placed.Placed.{Placed}
 use Rattle.tile.specs.Drawing.{AreMet}
 use Rattle.tile.proofs.BlockDrawn.{met_covered, part_drawn}

@@ -1,6 +1,4 @@
-use Rattle.std.proofs.Common.{arith}
 use Rattle.tile.proofs.Rows.{word_full}
-use Rattle.tile.proofs.Bits.{none_set}
 use Rattle.tile.proofs.block.in_sample_mask.Goals as goal
 
 pub returns-then-triangle-s-eq1 : goal.returns-then-triangle-s-eq1

@@ -1,4 +1,4 @@
-use Rattle.std.proofs.Common.{◌+◌, ◌*◌, ◌<◌, ◌≤◌, ◌↔◌, ◌∷◌, [], List, slice_index, slice_index_or, IsBitSet, bit_and, arith}
+use Rattle.std.proofs.Common.{◌+◌, ◌*◌, ◌↔◌, ◌∷◌, [], List, slice_index, slice_index_or, IsBitSet, bit_and}
 use Rattle.grid.specs.Samples.{count_of}
 use Rattle.shade.specs.Placed.{Meets}
 use Rattle.tile.proofs.BlockDrawn.{met_plane, each_of_four}
