@@ -30,7 +30,7 @@ TOP = os.path.dirname(BENCH)
 OUT = os.path.join(BENCH, "out")
 SCENES = (
     "smooth", "small", "mesh", "slivers", "blended", "flat", "flat_depth", "flat_blended", "large_mesh", "whole_values",
-    "thin_slivers", "level_rows",
+    "thin_slivers", "level_rows", "depths_first",
 )
 WORKERS = (1, 4)
 FRAMES_A_TURN = 3

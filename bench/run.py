@@ -24,7 +24,7 @@ TOP = os.path.dirname(BENCH)
 OUT = os.path.join(BENCH, "out")
 SCENES = (
     "tiny", "empty", "smooth", "small", "mesh", "slivers", "blended", "flat", "flat_depth", "flat_blended", "large_mesh",
-    "whole_values", "thin_slivers", "level_rows", "long_list", "refused_list",
+    "whole_values", "thin_slivers", "level_rows", "depths_first", "long_list", "refused_list",
 )
 # Lists that are refused: the program ends with status 1 and no picture.
 REFUSED = ("refused_list",)

@@ -51,9 +51,9 @@ def empty():
     return {"width": 4096, "height": 4096, "draws": []}
 
 
-def smooth():
-    """32 triangles larger than the picture with smooth colours and depths, four samples, depth test."""
-    pick = random.Random("smooth")
+def large_triangles(name):
+    """32 triangles, most of them larger than a picture of 1024 by 1024 pixels, with smooth colours and depths."""
+    pick = random.Random(name)
     triangles = []
     for _ in range(32):
         turn = pick.random() * 2 * math.pi
@@ -63,7 +63,20 @@ def smooth():
             vertex(512 + radius * math.cos(a), 512 + radius * math.sin(a), pick.randint(0, 65535), some_colour(pick))
             for a in corners
         ])
-    draws = draws_of(triangles, depth_test="less", depth_write=True)
+    return triangles
+
+
+def smooth():
+    """Large triangles with smooth colours and depths, four samples, depth test."""
+    draws = draws_of(large_triangles("smooth"), depth_test="less", depth_write=True)
+    return {"width": 1024, "height": 1024, "samples": 4, "draws": draws}
+
+
+def depths_first():
+    """Such triangles drawn twice: their depths alone, and then their colours where the depth is the stored one."""
+    triangles = large_triangles("depths first")
+    depths = draws_of(triangles, depth_test="less", depth_write=True, write=[False, False, False])
+    draws = depths + draws_of(triangles, depth_test="equal")
     return {"width": 1024, "height": 1024, "samples": 4, "draws": draws}
 
 
@@ -245,6 +258,7 @@ SCENES = {
     "whole_values": whole_values,
     "thin_slivers": thin_slivers,
     "level_rows": level_rows,
+    "depths_first": depths_first,
     "long_list": long_list,
     "refused_list": refused_list,
 }

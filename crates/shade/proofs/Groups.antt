@@ -9,11 +9,12 @@ use Rattle.shade.specs.declared.placed.Placed.{Placed}
 use Rattle.shade.specs.Blend.{IsBlended}
 use Rattle.shade.specs.Depth.{Passes}
 use Rattle.shade.specs.Lanes.{IsMaskLane}
-use Rattle.shade.specs.Merging.{IsTested, IsMerged}
+use Rattle.shade.specs.Merging.{IsTested, IsMerged, Writes}
 use Rattle.shade.specs.Placed.{channel, IsInterpolated, IsFragmentAt, IsDrawnAt}
 use Rattle.shade.specs.Sources.{NeedsNoDepth}
 use Rattle.shade.proofs.Decided.{IsDecided, passes}
 use Rattle.shade.proofs.Drawn.{fragment, same_sample}
+use Rattle.shade.proofs.Merged.{same_blended}
 use Rattle.shade.proofs.Values.{quotient-unique}
 
 -- ---- the depth test
@@ -41,13 +42,7 @@ untested_lane t m z old lane none e set =
 pub tested_as : (t : Placed) (p : Position) (m : Merge) (z given old new lane : ℕ) → IsInterpolated t p t.z z → IsInterpolated t p t.z given → IsTested m given old new lane → IsTested m z old new lane
 tested_as t p m z given old new lane is has tested = subst (λ v. IsTested m v old new lane) (quotient-unique _ _ _ _ has is) tested
 
--- ---- a channel
-drawn_by : (written over : Bool) (s a s' a' d n : ℕ) → s ≡ s' → (over ≡ true → a ≡ a') → IsBlended written over s a d n → IsBlended written over s' a' d n
-drawn_by false over s a s' a' d n e f h = h
-drawn_by true false s a s' a' d n e f h = h ∙ e
-drawn_by true true s a s' a' d n e f h = rw (← e, ← f refl) h
-
--- a channel that is drawn where the mask's lane is set, and stays where it is not
+-- ---- a channel that is drawn where the mask's lane is set, and stays where it is not
 pub record IsMasked (written over : Bool) (lane s a old new : ℕ) : Type 0 where
   pub set : lane ≡ 65535 → IsBlended written over s a old new
   pub clear : lane ≡ 0 → new ≡ old
@@ -57,15 +52,15 @@ abbrev written_of : Merge → ℕ → Bool
 written_of m k = slice_index_or m.write k false
 
 combined_when : (t : Placed) (p : Position) (m : Merge) (f : Shaded) (old new : Sample) (lane r g b a : ℕ) → t.state.merge ≡ m → IsFragmentAt t p f → IsDecided (Passes m.test f.z old.z)
-    → IsTested m f.z old.z new.z lane → r ≡ f.r → g ≡ f.g → b ≡ f.b → (m.over ≡ true → a ≡ f.a)
+    → IsTested m f.z old.z new.z lane → (Writes m 0 → r ≡ f.r) → (Writes m 1 → g ≡ f.g) → (Writes m 2 → b ≡ f.b) → (m.over ≡ true → a ≡ f.a)
     → IsMasked (written_of m 0) m.over lane r a old.r new.r → IsMasked (written_of m 1) m.over lane g a old.g new.g → IsMasked (written_of m 2) m.over lane b a old.b new.b
     → IsDrawnAt t p old new
 combined_when t p m f old new lane r g b a e is (inl pass) tested er eg eb ea red green blue =
     let full = (tested.passed pass).0 in
     let merged : IsMerged m f old new = record {
-      red = drawn_by _ _ _ _ _ _ _ _ er ea (red.set full);
-      green = drawn_by _ _ _ _ _ _ _ _ eg ea (green.set full);
-      blue = drawn_by _ _ _ _ _ _ _ _ eb ea (blue.set full);
+      red = same_blended _ _ _ _ _ _ _ _ er ea (red.set full);
+      green = same_blended _ _ _ _ _ _ _ _ eg ea (green.set full);
+      blue = same_blended _ _ _ _ _ _ _ _ eb ea (blue.set full);
       depth = (tested.passed pass).1;
     } in
     (f, is, rw e (record { passed = λ _. merged; failed = λ fails. absurd (fails pass) }))
@@ -73,16 +68,16 @@ combined_when t p m f old new lane r g b a e is (inr fail) tested er eg eb ea re
     let none = (tested.failed fail).0 in
     (f, is, rw e (record { passed = λ pass. absurd (fail pass); failed = λ _. same_sample new old (red.clear none) (green.clear none) (blue.clear none) (tested.failed fail).1 }))
 
--- the channels are the triangle's where it covers the point
+-- the channels that are read are the triangle's where it covers the point
 pub combined : (t : Placed) (p : Position) (m : Merge) (old new : Sample) (lane r g b a : ℕ) → t.state.merge ≡ m → Covers t.tri.a t.tri.b t.tri.c p
     → ((z : ℕ) → IsInterpolated t p t.z z → IsTested m z old.z new.z lane)
-    → IsInterpolated t p (channel t 0) r → IsInterpolated t p (channel t 1) g → IsInterpolated t p (channel t 2) b → (m.over ≡ true → IsInterpolated t p (channel t 3) a)
+    → (Writes m 0 → IsInterpolated t p (channel t 0) r) → (Writes m 1 → IsInterpolated t p (channel t 1) g) → (Writes m 2 → IsInterpolated t p (channel t 2) b) → (m.over ≡ true → IsInterpolated t p (channel t 3) a)
     → IsMasked (written_of m 0) m.over lane r a old.r new.r → IsMasked (written_of m 1) m.over lane g a old.g new.g → IsMasked (written_of m 2) m.over lane b a old.b new.b
     → IsDrawnAt t p old new
 combined t p m old new lane r g b a e covered tested ir ig ib ia red green blue =
     let f = fragment t p covered in
     combined_when t p m f.0 old new lane r g b a e f.1 (passes m.test f.0.z old.z) (tested f.0.z f.1.depth)
-    (quotient-unique _ _ _ _ ir f.1.red) (quotient-unique _ _ _ _ ig f.1.green) (quotient-unique _ _ _ _ ib f.1.blue) (λ over. quotient-unique _ _ _ _ (ia over) f.1.alpha)
+    (λ writes. quotient-unique _ _ _ _ (ir writes) f.1.red) (λ writes. quotient-unique _ _ _ _ (ig writes) f.1.green) (λ writes. quotient-unique _ _ _ _ (ib writes) f.1.blue) (λ over. quotient-unique _ _ _ _ (ia over) f.1.alpha)
     red green blue
 
 -- a lane that did not pass leaves its sample

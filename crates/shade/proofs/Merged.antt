@@ -20,7 +20,7 @@ pub interpolated : (t : Placed) (w : TriangleAndPoint) (values given : List ℕ)
 interpolated t w values given v h e value = rw (← h.a, ← h.b, ← h.c, ← e) value
 
 -- a channel becomes the same by all of a fragment as by what is read of it
-same_blended : (written over : Bool) (source source' alpha alpha' stored new : ℕ) → (IsTrue written → source ≡ source') → (IsTrue over → alpha ≡ alpha') → IsBlended written over source alpha stored new
+pub same_blended : (written over : Bool) (source source' alpha alpha' stored new : ℕ) → (IsTrue written → source ≡ source') → (IsTrue over → alpha ≡ alpha') → IsBlended written over source alpha stored new
     → IsBlended written over source' alpha' stored new
 same_blended false over source source' alpha alpha' stored new e f h = h
 same_blended true false source source' alpha alpha' stored new e f h = h ∙ e refl

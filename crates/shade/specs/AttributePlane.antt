@@ -10,6 +10,7 @@ use Rattle.shade.specs.Candidate.{IsCandidate, IsNear}
 use Rattle.shade.specs.Slope.{IsSlope, IsBounded}
 use Rattle.shade.specs.Plane.{IsPlane, IsLevel, IsHighPart}
 use Rattle.shade.specs.declared.slope.Slope.{Slope}
+use Rattle.shade.specs.Merging.{Writes}
 use Rattle.shade.specs.Placed.{channel}
 use Rattle.shade.specs.declared.placed.Placed.{Placed}
 use Rattle.shade.specs.declared.plane.Plane.{Plane}
@@ -73,18 +74,18 @@ pub record IsChannelSlope (t : Placed) (k : ℕ) (s : Slope) : Type 0 where
 abbrev pub IsDepthPlane : Placed → DepthPlane → Type 0
 IsDepthPlane t p = IsAttributePlane 16 t.tri.a t.tri.b t.tri.c t.z p.depth
 
--- Alpha has a plane where it is blended.
+-- A channel has a plane where the draw reads it: red, green and blue where they are written, and alpha where it is blended.
 pub record AreColourPlanes (t : Placed) (p : ColourPlanes) : Type 0 where
-  pub of_red : IsAttributePlane 24 t.tri.a t.tri.b t.tri.c (channel t 0) p.red
-  pub of_green : IsAttributePlane 24 t.tri.a t.tri.b t.tri.c (channel t 1) p.green
-  pub of_blue : IsAttributePlane 24 t.tri.a t.tri.b t.tri.c (channel t 2) p.blue
+  pub of_red : Writes t.state.merge 0 → IsAttributePlane 24 t.tri.a t.tri.b t.tri.c (channel t 0) p.red
+  pub of_green : Writes t.state.merge 1 → IsAttributePlane 24 t.tri.a t.tri.b t.tri.c (channel t 1) p.green
+  pub of_blue : Writes t.state.merge 2 → IsAttributePlane 24 t.tri.a t.tri.b t.tri.c (channel t 2) p.blue
   pub of_alpha : t.state.merge.over ≡ true → IsAttributePlane 24 t.tri.a t.tri.b t.tri.c (channel t 3) p.alpha
 
--- The slopes of a triangle's channels, of alpha where it is blended.
+-- The slopes of a triangle's channels that the draw reads.
 pub record AreColourSlopes (t : Placed) (s : ColourSlopes) : Type 0 where
-  pub of_red : IsChannelSlope t 0 s.red
-  pub of_green : IsChannelSlope t 1 s.green
-  pub of_blue : IsChannelSlope t 2 s.blue
+  pub of_red : Writes t.state.merge 0 → IsChannelSlope t 0 s.red
+  pub of_green : Writes t.state.merge 1 → IsChannelSlope t 1 s.green
+  pub of_blue : Writes t.state.merge 2 → IsChannelSlope t 2 s.blue
   pub of_alpha : t.state.merge.over ≡ true → IsChannelSlope t 3 s.alpha
 
 pub record AreBounded (s : ColourSlopes) : Type 0 where

@@ -29,7 +29,7 @@ pub record IsDepthBy (t : Placed) (mode : DepthMode) (p : DepthPlane) : Type 0 w
   pub is_mode : IsDepthMode t mode
   pub is_plane : IsByPlane mode → IsDepthPlane t p
 
--- The same of its colour, and of its alpha where it is blended.
+-- The same of its colour, in the channels that the draw reads.
 abbrev pub IsColourMode : Placed → ColourMode → Type 0
 IsColourMode t (colour.Flat rgba) = IsFlatColour t rgba
 IsColourMode t colour.Planes = Unit {0}

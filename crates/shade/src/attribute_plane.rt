@@ -7,7 +7,7 @@
 //! - Certificate. So its whole part is the value or the number after it (`IsNear`), and it is the value where its fraction is at
 //!   least three units.
 //! - Correction. Where it is less, the sign of N - m S tells which of the two m is.
-ghost use Rattle.std.specs.Prelude.{ℕ, ◌≡◌, ◌⊎◌, ◌+◌, ◌<◌, ◌≤◌, ◌^◌, IfSome, List, length, slice_index};
+ghost use Rattle.std.specs.Prelude.{ℕ, ◌≡◌, ◌⊎◌, ◌+◌, ◌<◌, ◌≤◌, ◌^◌, IfSome, IsTrue, List, length, slice_index};
 ghost use Rattle.std.specs.Int.RustNames.{unsigned_abs};
 ghost use Rattle.grid.specs.Position.{Position};
 ghost use Rattle.grid.specs.Triangle.{doubled_area, Covers};
@@ -69,6 +69,20 @@ impl AttributePlane {
         ensures each { (k : ℕ) (a b c : Position) (values : List ℕ) → IsAttributePlane k a b c values self.now → AreCandidates k a b c values (record { x = x; y = y }) result }
     {
         candidates(self.lanes, self.plane.height(x, y))
+    }
+
+    /// The same where the attribute is read, and else candidates that are no reason to correct anything.
+    #[inline(always)]
+    pub(crate) fn candidates_if(&self, read: bool, x: i32, y: i32) -> u32x16
+        requires { IsGroupOnScreen (record { x = x; y = y }) }
+        ensures length { length result ≡ 16 }
+        ensures each { (k : ℕ) (a b c : Position) (values : List ℕ) → IsTrue read → IsAttributePlane k a b c values self.now → AreCandidates k a b c values (record { x = x; y = y }) result }
+    {
+        if read {
+            self.candidates(x, y)
+        } else {
+            u32x16::splat(u32::MAX)
+        }
     }
 
     /// The values at the group of sixteen samples that starts at (x, y) of what is `values` at the vertices of `t`, which the plane

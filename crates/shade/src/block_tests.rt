@@ -153,6 +153,17 @@ impl Random {
         [first, [r, g, b, self.byte()], [r, g, b, self.byte()]]
     }
 
+    /// Another colour, which is the same in the channels that are written.
+    fn same_where_written(&mut self, write: [bool; 3], first: [u8; 4]) -> [u8; 4] {
+        let [r, g, b, a] = self.rgba();
+        [
+            if write[0] { first[0] } else { r },
+            if write[1] { first[1] } else { g },
+            if write[2] { first[2] } else { b },
+            a,
+        ]
+    }
+
     fn samples(&mut self) -> BlockSamples {
         let mut samples = BlockSamples::filled(self.sample());
         for k in 0..64 {
@@ -259,6 +270,31 @@ fn compare_all(rt: &impl Abort, random: &mut Random, merge: Merge, count: Sample
             ];
             if t.tri.area2() != 0 {
                 compare(rt, &t, count, wanted, &old[..count.count() as usize]);
+            }
+        }
+    }
+}
+
+#[test]
+fn draws_colours_that_differ_only_where_they_are_not_written(rt: HostRuntime) {
+    let mut random = Random(11);
+    for write in WRITES {
+        for over in [false, true] {
+            let merge = Merge {
+                test: DepthTest::Less,
+                depth_write: true,
+                write,
+                over,
+            };
+            for _ in 0..20 {
+                let mut t = placed(&rt, &mut random, merge, [false, false, false]);
+                let first = t.rgba[0];
+                t.rgba[1] = random.same_where_written(write, first);
+                t.rgba[2] = random.same_where_written(write, first);
+                let old = [random.samples()];
+                if t.tri.area2() != 0 {
+                    compare(&rt, &t, SampleCount::One, u64::MAX, &old);
+                }
             }
         }
     }

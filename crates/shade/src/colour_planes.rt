@@ -1,19 +1,20 @@
-ghost use Rattle.std.specs.Prelude.{◌≡◌, ◌<◌, ◌≤◌, ◌%◌, ◌^◌, ℕ, List, IsTrue, true, length, slice_index};
+ghost use Rattle.std.specs.Prelude.{◌≡◌, ◌<◌, ◌≤◌, ◌%◌, ◌^◌, ℕ, IsTrue, true, length, slice_index};
 ghost use Rattle.std.specs.Int.RustNames.{unsigned_abs};
 ghost use Rattle.std.specs.Simd.Lanes.{Each1};
 ghost use Rattle.grid.specs.Triangle.{doubled_area, Covers};
 ghost use Rattle.shade.specs.Placed.{channel, IsInterpolated};
 ghost use Rattle.shade.specs.Block.{position_in};
 ghost use Rattle.shade.specs.AttributePlane.{AreBytes, IsAttributePlane, IsChannelSlope};
+ghost use Rattle.shade.specs.Merging.{Writes};
 ghost use Rattle.shade.specs.Slope.{IsBounded};
 ghost use Rattle.shade.specs.declared.placed.Placed.{Placed as Triangle};
 ghost use Rattle.shade.specs.Group.{IsGroupOnScreen};
-ghost use Rattle.grid.specs.Position.{Position};
 
 use crate::attribute_plane::AttributePlane;
 use crate::candidates::{are_sure, fractions, least, wholes};
 use crate::placed::Placed;
 use crate::reciprocal::Reciprocal;
+use crate::sample::Merge;
 use crate::slope::Slope;
 use std::simd::prelude::*;
 
@@ -59,17 +60,19 @@ pub(crate) struct ColourSlopes {
 impl ColourSlopes {
     ghost use Rattle.shade.specs.AttributePlane.{AreColourSlopes, AreBounded, AreLevel};
 
-    /// The slopes of a triangle's channels where they are asked for, of alpha where it is blended.
+    /// The slopes of a triangle's channels where they are asked for: of red, green and blue where they are written, and of alpha
+    /// where it is blended.
     #[inline(always)]
     pub(crate) fn of_used(used: bool, placed: &Placed) -> ColourSlopes
         ensures slopes { IsTrue used → AreColourSlopes placed.now result }
         ensures bounded { AreBounded result }
     {
+        let merge = placed.state.merge;
         ColourSlopes {
-            red: channel_slope(used, placed, 0),
-            green: channel_slope(used, placed, 1),
-            blue: channel_slope(used, placed, 2),
-            alpha: channel_slope(used && placed.state.merge.over, placed, 3),
+            red: channel_slope(used && merge.write[0], placed, 0),
+            green: channel_slope(used && merge.write[1], placed, 1),
+            blue: channel_slope(used && merge.write[2], placed, 2),
+            alpha: channel_slope(used && merge.over, placed, 3),
         }
     }
 
@@ -112,7 +115,7 @@ pub(crate) struct ColourPlanes {
 }
 
 impl ColourPlanes {
-    ghost use Rattle.shade.specs.AttributePlane.{AreColourPlanes, AreColourSlopes, AreLevel, AreCandidates, AreValues};
+    ghost use Rattle.shade.specs.AttributePlane.{AreColourPlanes, AreColourSlopes, AreLevel, AreValues};
 
     /// The planes of channels that are level, of a triangle with this doubled area.
     #[inline(always)]
@@ -139,92 +142,78 @@ impl ColourPlanes {
         }
     }
 
-    /// The candidates of alpha, where it is asked for.
-    #[inline(always)]
-    fn alpha_candidates(&self, with_alpha: bool, x: i32, y: i32) -> u32x16
-        requires { IsGroupOnScreen (record { x = x; y = y }) }
-        ensures length { length result ≡ 16 }
-        ensures each { (k : ℕ) (a b c : Position) (values : List ℕ) → IsTrue with_alpha → IsAttributePlane k a b c values self.now.alpha → AreCandidates k a b c values (record { x = x; y = y }) result }
-    {
-        if with_alpha {
-            self.alpha.candidates(x, y)
-        } else {
-            u32x16::splat(u32::MAX)
-        }
-    }
-
-    /// One channel of the triangle at sixteen samples by itself, from its plane.
-    fn channel_at(plane: &AttributePlane, placed: &Placed, number: usize, x: i32, y: i32) -> u16x16
+    /// One channel of the triangle at sixteen samples by itself, from its plane, where it is read.
+    fn channel_at(
+        plane: &AttributePlane,
+        placed: &Placed,
+        read: bool,
+        number: usize,
+        x: i32,
+        y: i32,
+    ) -> u16x16
         requires screen { IsGroupOnScreen (record { x = x; y = y }) }
         requires number { number < 4 }
         ensures length { length result ≡ 16 }
         ensures bytes { Each1 (λ n. n ≤ 255) result }
-        ensures each { IsAttributePlane 24 placed.now.tri.a placed.now.tri.b placed.now.tri.c (channel placed.now number) plane.now → AreValues placed.now.tri.a placed.now.tri.b placed.now.tri.c (channel placed.now number) (record { x = x; y = y }) result }
+        ensures each { IsTrue read → IsAttributePlane 24 placed.now.tri.a placed.now.tri.b placed.now.tri.c (channel placed.now number) plane.now
+            → AreValues placed.now.tri.a placed.now.tri.b placed.now.tri.c (channel placed.now number) (record { x = x; y = y }) result }
     {
-        let values = channel_values(placed, number);
-        plane.values(&placed.tri, values, 24, x, y)
-    }
-
-    /// The colours at sixteen samples, each channel by itself.
-    #[cold]
-    #[inline(never)]
-    fn channels(&self, placed: &Placed, with_alpha: bool, x: i32, y: i32) -> Colours
-        requires { IsGroupOnScreen (record { x = x; y = y }) }
-        ensures length { (length result.r ≡ 16) × (length result.g ≡ 16) × (length result.b ≡ 16) × (length result.a ≡ 16) }
-        ensures bytes { Each1 (λ n. n ≤ 255) result.r × Each1 (λ n. n ≤ 255) result.g × Each1 (λ n. n ≤ 255) result.b × Each1 (λ n. n ≤ 255) result.a }
-        ensures red { (i : ℕ) → AreColourPlanes placed.now self.now → i < 16 → Covers placed.now.tri.a placed.now.tri.b placed.now.tri.c (position_in (record { x = x; y = y }) i)
-            → IsInterpolated placed.now (position_in (record { x = x; y = y }) i) (channel placed.now 0) (slice_index result.r i) }
-        ensures green { (i : ℕ) → AreColourPlanes placed.now self.now → i < 16 → Covers placed.now.tri.a placed.now.tri.b placed.now.tri.c (position_in (record { x = x; y = y }) i)
-            → IsInterpolated placed.now (position_in (record { x = x; y = y }) i) (channel placed.now 1) (slice_index result.g i) }
-        ensures blue { (i : ℕ) → AreColourPlanes placed.now self.now → i < 16 → Covers placed.now.tri.a placed.now.tri.b placed.now.tri.c (position_in (record { x = x; y = y }) i)
-            → IsInterpolated placed.now (position_in (record { x = x; y = y }) i) (channel placed.now 2) (slice_index result.b i) }
-        ensures alpha { (i : ℕ) → IsTrue with_alpha → placed.now.state.merge.over ≡ true → AreColourPlanes placed.now self.now → i < 16 → Covers placed.now.tri.a placed.now.tri.b placed.now.tri.c (position_in (record { x = x; y = y }) i)
-            → IsInterpolated placed.now (position_in (record { x = x; y = y }) i) (channel placed.now 3) (slice_index result.a i) }
-    {
-        Colours {
-            r: ColourPlanes::channel_at(&self.red, placed, 0, x, y),
-            g: ColourPlanes::channel_at(&self.green, placed, 1, x, y),
-            b: ColourPlanes::channel_at(&self.blue, placed, 2, x, y),
-            a: self.alpha_values(placed, with_alpha, x, y),
-        }
-    }
-
-    /// Alpha by itself, where it is asked for.
-    fn alpha_values(&self, placed: &Placed, with_alpha: bool, x: i32, y: i32) -> u16x16
-        requires { IsGroupOnScreen (record { x = x; y = y }) }
-        ensures length { length result ≡ 16 }
-        ensures bytes { Each1 (λ n. n ≤ 255) result }
-        ensures each { IsTrue with_alpha → IsAttributePlane 24 placed.now.tri.a placed.now.tri.b placed.now.tri.c (channel placed.now 3) self.now.alpha → AreValues placed.now.tri.a placed.now.tri.b placed.now.tri.c (channel placed.now 3) (record { x = x; y = y }) result }
-    {
-        if with_alpha {
-            ColourPlanes::channel_at(&self.alpha, placed, 3, x, y)
+        if read {
+            let values = channel_values(placed, number);
+            plane.values(&placed.tri, values, 24, x, y)
         } else {
             u16x16::splat(255)
         }
     }
 
-    /// The colours of the triangle at sixteen samples, two rows of eight pixels, the first of which is at (x, y): right wherever it
-    /// covers the sample. Alpha is found only where it is asked for.
-    #[inline(always)]
-    pub(crate) fn values(&self, placed: &Placed, with_alpha: bool, x: i32, y: i32) -> Colours
+    /// The colours at sixteen samples, each channel by itself.
+    #[cold]
+    #[inline(never)]
+    fn channels(&self, placed: &Placed, x: i32, y: i32) -> Colours
         requires { IsGroupOnScreen (record { x = x; y = y }) }
         ensures length { (length result.r ≡ 16) × (length result.g ≡ 16) × (length result.b ≡ 16) × (length result.a ≡ 16) }
         ensures bytes { Each1 (λ n. n ≤ 255) result.r × Each1 (λ n. n ≤ 255) result.g × Each1 (λ n. n ≤ 255) result.b × Each1 (λ n. n ≤ 255) result.a }
-        ensures red { (i : ℕ) → AreColourPlanes placed.now self.now → i < 16 → Covers placed.now.tri.a placed.now.tri.b placed.now.tri.c (position_in (record { x = x; y = y }) i)
+        ensures red { (i : ℕ) → Writes placed.now.state.merge 0 → AreColourPlanes placed.now self.now → i < 16 → Covers placed.now.tri.a placed.now.tri.b placed.now.tri.c (position_in (record { x = x; y = y }) i)
             → IsInterpolated placed.now (position_in (record { x = x; y = y }) i) (channel placed.now 0) (slice_index result.r i) }
-        ensures green { (i : ℕ) → AreColourPlanes placed.now self.now → i < 16 → Covers placed.now.tri.a placed.now.tri.b placed.now.tri.c (position_in (record { x = x; y = y }) i)
+        ensures green { (i : ℕ) → Writes placed.now.state.merge 1 → AreColourPlanes placed.now self.now → i < 16 → Covers placed.now.tri.a placed.now.tri.b placed.now.tri.c (position_in (record { x = x; y = y }) i)
             → IsInterpolated placed.now (position_in (record { x = x; y = y }) i) (channel placed.now 1) (slice_index result.g i) }
-        ensures blue { (i : ℕ) → AreColourPlanes placed.now self.now → i < 16 → Covers placed.now.tri.a placed.now.tri.b placed.now.tri.c (position_in (record { x = x; y = y }) i)
+        ensures blue { (i : ℕ) → Writes placed.now.state.merge 2 → AreColourPlanes placed.now self.now → i < 16 → Covers placed.now.tri.a placed.now.tri.b placed.now.tri.c (position_in (record { x = x; y = y }) i)
             → IsInterpolated placed.now (position_in (record { x = x; y = y }) i) (channel placed.now 2) (slice_index result.b i) }
-        ensures alpha { (i : ℕ) → IsTrue with_alpha → placed.now.state.merge.over ≡ true → AreColourPlanes placed.now self.now → i < 16 → Covers placed.now.tri.a placed.now.tri.b placed.now.tri.c (position_in (record { x = x; y = y }) i)
+        ensures alpha { (i : ℕ) → placed.now.state.merge.over ≡ true → AreColourPlanes placed.now self.now → i < 16 → Covers placed.now.tri.a placed.now.tri.b placed.now.tri.c (position_in (record { x = x; y = y }) i)
             → IsInterpolated placed.now (position_in (record { x = x; y = y }) i) (channel placed.now 3) (slice_index result.a i) }
     {
-        let red = self.red.candidates(x, y);
-        let green = self.green.candidates(x, y);
-        let blue = self.blue.candidates(x, y);
-        let alpha = self.alpha_candidates(with_alpha, x, y);
+        let merge = placed.state.merge;
+        Colours {
+            r: ColourPlanes::channel_at(&self.red, placed, merge.write[0], 0, x, y),
+            g: ColourPlanes::channel_at(&self.green, placed, merge.write[1], 1, x, y),
+            b: ColourPlanes::channel_at(&self.blue, placed, merge.write[2], 2, x, y),
+            a: ColourPlanes::channel_at(&self.alpha, placed, merge.over, 3, x, y),
+        }
+    }
+
+    /// The colours of the triangle at sixteen samples, two rows of eight pixels, the first of which is at (x, y): right wherever it
+    /// covers the sample. Only what the merge of its draw reads is found: red, green and blue where they are written, and alpha
+    /// where it is blended.
+    #[inline(always)]
+    pub(crate) fn values(&self, placed: &Placed, merge: &Merge, x: i32, y: i32) -> Colours
+        requires { IsGroupOnScreen (record { x = x; y = y }) }
+        ensures length { (length result.r ≡ 16) × (length result.g ≡ 16) × (length result.b ≡ 16) × (length result.a ≡ 16) }
+        ensures bytes { Each1 (λ n. n ≤ 255) result.r × Each1 (λ n. n ≤ 255) result.g × Each1 (λ n. n ≤ 255) result.b × Each1 (λ n. n ≤ 255) result.a }
+        ensures red { (i : ℕ) → placed.now.state.merge ≡ merge.now → Writes merge.now 0 → AreColourPlanes placed.now self.now → i < 16 → Covers placed.now.tri.a placed.now.tri.b placed.now.tri.c (position_in (record { x = x; y = y }) i)
+            → IsInterpolated placed.now (position_in (record { x = x; y = y }) i) (channel placed.now 0) (slice_index result.r i) }
+        ensures green { (i : ℕ) → placed.now.state.merge ≡ merge.now → Writes merge.now 1 → AreColourPlanes placed.now self.now → i < 16 → Covers placed.now.tri.a placed.now.tri.b placed.now.tri.c (position_in (record { x = x; y = y }) i)
+            → IsInterpolated placed.now (position_in (record { x = x; y = y }) i) (channel placed.now 1) (slice_index result.g i) }
+        ensures blue { (i : ℕ) → placed.now.state.merge ≡ merge.now → Writes merge.now 2 → AreColourPlanes placed.now self.now → i < 16 → Covers placed.now.tri.a placed.now.tri.b placed.now.tri.c (position_in (record { x = x; y = y }) i)
+            → IsInterpolated placed.now (position_in (record { x = x; y = y }) i) (channel placed.now 2) (slice_index result.b i) }
+        ensures alpha { (i : ℕ) → placed.now.state.merge ≡ merge.now → merge.now.over ≡ true → AreColourPlanes placed.now self.now → i < 16 → Covers placed.now.tri.a placed.now.tri.b placed.now.tri.c (position_in (record { x = x; y = y }) i)
+            → IsInterpolated placed.now (position_in (record { x = x; y = y }) i) (channel placed.now 3) (slice_index result.a i) }
+    {
+        let red = self.red.candidates_if(merge.write[0], x, y);
+        let green = self.green.candidates_if(merge.write[1], x, y);
+        let blue = self.blue.candidates_if(merge.write[2], x, y);
+        let alpha = self.alpha.candidates_if(merge.over, x, y);
         if !are_all_sure(red, green, blue, alpha) {
-            return self.channels(placed, with_alpha, x, y);
+            return self.channels(placed, x, y);
         }
         Colours {
             r: wholes(red, 24),

@@ -154,7 +154,7 @@ pub(crate) fn draw_group(
     if is_clear(drawn) {
         return;
     }
-    let c = colour.values(merge.over, x, y);
+    let c = colour.values(merge, x, y);
     draw_channel(
         merge.write[0],
         merge.over,

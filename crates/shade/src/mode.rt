@@ -1,6 +1,7 @@
 //! The mode in which a triangle is drawn, which is chosen once for all its samples.
-ghost use Rattle.std.specs.Prelude.{◌≡◌, IsTrue};
-ghost use Rattle.shade.specs.Sources.{IsDepthOf, IsColourOf};
+ghost use Rattle.std.specs.Prelude.{◌≡◌, ◌<◌, IsTrue, slice_index};
+ghost use Rattle.shade.specs.Placed.{channel, rgba_of};
+ghost use Rattle.shade.specs.Sources.{IsDepthOf, IsColourOf, IsFlat};
 
 use crate::colour_planes::ColourPlanes;
 use crate::depth::DepthTest;
@@ -22,7 +23,7 @@ pub(crate) enum DepthMode {
 /// How colour and alpha are had.
 #[derive(Clone, Copy, Debug)]
 pub(crate) enum ColourMode {
-    /// The three vertices have this colour, and this alpha where they are blended.
+    /// The three vertices have this in each channel that the draw reads.
     Flat([u8; 4]),
     /// By planes.
     Planes,
@@ -80,6 +81,17 @@ impl DepthMode {
     }
 }
 
+/// Whether the three vertices have the same red, green, blue or alpha, which are the channels 0 to 3; it is true where it is not
+/// read.
+#[inline(always)]
+fn is_flat_if(read: bool, placed: &Placed, number: usize) -> bool
+    requires { number < 4 }
+    ensures { IsTrue result → IsTrue read → IsFlat (channel placed.now number) (slice_index (rgba_of placed.now 0) number) }
+{
+    let [a, b, c] = placed.channel(number);
+    !read || (a == b && b == c)
+}
+
 impl ColourMode {
     ghost use Rattle.shade.specs.Mode.{IsColourMode, IsColourBy, IsByPlanes};
 
@@ -87,18 +99,13 @@ impl ColourMode {
     pub(crate) fn of(placed: &Placed) -> ColourMode
         ensures { IsColourMode placed.now result }
     {
-        let [[r, g, b, a], second, third] = placed.rgba;
-        let blended = placed.state.merge.over;
-        if r == second[0]
-            && g == second[1]
-            && b == second[2]
-            && (!blended || a == second[3])
-            && r == third[0]
-            && g == third[1]
-            && b == third[2]
-            && (!blended || a == third[3])
+        let merge = placed.state.merge;
+        if is_flat_if(merge.write[0], placed, 0)
+            && is_flat_if(merge.write[1], placed, 1)
+            && is_flat_if(merge.write[2], placed, 2)
+            && is_flat_if(merge.over, placed, 3)
         {
-            return ColourMode::Flat([r, g, b, a]);
+            return ColourMode::Flat(placed.rgba[0]);
         }
         ColourMode::Planes
     }

@@ -71,7 +71,7 @@ fn agrees(rt: &impl Abort, t: &Placed, (x, y): (i32, i32)) -> Option<bool> {
     let depths = DepthPlane::new(&slope, reciprocal)
         .values(t, x, y)
         .to_array();
-    let colours = ColourPlanes::new(&slopes, reciprocal).values(t, true, x, y);
+    let colours = ColourPlanes::new(&slopes, reciprocal).values(t, &t.state.merge, x, y);
     let (reds, greens) = (colours.r.to_array(), colours.g.to_array());
     let (blues, alphas) = (colours.b.to_array(), colours.a.to_array());
     let mut met = false;

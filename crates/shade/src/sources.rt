@@ -6,11 +6,13 @@ ghost use Rattle.shade.specs.declared.placed.Placed.{Placed as Triangle};
 ghost use Rattle.shade.specs.Placed.{channel, IsInterpolated};
 ghost use Rattle.shade.specs.Block.{position_in};
 ghost use Rattle.shade.specs.Group.{IsGroupOnScreen};
+ghost use Rattle.shade.specs.Merging.{Writes};
 ghost use Rattle.shade.specs.Sources.{IsFlatColour};
 
 use crate::colour_planes::{ColourPlanes, Colours};
 use crate::depth_plane::DepthPlane;
 use crate::placed::Placed;
+use crate::sample::Merge;
 use std::simd::prelude::*;
 
 /// How the depth is had.
@@ -27,7 +29,7 @@ pub(crate) enum DepthSource<'a> {
 /// How colour and alpha are had.
 #[derive(Clone, Copy, Debug)]
 pub(crate) enum ColourSource<'a> {
-    /// The three vertices have this colour, and this alpha where they are blended.
+    /// The three vertices have this in each channel that the draw reads.
     Flat([u8; 4]),
     /// The planes of the triangle.
     Planes(&'a Placed, &'a ColourPlanes),
@@ -56,24 +58,24 @@ impl<'a> ColourSource<'a> {
     ghost use Rattle.shade.specs.Sources.{IsColourOf};
 
     /// The colours at sixteen samples, the first of which is at (x, y), each at most 255: right wherever the triangle covers the
-    /// sample. Alpha is right where the triangle is blended, which `with_alpha` says.
+    /// sample, in what the merge of its draw reads.
     #[inline(always)]
-    pub(crate) fn values(&self, with_alpha: bool, x: i32, y: i32) -> Colours
+    pub(crate) fn values(&self, merge: &Merge, x: i32, y: i32) -> Colours
         requires { IsGroupOnScreen (record { x = x; y = y }) }
         ensures length { (length result.r ≡ 16) × (length result.g ≡ 16) × (length result.b ≡ 16) × (length result.a ≡ 16) }
         ensures bytes { Each1 (λ n. n ≤ 255) result.r × Each1 (λ n. n ≤ 255) result.g × Each1 (λ n. n ≤ 255) result.b × Each1 (λ n. n ≤ 255) result.a }
-        ensures red { (t : Triangle) (i : ℕ) → IsColourOf t self.now → i < 16 → Covers t.tri.a t.tri.b t.tri.c (position_in (record { x = x; y = y }) i)
+        ensures red { (t : Triangle) (i : ℕ) → t.state.merge ≡ merge.now → Writes merge.now 0 → IsColourOf t self.now → i < 16 → Covers t.tri.a t.tri.b t.tri.c (position_in (record { x = x; y = y }) i)
             → IsInterpolated t (position_in (record { x = x; y = y }) i) (channel t 0) (slice_index result.r i) }
-        ensures green { (t : Triangle) (i : ℕ) → IsColourOf t self.now → i < 16 → Covers t.tri.a t.tri.b t.tri.c (position_in (record { x = x; y = y }) i)
+        ensures green { (t : Triangle) (i : ℕ) → t.state.merge ≡ merge.now → Writes merge.now 1 → IsColourOf t self.now → i < 16 → Covers t.tri.a t.tri.b t.tri.c (position_in (record { x = x; y = y }) i)
             → IsInterpolated t (position_in (record { x = x; y = y }) i) (channel t 1) (slice_index result.g i) }
-        ensures blue { (t : Triangle) (i : ℕ) → IsColourOf t self.now → i < 16 → Covers t.tri.a t.tri.b t.tri.c (position_in (record { x = x; y = y }) i)
+        ensures blue { (t : Triangle) (i : ℕ) → t.state.merge ≡ merge.now → Writes merge.now 2 → IsColourOf t self.now → i < 16 → Covers t.tri.a t.tri.b t.tri.c (position_in (record { x = x; y = y }) i)
             → IsInterpolated t (position_in (record { x = x; y = y }) i) (channel t 2) (slice_index result.b i) }
-        ensures alpha { (t : Triangle) (i : ℕ) → with_alpha ≡ true → t.state.merge.over ≡ true → IsColourOf t self.now → i < 16 → Covers t.tri.a t.tri.b t.tri.c (position_in (record { x = x; y = y }) i)
+        ensures alpha { (t : Triangle) (i : ℕ) → t.state.merge ≡ merge.now → merge.now.over ≡ true → IsColourOf t self.now → i < 16 → Covers t.tri.a t.tri.b t.tri.c (position_in (record { x = x; y = y }) i)
             → IsInterpolated t (position_in (record { x = x; y = y }) i) (channel t 3) (slice_index result.a i) }
     {
         match self {
             ColourSource::Flat(rgba) => flat_colours(*rgba),
-            ColourSource::Planes(placed, planes) => planes.values(placed, with_alpha, x, y),
+            ColourSource::Planes(placed, planes) => planes.values(placed, merge, x, y),
         }
     }
 }

@@ -1,7 +1,4 @@
-use Rattle.std.proofs.Common.{arith, sym, subst, slice_index}
-use Rattle.grid.specs.Samples.{count_of}
-use Rattle.shade.specs.Block.{AreDrawn}
-use Rattle.shade.specs.BlockMask.{plane_of}
+use Rattle.std.proofs.Common.{arith}
 use Rattle.shade.proofs.BlockPlanes.{and_plane}
 use Rattle.shade.proofs.drawing.draw_planes.Goals as goal
 

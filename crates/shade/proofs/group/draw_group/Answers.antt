@@ -1,4 +1,4 @@
-use Rattle.std.proofs.Common.{◌∙◌, refl, ap, w32}
+use Rattle.std.proofs.Common.{refl, w32}
 use Rattle.std.proofs.lemmas.Int.{to_z-of_z}
 use Rattle.shade.specs.Block.{position_in}
 use Rattle.shade.proofs.Groups.{combined, undrawn}
@@ -20,8 +20,8 @@ returns-clause-set c t i e depth colour l set covered =
     let v = c.values-c.ensures in
     combined t p c.args.merge.now _ _ _ _ _ _ _ e covered
     (λ z value. c.test_depths_of-drawn.ensures.set t i z depth e l set (rw (x, y) covered) (rw (x, y) value))
-    (rw (x, y) at (v.red t i colour l (rw (x, y) covered))) (rw (x, y) at (v.green t i colour l (rw (x, y) covered))) (rw (x, y) at (v.blue t i colour l (rw (x, y) covered)))
-    (λ over. rw (x, y) at (v.alpha t i over (ap (λ m. m.over) e ∙ over) colour l (rw (x, y) covered)))
+    (λ writes. rw (x, y) at (v.red t i e writes colour l (rw (x, y) covered))) (λ writes. rw (x, y) at (v.green t i e writes colour l (rw (x, y) covered)))
+    (λ writes. rw (x, y) at (v.blue t i e writes colour l (rw (x, y) covered))) (λ over. rw (x, y) at (v.alpha t i e over colour l (rw (x, y) covered)))
     (record { set = c.draw_channel.ensures.set i l; clear = c.draw_channel.ensures.clear i l })
     (record { set = c.draw_channel-2.ensures.set i l; clear = c.draw_channel-2.ensures.clear i l })
     (record { set = c.draw_channel-3.ensures.set i l; clear = c.draw_channel-3.ensures.clear i l })
