@@ -17,6 +17,7 @@ pub use draw_list::{DrawList, ListFault};
 pub use fault::{ReadFault, ReadKind};
 pub use output::{Output, depth_bytes};
 pub use primitives::Primitives;
-pub use reader::{MOST_BYTES, read};
+pub use reader::{MOST_BYTES, read, read_by_value};
 pub use rows::RowSpan;
 pub use shade::{Placed, State};
+pub use tokens::read_in_one_pass;

@@ -28,7 +28,7 @@ use crate::draw::Draw;
 use crate::draw_list::DrawList;
 use crate::fault::{ReadFault, ReadKind};
 use crate::limits::MOST_TRIANGLES;
-use crate::tokens::read_list;
+use crate::tokens::read_in_one_pass;
 use draw::read_draw;
 use grid::PixelBox;
 use header::Header;
@@ -134,8 +134,8 @@ fn kind_of(error: &Error) -> ReadKind
     }
 }
 
-/// The draw list that `serde_json`'s value of the bytes denotes, or the first fault.
-pub(crate) fn read_by_value(alloc: Global, bytes: &[u8]) -> Result<DrawList, ReadFault>
+/// Reads a draw list from JSON through `serde_json`'s tree of values, and tells faults as `read` does.
+pub fn read_by_value(alloc: Global, bytes: &[u8]) -> Result<DrawList, ReadFault>
     requires { length bytes.now ≤ MOST_BYTES }
     ensures ok { IfOk result (Denotes bytes.now) }
     ensures only { (list : Scene) → Denotes bytes.now list
@@ -178,7 +178,7 @@ pub fn read(alloc: Global, bytes: &[u8]) -> Result<DrawList, ReadFault>
     // Bytes that denote a list fail no check.
     ensures passed { (list : Scene) → Denotes bytes.now list → AllPass (all_checks (json_of bytes.now)) }
 {
-    if let Some(list) = read_list(alloc, bytes) {
+    if let Some(list) = read_in_one_pass(alloc, bytes) {
         return Ok(list);
     }
     read_by_value(alloc, bytes)

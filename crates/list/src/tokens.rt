@@ -14,8 +14,6 @@ mod number;
 mod quads;
 mod state;
 mod strip;
-#[cfg(test)]
-mod tests;
 mod top;
 mod triangles;
 mod vertices;
@@ -45,9 +43,10 @@ fn read_draft(alloc: Global, bytes: &[u8]) -> Option<ListDraft>
     Some(draft)
 }
 
-/// Reads a draw list in one pass over its tokens. None tells nothing: of a fault, of keys in an order where one needs a later
-/// one, of a repeated key whose earlier value is no value of the key, and of want of memory.
-pub(crate) fn read_list(alloc: Global, bytes: &[u8]) -> Option<DrawList>
+/// Reads a draw list from JSON in one pass over its tokens, with no tree of values between. None tells nothing: of a fault, of
+/// keys in an order where one needs a later one, of a repeated key whose earlier value is no value of the key, and of want of
+/// memory. `read` asks `read_by_value` then.
+pub fn read_in_one_pass(alloc: Global, bytes: &[u8]) -> Option<DrawList>
     requires { length bytes.now ≤ MOST_BYTES }
     ensures { IfSome result (Denotes bytes.now) }
 {

@@ -14,6 +14,8 @@ mod order;
 #[cfg(test)]
 mod primitives;
 #[cfg(test)]
+mod readers;
+#[cfg(test)]
 mod support;
 #[cfg(test)]
 mod values;

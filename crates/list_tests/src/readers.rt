@@ -1,13 +1,12 @@
-use crate::reader::read_by_value;
-use crate::tokens::read_list;
-use crate::{DrawList, MOST_BYTES, read};
+//! One pass over the tokens beside the tree of values.
+use list::{DrawList, MOST_BYTES, read, read_by_value, read_in_one_pass};
 use std::alloc::AllocGlobal;
 use std::process::Abort;
 
 /// The list that one pass reads.
 fn by_tokens(rt: &(impl Abort + AllocGlobal), text: &str) -> Option<DrawList> {
     assert!(rt; text.len() <= MOST_BYTES);
-    read_list(rt.alloc(), text.as_bytes())
+    read_in_one_pass(rt.alloc(), text.as_bytes())
 }
 
 /// The list that `serde_json`'s value of the text denotes.

@@ -2,7 +2,7 @@ use Rattle.std.proofs.Common.{◌≡◌, Some, arith}
 use Rattle.list.specs.Listing.{listing_of}
 use Rattle.list.proofs.Accepted.{listing_within}
 use Rattle.list.proofs.Listings.{whole_list, ok_denotes}
-use Rattle.list.proofs.tokens.read_list.Goals as goal
+use Rattle.list.proofs.tokens.read_in_one_pass.Goals as goal
 
 pub within_limits-requires : goal.within_limits-requires
 within_limits-requires c =
