@@ -1,4 +1,4 @@
-use Rattle.std.specs.Prelude.{◌≡◌, ℕ, ◌<◌, List, length, take, slice_index, sum_by}
+use Rattle.std.specs.Prelude.{◌≡◌, ℕ, ◌<◌, ◌≤◌, List, length, take, slice_index, sum_by}
 use Rattle.list.specs.declared.draw.Draw.{Draw}
 use Rattle.list.specs.Primitives.{count_of_triangles, primitive_listing}
 
@@ -6,3 +6,14 @@ use Rattle.list.specs.Primitives.{count_of_triangles, primitive_listing}
 pub record AreStarts (draws : List Draw) (starts : List ℕ) : Type 0 where
   pub size : length starts ≡ length draws
   pub each : (k : ℕ) → k < length draws → slice_index starts k ≡ sum_by (λ d. count_of_triangles (primitive_listing d.primitives)) (take k draws)
+
+-- The draw in which the triangle of a number stands: the last one that starts at the number or before it.
+pub record IsOwner (starts : List ℕ) (number draw : ℕ) : Type 0 where
+  pub within : draw < length starts
+  pub start : slice_index starts draw ≤ number
+  pub last : (k : ℕ) → draw < k → k < length starts → number < slice_index starts k
+
+-- The draw of each triangle.
+pub record AreOwners (starts : List ℕ) (triangles : ℕ) (owners : List ℕ) : Type 0 where
+  pub size : length owners ≡ triangles
+  pub each : (number : ℕ) → number < triangles → IsOwner starts number (slice_index owners number)

@@ -1,14 +1,16 @@
+use Rattle.std.specs.Prelude.{length}
 use Rattle.list.specs.declared.draw_list.DrawList.TheInside.{Inside}
 use Rattle.list.specs.Listing.{Listing, listing_of, scene_of, IsWithinLimits}
 use Rattle.list.specs.Rows.{AreRows}
-use Rattle.list.specs.Starts.{AreStarts}
+use Rattle.list.specs.Starts.{AreStarts, AreOwners}
 
 -- What a draw list in memory holds.
 abbrev pub listing : Inside → Listing
 listing l = listing_of l.width l.height l.count l.clear l.output l.draws.items
 
--- What each draw list keeps: the limits, and for the look-ups where each draw starts and the rows of each triangle.
+-- What each draw list keeps: the limits, and for the look-ups where each draw starts, and the draw and the rows of each triangle.
 pub record IsKept (l : Inside) : Type 0 where
   pub limits : IsWithinLimits (listing l)
   pub starts : AreStarts l.draws.items l.starts.items
+  pub owners : AreOwners l.starts.items (length (scene_of (listing l)).triangles) l.owners.items
   pub rows : AreRows (scene_of (listing l)).triangles l.rows.items

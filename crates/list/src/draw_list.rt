@@ -6,7 +6,7 @@ use crate::draw::Draw;
 use crate::limits::{are_within_limits, is_side};
 use crate::output::Output;
 use crate::rows::{RowSpan, rows_of};
-use crate::starts::{draw_of, starts_of};
+use crate::starts::{owners_of, starts_of};
 use grid::{OutOfMemory, SampleCount};
 use shade::{Placed, Sample};
 use std::alloc::Global;
@@ -25,6 +25,8 @@ pub struct DrawList {
     draws: Vec<Draw>,
     /// The number of each draw's first triangle.
     starts: Vec<u32>,
+    /// The draw of each triangle.
+    owners: Vec<u16>,
     /// The rows of pixels of each triangle.
     rows: Vec<RowSpan>,
 }
@@ -94,6 +96,7 @@ impl DrawList {
     {
         let starts = starts_of(alloc, &draws)?;
         let rows = rows_of(alloc, &draws)?;
+        let owners = owners_of(alloc, &starts, rows.len())?;
         Ok(DrawList {
             width,
             height,
@@ -102,6 +105,7 @@ impl DrawList {
             output,
             draws,
             starts,
+            owners,
             rows,
         })
     }
@@ -153,13 +157,12 @@ impl DrawList {
         self.rows.len()
     }
 
-    /// The triangle of this number in draw order: draw by draw, and in a draw as its primitives are listed. It takes a binary
-    /// search over the draws.
+    /// The triangle of this number in draw order: draw by draw, and in a draw as its primitives are listed.
     pub fn triangle(&self, number: usize) -> Placed
         requires { number < length self.now.triangles }
         ensures { slice_get self.now.triangles number ≡ Some result }
     {
-        let draw = draw_of(&self.starts, number);
+        let draw = usize::from(self.owners[number]);
         self.draws[draw].triangle(number - self.starts[draw] as usize)
     }
 

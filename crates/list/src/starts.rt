@@ -1,7 +1,7 @@
-ghost use Rattle.std.specs.Prelude.{ℕ, ◌<◌, ◌≤◌, length, slice_index, IfOk, sum_by};
+ghost use Rattle.std.specs.Prelude.{◌≡◌, ◌<◌, ◌≤◌, length, slice_index, IfOk, sum_by};
 ghost use Rattle.std.specs.List.Sorted.{IsNonDecreasing};
 ghost use Rattle.list.specs.Primitives.{primitive_listing, count_of_triangles};
-ghost use Rattle.list.specs.Starts.{AreStarts};
+ghost use Rattle.list.specs.Starts.{AreStarts, IsOwner, AreOwners};
 
 use crate::draw::Draw;
 use std::alloc::{AllocError, Global};
@@ -21,13 +21,30 @@ pub(crate) fn starts_of(alloc: Global, draws: &[Draw]) -> Result<Vec<u32>, Alloc
 }
 
 /// The last draw that starts at this number or before it.
-pub(crate) fn draw_of(starts: &[u32], number: usize) -> usize
+fn draw_of(starts: &[u32], number: usize) -> usize
     requires some { 0 < length starts.now }
     requires first { slice_index starts.now 0 ≤ number }
     requires ascending { IsNonDecreasing starts.now }
-    ensures draw { result < length starts.now }
-    ensures start { slice_index starts.now result ≤ number }
-    ensures last { (k : ℕ) → result < k → k < length starts.now → number < slice_index starts.now k }
+    ensures { IsOwner starts.now number result }
 {
     starts.partition_point(|start| (*start as usize) <= number) - 1
+}
+
+/// The draw of each of so many triangles, by the number of each draw's first triangle.
+pub(crate) fn owners_of(
+    alloc: Global,
+    starts: &[u32],
+    triangles: usize,
+) -> Result<Vec<u16>, AllocError>
+    requires some { 0 < triangles → 0 < length starts.now }
+    requires few { length starts.now ≤ 1024 }
+    requires first { slice_index starts.now 0 ≡ 0 }
+    requires ascending { IsNonDecreasing starts.now }
+    ensures { IfOk result (λ owners. AreOwners starts.now triangles owners.items) }
+{
+    let mut owners = Vec::with_capacity(alloc, triangles)?;
+    for number in 0..triangles {
+        owners.push(draw_of(starts, number) as u16)?;
+    }
+    Ok(owners)
 }

@@ -16,8 +16,11 @@ overflow_sub-result c =
       | inr h ↦ let first = leb-false _ _ ((point c).1 0 0 h c.requires.some) in let low = c.requires.first in omega arith
     ]
 
-pub returns-clause-start : goal.returns-clause-start
-returns-clause-start c = let some = overflow_sub-result c in leb-true _ _ ((point c).0 _ 0 (omega arith) (omega arith))
-
-pub returns-clause-last : goal.returns-clause-last
-returns-clause-last c = λ k h l. leb-false _ _ ((point c).1 k 0 (omega arith) l)
+pub returns : goal.returns
+returns c =
+    let some = overflow_sub-result c in
+    record {
+      within = omega (arith, c.partition_point.ensures);
+      start = leb-true _ _ ((point c).0 _ 0 (omega arith) (omega arith));
+      last = λ k h l. leb-false _ _ ((point c).1 k 0 (omega arith) l);
+    }
