@@ -1,4 +1,4 @@
-use Rattle.std.specs.Prelude.{◌≡◌, ℕ, ◌<◌, ◌≤◌, List, length, take, slice_index, sum_by}
+use Rattle.std.specs.Prelude.{◌≡◌, ℕ, ◌-◌, ◌*◌, ◌<◌, ◌≤◌, List, length, take, slice_index, sum_by}
 use Rattle.list.specs.declared.draw.Draw.{Draw}
 use Rattle.list.specs.Primitives.{count_of_triangles, primitive_listing}
 
@@ -13,7 +13,7 @@ pub record IsOwner (starts : List ℕ) (number draw : ℕ) : Type 0 where
   pub start : slice_index starts draw ≤ number
   pub last : (k : ℕ) → draw < k → k < length starts → number < slice_index starts k
 
--- The draw of each triangle.
+-- The draws of the triangles at every sixteenth number, so far that a number of these triangles lies between two of them.
 pub record AreOwners (starts : List ℕ) (triangles : ℕ) (owners : List ℕ) : Type 0 where
-  pub size : length owners ≡ triangles
-  pub each : (number : ℕ) → number < triangles → IsOwner starts number (slice_index owners number)
+  pub far : triangles ≤ 16 * (length owners - 1)
+  pub each : (group : ℕ) → group < length owners → IsOwner starts (16 * group) (slice_index owners group)

@@ -8,7 +8,8 @@ use Rattle.list.specs.Starts.{AreStarts, AreOwners}
 abbrev pub listing : Inside → Listing
 listing l = listing_of l.width l.height l.count l.clear l.output l.draws.items
 
--- What each draw list keeps: the limits, and for the look-ups where each draw starts, and the draw and the rows of each triangle.
+-- What each draw list keeps: the limits, and for the look-ups where each draw starts, the draw of every sixteenth triangle, and the
+-- rows of each.
 pub record IsKept (l : Inside) : Type 0 where
   pub limits : IsWithinLimits (listing l)
   pub starts : AreStarts l.draws.items l.starts.items

@@ -6,7 +6,7 @@ use crate::draw::Draw;
 use crate::limits::{are_within_limits, is_side};
 use crate::output::Output;
 use crate::rows::{RowSpan, rows_of};
-use crate::starts::{owners_of, starts_of};
+use crate::starts::{owner, owners_of, starts_of};
 use grid::{OutOfMemory, SampleCount};
 use shade::{Placed, Sample};
 use std::alloc::Global;
@@ -25,7 +25,7 @@ pub struct DrawList {
     draws: Vec<Draw>,
     /// The number of each draw's first triangle.
     starts: Vec<u32>,
-    /// The draw of each triangle.
+    /// The draw of every sixteenth triangle.
     owners: Vec<u16>,
     /// The rows of pixels of each triangle.
     rows: Vec<RowSpan>,
@@ -162,7 +162,7 @@ impl DrawList {
         requires { number < length self.now.triangles }
         ensures { slice_get self.now.triangles number ≡ Some result }
     {
-        let draw = usize::from(self.owners[number]);
+        let draw = owner(&self.starts, &self.owners, number);
         self.draws[draw].triangle(number - self.starts[draw] as usize)
     }
 

@@ -1,4 +1,4 @@
-ghost use Rattle.std.specs.Prelude.{◌≡◌, ◌<◌, ◌≤◌, length, slice_index, IfOk, sum_by};
+ghost use Rattle.std.specs.Prelude.{◌≡◌, ◌+◌, ◌<◌, ◌≤◌, length, slice_index, IfOk, sum_by};
 ghost use Rattle.std.specs.List.Sorted.{IsNonDecreasing};
 ghost use Rattle.list.specs.Primitives.{primitive_listing, count_of_triangles};
 ghost use Rattle.list.specs.Starts.{AreStarts, IsOwner, AreOwners};
@@ -30,7 +30,10 @@ fn draw_of(starts: &[u32], number: usize) -> usize
     starts.partition_point(|start| (*start as usize) <= number) - 1
 }
 
-/// The draw of each of so many triangles, by the number of each draw's first triangle.
+/// How many triangles lie from one entry of a table of owners to the next.
+const STEP: usize = 16;
+
+/// The draws of every sixteenth of so many triangles, by the number of each draw's first triangle.
 pub(crate) fn owners_of(
     alloc: Global,
     starts: &[u32],
@@ -38,13 +41,35 @@ pub(crate) fn owners_of(
 ) -> Result<Vec<u16>, AllocError>
     requires some { 0 < triangles → 0 < length starts.now }
     requires few { length starts.now ≤ 1024 }
+    requires many { triangles ≤ 65536 }
     requires first { slice_index starts.now 0 ≡ 0 }
     requires ascending { IsNonDecreasing starts.now }
     ensures { IfOk result (λ owners. AreOwners starts.now triangles owners.items) }
 {
-    let mut owners = Vec::with_capacity(alloc, triangles)?;
-    for number in 0..triangles {
-        owners.push(draw_of(starts, number) as u16)?;
+    let entries = if triangles == 0 {
+        0
+    } else {
+        triangles / STEP + 2
+    };
+    let mut owners = Vec::with_capacity(alloc, entries)?;
+    for entry in 0..entries {
+        owners.push(draw_of(starts, STEP * entry) as u16)?;
     }
     Ok(owners)
+}
+
+/// The draw of the triangle of this number. Where the entries of the table before and behind it are the same, that is it, and else
+/// it is searched for.
+pub(crate) fn owner(starts: &[u32], owners: &[u16], number: usize) -> usize
+    requires owners { AreOwners starts.now (number + 1) owners.now }
+    requires first { slice_index starts.now 0 ≡ 0 }
+    requires ascending { IsNonDecreasing starts.now }
+    ensures { IsOwner starts.now number result }
+{
+    let before = owners[number / STEP];
+    if before == owners[number / STEP + 1] {
+        usize::from(before)
+    } else {
+        draw_of(starts, number)
+    }
 }

@@ -1,5 +1,9 @@
-use Rattle.list.specs.Starts.{AreOwners}
+use Rattle.std.proofs.Common.{◌≡◌, ℕ, ◌*◌, ◌<◌, length, slice_index}
+use Rattle.list.specs.Starts.{IsOwner}
 use Rattle.list.proofs.starts.owners_of.Given as goal
 
-abbrev pub invariant-loop-number : goal.invariant-loop-number
-invariant-loop-number l = AreOwners l.starts l.number l.owners.items
+abbrev pub invariant-loop-entry : goal.invariant-loop-entry
+invariant-loop-entry l = record {
+  size : length l.owners.items ≡ l.entry;
+  each : (group : ℕ) → group < l.entry → IsOwner l.starts (16 * group) (slice_index l.owners.items group);
+}

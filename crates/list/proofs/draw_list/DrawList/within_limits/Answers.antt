@@ -1,8 +1,14 @@
 use Rattle.std.proofs.Common.{◌≡◌, length, arith}
 use Rattle.list.specs.Listing.{listing_of, scene_of}
+use Rattle.list.proofs.Numbering.{length-triangles, most_triangles}
 use Rattle.list.proofs.Spans.{length-rows}
 use Rattle.list.proofs.Starting.{ascending}
 use Rattle.list.proofs.draw_list.DrawList.within_limits.Goals as goal
+
+pub owners_of-requires-clause-many : goal.owners_of-requires-clause-many
+owners_of-requires-clause-many c =
+    let rows = rw c.deref-2.ensures.value at c.in_ok-rows.ensures in
+    omega (arith, most_triangles c.args.draws.items c.requires.draws.triangles, length-triangles c.args.draws.items, length-rows _ _ rows, c.len.ensures, c.in_ok-rows.rows.ok.0)
 
 pub owners_of-requires-clause-ascending : goal.owners_of-requires-clause-ascending
 owners_of-requires-clause-ascending c = rw c.deref-3.ensures.value (ascending _ _ c.in_ok-starts.ensures)
