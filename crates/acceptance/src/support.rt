@@ -24,10 +24,23 @@ pub(crate) const HALF: &str =
 
 /// Its file: row j has white pixels 0 to 63 - j. The header has 13 bytes, and a row 195.
 pub(crate) fn half(alloc: Global) -> Result<Vec<u8>, AllocError> {
-    let mut bytes = Vec::from_slice(alloc, b"P6\n65 65\n255\n")?;
-    for row in 0..65u32 {
-        for column in 0..65u32 {
-            let level = if column + row <= 63 { 255 } else { 0 };
+    white_before(alloc, b"P6\n65 65\n255\n", 65, 65, 64)
+}
+
+/// The file with this header of a black picture of this size, in which the first pixels of each row are white: this many in row 0,
+/// and one less in each row below.
+pub(crate) fn white_before(
+    alloc: Global,
+    header: &[u8],
+    width: u32,
+    height: u32,
+    first: u32,
+) -> Result<Vec<u8>, AllocError> {
+    let mut bytes = Vec::from_slice(alloc, header)?;
+    for row in 0..height {
+        let white = first.saturating_sub(row);
+        for column in 0..width {
+            let level = if column < white { 255 } else { 0 };
             bytes.extend_from_slice(&[level, level, level])?;
         }
     }

@@ -7,9 +7,10 @@ use Rattle.list.specs.Picture.{IsPart}
 use Rattle.list.specs.Scene.{Scene}
 use Rattle.list.proofs.Parts.{part-append}
 use Rattle.list.proofs.Pixels.{bytes_of_none}
-use Rattle.bins.specs.Grid.{TileGrid, tiles_over}
+use Rattle.bins.specs.Grid.{TileGrid, rows_of, tiles_over}
 use Rattle.trirast.specs.Band.{AddsBand, AddsBands}
 use Rattle.trirast.specs.File.{header_of, IsPictureFile}
+use Rattle.trirast.specs.Strip.{strip_begin}
 use Rattle.trirast.proofs.Strips.{strip_before, strip_next, strips_all}
 
 no_rows : (l : Scene) (y height : ℕ) → height ≡ 0 → IsPart l 0 y l.width height []
@@ -22,26 +23,45 @@ no_bands l side row bytes = record { bands = []; are = no_rows l (side_of side *
 pub adds_of : (l l' : Scene) (g g' : TileGrid) (row row' : ℕ) (old new : List ℕ) → l' ≡ l → g' ≡ g → row' ≡ row → AddsBand l' g' row' old new → AddsBand l g row old new
 adds_of l l' g g' row row' old new e f h band = rw (← e, ← f, ← h) band
 
+-- bands behind those above them
+pub bands_behind : (l : Scene) (side : TileSide) (first row end : ℕ) (old bytes new : List ℕ) → first ≤ row → row ≤ end → row < tiles_over l.height side
+    → AddsBands l side first row old bytes → AddsBands l side row end bytes new → AddsBands l side first end old new
+bands_behind l side first row end old bytes new order order' within above h =
+    let begin : ℕ = side_of side * row in
+    let top : min l.height begin ≡ begin = strip_before row l.height side within in
+    let low : side_of side * first ≤ begin = mul-le-mul_left (side_of side) order in
+    let more : begin ≤ side_of side * end = mul-le-mul_left (side_of side) order' in
+    let high : ℕ = min l.height (side_of side * end) - begin in
+    let upper : min l.height begin - side_of side * first ≡ begin - side_of side * first = ap (λ n. n - side_of side * first) top in
+    let below : begin ≡ side_of side * first + (begin - side_of side * first) = omega arith in
+    let a = subst (λ n. IsPart l 0 (side_of side * first) l.width n above.bands) upper above.are in
+    let b = subst (λ y. IsPart l 0 y l.width high h.bands) below h.are in
+    let both = part-append l 0 (side_of side * first) l.width (begin - side_of side * first) high above.bands h.bands a b in
+    let sum : (begin - side_of side * first) + high ≡ min l.height (side_of side * end) - side_of side * first = omega arith in
+    record {
+      bands = above.bands ++ h.bands;
+      are = subst (λ n. IsPart l 0 (side_of side * first) l.width n (above.bands ++ h.bands)) sum both;
+      behind = h.behind ∙ (ap (λ xs. xs ++ h.bands) above.behind ∙ append_assoc old above.bands h.bands);
+    }
+
 -- one band more
 pub band_next : (l : Scene) (g : TileGrid) (first row : ℕ) (old bytes new : List ℕ) → g.height ≡ l.height → first ≤ row → row < tiles_over l.height g.side
     → AddsBands l g.side first row old bytes → AddsBand l g row bytes new → AddsBands l g.side first (row + 1) old new
 band_next l g first row old bytes new same order within above h =
     let side : ℕ = side_of g.side in
-    let before : min l.height (side * row) ≡ side * row = strip_before row l.height g.side within in
     let next : min l.height (side * (row + 1)) ≡ side * row + (min l.height (side * row + side) - side * row) = strip_next row l.height g.side within in
-    let low : side * first ≤ side * row = mul-le-mul_left side order in
-    let upper : min l.height (side * row) - side * first ≡ side * row - side * first = ap (λ n. n - side * first) before in
-    let below : side * row ≡ side * first + (side * row - side * first) = omega arith in
-    let high : min g.height (side * row + side) - side * row ≡ min l.height (side * row + side) - side * row = ap (λ n. min n (side * row + side) - side * row) same in
-    let a = subst (λ n. IsPart l 0 (side * first) l.width n above.bands) upper above.are in
-    let b = subst (λ y. IsPart l 0 y l.width (min l.height (side * row + side) - side * row) h.band) below (subst (λ n. IsPart l 0 (side * row) l.width n h.band) high h.is) in
-    let both = part-append l 0 (side * first) l.width (side * row - side * first) (min l.height (side * row + side) - side * row) above.bands h.band a b in
-    let sum : (side * row - side * first) + (min l.height (side * row + side) - side * row) ≡ min l.height (side * (row + 1)) - side * first = omega arith in
-    record {
-      bands = above.bands ++ h.band;
-      are = subst (λ n. IsPart l 0 (side * first) l.width n (above.bands ++ h.band)) sum both;
-      behind = h.behind ∙ (ap (λ xs. xs ++ h.band) above.behind ∙ append_assoc old above.bands h.band);
-    }
+    let high : min g.height (side * row + side) - side * row ≡ min l.height (side * (row + 1)) - side * row = ap (λ n. min n (side * row + side) - side * row) same ∙ omega arith in
+    let one : AddsBands l g.side row (row + 1) bytes new = record { bands = h.band; are = subst (λ n. IsPart l 0 (side * row) l.width n h.band) high h.is; behind = h.behind } in
+    bands_behind l g.side first row (row + 1) old bytes new order (omega arith) within above one
+
+-- a strip of one row of tiles by what its parts are called
+pub band_of_one : (l l' : Scene) (g g' : TileGrid) (together row row' : ℕ) (old new : List ℕ) → l' ≡ l → g' ≡ g → together ≡ 1 → row' ≡ row → row < rows_of g
+    → AddsBands l' g'.side (strip_begin g' together row') (strip_begin g' together (row' + 1)) old new → AddsBands l g.side row (row + 1) old new
+band_of_one l l' g g' together row row' old new d e one f within h =
+    let here : AddsBands l g.side (strip_begin g together row) (strip_begin g together (row + 1)) old new = rw (← d, ← e, ← f) h in
+    let first : strip_begin g together row ≡ row = rw one (omega arith) in
+    let end : strip_begin g together (row + 1) ≡ row + 1 = rw one (omega arith) in
+    subst (λ n. AddsBands l g.side n (row + 1) old new) first (subst (λ n. AddsBands l g.side (strip_begin g together row) n old new) end here)
 
 -- all bands behind the header are the file
 pub file_of_bands : (l : Scene) (side : TileSide) (rows : ℕ) (header file : List ℕ) → tiles_over l.height side ≤ rows → header ≡ header_of l.output l.width l.height → AddsBands l side 0 rows header file → IsPictureFile l file

@@ -1,8 +1,6 @@
 -- A tile by its column and its row, and the runs that it adds to the rows of its band.
-use Rattle.std.proofs.Common.{◌≡◌, ◌⊎◌, inl, inr, refl, sym, ap, subst, ◌∙◌, ℕ, ◌+◌, ◌-◌, ◌*◌, ◌/◌, ◌%◌, ◌<◌, ◌≤◌, min, zero, suc, List, [], ◌∷◌, ◌++◌, length, slice_get, Some, Result, Ok, Err, IfOk, zero-add, append_assoc, append-nil, length-append, arith}
+use Rattle.std.proofs.Common.{◌≡◌, ◌⊎◌, inl, inr, refl, sym, ap, subst, ◌∙◌, ℕ, ◌+◌, ◌-◌, ◌*◌, ◌/◌, ◌%◌, ◌<◌, ◌≤◌, min, List, [], ◌++◌, Result, Ok, Err, IfOk, zero-add, append_assoc, append-nil, length-append, arith}
 use Rattle.std.proofs.lemmas.Bool.{cases_lt}
-use Rattle.std.proofs.lemmas.List.{length_push}
-use Rattle.std.proofs.lemmas.Option.{none-some, same_Some}
 use Rattle.std.proofs.lemmas.Nat.{same_from_place}
 use Rattle.std.proofs.Math.Nat.{mod-lt, div-add-mod'}
 use Rattle.std.proofs.lemmas.Int.{ints}
@@ -13,11 +11,10 @@ use Rattle.list.specs.Scene.{Scene}
 use Rattle.list.specs.Picture.{IsPixel, pixel_at}
 use Rattle.list.proofs.PixelPrefix.{prefix_run, empty_prefix, part_of_rows}
 use Rattle.list.proofs.Pixels.{bytes_of_both, bytes_of_none, same_pixel, pixel_before, pixel_behind}
-use Rattle.bins.specs.Bin.{TileBins, HasTile, AreBins}
 use Rattle.bins.specs.Grid.{TileGrid, columns_of, rect_at, rect_of, tiles_over}
 use Rattle.tile.specs.Picture.{AddsPixelRun, IsPictureIn}
 use Rattle.tile.specs.declared.drawing.TilePixels.{TilePixels}
-use Rattle.trirast.specs.Band.{AddsBand, AreColumns, IsColumn, band_height, band_top, column_left, column_width}
+use Rattle.trirast.specs.Band.{AddsBand, IsColumn, band_height, band_top, column_left, column_width}
 use Rattle.trirast.proofs.Strips.{strip_next, strip_before}
 
 -- the tile of this column and row has this number
@@ -51,12 +48,6 @@ pub column_of_answer : {E : Type 0} (l : Scene) (g : TileGrid) (row column k : �
     → IfOk answer (λ pixels. pixels.rect ≡ rect_of g k) → IfOk answer (λ pixels. IsPictureIn l pixels.rect pixels.bytes.items) → IfOk answer (IsColumn l g row column)
 column_of_answer l g row column k (Ok pixels) e h rect picture = column_of_tile l g row column k pixels e h rect picture
 column_of_answer l g row column k (Err e') e h rect picture = tt
-
-pub has_tile : (l : Scene) (g : TileGrid) (row column columns : ℕ) (b : TileBins) → columns ≡ columns_of g → column < columns_of g → AreBins l g row 1 b → HasTile b (row * columns + column)
-has_tile l g row column columns b e h bins =
-    let first : b.first ≡ row * columns = bins.first ∙ ap (λ n. row * n) (sym e) in
-    let number = bins.number in
-    record { from = omega arith; below = omega arith }
 
 -- two runs side by side
 module _ (l : Scene) (i j m n : ℕ) (a b : List ℕ) (h : IsPixelRun l i j m a) (k : IsPixelRun l (i + m) j n b) where
@@ -129,27 +120,3 @@ band_added l g row j old new all added = record {
   is = part_of_rows l 0 (band_top g row) l.width (band_height g row) added.rows (rw all at added.is);
   behind = added.behind;
 }
-
--- what holds of each item by its place holds with one more
-each_pushed : {X : Type 0} (P : ℕ → X → Type 0) (xs : List X) (x : X) → ((k : ℕ) (y : X) → slice_get xs k ≡ Some y → P k y) → P (length xs) x → (k : ℕ) (y : X) → slice_get (xs ++ x ∷ []) k ≡ Some y → P k y
-each_pushed P [] x each last zero y e = subst (P 0) (same_Some x y e) last
-each_pushed P [] x each last (suc k) y e = absurd (none-some y e)
-each_pushed P (z ∷ zs) x each last zero y e = each zero y e
-each_pushed P (z ∷ zs) x each last (suc k) y e = each_pushed (λ n. P (suc n)) zs x (λ n. each (suc n)) last k y e
-
--- The tiles of the first columns of a band, so many of them.
-pub record AreFirst (l : Scene) (g : TileGrid) (row many : ℕ) (tiles : List TilePixels) : Type 0 where
-  pub number : length tiles ≡ many
-  pub each : (column : ℕ) (pixels : TilePixels) → slice_get tiles column ≡ Some pixels → IsColumn l g row column pixels
-
-pub no_tiles : (l : Scene) (g : TileGrid) (row many : ℕ) (tiles : List TilePixels) → many ≡ 0 → tiles ≡ [] → AreFirst l g row many tiles
-no_tiles l g row many tiles none e =
-    rw (none, e) (record { number = refl; each = λ column pixels found. absurd (none-some pixels found) })
-
-pub tile_pushed : (l : Scene) (g : TileGrid) (row many : ℕ) (tiles new : List TilePixels) (pixels : TilePixels) → AreFirst l g row many tiles → IsColumn l g row many pixels → new ≡ tiles ++ pixels ∷ [] → AreFirst l g row (many + 1) new
-tile_pushed l g row many tiles new pixels first last e =
-    let last' : IsColumn l g row (length tiles) pixels = subst (λ n. IsColumn l g row n pixels) (sym first.number) last in
-    rw e (record { number = length_push tiles pixels ∙ ap (λ n. n + 1) first.number; each = each_pushed (IsColumn l g row) tiles pixels first.each last' })
-
-pub all_tiles : (l : Scene) (g : TileGrid) (row many : ℕ) (tiles : List TilePixels) → many ≡ columns_of g → AreFirst l g row many tiles → AreColumns l g row tiles
-all_tiles l g row many tiles e first = record { number = first.number ∙ e; each = first.each }

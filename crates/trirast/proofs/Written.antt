@@ -19,8 +19,9 @@ use Rattle.pool.specs.declared.fault.PoolFault.TheVariants.{NoWorker}
 use Rattle.trirast.specs.declared.fault.Fault.{Fault}
 use Rattle.trirast.specs.declared.fault.Fault.TheVariants.{OutOfMemory, Pool}
 use Rattle.tile.specs.declared.drawing.TilePixels.{TilePixels}
-use Rattle.trirast.specs.Band.{AreBands, AreColumns}
+use Rattle.trirast.specs.Band.{AreBands}
 use Rattle.trirast.specs.File.{header_of, file_of, IsPictureFile}
+use Rattle.trirast.specs.Strip.{AreTiles, AreTilesAbove, strip_begin, strip_rows}
 use Rattle.trirast.specs.Runs.{ExplainsOutput, WritesAll, WritesBands, WritesFileUpTo, bytes_before}
 use Rattle.trirast.proofs.Beginnings.{Appends-front}
 use Rattle.trirast.proofs.Strips.{begins_within, strip_before, strips_all}
@@ -58,11 +59,11 @@ pub record HasWritten (l : Scene) (side : TileSide) (row count : ℕ) (held held
   pub written : Appends held held_after (header_of l.output l.width l.height ++ rows)
   pub many : count ≡ length (header_of l.output l.width l.height) + length rows
 
-pub header_written : (l : Scene) (side : TileSide) (output : Output) (width height count : ℕ) (held held_after : Option (List ℕ)) → output ≡ l.output → width ≡ l.width → height ≡ l.height
-    → count ≡ length (header_of output width height) → Appends held held_after (header_of output width height) → HasWritten l side 0 count held held_after
-header_written l side output width height count held held_after d e f many written =
+pub header_written : (l : Scene) (side : TileSide) (begin : ℕ) (output : Output) (width height count : ℕ) (held held_after : Option (List ℕ)) → begin ≡ 0 → output ≡ l.output → width ≡ l.width → height ≡ l.height
+    → count ≡ length (header_of output width height) → Appends held held_after (header_of output width height) → HasWritten l side begin count held held_after
+header_written l side begin output width height count held held_after top d e f many written =
     let header : header_of output width height ≡ header_of l.output l.width l.height = rw (d, e, f) refl in
-    let none : min l.height (side_of side * 0) ≡ 0 = omega arith in
+    let none : min l.height (side_of side * begin) ≡ 0 = rw top (omega arith) in
     record {
       rows = [];
       part = rw none (no_rows l);
@@ -70,25 +71,40 @@ header_written l side output width height count held held_after d e f many writt
       many = many ∙ ap length header ∙ omega arith;
     }
 
--- before the next band all but the last one went out
-pub before_next : (l : Scene) (side : TileSide) (row count : ℕ) (held held_after : Option (List ℕ)) → HasWritten l side row count held held_after → HasWritten l side (row + 1 - 1) count held held_after
-before_next l side row count held held_after h = let back : row ≡ row + 1 - 1 = omega arith in subst (λ n. HasWritten l side n count held held_after) back h
+-- the header is short
+pub short_header : (l : Scene) (output : Output) (width height count : ℕ) → output ≡ l.output → width ≡ l.width → height ≡ l.height → count ≡ length (header_of output width height) → count ≤ 19
+    → length (header_of l.output l.width l.height) ≤ 19
+short_header l output width height count d e f many short =
+    let header : header_of output width height ≡ header_of l.output l.width l.height = rw (d, e, f) refl in
+    omega (arith, many, ap length header)
 
--- and behind the last row all but the last one
-pub behind_last : (l : Scene) (side : TileSide) (row rows count : ℕ) (held held_after : Option (List ℕ)) → row ≡ rows → HasWritten l side (row - 1) count held held_after → HasWritten l side (rows - 1) count held held_after
-behind_last l side row rows count held held_after e h = subst (λ n. HasWritten l side (n - 1) count held held_after) e h
+-- before the next strip all but the last one went out
+pub before_next : (l : Scene) (side : TileSide) (begin : ℕ → ℕ) (number count : ℕ) (held held_after : Option (List ℕ)) → HasWritten l side (begin number) count held held_after → HasWritten l side (begin (number + 1 - 1)) count held held_after
+before_next l side begin number count held held_after h = let back : number ≡ number + 1 - 1 = omega arith in subst (λ n. HasWritten l side (begin n) count held held_after) back h
 
--- the bytes of the band above by what its parts are called
-pub above_of : (l l' : Scene) (side side' : TileSide) (row row' : ℕ) (bytes : List ℕ) → l' ≡ l → side' ≡ side → row' ≡ row → AreBands l' side' (row' - 1) row' bytes → AreBands l side (row - 1) row bytes
-above_of l l' side side' row row' bytes e f h above = rw (← e, ← f, ← h) above
+-- and behind the last strip all but that one
+pub behind_last : (l : Scene) (side : TileSide) (begin : ℕ → ℕ) (number strips count : ℕ) (held held_after : Option (List ℕ)) → number ≡ strips → HasWritten l side (begin (number - 1)) count held held_after → HasWritten l side (begin (strips - 1)) count held held_after
+behind_last l side begin number strips count held held_after e h = subst (λ n. HasWritten l side (begin (n - 1)) count held held_after) e h
 
--- the bins of the band below by what its parts are called
-pub below_of : (l l' : Scene) (g g' : TileGrid) (row row' : ℕ) (bins : Option TileBins) → l' ≡ l → g' ≡ g → row' ≡ row → IfSome bins (AreBins l' g' (row' + 1) 1) → IfSome bins (AreBins l g (row + 1) 1)
-below_of l l' g g' row row' bins e f h below = rw (← e, ← f, ← h) below
+module _ (l l' : Scene) (g g' : TileGrid) (together together' number number' : ℕ) (d : l' ≡ l) (e : g' ≡ g) (f : together' ≡ together) (h : number' ≡ number) where
+  -- the bytes of the strip above by what its parts are called
+  pub above_of : (side : TileSide) (bytes : List ℕ) → g.side ≡ side → AreBands l' g'.side (strip_begin g' together' (number' - 1)) (strip_begin g' together' number') bytes
+      → AreBands l side (strip_begin g together (number - 1)) (strip_begin g together number) bytes
+  above_of side bytes same above =
+      let here : AreBands l g.side (strip_begin g together (number - 1)) (strip_begin g together number) bytes = rw (← d, ← e, ← f, ← h) above in
+      subst (λ side. AreBands l side (strip_begin g together (number - 1)) (strip_begin g together number) bytes) same here
 
--- and the tiles of a band
-pub tiles_of : (l l' : Scene) (g g' : TileGrid) (row row' : ℕ) (tiles : List TilePixels) → l' ≡ l → g' ≡ g → row' ≡ row → AreColumns l' g' row' tiles → AreColumns l g row tiles
-tiles_of l l' g g' row row' tiles e f h are = rw (← e, ← f, ← h) are
+  -- the bins of the strip below by what its parts are called
+  pub below_of : (bins : Option TileBins) → IfSome bins (AreBins l' g' (strip_begin g' together' (number' + 1)) (strip_rows g' together' (number' + 1)))
+      → IfSome bins (AreBins l g (strip_begin g together (number + 1)) (strip_rows g together (number + 1)))
+  below_of bins below = rw (← d, ← e, ← f, ← h) below
+
+  -- and the tiles of a strip, above the next one
+  pub tiles_of : (tiles : List TilePixels) → AreTiles l' g' (strip_begin g' together' number') (strip_begin g' together' (number' + 1)) tiles → AreTilesAbove l g together (number + 1) tiles
+  tiles_of tiles are some =
+      let here : AreTiles l g (strip_begin g together number) (strip_begin g together (number + 1)) tiles = rw (← d, ← e, ← f, ← h) are in
+      let back : number ≡ number + 1 - 1 = omega arith in
+      subst (λ n. AreTiles l g (strip_begin g together n) (strip_begin g together (number + 1)) tiles) back here
 
 module _ (l : Scene) (side : TileSide) (first count : ℕ) (held held' : Option (List ℕ)) (wide : 1 ≤ l.width) (within : first < tiles_over l.height side) (h : HasWritten l side first count held held') where
   abbrev header : List ℕ

@@ -1,13 +1,11 @@
 -- One row of tiles, and the rows of pixels in it.
-use Rattle.std.specs.Prelude.{◌≡◌, ℕ, ◌+◌, ◌-◌, ◌*◌, List, ◌++◌, length, min, slice_get, Some, IfOk, IfSome}
+use Rattle.std.specs.Prelude.{◌≡◌, ℕ, ◌+◌, ◌-◌, ◌*◌, List, ◌++◌, length, min, slice_get, Some}
 use Rattle.grid.specs.Pixels.{side_of}
 use Rattle.grid.specs.declared.pixels.TileSide.{TileSide}
 use Rattle.list.specs.Picture.{IsPart}
 use Rattle.list.specs.Scene.{Scene}
-use Rattle.bins.specs.Bin.{AreBins}
 use Rattle.bins.specs.Grid.{TileGrid, columns_of, rect_at}
 use Rattle.tile.specs.declared.drawing.TilePixels.{TilePixels}
-use Rattle.trirast.specs.declared.band.Beside.{Beside}
 
 -- The first row of pixels of a band.
 abbrev pub band_top : TileGrid → ℕ → ℕ
@@ -53,8 +51,3 @@ pub record AddsBands (l : Scene) (side : TileSide) (first end : ℕ) (old new : 
   pub bands : List ℕ
   pub are : AreBands l side first end bands
   pub behind : new ≡ old ++ bands
-
--- What is made while a band is drawn: the bytes of the band above, and the bins of the band below.
-pub record IsBeside (l : Scene) (g : TileGrid) (row : ℕ) (beside : Beside) : Type 0 where
-  pub above : IfOk beside.above (λ bytes. AreBands l g.side (row - 1) row bytes.items)
-  pub below : IfSome beside.below (AreBins l g (row + 1) 1)

@@ -5,3 +5,4 @@ pub mod Runs
 pub mod Words
 pub mod Program
 pub mod Band
+pub mod Strip

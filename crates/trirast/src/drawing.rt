@@ -4,8 +4,8 @@ ghost use Rattle.bins.specs.Grid.{tiles_over};
 ghost use Rattle.trirast.specs.Band.{AreBands, AddsBands};
 ghost use Rattle.trirast.specs.File.{IsPictureFile};
 
-use crate::band::Band;
 use crate::header::{HEADER_BYTES, file_header};
+use crate::strip::Strip;
 use bins::Tiling;
 use grid::{OutOfMemory, TileSide};
 use list::DrawList;
@@ -36,7 +36,7 @@ fn push_bands(
     let tiling = Tiling::new(list.width(), list.height(), tile);
     let mut store = Store::new(alloc, tile, list.count())?;
     for row in first..end {
-        Band::new(list, &tiling, row).push_alone(alloc, &mut store, bytes)?;
+        Strip::new(list, &tiling, 1, row).push_alone(alloc, &mut store, bytes)?;
     }
     Ok(())
 }

@@ -8,13 +8,13 @@ ghost use Rattle.list.specs.Json.{json_of};
 ghost use Rattle.list.specs.FirstFault.{IsFirstFault};
 ghost use Rattle.trirast.specs.Runs.{WritesAll, WritesFile, EndsAs, ExplainsOutput};
 
-use crate::band::{Band, Beside, join_above};
 use crate::counted::Counted;
 use crate::fault::Fault;
 use crate::header::write_header;
 use crate::input::read_input;
 use crate::line::Options;
 use crate::ppm::ppm_rows;
+use crate::strip::{Beside, Strip, rows_together};
 use bins::Tiling;
 use list::{DrawList, MOST_BYTES, ReadFault, ReadKind, read};
 use pool::{Gate, Open};
@@ -41,8 +41,8 @@ pub fn read_list(alloc: Global, bytes: &[u8]) -> Result<DrawList, Fault>
     }
 }
 
-/// Writes the header and then band after band, from the top, and answers how many bytes went out. Of the picture only one band
-/// stands in memory at a time.
+/// Writes the header and then strip after strip, from the top, and answers how many bytes went out. Of the picture only one strip
+/// stands in memory at a time, and the tiles of the one above.
 fn write_bands<R: Threads + Wait + Sync, W: Write, G: Gate>(
     rt: &R,
     alloc: Global,
@@ -59,7 +59,8 @@ fn write_bands<R: Threads + Wait + Sync, W: Write, G: Gate>(
     ensures same_failures { OnOk result (output.new.failures ≡ output.old.failures) }
 {
     let tiling = Tiling::new(list.width(), list.height(), options.tile);
-    let most_rows = options.tile.pixels().min(list.height());
+    let together = rows_together(&tiling, options.workers);
+    let most_rows = (together * options.tile.pixels()).min(list.height());
     let most_bytes = list.output().pixel_bytes() * list.width() * most_rows;
     let mut bytes = Vec::with_capacity(alloc, most_bytes as usize)?;
     let mut written = match write_header(list.output(), list.width(), list.height(), output) {
@@ -68,9 +69,10 @@ fn write_bands<R: Threads + Wait + Sync, W: Write, G: Gate>(
     };
     let mut tiles = Vec::new(alloc);
     let mut bins = None;
-    for row in 0..tiling.rows() {
-        let band = Band::new(list, &tiling, row);
-        let (drawn, Beside { above, below }) = band.draw(
+    let count = tiling.rows().div_ceil(together);
+    for number in 0..count {
+        let strip = Strip::new(list, &tiling, together, number);
+        let (drawn, Beside { above, below }) = strip.draw(
             rt,
             alloc,
             options.workers,
@@ -84,11 +86,11 @@ fn write_bands<R: Threads + Wait + Sync, W: Write, G: Gate>(
             Ok(written) => written,
             Err(fault) => return Err(Fault::WriteFailed(fault.written)),
         };
-        // Only now, so that the band above the one that was not drawn went out.
+        // Only now, so that the strip above the one that was not drawn went out.
         tiles = drawn?;
         bins = below;
     }
-    let last = join_above(list, &tiling, tiling.rows(), tiles, bytes)?;
+    let last = Strip::join_above(list, &tiling, together, count, tiles, bytes)?;
     match ppm_rows(&last, written, output) {
         Ok(written) => Ok(written),
         Err(fault) => Err(Fault::WriteFailed(fault.written)),

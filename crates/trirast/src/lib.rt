@@ -12,6 +12,7 @@ mod line;
 mod ppm;
 mod program;
 mod sending;
+mod strip;
 mod telling;
 mod words;
 
