@@ -17,6 +17,9 @@ use tile::{Store, TilePixels, render};
 /// picture has with tiles of 32 pixels.
 const MOST_PIXELS: u32 = 131_072;
 
+/// In how many strips a picture is drawn at least, where it has as many bands: the whole of it never stands in memory.
+const LEAST_STRIPS: u32 = 8;
+
 /// How many rows of tiles this many workers draw together. Threads are started and joined for each strip, so several workers draw
 /// more than one band of a picture that is not wide. One worker draws band by band.
 pub(crate) fn rows_together(tiling: &Tiling, workers: u32) -> u32
@@ -27,7 +30,8 @@ pub(crate) fn rows_together(tiling: &Tiling, workers: u32) -> u32
         return 1;
     }
     let band = tiling.width() * tiling.side().pixels();
-    (MOST_PIXELS / band).clamp(1, 512)
+    let most = (tiling.rows() / LEAST_STRIPS).max(1);
+    (MOST_PIXELS / band).clamp(1, most)
 }
 
 /// A strip: rows of tiles one below the other that are drawn together. From the top each strip has so many of them, and the last one
