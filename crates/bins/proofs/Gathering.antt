@@ -1,5 +1,5 @@
 -- The runs of triangles, one triangle and one row of tiles after another.
-use Rattle.std.proofs.Common.{◌≡◌, ◌⊎◌, inl, inr, refl, sym, ap, ◌∙◌, subst, ℕ, zero, suc, true, cond, ◌+◌, ◌-◌, ◌*◌, ◌/◌, ◌%◌, ◌^◌, ◌<◌, ◌≤◌, List, [], ◌∷◌, ◌++◌, length, get_or, slice_get, slice_index, Some, IfSome, ◌≤ℤ◌, arith}
+use Rattle.std.proofs.Common.{◌≡◌, ◌⊎◌, inl, inr, refl, sym, ap, ◌∙◌, subst, ℕ, zero, suc, true, cond, ◌+◌, ◌-◌, ◌*◌, ◌/◌, ◌%◌, ◌^◌, ◌<◌, ◌≤◌, List, [], ◌∷◌, ◌++◌, length, get_or, slice_get, slice_index, Some, arith}
 use Rattle.std.specs.List.{All, Contains}
 use Rattle.std.specs.List.Sorted.{IsStrictlyIncreasing}
 use Rattle.std.proofs.lemmas.List.{length_push, get_or_append_left, get_or_push}
@@ -250,28 +250,12 @@ module _ (t : Placed) (count : SampleCount) (i j s : ℕ) (e : Extent) (in_width
       let columns = in_columns in
       record { left = omega (arith, ints, are.left, columns.0); top = omega (arith, ints, are.top, rows.0); right = omega (arith, ints, are.right, columns.1); bottom = omega (arith, ints, are.bottom, rows.1) }
 
--- a triangle meets samples in its extent and its scissor alone
-pub meets_inside : (l : Scene) (n : ℕ) (e : Extent) (pixels scissor rect : PixelBox) → IfSome (slice_get l.triangles n) (λ t. IsExtent t e) → AreItsPixels e pixels → IfSome (slice_get l.triangles n) (λ t. t.state.scissor ≡ scissor)
-    → ((i j : ℕ) → IsInBox pixels i j → IsInBox scissor i j → IsInBox rect i j) → MeetsInside l n rect
-meets_inside l n e pixels scissor rect extent are same both t i j s at in_width in_height is_sample meets =
-    both i j (in_pixels t l.count i j s e in_width in_height is_sample (rw at at extent) meets pixels are) (subst (λ (r : PixelBox). IsInBox r i j) (rw at at same) meets.in_scissor)
-
 some_columns : (columns rows tile : ℕ) → tile < rows * columns → 0 < columns
 some_columns zero rows tile h = absurd (omega (arith, h))
 some_columns (suc columns) rows tile h = omega arith
 
 above : (a b : ℕ) → a < b → a + 1 ≤ b
 above a b h = omega arith
-
--- and none at all where there is no pixel
-pub met_nowhere : (l : Scene) (n : ℕ) (g : TileGrid) (first_row rows : ℕ) (rect : PixelBox) → IsWithinLimits g → MeetsInside l n rect → rect.x1 ≤ℤ rect.x0
-    → (t : Placed) (tile : ℕ) → slice_get l.triangles n ≡ Some t → tile < rows * columns_of g → ¬ MeetsRect t l.count (rect_of g (first_row * columns_of g + tile))
-met_nowhere l n g first_row rows rect limits inside none t tile e below meets =
-    let k : ℕ = first_row * columns_of g + tile in
-    let across = column_of g (k % columns_of g) (k / columns_of g) meets.column meets.row meets.inside in
-    let along = row_of g (k % columns_of g) (k / columns_of g) meets.column meets.row meets.inside in
-    let here = inside t meets.column meets.row meets.sample e (omega (arith, across.within, limits.width)) (omega (arith, along.within, limits.height)) meets.is_sample meets.meets in
-    omega (arith, ints, here.left, here.right)
 
 -- the triangle has no sample in the rows before its extent or after it
 pub missed_rows : (t : Placed) (count : SampleCount) (g : TileGrid) (first_row rows tile : ℕ) (e : Extent) → IsWithinLimits g → IsExtent t e

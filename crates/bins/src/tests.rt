@@ -193,8 +193,7 @@ fn scattered() -> [[(i32, i32); 3]; 24] {
     triangles
 }
 
-/// Whether the triangle is drawn, its box cut to its scissor has pixels of tile `k`, and it is not seen to miss the tile, which is
-/// not asked where the box has pixels of this tile alone.
+/// Whether the triangle is drawn, its box cut to its scissor has pixels of tile `k`, and it is not seen to miss the tile.
 fn belongs(triangle: &Placed, count: SampleCount, tiling: &Tiling, k: u32) -> bool {
     let Some(setup) = Setup::new(&triangle.tri, triangle.state.cull) else {
         return false;
@@ -208,12 +207,9 @@ fn belongs(triangle: &Placed, count: SampleCount, tiling: &Tiling, k: u32) -> bo
     let side = tiling.side().pixels() as i32;
     let (left, top) = (8 * bx as i32, 8 * by as i32);
     let (bounds, scissor) = (setup.bounds(), triangle.state.scissor);
-    let (x0, x1) = (bounds.x0.max(scissor.x0), bounds.x1.min(scissor.x1));
-    let (y0, y1) = (bounds.y0.max(scissor.y0), bounds.y1.min(scissor.y1));
-    let is_alone = left <= x0 && x1 <= left + side && top <= y0 && y1 <= top + side;
-    (class != Class::Out || is_alone)
-        && left.max(x0) < (left + side).min(x1)
-        && top.max(y0) < (top + side).min(y1)
+    class != Class::Out
+        && left.max(bounds.x0).max(scissor.x0) < (left + side).min(bounds.x1).min(scissor.x1)
+        && top.max(bounds.y0).max(scissor.y0) < (top + side).min(bounds.y1).min(scissor.y1)
 }
 
 #[test]

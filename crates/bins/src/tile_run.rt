@@ -1,5 +1,5 @@
 //! Runs of tiles that triangles can meet.
-ghost use Rattle.std.specs.Prelude.{◌≡◌, ℕ, ◌+◌, ◌*◌, ◌<◌, ◌≤◌, ◌≤ℤ◌, ◌^◌, length, IfOk, OnOk, IsTrue};
+ghost use Rattle.std.specs.Prelude.{◌≡◌, ℕ, ◌+◌, ◌*◌, ◌<◌, ◌≤◌, ◌^◌, length, IfOk, OnOk, IsTrue};
 ghost use Rattle.bins.specs.Grid.{rows_of, IsWithinLimits};
 
 use crate::reach::{Columns, overlap};
@@ -73,25 +73,15 @@ fn has_row(rows: Span, top: u32, bottom: u32) -> bool
 
 ghost use Rattle.bins.specs.TileRuns.{AreTileRuns, MeetsInside};
 
-/// Whether a rectangle has no column of pixels.
-fn has_no_column(rect: &PixelBox) -> bool
-    ensures { IsTrue result → rect.now.x1 ≤ℤ rect.now.x0 }
-{
-    rect.x1 <= rect.x0
+/// Whether a rectangle of pixels is so small that its tiles are not worth a try of the triangle at each: it has at most as many
+/// columns and rows as a tile. Either answer is right.
+fn is_small(rect: &PixelBox, side: i64) -> bool {
+    i64::from(rect.x1) - i64::from(rect.x0) <= side
+        && i64::from(rect.y1) - i64::from(rect.y0) <= side
 }
 
-/// Whether all pixels of a rectangle on the screen lie in one tile of this side. Either answer is right: the triangle is then not
-/// tried at the tile.
-fn is_in_one_tile(rect: &PixelBox, side: u32) -> bool
-    requires { 0 < side }
-{
-    let (left, top) = (rect.x0.max(0) as u32, rect.y0.max(0) as u32);
-    let (right, bottom) = (rect.x1.max(1) as u32 - 1, rect.y1.max(1) as u32 - 1);
-    left / side == right / side && top / side == bottom / side
-}
-
-/// Appends the runs of the triangle of this number to those of the triangles before it. One that lies in one tile has that tile, and
-/// is not fetched.
+/// Appends the runs of the triangle of this number to those of the triangles before it. Where it lies in few tiles, it has all of
+/// them, and is not fetched.
 fn push_runs(
     list: &DrawList,
     number: u32,
@@ -108,9 +98,7 @@ fn push_runs(
 {
     let extent = list.extent(number as usize).pixels();
     let rect = overlap(&extent, &list.scissor(number as usize));
-    if has_no_column(&rect) {
-        Ok(())
-    } else if is_in_one_tile(&rect, tiling.side().pixels()) {
+    if is_small(&rect, i64::from(tiling.side().pixels())) {
         push_tiles(list, number, &rect, tiling, first_row, rows, runs)
     } else {
         push_reached(list, number, tiling, first_row, rows, runs)

@@ -1,5 +1,5 @@
 use grid::{Cull, PixelBox, Point, SampleCount};
-use list::{Draw, DrawList, Extent, ListFault, Output, Primitives, Span, State, Vertex};
+use list::{Draw, DrawList, ListFault, Output, Primitives, RowSpan, State, Vertex};
 use shade::{DepthTest, Merge, Sample, Shaded};
 use std::alloc::{AllocError, Global};
 use std::process::Abort;
@@ -131,89 +131,29 @@ fn numbers_triangles_over_all_draws(rt: HostRuntime) -> Result<(), Fail> {
     Ok(())
 }
 
-/// The extent of a triangle with these corners.
-fn extent(
-    rt: &impl Abort,
-    alloc: Global,
-    corners: [(i32, i32); 3],
-    cull: Cull,
-) -> Result<Extent, AllocError> {
-    let mut culled = draw(rt, alloc, corners, &[0])?;
-    culled.state.cull = cull;
-    let draws = vec![in alloc; culled]?;
+/// The rows of a triangle with these y.
+fn rows(rt: &impl Abort, alloc: Global, a: i32, b: i32, c: i32) -> Result<(u16, u16), AllocError> {
+    let corners = [(0, a), (256, b), (512, c)];
+    let draws = vec![in alloc; draw(rt, alloc, corners, &[0])?]?;
     let list = list(rt, alloc, draws);
     assert!(rt; list.triangles() > 0);
-    Ok(list.extent(0))
-}
-
-/// The rows of a triangle with these y, and the columns of one with these x.
-fn spans(
-    rt: &impl Abort,
-    alloc: Global,
-    a: i32,
-    b: i32,
-    c: i32,
-) -> Result<[(u16, u16); 2], AllocError> {
-    let Extent { rows, .. } = extent(rt, alloc, [(0, a), (256, b), (512, c)], Cull::None)?;
-    let Extent { columns, .. } = extent(rt, alloc, [(a, 0), (b, 256), (c, 512)], Cull::None)?;
-    Ok([(rows.first, rows.end), (columns.first, columns.end)])
+    let RowSpan { first, end } = list.rows(0);
+    Ok((first, end))
 }
 
 #[test]
-fn tells_where_triangles_lie(rt: HostRuntime) -> Result<(), Fail> {
+fn tells_rows(rt: HostRuntime) -> Result<(), Fail> {
     let alloc = rt.alloc();
-    assert_eq!(rt; spans(&rt, alloc, 128, 128, 640)?, [(0, 3); 2]);
-    assert_eq!(rt; spans(&rt, alloc, 767, 256, 512)?, [(1, 3); 2]);
-    assert_eq!(rt; spans(&rt, alloc, 768, 255, 512)?, [(0, 4); 2]);
-    assert_eq!(rt; spans(&rt, alloc, -1, 256, 0)?, [(0, 2); 2]);
-    assert_eq!(rt; spans(&rt, alloc, -1, -256, -8_388_608)?, [(0, 0); 2]);
-    assert_eq!(rt; spans(&rt, alloc, 1_048_575, 1_048_576, 0)?, [(0, 4096); 2]);
+    assert_eq!(rt; rows(&rt, alloc, 128, 128, 640)?, (0, 3));
+    assert_eq!(rt; rows(&rt, alloc, 767, 256, 512)?, (1, 3));
+    assert_eq!(rt; rows(&rt, alloc, 768, 255, 512)?, (0, 4));
+    assert_eq!(rt; rows(&rt, alloc, -1, 256, 0)?, (0, 2));
+    assert_eq!(rt; rows(&rt, alloc, -1, -256, -8_388_608)?, (0, 0));
+    assert_eq!(rt; rows(&rt, alloc, 1_048_575, 1_048_576, 0)?, (0, 4096));
     assert_eq!(rt;
-        spans(&rt, alloc, 1_048_576, 8_388_607, 8_388_607)?,
-        [(4096, 4096); 2]
+        rows(&rt, alloc, 1_048_576, 8_388_607, 8_388_607)?,
+        (4096, 4096)
     );
-    Ok(())
-}
-
-#[test]
-fn tells_the_scissor_of_each_triangle(rt: HostRuntime) -> Result<(), Fail> {
-    let alloc = rt.alloc();
-    let corners = [(256, 256), (512, 256), (256, 512)];
-    let cut = PixelBox {
-        x0: 1,
-        y0: 2,
-        x1: 3,
-        y1: 4,
-    };
-    let mut second = draw(&rt, alloc, corners, &[0])?;
-    second.state.scissor = cut;
-    let draws = vec![in alloc; draw(&rt, alloc, corners, &[0, 1])?, second]?;
-    let list = list(&rt, alloc, draws);
-    assert_eq!(rt; list.triangles(), 3);
-    assert_eq!(rt; list.scissor(0), STATE.scissor);
-    assert_eq!(rt; list.scissor(1), STATE.scissor);
-    assert_eq!(rt; list.scissor(2), cut);
-    Ok(())
-}
-
-#[test]
-fn a_triangle_that_is_not_drawn_lies_nowhere(rt: HostRuntime) -> Result<(), Fail> {
-    let alloc = rt.alloc();
-    let nothing = Span { first: 0, end: 0 };
-    let clockwise = [(256, 256), (512, 256), (256, 512)];
-    let there = Extent {
-        columns: Span { first: 1, end: 3 },
-        rows: Span { first: 1, end: 3 },
-    };
-    let nowhere = Extent {
-        columns: nothing,
-        rows: nothing,
-    };
-    assert_eq!(rt; extent(&rt, alloc, clockwise, Cull::None)?, there);
-    assert_eq!(rt; extent(&rt, alloc, clockwise, Cull::Back)?, there);
-    assert_eq!(rt; extent(&rt, alloc, clockwise, Cull::Front)?, nowhere);
-    let level = [(256, 256), (512, 256), (768, 256)];
-    assert_eq!(rt; extent(&rt, alloc, level, Cull::None)?, nowhere);
     Ok(())
 }
 

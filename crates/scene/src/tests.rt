@@ -124,7 +124,7 @@ fn same(rt: &impl Abort, made: &DrawList, other: &DrawList) {
     for number in 0..made.triangles() {
         assert!(rt; number < other.triangles());
         assert_eq!(rt; made.triangle(number), other.triangle(number));
-        assert_eq!(rt; made.extent(number), other.extent(number));
+        assert_eq!(rt; made.rows(number), other.rows(number));
     }
 }
 

@@ -1,13 +1,9 @@
-use Rattle.bins.proofs.Gathering.{meets_inside, met_nowhere, runs_past}
+use Rattle.std.proofs.Common.{subst}
+use Rattle.grid.specs.Pixels.{IsInBox}
+use Rattle.grid.specs.declared.pixels.PixelBox.{PixelBox}
+use Rattle.bins.proofs.Gathering.{in_pixels}
 use Rattle.bins.proofs.tile_run.push_runs.Goals as goal
 
-pub returns-then-has_no_column : goal.returns-then-has_no_column
-returns-then-has_no_column c =
-    let list = c.args.list.now in
-    let inside = meets_inside list c.args.number c.extent.result c.pixels-extent.result c.scissor.result c.overlap-rect.result c.extent.ensures c.pixels-extent.ensures c.scissor.ensures c.overlap-rect.ensures in
-    runs_past list c.args.tiling.now c.args.first_row c.args.rows c.args.number c.args.runs.now.items c.requires.before
-    (met_nowhere list c.args.number c.args.tiling.now c.args.first_row c.args.rows c.overlap-rect.result c.requires.limits inside (c.has_no_column.ensures c.if-has_no_column.true))
-
 pub push_tiles-requires-clause-rect : goal.push_tiles-requires-clause-rect
-push_tiles-requires-clause-rect c =
-    meets_inside c.args.list.now c.args.number c.extent.result c.pixels-extent.result c.scissor.result c.overlap-rect.result c.extent.ensures c.pixels-extent.ensures c.scissor.ensures c.overlap-rect.ensures
+push_tiles-requires-clause-rect c = λ t i j s e in_width in_height is_sample meets.
+    c.overlap-rect.ensures i j (in_pixels t c.args.list.now.count i j s c.extent.result in_width in_height is_sample (rw e at c.extent.ensures) meets c.pixels-extent.result c.pixels-extent.ensures) (subst (λ (r : PixelBox). IsInBox r i j) (rw e at c.scissor.ensures) meets.in_scissor)
