@@ -8,25 +8,23 @@ use Rattle.std.proofs.lemmas.Bool.Decides.{nat_tests}
 use Rattle.std.proofs.lemmas.List.Elements.{All-nil, All-cons, All-head, All-tail, All-push, All-weaker, Contains-append_left, Contains-push}
 use Rattle.std.proofs.Math.Nat.{mul-le-mul, mul-le-mul_left, mul-le-mul_right, div-lt_iff_lt-mul, le-div_iff_mul-le}
 use Rattle.grid.specs.Pixels.{side_of, IsInBox}
-use Rattle.grid.specs.Samples.{count_of}
 use Rattle.grid.specs.declared.pixels.PixelBox.{PixelBox}
 use Rattle.grid.specs.declared.sample_count.SampleCount.{SampleCount}
 use Rattle.grid.specs.declared.triangle.Tri.{Tri}
 use Rattle.cover.specs.Bounds.{first_pixel, end_pixel, HoldsCovered}
 use Rattle.cover.proofs.Box.{box_holds}
-use Rattle.list.specs.Extent.{IsDropped, IsExtent, AreItsPixels}
-use Rattle.list.specs.declared.extent.Extent.{Extent}
+use Rattle.list.specs.Rows.{IsRowSpan}
+use Rattle.list.specs.declared.rows.RowSpan.{RowSpan}
 use Rattle.std.proofs.lemmas.Int.{ints, clamps}
 use Rattle.cover.specs.Rasterized.{IsRasterized}
 use Rattle.shade.specs.declared.placed.Placed.{Placed}
-use Rattle.shade.specs.Placed.{Meets}
 use Rattle.list.specs.Scene.{Scene}
 use Rattle.bins.specs.declared.reach.Columns.{Columns}
 use Rattle.bins.specs.declared.tile_run.TileRun.{TileRun}
 use Rattle.bins.specs.Bin.{MeetsRect}
 use Rattle.bins.specs.Grid.{TileGrid, columns_of, rows_of, rect_at, rect_of, IsWithinLimits}
 use Rattle.bins.specs.Reach.{HasColumn, ReachesTile, HaveReached}
-use Rattle.bins.specs.TileRuns.{has_tile, triangles_at, IsTileRunOver, IsVisitedBefore, AreTileRuns, MeetsInside}
+use Rattle.bins.specs.TileRuns.{has_tile, triangles_at, IsTileRunOver, IsVisitedBefore, AreTileRuns}
 use Rattle.bins.proofs.Tiles.{column_of, row_of, rect_of_place, few_tiles}
 use Rattle.bins.proofs.Placing.{triangles-push, triangles-has, triangles-has_not}
 
@@ -139,8 +137,8 @@ module _ (l : Scene) (g : TileGrid) (first_row rows : ℕ) where
       ];
     }
 
-    module _ (row : ℕ) (columns : Columns) (below : row < rows) (within : columns.end ≤ columns_of g)
-        (met : (t : Placed) (column : ℕ) → slice_get l.triangles n ≡ Some t → MeetsRect t l.count (rect_at g column (first_row + row)) → HasColumn columns column) (are : AreTileRuns l g first_row rows n row runs) where
+    module _ (row : ℕ) (t : Placed) (columns : Columns) (known : slice_get l.triangles n ≡ Some t) (below : row < rows) (within : columns.end ≤ columns_of g)
+        (met : (column : ℕ) → MeetsRect t l.count (rect_at g column (first_row + row)) → HasColumn columns column) (are : AreTileRuns l g first_row rows n row runs) where
       further : (run : TileRun) → (run.number < n) ⊎ ((run.number ≡ n) × (run.end ≤ row * columns_of g)) → (run.number < n) ⊎ ((run.number ≡ n) × (run.end ≤ (row + 1) * columns_of g))
       further run (inl h) = inl h
       further run (inr h) = inr (h.0, omega (arith, h.1))
@@ -151,7 +149,8 @@ module _ (l : Scene) (g : TileGrid) (first_row rows : ℕ) where
           let column : ℕ = tile - row * columns_of g in
           let place : first_row * columns_of g + tile ≡ (first_row + row) * columns_of g + column = omega arith in
           let rect : rect_of g (first_row * columns_of g + tile) ≡ rect_at g column (first_row + row) = ap (rect_of g) place ∙ rect_of_place g column (first_row + row) (omega arith) in
-          met other column e (rw rect at meets)
+          let same : other ≡ t = same_placed other t (sym e ∙ known) in
+          met column (rw (rect, same) at meets)
 
       pub row_empty : columns.end ≤ columns.first → AreTileRuns l g first_row rows n (row + 1) runs
       row_empty empty = record {
@@ -204,51 +203,13 @@ module _ (l : Scene) (g : TileGrid) (first_row rows : ℕ) where
 pub drawn_of_meets : (t : Placed) (count : SampleCount) (r : PixelBox) → MeetsRect t count r → IsRasterized t.tri t.state.cull
 drawn_of_meets t count r meets = record { area = meets.meets.covered.area; kept = meets.meets.kept }
 
--- what the columns of a row have that a triangle reaches
-pub met_columns : (l : Scene) (n : ℕ) (t : Placed) (count : SampleCount) (g : TileGrid) (row : ℕ) (setup : Tri) (bounds rect : PixelBox) (columns : Columns) → IsWithinLimits g → slice_get l.triangles n ≡ Some t → setup ≡ t.tri → count ≡ l.count
-    → HoldsCovered setup bounds → ((i j : ℕ) → IsInBox bounds i j → IsInBox t.state.scissor i j → IsInBox rect i j) → HaveReached setup count rect g row columns
-    → (other : Placed) (column : ℕ) → slice_get l.triangles n ≡ Some other → MeetsRect other l.count (rect_at g column row) → HasColumn columns column
-met_columns l n t count g row setup bounds rect columns limits known same same_count holds overlap have other column e meets =
-    let is : other ≡ t = same_placed other t (sym e ∙ known) in
-    let reaches = reaches_of_meets t l.count g column row bounds rect limits (subst (λ (s : Tri). HoldsCovered s bounds) same holds) overlap (rw is at meets) in
+-- what the columns of a row have
+pub met_columns : (t : Placed) (count count' : SampleCount) (g : TileGrid) (row : ℕ) (setup : Tri) (bounds rect : PixelBox) (columns : Columns) → IsWithinLimits g → setup ≡ t.tri → count' ≡ count
+    → HoldsCovered setup bounds → ((i j : ℕ) → IsInBox bounds i j → IsInBox t.state.scissor i j → IsInBox rect i j) → HaveReached setup count' rect g row columns
+    → (column : ℕ) → MeetsRect t count (rect_at g column row) → HasColumn columns column
+met_columns t count count' g row setup bounds rect columns limits same same_count holds overlap have column meets =
+    let reaches = reaches_of_meets t count g column row bounds rect limits (subst (λ (s : Tri). HoldsCovered s bounds) same holds) overlap meets in
     have column (rw (same, same_count) reaches)
-
--- and that have pixels of a rectangle beside which it meets no sample
-pub met_inside : (l : Scene) (n : ℕ) (g : TileGrid) (row : ℕ) (rect : PixelBox) (columns : Columns) → IsWithinLimits g → MeetsInside l n rect
-    → ((column i j : ℕ) → IsInBox (rect_at g column row) i j → IsInBox rect i j → HasColumn columns column)
-    → (t : Placed) (column : ℕ) → slice_get l.triangles n ≡ Some t → MeetsRect t l.count (rect_at g column row) → HasColumn columns column
-met_inside l n g row rect columns limits inside have t column e meets =
-    let across = column_of g column row meets.column meets.row meets.inside in
-    let along = row_of g column row meets.column meets.row meets.inside in
-    have column meets.column meets.row meets.inside (inside t meets.column meets.row meets.sample e (omega (arith, across.within, limits.width)) (omega (arith, along.within, limits.height)) meets.is_sample meets.meets)
-
--- a triangle that meets a sample is drawn
-kept_of_meets : (t : Placed) (count : SampleCount) (i j s : ℕ) → Meets t count i j s → ¬ IsDropped t
-kept_of_meets t count i j s meets (inl none) = meets.covered.area none
-kept_of_meets t count i j s meets (inr culled) = meets.kept culled
-
--- and the pixel is in its extent
-module _ (t : Placed) (count : SampleCount) (i j s : ℕ) (e : Extent) (in_width : i < 4096) (in_height : j < 4096) (is_sample : s < count_of count) (is : IsExtent t e) (meets : Meets t count i j s) where
-  holds : IsInBox (record { x0 = first_pixel t.tri.a.x t.tri.b.x t.tri.c.x; y0 = first_pixel t.tri.a.y t.tri.b.y t.tri.c.y; x1 = end_pixel t.tri.a.x t.tri.b.x t.tri.c.x; y1 = end_pixel t.tri.a.y t.tri.b.y t.tri.c.y }) i j
-  holds = box_holds t.tri _ (record { x0 = refl; y0 = refl; x1 = refl; y1 = refl }) count i j s in_width in_height is_sample meets.covered
-
-  pub in_rows : (e.rows.first ≤ j) × (j < e.rows.end)
-  in_rows =
-      let rows = is.rows (kept_of_meets t count i j s meets) in
-      let inside = holds in
-      (omega (arith, ints, rows.first, inside.top), omega (arith, ints, clamps, rows.end, inside.bottom))
-
-  pub in_columns : (e.columns.first ≤ i) × (i < e.columns.end)
-  in_columns =
-      let columns = is.columns (kept_of_meets t count i j s meets) in
-      let inside = holds in
-      (omega (arith, ints, columns.first, inside.left), omega (arith, ints, clamps, columns.end, inside.right))
-
-  pub in_pixels : (r : PixelBox) → AreItsPixels e r → IsInBox r i j
-  in_pixels r are =
-      let rows = in_rows in
-      let columns = in_columns in
-      record { left = omega (arith, ints, are.left, columns.0); top = omega (arith, ints, are.top, rows.0); right = omega (arith, ints, are.right, columns.1); bottom = omega (arith, ints, are.bottom, rows.1) }
 
 some_columns : (columns rows tile : ℕ) → tile < rows * columns → 0 < columns
 some_columns zero rows tile h = absurd (omega (arith, h))
@@ -257,10 +218,10 @@ some_columns (suc columns) rows tile h = omega arith
 above : (a b : ℕ) → a < b → a + 1 ≤ b
 above a b h = omega arith
 
--- the triangle has no sample in the rows before its extent or after it
-pub missed_rows : (t : Placed) (count : SampleCount) (g : TileGrid) (first_row rows tile : ℕ) (e : Extent) → IsWithinLimits g → IsExtent t e
-    → ((j : ℕ) → e.rows.first ≤ j → j < e.rows.end → side_of g.side * first_row ≤ j → j < side_of g.side * (first_row + rows) → ⊥) → tile < rows * columns_of g → ¬ MeetsRect t count (rect_of g (first_row * columns_of g + tile))
-missed_rows t count g first_row rows tile e limits is apart below meets =
+-- the triangle has no sample in the rows before its span or after it
+pub missed_rows : (t : Placed) (count : SampleCount) (g : TileGrid) (first_row rows tile : ℕ) (span : RowSpan) → IsWithinLimits g → IsRowSpan t.tri span
+    → ((j : ℕ) → span.first ≤ j → j < span.end → side_of g.side * first_row ≤ j → j < side_of g.side * (first_row + rows) → ⊥) → tile < rows * columns_of g → ¬ MeetsRect t count (rect_of g (first_row * columns_of g + tile))
+missed_rows t count g first_row rows tile span limits is apart below meets =
     let k : ℕ = first_row * columns_of g + tile in
     let row : ℕ = k / columns_of g in
     let wide : 0 < columns_of g = some_columns (columns_of g) rows tile below in
@@ -268,10 +229,13 @@ missed_rows t count g first_row rows tile e limits is apart below meets =
     let before : row < first_row + rows = (div-lt_iff_lt-mul wide).1 (omega arith) in
     let across = column_of g (k % columns_of g) row meets.column meets.row meets.inside in
     let along = row_of g (k % columns_of g) row meets.column meets.row meets.inside in
-    let inside = in_rows t count meets.column meets.row meets.sample e (omega (arith, across.within, limits.width)) (omega (arith, along.within, limits.height)) meets.is_sample is meets.meets in
+    let box : PixelBox = record { x0 = first_pixel t.tri.a.x t.tri.b.x t.tri.c.x; y0 = first_pixel t.tri.a.y t.tri.b.y t.tri.c.y; x1 = end_pixel t.tri.a.x t.tri.b.x t.tri.c.x; y1 = end_pixel t.tri.a.y t.tri.b.y t.tri.c.y } in
+    let inside = box_holds t.tri box (record { x0 = refl; y0 = refl; x1 = refl; y1 = refl }) count meets.column meets.row meets.sample (omega (arith, across.within, limits.width)) (omega (arith, along.within, limits.height)) meets.is_sample meets.meets.covered in
+    let least : span.first ≤ meets.row = omega (arith, ints, is.first, inside.top) in
+    let most : meets.row < span.end = omega (arith, ints, clamps, is.end, inside.bottom) in
     let low : side_of g.side * first_row ≤ side_of g.side * row = mul-le-mul_left (side_of g.side) from in
     let high : side_of g.side * (row + 1) ≤ side_of g.side * (first_row + rows) = mul-le-mul_left (side_of g.side) (above row (first_row + rows) before) in
-    apart meets.row inside.0 inside.1 (omega (arith, along.from)) (omega (arith, along.below))
+    apart meets.row least most (omega (arith, along.from)) (omega (arith, along.below))
 
 -- few runs in a picture's rows of tiles
 pub few_runs : (l : Scene) (g : TileGrid) (first_row rows : ℕ) (runs : List TileRun) → IsWithinLimits g → first_row + rows ≤ rows_of g → length l.triangles ≤ 65536

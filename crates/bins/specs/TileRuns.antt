@@ -2,11 +2,7 @@
 use Rattle.std.specs.Prelude.{◌≡◌, ◌⊎◌, ℕ, ◌+◌, ◌*◌, ◌<◌, ◌≤◌, Bool, ◌&&◌, nat_le, nat_lt, List, map, length, slice_get, Some}
 use Rattle.std.specs.List.{All, Contains, filter}
 use Rattle.std.specs.List.Sorted.{IsStrictlyIncreasing}
-use Rattle.grid.specs.Pixels.{IsInBox}
-use Rattle.grid.specs.Samples.{count_of}
-use Rattle.grid.specs.declared.pixels.PixelBox.{PixelBox}
 use Rattle.shade.specs.declared.placed.Placed.{Placed}
-use Rattle.shade.specs.Placed.{Meets}
 use Rattle.list.specs.Scene.{Scene}
 use Rattle.bins.specs.declared.tile_run.TileRun.{TileRun}
 use Rattle.bins.specs.Bin.{MeetsRect}
@@ -36,8 +32,3 @@ pub record AreTileRuns (l : Scene) (g : TileGrid) (first_row rows : ℕ) (n row 
   pub earlier : All (λ (run : TileRun). (run.number < n) ⊎ ((run.number ≡ n) × (run.end ≤ row * columns_of g))) runs
   pub ascending : (tile : ℕ) → IsStrictlyIncreasing (triangles_at runs tile)
   pub whole : (m tile : ℕ) (t : Placed) → IsVisitedBefore g n row m tile → tile < rows * columns_of g → slice_get l.triangles m ≡ Some t → MeetsRect t l.count (rect_of g (first_row * columns_of g + tile)) → Contains (triangles_at runs tile) m
-
--- The triangle of this number meets samples of pixels of the rectangle alone.
-abbrev pub MeetsInside : Scene → ℕ → PixelBox → Type 0
-MeetsInside l number rect =
-    (t : Placed) (i j s : ℕ) → slice_get l.triangles number ≡ Some t → i < 4096 → j < 4096 → s < count_of l.count → Meets t l.count i j s → IsInBox rect i j

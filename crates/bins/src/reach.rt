@@ -30,7 +30,7 @@ impl Columns {
     ghost use Rattle.bins.specs.Reach.{HasColumn, ReachesTile, HaveReached};
 
     /// The columns of the tiles of a row that have pixels of a rectangle.
-    pub(crate) fn of_rect(tiling: &Tiling, row: u32, rect: &PixelBox) -> Columns
+    fn of_rect(tiling: &Tiling, row: u32, rect: &PixelBox) -> Columns
         requires { row < rows_of tiling.now }
         ensures within { result.end ≤ columns_of tiling.now }
         ensures whole { (column i j : ℕ) → IsInBox (rect_at tiling.now column row) i j → IsInBox rect.now i j → HasColumn result column }

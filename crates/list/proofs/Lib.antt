@@ -5,7 +5,7 @@ pub mod Numbering
 pub mod Unique
 pub mod Pixels
 pub mod Parts
-pub mod Extents
+pub mod Spans
 pub mod Starting
 pub mod PixelPrefix
 pub mod Exists

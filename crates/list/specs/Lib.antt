@@ -1,7 +1,7 @@
 pub mod Primitives
 pub mod Listing
 pub mod Scene
-pub mod Extent
+pub mod Rows
 pub mod Starts
 pub mod Picture
 pub mod View

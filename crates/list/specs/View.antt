@@ -1,7 +1,7 @@
 use Rattle.std.specs.Prelude.{length}
 use Rattle.list.specs.declared.draw_list.DrawList.TheInside.{Inside}
 use Rattle.list.specs.Listing.{Listing, listing_of, scene_of, IsWithinLimits}
-use Rattle.list.specs.Extent.{AreExtents}
+use Rattle.list.specs.Rows.{AreRows}
 use Rattle.list.specs.Starts.{AreStarts, AreOwners}
 
 -- What a draw list in memory holds.
@@ -9,9 +9,9 @@ abbrev pub listing : Inside → Listing
 listing l = listing_of l.width l.height l.count l.clear l.output l.draws.items
 
 -- What each draw list keeps: the limits, and for the look-ups where each draw starts, the draw of every sixteenth triangle, and the
--- extent of each.
+-- rows of each.
 pub record IsKept (l : Inside) : Type 0 where
   pub limits : IsWithinLimits (listing l)
   pub starts : AreStarts l.draws.items l.starts.items
   pub owners : AreOwners l.starts.items (length (scene_of (listing l)).triangles) l.owners.items
-  pub extents : AreExtents (scene_of (listing l)).triangles l.extents.items
+  pub rows : AreRows (scene_of (listing l)).triangles l.rows.items

@@ -1,14 +1,13 @@
-ghost use Rattle.std.specs.Prelude.{◌≡◌, ◌↔◌, ◌<◌, ◌≤◌, [], length, slice_get, slice_index_or, Some, IfSome, IfOk};
-ghost use Rattle.list.specs.Listing.{listing_of, scene_of, draw_listing, placed, IsDrawWithinLimits, IsWithinLimits};
-ghost use Rattle.list.specs.Primitives.{primitive_listing, triangles_of, count_of_triangles};
-ghost use Rattle.list.specs.Extent.{IsExtent};
+ghost use Rattle.std.specs.Prelude.{◌≡◌, ◌↔◌, ◌<◌, ◌≤◌, length, slice_get, Some, IfSome, IfOk};
+ghost use Rattle.list.specs.Listing.{listing_of, scene_of, IsWithinLimits};
+ghost use Rattle.list.specs.Rows.{IsRowSpan};
 
 use crate::draw::Draw;
-use crate::extent::{Extent, extents_of};
 use crate::limits::{are_within_limits, is_side};
 use crate::output::Output;
+use crate::rows::{RowSpan, rows_of};
 use crate::starts::{owner, owners_of, starts_of};
-use grid::{OutOfMemory, PixelBox, SampleCount};
+use grid::{OutOfMemory, SampleCount};
 use shade::{Placed, Sample};
 use std::alloc::Global;
 use std::marker::Model;
@@ -28,8 +27,8 @@ pub struct DrawList {
     starts: Vec<u32>,
     /// The draw of every sixteenth triangle.
     owners: Vec<u16>,
-    /// Where on the screen each triangle lies.
-    extents: Vec<Extent>,
+    /// The rows of pixels of each triangle.
+    rows: Vec<RowSpan>,
 }
 
 /// Why no draw list was made.
@@ -96,8 +95,8 @@ impl DrawList {
         ensures { IfOk result (λ list. list ≡ scene_of (listing_of width height count clear output draws.items)) }
     {
         let starts = starts_of(alloc, &draws)?;
-        let extents = extents_of(alloc, &draws)?;
-        let owners = owners_of(alloc, &starts, extents.len())?;
+        let rows = rows_of(alloc, &draws)?;
+        let owners = owners_of(alloc, &starts, rows.len())?;
         Ok(DrawList {
             width,
             height,
@@ -107,7 +106,7 @@ impl DrawList {
             draws,
             starts,
             owners,
-            extents,
+            rows,
         })
     }
 
@@ -155,18 +154,7 @@ impl DrawList {
         ensures value { result ≡ length self.now.triangles }
         ensures greatest { result ≤ 65536 }
     {
-        self.extents.len()
-    }
-
-    /// The draw in which the triangle of this number stands, and its number there.
-    fn draw_of(&self, number: usize) -> (&Draw, usize)
-        requires { number < length self.now.triangles }
-        ensures within { result.1 < count_of_triangles (primitive_listing result.0.now.primitives) }
-        ensures limits { IsDrawWithinLimits (draw_listing result.0.now) }
-        ensures found { slice_get self.now.triangles number ≡ Some (placed (draw_listing result.0.now) (slice_index_or (triangles_of (primitive_listing result.0.now.primitives)) result.1 [])) }
-    {
-        let draw = owner(&self.starts, &self.owners, number);
-        (&self.draws[draw], number - self.starts[draw] as usize)
+        self.rows.len()
     }
 
     /// The triangle of this number in draw order: draw by draw, and in a draw as its primitives are listed.
@@ -174,25 +162,16 @@ impl DrawList {
         requires { number < length self.now.triangles }
         ensures { slice_get self.now.triangles number ≡ Some result }
     {
-        let (draw, local) = self.draw_of(number);
-        draw.triangle(local)
+        let draw = owner(&self.starts, &self.owners, number);
+        self.draws[draw].triangle(number - self.starts[draw] as usize)
     }
 
-    /// The pixels of the screen of the triangle of this number: the columns from that of the least x of its vertices to that of the
-    /// greatest, and the rows from that of the least y, where a coordinate by 256, rounded down, is its pixel. They may begin and end
-    /// beyond the picture, whose size does not cut them. There are none of a triangle whose area is zero or that is culled.
-    pub fn extent(&self, number: usize) -> Extent
+    /// The rows of pixels of the screen from that of the least y of this triangle's vertices to that of the greatest, where a y
+    /// by 256, rounded down, is its row. They may begin and end below the picture, whose height does not cut them.
+    pub fn rows(&self, number: usize) -> RowSpan
         requires { number < length self.now.triangles }
-        ensures { IfSome (slice_get self.now.triangles number) (λ triangle. IsExtent triangle result) }
+        ensures { IfSome (slice_get self.now.triangles number) (λ triangle. IsRowSpan triangle.tri result) }
     {
-        self.extents[number]
-    }
-
-    /// The scissor of the triangle of this number.
-    pub fn scissor(&self, number: usize) -> PixelBox
-        requires { number < length self.now.triangles }
-        ensures { IfSome (slice_get self.now.triangles number) (λ triangle. triangle.state.scissor ≡ result) }
-    {
-        self.draw_of(number).0.state.scissor
+        self.rows[number]
     }
 }

@@ -2,11 +2,11 @@ use Rattle.std.proofs.Common.{◌≡◌, length, arith}
 use Rattle.list.specs.Listing.{scene_of}
 use Rattle.list.specs.View.{listing}
 use Rattle.list.proofs.Numbering.{length-triangles, most_triangles}
-use Rattle.list.proofs.Extents.{length-extents}
+use Rattle.list.proofs.Spans.{length-rows}
 use Rattle.list.proofs.draw_list.DrawList.triangles.Goals as goal
 
 counted : (c : goal.After-len) → c.len.result ≡ length (scene_of (listing c.self.inside)).triangles
-counted c = omega (arith, length-extents _ _ c.self.invariant.extents, c.self.inside.extents.ok.0)
+counted c = omega (arith, length-rows _ _ c.self.invariant.rows, c.self.inside.rows.ok.0)
 
 pub returns-clause-value : goal.returns-clause-value
 returns-clause-value c = rw (← c.self.view_is) (counted c)

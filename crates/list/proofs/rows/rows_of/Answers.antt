@@ -2,11 +2,11 @@ use Rattle.std.proofs.Common.{◌≡◌, ◌∙◌, ap, sym, map, get_or}
 use Rattle.std.proofs.lemmas.List.{length-map, get_or-map}
 use Rattle.list.specs.Listing.{draw_listing}
 use Rattle.list.proofs.Numbering.{draw_within}
-use Rattle.list.proofs.Extents.{placed_more}
-use Rattle.list.proofs.extent.extents_of.Goals as goal
+use Rattle.list.proofs.Spans.{placed_more}
+use Rattle.list.proofs.rows.rows_of.Goals as goal
 
-pub push_extents-requires : goal.push_extents-requires
-push_extents-requires c = draw_within c.args.draws.now _ _ c.loop-draw-test.true c.draw-item.is c.requires
+pub push_rows-requires : goal.push_rows-requires
+push_rows-requires c = draw_within c.args.draws.now _ _ c.loop-draw-test.true c.draw-item.is c.requires
 
 pub loop-draw-preserved : goal.loop-draw-preserved
 loop-draw-preserved c =
@@ -15,4 +15,4 @@ loop-draw-preserved c =
     let d = c.draw-item.result in
     let there = c.loop-draw-test.true in
     let is : get_or (map draw_listing draws) number (draw_listing d) ≡ draw_listing d = get_or-map draw_listing draws number d (draw_listing d) there ∙ ap draw_listing (sym c.draw-item.is) in
-    rw (← placed_more (map draw_listing draws) number (draw_listing d) (rw length-map there) is) (c.in_ok-push_extents.ensures _ c.loop-draw.invariant)
+    rw (← placed_more (map draw_listing draws) number (draw_listing d) (rw length-map there) is) (c.in_ok-push_rows.ensures _ c.loop-draw.invariant)

@@ -3,8 +3,8 @@ use Rattle.std.proofs.lemmas.List.{length-map, get_or-map}
 use Rattle.list.specs.Primitives.{primitive_listing, triangles_of}
 use Rattle.list.specs.Listing.{draw_listing, placed, placed_all}
 use Rattle.list.proofs.Triangulated.{length-triangles_of}
-use Rattle.list.proofs.Extents.{extent_more}
-use Rattle.list.proofs.extent.push_extents.Goals as goal
+use Rattle.list.proofs.Spans.{rows_more}
+use Rattle.list.proofs.rows.push_rows.Goals as goal
 
 pub loop-number-preserved : goal.loop-number-preserved
 loop-number-preserved c = λ before h.
@@ -15,4 +15,4 @@ loop-number-preserved c = λ before h.
     let number = c.loop-number.number in
     let within : number < length triangles = omega (arith, length-triangles_of primitives, c.triangles-triangles.ensures.value) in
     let is : get_or (placed_all d) number t ≡ t = get_or-map (placed d) triangles number [] t within ∙ sym c.triangle.ensures in
-    rw c.in_ok-push.ensures.items (extent_more before (placed_all d) _ number t c.of.result (rw length-map within) is c.of.ensures (c.loop-number.invariant before h))
+    rw c.in_ok-push.ensures.items (rows_more before (placed_all d) _ number t c.of.result (rw length-map within) is c.of.ensures (c.loop-number.invariant before h))

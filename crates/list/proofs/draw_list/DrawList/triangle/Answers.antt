@@ -1,4 +1,4 @@
-use Rattle.std.proofs.Common.{◌≡◌, ℕ, ◌<◌, List, length, get_or, ap, arith}
+use Rattle.std.proofs.Common.{◌≡◌, ℕ, ◌<◌, List, length, get_or, ap, sym, ◌∙◌, Some, arith}
 use Rattle.list.specs.declared.draw.Draw.{Draw}
 use Rattle.list.specs.declared.draw_list.DrawList.TheInside.{Inside}
 use Rattle.list.specs.Listing.{scene_of}
@@ -6,7 +6,7 @@ use Rattle.list.specs.Starts.{IsOwner}
 use Rattle.list.specs.View.{listing, IsKept}
 use Rattle.list.proofs.Numbering.{length-triangles, draw_within}
 use Rattle.list.proofs.Starting.{StandsIn, ascending, stands}
-use Rattle.list.proofs.draw_list.DrawList.draw_of.Goals as goal
+use Rattle.list.proofs.draw_list.DrawList.triangle.Goals as goal
 
 pub owner-draw-requires-clause-owners : goal.owner-draw-requires-clause-owners
 owner-draw-requires-clause-owners c =
@@ -29,11 +29,16 @@ index-requires c = omega (arith, c.owner-draw.ensures.within, ap length c.deref.
 pub index-requires-2 : goal.index-requires-2
 index-requires-2 c = omega (arith, c.owner-draw.ensures.within, ap length c.deref.ensures.value, c.self.inside.starts.ok.0)
 
+pub triangle-requires-clause-number : goal.triangle-requires-clause-number
+triangle-requires-clause-number c =
+    let stands = there c.self.inside c.args.number _ _ _ _ c.self.invariant (rw (← c.self.view_is) at c.requires) c.deref.ensures.value c.owner-draw.ensures c.index.ensures c.index-2.ensures in
+    omega (arith, stands.within)
+
+pub triangle-requires-clause-limits : goal.triangle-requires-clause-limits
+triangle-requires-clause-limits c =
+    draw_within c.self.inside.draws.items c.owner-draw.result _ (omega (arith, c.owner-draw.ensures.within, ap length c.deref.ensures.value, c.self.invariant.starts.size)) c.index.ensures c.self.invariant.limits.draws.each
+
 pub returns : goal.returns
 returns c =
     let stands = there c.self.inside c.args.number _ _ _ _ c.self.invariant (rw (← c.self.view_is) at c.requires) c.deref.ensures.value c.owner-draw.ensures c.index.ensures c.index-2.ensures in
-    record {
-      within = stands.within;
-      limits = draw_within c.self.inside.draws.items c.owner-draw.result _ (omega (arith, c.owner-draw.ensures.within, ap length c.deref.ensures.value, c.self.invariant.starts.size)) c.index.ensures c.self.invariant.limits.draws.each;
-      found = rw (← c.self.view_is) stands.found;
-    }
+    rw (← c.self.view_is) (stands.found ∙ ap Some (sym c.triangle.ensures))

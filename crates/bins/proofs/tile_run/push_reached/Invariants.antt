@@ -1,5 +1,0 @@
-use Rattle.bins.specs.TileRuns.{AreTileRuns}
-use Rattle.bins.proofs.tile_run.push_reached.Given as goal
-
-abbrev pub invariant-loop-row : goal.invariant-loop-row
-invariant-loop-row l = AreTileRuns l.list l.tiling l.first_row l.rows l.number l.row l.runs.items
