@@ -49,7 +49,7 @@ pub same_placed : (a b : Placed) → Some a ≡ Some b → a ≡ b
 same_placed a b e = cc
 
 -- a list that ascends, with a number that is above all of it
-increasing-push : (xs : List ℕ) (n : ℕ) → IsStrictlyIncreasing xs → All (λ x. x < n) xs → IsStrictlyIncreasing (xs ++ n ∷ [])
+pub increasing-push : (xs : List ℕ) (n : ℕ) → IsStrictlyIncreasing xs → All (λ x. x < n) xs → IsStrictlyIncreasing (xs ++ n ∷ [])
 increasing-push xs n h below k more =
     let long = length_push xs n in
     let here : slice_index (xs ++ n ∷ []) k ≡ slice_index xs k = get_or_append_left xs (n ∷ []) 0 k (omega arith) in

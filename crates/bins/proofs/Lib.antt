@@ -3,4 +3,5 @@ pub mod Tiles
 pub mod Reaching
 pub mod Placing
 pub mod Gathering
+pub mod InRows
 pub mod Binned

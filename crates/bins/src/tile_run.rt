@@ -1,11 +1,13 @@
 //! Runs of tiles that triangles can meet.
-ghost use Rattle.std.specs.Prelude.{◌≡◌, ℕ, ◌+◌, ◌<◌, ◌≤◌, ◌^◌, length, IfOk, OnOk, IsTrue};
+ghost use Rattle.std.specs.Prelude.{◌≡◌, ◌+◌, ◌≤◌, ◌^◌, length, slice_get, Some, IfOk, OnOk};
 ghost use Rattle.bins.specs.Grid.{rows_of, IsWithinLimits};
 
+use crate::batch::{BATCH, fetch};
+use crate::candidates::candidates_of;
 use crate::reach::{Columns, overlap};
 use crate::tiling::Tiling;
 use cover::Setup;
-use list::{DrawList, RowSpan};
+use list::{DrawList, Placed};
 use std::alloc::{AllocError, Global};
 
 /// Consecutive tiles of a row which a triangle can meet, from `first` to before `end`. They are counted from the first tile of
@@ -33,25 +35,28 @@ impl TileRun {
         ensures few { IfOk result (λ runs. length runs.items ≤ 2 ^ 25) }
         ensures runs { IfOk result (λ runs. AreTileRuns list.now tiling.now first_row rows (length list.now.triangles) 0 runs.items) }
     {
-        let (top, bottom) = tiling.pixel_rows(first_row, rows);
+        let numbers = candidates_of(alloc, list, tiling, first_row, rows)?;
+        let mut batch = Vec::with_capacity(alloc, BATCH.min(numbers.len()))?;
+        let mut first = 0;
         let mut runs = Vec::new(alloc);
-        for number in 0..list.triangles() as u32 {
-            if has_row(list.rows(number as usize), top, bottom) {
-                push_runs(list, number, tiling, first_row, rows, &mut runs)?;
+        for place in 0..numbers.len() {
+            if place - first == batch.len() {
+                first = place;
+                fetch(list, &numbers, first, &mut batch)?;
             }
+            let triangle = &batch[place - first];
+            push_runs(
+                list,
+                numbers[place],
+                triangle,
+                tiling,
+                first_row,
+                rows,
+                &mut runs,
+            )?;
         }
         Ok(runs)
     }
-}
-
-/// Whether one of these rows of pixels lies between `top` and before `bottom`. There is one comparison and one branch: half of all
-/// triangles begin above the bottom, and half end below the top, but few do both.
-#[inline]
-fn has_row(rows: RowSpan, top: u32, bottom: u32) -> bool
-    ensures all { (row : ℕ) → rows.first ≤ row → row < rows.end → top ≤ row → row < bottom → IsTrue result }
-    ensures others { IsTrue result → (rows.first < bottom) × (top < rows.end) }
-{
-    u32::from(rows.first).max(top) < u32::from(rows.end).min(bottom)
 }
 
 ghost use Rattle.bins.specs.TileRuns.{AreTileRuns};
@@ -60,18 +65,18 @@ ghost use Rattle.bins.specs.TileRuns.{AreTileRuns};
 fn push_runs(
     list: &DrawList,
     number: u32,
+    triangle: &Placed,
     tiling: &Tiling,
     first_row: u32,
     rows: u32,
     runs: &mut Vec<TileRun>,
 ) -> Result<(), AllocError>
-    requires number { number < length list.now.triangles }
+    requires triangle { slice_get list.now.triangles number ≡ Some triangle.now }
     requires limits { IsWithinLimits tiling.now }
     requires rows { first_row + rows ≤ rows_of tiling.now }
     requires before { AreTileRuns list.now tiling.now first_row rows number 0 runs.old.items }
     ensures { OnOk result (AreTileRuns list.now tiling.now first_row rows (number + 1) 0 runs.new.items) }
 {
-    let triangle = list.triangle(number as usize);
     let Some(setup) = Setup::new(&triangle.tri, triangle.state.cull) else {
         return Ok(());
     };

@@ -1,27 +1,45 @@
-use Rattle.std.proofs.Common.{◌≡◌, sym, ◌∙◌, length, arith}
-use Rattle.std.proofs.lemmas.Bool.{false≢true}
-use Rattle.list.specs.Rows.{IsRowSpan}
-use Rattle.bins.proofs.Gathering.{no_runs, runs_past, missed_rows, few_runs}
+use Rattle.std.proofs.Common.{◌≡◌, ◌∙◌, ◌<◌, length, slice_index, arith}
+use Rattle.std.proofs.lemmas.Grind.{get_or_default_zero}
+use Rattle.bins.proofs.Gathering.{few_runs}
+use Rattle.bins.proofs.InRows.{to_next, one_more, all_have_runs}
 use Rattle.bins.proofs.tile_run.TileRun.of_list.Goals as goal
-use Rattle.bins.proofs.tile_run.TileRun.of_list.Goals.{then-has_row+in_ok-push_runs, else-has_row}
+use Rattle.bins.proofs.tile_run.TileRun.of_list.Goals.{then-place-first+in_ok-fetch, else-place-first}
 
-pub loop-number-init : goal.loop-number-init
-loop-number-init c = rw c.new-runs.ensures.items (no_runs c.args.list.now c.args.tiling.now c.args.first_row c.args.rows)
+pub push_runs-requires-clause-limits : goal.push_runs-requires-clause-limits
+push_runs-requires-clause-limits c = c.candidates_of.ensures.limits
 
-pub loop-number-preserved : goal.loop-number-preserved
-loop-number-preserved c =
-    let list = c.args.list.now in
-    let tiling = c.args.tiling.now in
-    elim c.if-has_row.branch [
-      | then-has_row+in_ok-push_runs w ↦ rw w.runs-is w.in_ok-push_runs.ensures
-      | else-has_row w ↦ rw w.runs-is (runs_past list tiling c.args.first_row c.args.rows c.loop-number.number c.loop-number.runs.items c.loop-number.invariant (λ t tile e below meets.
-          let span : IsRowSpan t.tri c.rows.result = rw e at c.rows.ensures in
-          missed_rows t list.count tiling c.args.first_row c.args.rows tile c.rows.result c.pixel_rows-top.ensures.limits span (λ j from below_end above before. false≢true (sym w.if-has_row.false ∙ c.has_row.ensures.all j from below_end (omega (arith, above)) (omega (arith, before)))) below meets))
+pub push_runs-requires-clause-before : goal.push_runs-requires-clause-before
+push_runs-requires-clause-before c =
+    let numbers = c.in_ok-numbers.numbers.items in
+    let inside : c.loop-place.place < length numbers = omega (arith, c.loop-place-test.true) in
+    let is : c.index.result.now ≡ slice_index numbers c.loop-place.place = c.index.ensures ∙ get_or_default_zero numbers c.loop-place.place _ inside in
+    rw is (to_next c.args.list.now c.args.tiling.now c.args.first_row c.args.rows numbers c.in_ok-numbers.ensures.numbers c.loop-place.place _ c.loop-place.invariant.0 inside)
+
+pub loop-place-preserved : goal.loop-place-preserved
+loop-place-preserved c =
+    let numbers = c.in_ok-numbers.numbers.items in
+    let inside : c.loop-place.place < length numbers = omega (arith, c.loop-place-test.true) in
+    let is : c.index.result.now ≡ slice_index numbers c.loop-place.place = c.index.ensures ∙ get_or_default_zero numbers c.loop-place.place _ inside in
+    let have = one_more c.args.list.now c.args.tiling.now c.args.first_row c.args.rows numbers c.in_ok-numbers.ensures.numbers c.loop-place.place _ c.loop-place.invariant.0 _ inside (rw is at c.in_ok-push_runs.ensures) in
+    elim c.if-place-first.branch [
+      | then-place-first+in_ok-fetch w ↦ rw (w.batch-is, w.first-is) (
+        have,
+        rw w.deref.ensures.value at w.in_ok-fetch.ensures.fetched,
+        omega arith,
+        omega (arith, w.in_ok-fetch.ensures.some),
+      )
+      | else-place-first w ↦ rw (w.batch-is, w.first-is) (
+        have,
+        c.loop-place.invariant.1,
+        omega (arith, c.loop-place.invariant.2),
+        omega (arith, c.loop-place.invariant.2, c.loop-place.invariant.3, w.if-place-first.false),
+      )
     ]
 
-pub returns : goal.returns
-returns c =
-    let tiling = c.args.tiling.now in
-    let all : c.loop-number.number ≡ length c.args.list.now.triangles = omega arith in
-    let are = rw all at c.loop-number.invariant in
-    record { few = few_runs c.args.list.now tiling c.args.first_row c.args.rows c.loop-number.runs.items c.pixel_rows-top.ensures.limits c.requires (omega arith) are; runs = are }
+pub returns-clause-few : goal.returns-clause-few
+returns-clause-few c =
+    few_runs c.args.list.now c.args.tiling.now c.args.first_row c.args.rows c.loop-place.runs.items c.candidates_of.ensures.limits c.requires c.candidates_of.ensures.few (all_have_runs c.args.list.now c.args.tiling.now c.args.first_row c.args.rows c.in_ok-numbers.numbers.items c.in_ok-numbers.ensures.numbers c.loop-place.place _ c.loop-place.invariant.0 (omega (arith, c.loop-place-test.false)))
+
+pub returns-clause-runs : goal.returns-clause-runs
+returns-clause-runs c =
+    all_have_runs c.args.list.now c.args.tiling.now c.args.first_row c.args.rows c.in_ok-numbers.numbers.items c.in_ok-numbers.ensures.numbers c.loop-place.place _ c.loop-place.invariant.0 (omega (arith, c.loop-place-test.false))
