@@ -1,5 +1,5 @@
 -- The triangles that can have pixels in some rows of tiles, by number.
-use Rattle.std.proofs.Common.{◌≡◌, ◌⊎◌, inl, inr, refl, sym, ap, ◌∙◌, ℕ, ◌+◌, ◌*◌, ◌<◌, ◌≤◌, List, [], ◌∷◌, ◌++◌, length, slice_get, slice_index, Some, arith}
+use Rattle.std.proofs.Common.{◌≡◌, ◌⊎◌, inl, inr, ap, ◌∙◌, ℕ, ◌+◌, ◌*◌, ◌<◌, ◌≤◌, List, [], ◌∷◌, ◌++◌, length, slice_get, slice_index, Some, arith}
 use Rattle.std.specs.List.{Contains}
 use Rattle.std.proofs.lemmas.Bool.{cases_lt}
 use Rattle.std.proofs.lemmas.List.Kept.{AllPairs-from_increasing}
@@ -9,9 +9,8 @@ use Rattle.list.specs.Scene.{Scene}
 use Rattle.bins.specs.declared.tile_run.TileRun.{TileRun}
 use Rattle.bins.specs.Bin.{MeetsRect}
 use Rattle.bins.specs.Grid.{TileGrid, columns_of, rect_of}
-use Rattle.bins.specs.TileRuns.{AreTileRuns, AreCandidates, AreFetched}
-use Rattle.std.proofs.lemmas.List.{get_or_append_left, get_or_default, get_or_push, length_push}
-use Rattle.std.proofs.lemmas.Option.{slice_get-get_or}
+use Rattle.bins.specs.TileRuns.{AreTileRuns, AreCandidates}
+use Rattle.std.proofs.lemmas.List.{get_or_default}
 use Rattle.std.proofs.Math.Nat.{mul-le-mul_right}
 use Rattle.bins.proofs.Gathering.{increasing-push, no_runs}
 
@@ -129,17 +128,3 @@ module _ (l : Scene) (g : TileGrid) (first_row rows : ℕ) where
     all_have_runs end =
         later have.n (length l.triangles) runs have.within have.are
         (λ k t tile from before e in_rows meets. between k from (λ inside. absurd (omega arith)) (all.whole k tile t before in_rows e meets))
-
--- one more triangle of a batch
-pub fetched_more : (l : Scene) (numbers : List ℕ) (first : ℕ) (batch : List Placed) (t : Placed) → AreFetched l numbers first batch → first + length batch < length numbers
-    → slice_get l.triangles (slice_index numbers (first + length batch)) ≡ Some t → AreFetched l numbers first (batch ++ t ∷ [])
-fetched_more l numbers first batch t are inside found = record {
-  few = omega (arith, length_push batch t);
-  each = λ k below. elim (cases_lt k (length batch)) [
-    | inl less ↦ are.each k less ∙ slice_get-get_or batch k t less ∙ sym (slice_get-get_or (batch ++ t ∷ []) k t below ∙ ap Some (get_or_append_left batch (t ∷ []) t k less))
-    | inr more ↦ (
-        let last : k ≡ length batch = omega (arith, length_push batch t) in
-        rw last (found ∙ sym (slice_get-get_or (batch ++ t ∷ []) (length batch) t (omega (arith, length_push batch t)) ∙ ap Some (get_or_push batch t t (length batch) refl)))
-        )
-  ];
-}

@@ -4,4 +4,5 @@ pub mod Reaching
 pub mod Placing
 pub mod Gathering
 pub mod InRows
+pub mod Batches
 pub mod Binned

@@ -4,3 +4,4 @@ pub mod Parts
 pub mod Reach
 pub mod TileRuns
 pub mod Sorting
+pub mod Batch

@@ -1,5 +1,5 @@
 -- Runs of tiles that triangles can meet.
-use Rattle.std.specs.Prelude.{◌≡◌, ◌⊎◌, ℕ, ◌+◌, ◌*◌, ◌<◌, ◌≤◌, Bool, ◌&&◌, nat_le, nat_lt, List, map, length, slice_get, slice_index, Some}
+use Rattle.std.specs.Prelude.{◌≡◌, ◌⊎◌, ℕ, ◌+◌, ◌*◌, ◌<◌, ◌≤◌, Bool, ◌&&◌, nat_le, nat_lt, List, map, length, slice_get, Some}
 use Rattle.std.specs.List.{All, Contains, filter}
 use Rattle.std.specs.List.Sorted.{IsStrictlyIncreasing}
 use Rattle.shade.specs.declared.placed.Placed.{Placed}
@@ -38,8 +38,3 @@ pub record AreCandidates (l : Scene) (g : TileGrid) (first_row rows : ℕ) (n : 
   pub before : All (λ number. number < n) numbers
   pub ascending : IsStrictlyIncreasing numbers
   pub whole : (m tile : ℕ) (t : Placed) → m < n → tile < rows * columns_of g → slice_get l.triangles m ≡ Some t → MeetsRect t l.count (rect_of g (first_row * columns_of g + tile)) → Contains numbers m
-
--- The triangles of the numbers from this place on, as many as there are in the batch.
-pub record AreFetched (l : Scene) (numbers : List ℕ) (first : ℕ) (batch : List Placed) : Type 0 where
-  pub few : first + length batch ≤ length numbers
-  pub each : (k : ℕ) → k < length batch → slice_get l.triangles (slice_index numbers (first + k)) ≡ slice_get batch k

@@ -9,6 +9,7 @@ mod sorting;
 mod tile_run;
 mod tiling;
 
+pub use batch::{BATCH, fetch};
 pub use bins::Bins;
 pub use tiling::Tiling;
 

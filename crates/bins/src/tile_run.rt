@@ -36,13 +36,17 @@ impl TileRun {
         ensures runs { IfOk result (λ runs. AreTileRuns list.now tiling.now first_row rows (length list.now.triangles) 0 runs.items) }
     {
         let numbers = candidates_of(alloc, list, tiling, first_row, rows)?;
-        let mut batch = Vec::with_capacity(alloc, BATCH.min(numbers.len()))?;
-        let mut first = 0;
         let mut runs = Vec::new(alloc);
+        let Some(number) = numbers.first() else {
+            return Ok(runs);
+        };
+        let mut batch = [list.triangle(*number as usize); BATCH];
+        let mut first = 0;
+        fetch(list, &numbers, first, &mut batch);
         for place in 0..numbers.len() {
-            if place - first == batch.len() {
+            if place - first == BATCH {
                 first = place;
-                fetch(list, &numbers, first, &mut batch)?;
+                fetch(list, &numbers, first, &mut batch);
             }
             let triangle = &batch[place - first];
             push_runs(

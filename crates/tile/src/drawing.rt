@@ -11,7 +11,7 @@ use crate::pixels::resolve;
 use crate::scan::draw_triangle;
 use crate::store::{Store, clear};
 use crate::tile::Tile;
-use bins::{Bins, Tiling};
+use bins::{BATCH, Bins, Tiling, fetch};
 use grid::{OutOfMemory, PixelBox, SampleCount, TileSide};
 use list::DrawList;
 use shade::BlockSamples;
@@ -27,8 +27,7 @@ pub struct TilePixels {
     pub bytes: Vec<u8>,
 }
 
-/// Draws the triangles of the tile's bin, one after another, over cleared samples. Each is fetched before the one before it is
-/// drawn, so that its vertices are under way from memory meanwhile.
+/// Draws the triangles of the tile's bin, one after another, over cleared samples. They are fetched some at a time.
 fn draw_bin(list: &DrawList, numbers: &[u32], tile: &Tile, samples: &mut [BlockSamples])
     requires samples { length samples.old ≡ planes_of tile.now.side tile.now.count }
     requires count { tile.now.count ≡ list.now.count }
@@ -37,14 +36,18 @@ fn draw_bin(list: &DrawList, numbers: &[u32], tile: &Tile, samples: &mut [BlockS
     requires bin { IsTileBin list.now tile.now numbers.now }
     ensures { AreEnds list.now tile.now samples.new }
 {
-    let Some(first) = numbers.first() else {
+    let Some(number) = numbers.first() else {
         return;
     };
-    let mut next = list.triangle(*first as usize);
+    let mut batch = [list.triangle(*number as usize); BATCH];
+    let mut first = 0;
+    fetch(list, numbers, first, &mut batch);
     for place in 0..numbers.len() {
-        let triangle = next;
-        next = list.triangle(numbers[(place + 1).min(numbers.len() - 1)] as usize);
-        draw_triangle(&triangle, tile, samples);
+        if place - first == BATCH {
+            first = place;
+            fetch(list, numbers, first, &mut batch);
+        }
+        draw_triangle(&batch[place - first], tile, samples);
     }
 }
 

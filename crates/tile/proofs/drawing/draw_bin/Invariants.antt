@@ -1,7 +1,8 @@
-use Rattle.std.proofs.Common.{◌≡◌, ◌<◌, length, slice_get, slice_index, Some}
+use Rattle.std.proofs.Common.{◌+◌, ◌≤◌}
+use Rattle.bins.specs.Batch.{AreFetched}
 use Rattle.tile.proofs.Ends.{HaveDrawn}
 use Rattle.tile.proofs.drawing.draw_bin.Given as goal
 
 abbrev pub invariant-loop-place : goal.invariant-loop-place
 invariant-loop-place l =
-    HaveDrawn l.list l.tile l.numbers l.place l.samples × (l.place < length l.numbers → slice_get l.list.triangles (slice_index l.numbers l.place) ≡ Some l.next)
+    HaveDrawn l.list l.tile l.numbers l.place l.samples × AreFetched l.list l.numbers l.first l.batch × (l.first ≤ l.place) × (l.place ≤ l.first + 16)
