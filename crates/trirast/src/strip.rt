@@ -14,8 +14,8 @@ use std::thread::Threads;
 use tile::{Store, TilePixels, render};
 
 /// How many pixels the bands of a strip have at most together, where there is more than one: as many as one band of the widest
-/// picture has with tiles of 32 pixels.
-const MOST_PIXELS: u32 = 131_072;
+/// picture has with the largest tiles.
+const MOST_PIXELS: u32 = 262_144;
 
 /// In how many strips a picture is drawn at least, where it has as many bands: the whole of it never stands in memory.
 const LEAST_STRIPS: u32 = 8;
