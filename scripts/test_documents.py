@@ -116,6 +116,16 @@ class Names(unittest.TestCase):
         for line in lines:
             self.assertIn(line, page)
 
+    def test_what_crates_stand_on(self):
+        named = {crate: set(below.split()) for crate, below in re.findall(r"^(\w+)(?: staticlib)?:(.*)$", text_of("crates.txt"), re.MULTILINE)}
+        table = text_of("docs/architecture.md").split("## The crates")[1].split("\n\n")[1]
+        for crates, _does, below in list(rows(table))[1:]:
+            crates = re.findall(r"`(\w+)`", crates)
+            self.assertLessEqual(set(crates), set(named))
+            if len(crates) == 1:
+                below = set(re.findall(r"`(\w+)`", re.sub(r"\(.*?\)", "", below)))
+                self.assertEqual(below - {"std"}, named[crates[0]], crates[0])
+
     def test_number_of_planted_faults(self):
         self.assertIn(f"that {len(plant_faults.FAULTS)} wrong rules", text_of("docs/proofs.md"))
 
