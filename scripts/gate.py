@@ -167,16 +167,16 @@ def missing(check):
     return [name for name in check.needs if shutil.which(name) is None]
 
 
-def try_check(check, top, has_programs, has_library):
+def try_check(check, top, are_programs_built, is_library_built):
     """Runs a check. Its counts: those of its last line, or one."""
     say(f"{check.name}: {' '.join(check.words)}")
     if missing(check):
         say(f"{check.name} SKIPPED: needs {' and '.join(missing(check))}")
         return Counts(skipped=1)
-    if check.runs_program and not has_programs:
+    if check.runs_program and not are_programs_built:
         say(f"{check.name} FAILED: there is no program to run")
         return Counts(failed=1)
-    if check.runs_library and not has_library:
+    if check.runs_library and not is_library_built:
         say(f"{check.name} FAILED: there is no library to run")
         return Counts(failed=1)
     ended = run(check.words, top, check.seconds)
@@ -200,14 +200,14 @@ def pass_gate(top, rt, checks, with_proofs=True):
     since = int(time.time())
     if with_proofs:
         total += prove(rt, top)
-        built_programs = take_programs(top, since)
-        built_library = any(check.runs_library and not missing(check) for check in checks) and build_library(top, rt)
+        are_programs_built = take_programs(top, since)
+        is_library_built = any(check.runs_library and not missing(check) for check in checks) and build_library(top, rt)
     else:
-        built_programs = all(os.access(program(top, name), os.X_OK) for name in PROGRAMS.values())
-        built_library = has_library(top)
+        are_programs_built = all(os.access(program(top, name), os.X_OK) for name in PROGRAMS.values())
+        is_library_built = has_library(top)
     for check in checks:
         begun = time.monotonic()
-        counts = try_check(check, top, built_programs, built_library)
+        counts = try_check(check, top, are_programs_built, is_library_built)
         say(f"{check.name}: {counts}, in {time.monotonic() - begun:.0f} s")
         total += counts
     return total
