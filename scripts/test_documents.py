@@ -125,6 +125,9 @@ class Names(unittest.TestCase):
             if len(crates) == 1:
                 below = set(re.findall(r"`(\w+)`", re.sub(r"\(.*?\)", "", below)))
                 self.assertEqual(below - {"std"}, named[crates[0]], crates[0])
+        trusted = re.search(r"\*\*Trusted\.\*\*(.*?)\n\n", text_of("README.md"), re.DOTALL)[1]
+        of_toolchain = set().union(*named.values()) - set(named)
+        self.assertLessEqual(of_toolchain, set(re.findall(r"`(\w+)`", trusted)))
 
     def test_number_of_planted_faults(self):
         self.assertIn(f"that {len(plant_faults.FAULTS)} wrong rules", text_of("docs/proofs.md"))
