@@ -13,7 +13,7 @@
 #   make memory    refuse the program each growth of memory in turn
 #   make hostile   run the program where devices, threads and lists fail
 #   make checks    the gate's checks without its proofs: compare, check-compare, schema, check-conformance, memory, hostile,
-#                  and the tests of the gate's counts and of the documents
+#                  check-library where there is a C compiler, and the tests of the gate's counts and of the documents
 #   make races     run the program under valgrind; no part of the gate
 #   make bench     time the program on generated scenes
 #   make frames    build the program that times frames by themselves, for bench/llvmpipe.py
@@ -118,7 +118,7 @@ demo: $(PICTURES)
 test:
 	@$(PYTHON) scripts/gate.py --rt $(RT)
 
-checks: $(PROGRAM) $(TILES) $(READER)
+checks: $(PROGRAM) $(TILES) $(READER) $(if $(shell command -v gcc),library)
 	@$(PYTHON) scripts/gate.py --without-proofs
 
 compare: $(PROGRAM)
