@@ -1,5 +1,5 @@
 -- How a picture's file is written, tile row after tile row.
-use Rattle.std.specs.Prelude.{◌≡◌, ℕ, ◌+◌, ◌-◌, ◌<◌, ◌≤◌, ⊥, List, length, take, Option}
+use Rattle.std.specs.Prelude.{◌≡◌, ℕ, ◌+◌, ◌-◌, ◌<◌, ◌≤◌, List, length, take, Option}
 use Rattle.std.specs.Io.KnownBytes.{Keeps, Appends}
 use Rattle.grid.specs.declared.pixels.TileSide.{TileSide}
 use Rattle.list.specs.Scene.{Scene}

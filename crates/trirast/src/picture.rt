@@ -64,8 +64,8 @@ fn write_alone<W: Write, G: Gate>(
     requires before { before ≤ 50331667 }
     requires some { rows.first < rows.end }
     requires failures { output.old.failures < u64.MAX }
-    ensures rows { IfOk result (λ done. WritesRows rows.list.now rows.tiling.now.side rows.first rows.end before done.0 (W.contents output.old.inner) (W.contents output.new.inner)) }
-    ensures fault { IfErr result (λ e. ExplainsRows rows.list.now rows.tiling.now.side rows.first rows.end before e (W.contents output.old.inner) (W.contents output.new.inner)) }
+    ensures rows { IfOk result (λ done. WritesRows rows.entry.list.now rows.entry.tiling.now.side rows.entry.first rows.entry.end before done.0 (W.contents output.old.inner) (W.contents output.new.inner)) }
+    ensures fault { IfErr result (λ e. ExplainsRows rows.entry.list.now rows.entry.tiling.now.side rows.entry.first rows.entry.end before e (W.contents output.old.inner) (W.contents output.new.inner)) }
     ensures write_failed { ((count : ℕ) × IsErrOf result (PictureFault.WriteFailed count)) ↔ (output.old.failures < output.new.failures) }
     ensures same_failures { OnOk result (output.new.failures ≡ output.old.failures) }
 {
@@ -104,8 +104,8 @@ fn write_together<R: Threads + Wait + Sync, W: Write, G: Gate>(
     requires together { (1 ≤ together) × (together ≤ 512) }
     requires before { before ≤ 19 }
     requires failures { output.old.failures < u64.MAX }
-    ensures rows { IfOk result (λ count. WritesRows rows.list.now rows.tiling.now.side rows.first rows.end before count (W.contents output.old.inner) (W.contents output.new.inner)) }
-    ensures fault { IfErr result (λ e. ExplainsRows rows.list.now rows.tiling.now.side rows.first rows.end before e (W.contents output.old.inner) (W.contents output.new.inner)) }
+    ensures rows { IfOk result (λ count. WritesRows rows.entry.list.now rows.entry.tiling.now.side rows.entry.first rows.entry.end before count (W.contents output.old.inner) (W.contents output.new.inner)) }
+    ensures fault { IfErr result (λ e. ExplainsRows rows.entry.list.now rows.entry.tiling.now.side rows.entry.first rows.entry.end before e (W.contents output.old.inner) (W.contents output.new.inner)) }
     ensures write_failed { ((count : ℕ) × IsErrOf result (PictureFault.WriteFailed count)) ↔ (output.old.failures < output.new.failures) }
     ensures same_failures { OnOk result (output.new.failures ≡ output.old.failures) }
 {

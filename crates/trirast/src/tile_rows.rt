@@ -1,7 +1,6 @@
 //! Tile rows that are drawn together, by several workers or on the calling thread, and put together.
 ghost use Rattle.std.specs.Prelude.{◌≡◌, ◌+◌, ◌-◌, ◌*◌, ◌<◌, ◌≤◌, min, IfOk, OnOk, IfErr, IfSome};
 ghost use Rattle.bins.specs.Grid.{rows_of};
-ghost use Rattle.trirast.specs.TileRows.{AreBinsOf, AreBytesOf, AreTilesOf};
 
 use crate::band::Band;
 use bins::{Bins, Tiling};
@@ -60,7 +59,7 @@ impl<G: Gate> Job for TileJob<'_, G> {
     type Scratch = Store;
 
     ghost use Rattle.std.specs.Prelude.{ℕ};
-    ghost use Rattle.trirast.specs.TileRows.{IsTileIn, tiles_in};
+    ghost use Rattle.trirast.specs.TileRows.{AreBinsOf, IsTileIn, tiles_in};
 
     ghost right = { λ job n pixels. IsTileIn job.rows.now.list.now job.rows.now.tiling.now job.rows.now.first n pixels };
 
@@ -88,33 +87,9 @@ pub(crate) struct Beside {
     pub(crate) bins: Option<Bins>,
 }
 
-/// Puts the tiles of tile rows together in place of the bytes that are given, and makes the bins of other tile rows. If memory for
-/// these is refused, they are made when their turn comes.
-fn join_and_bin<'a>(
-    alloc: Global,
-    above: TileRows<'a>,
-    tiles: Vec<TilePixels>,
-    bytes: Vec<u8>,
-    below: TileRows<'a>,
-) -> Beside
-    requires { AreTilesOf above tiles.items }
-    ensures joined { IfOk result.joined (λ bytes. AreBytesOf above bytes.items) }
-    ensures refused { IfErr result.joined (λ _. above.first < above.end) }
-    ensures bins { IfSome result.bins (AreBinsOf below) }
-{
-    Beside {
-        joined: above.joined(tiles, bytes),
-        bins: if below.rows() > 0 {
-            below.bins(alloc).ok()
-        } else {
-            None
-        },
-    }
-}
-
 impl<'a> TileRows<'a> {
     ghost use Rattle.trirast.specs.Band.{AddsBands};
-    ghost use Rattle.trirast.specs.TileRows.{tiles_in};
+    ghost use Rattle.trirast.specs.TileRows.{AreBinsOf, AreBytesOf, AreTilesOf, tiles_in};
 
     /// The tile rows of this list's picture from `first` to before `end`.
     pub(crate) fn new(list: &'a DrawList, tiling: &'a Tiling, first: u32, end: u32) -> TileRows<'a>
@@ -225,6 +200,30 @@ impl<'a> TileRows<'a> {
         Ok(bytes)
     }
 
+    /// Puts the tiles of tile rows together in place of the bytes that are given, and makes the bins of other tile rows. If memory for
+    /// these is refused, they are made when their turn comes.
+    fn join_and_bin(
+        alloc: Global,
+        above: TileRows<'a>,
+        tiles: Vec<TilePixels>,
+        bytes: Vec<u8>,
+        below: TileRows<'a>,
+    ) -> Beside
+        requires { AreTilesOf above tiles.items }
+        ensures joined { IfOk result.joined (λ bytes. AreBytesOf above.entry bytes.items) }
+        ensures refused { IfErr result.joined (λ _. above.entry.first < above.entry.end) }
+        ensures bins { IfSome result.bins (AreBinsOf below.entry) }
+    {
+        Beside {
+            joined: above.joined(tiles, bytes),
+            bins: if below.rows() > 0 {
+                below.bins(alloc).ok()
+            } else {
+                None
+            },
+        }
+    }
+
     /// Has the tiles drawn by this many workers, or by one for each tile if there are fewer tiles. Their bins are made if they are
     /// not given. Meanwhile, and also if memory or a worker is refused, the calling thread puts the tiles of the tile rows above
     /// together, in place of the bytes that are given, and makes the bins of those below.
@@ -244,16 +243,16 @@ impl<'a> TileRows<'a> {
         requires bins { IfSome bins (AreBinsOf self.now) }
         requires above { AreTilesOf above tiles.items }
         ensures tiles { IfOk result.0 (λ tiles. AreTilesOf self.now tiles.items) }
-        ensures joined { IfOk result.1.joined (λ bytes. AreBytesOf above bytes.items) }
-        ensures refused { IfErr result.1.joined (λ _. above.first < above.end) }
-        ensures below { IfSome result.1.bins (AreBinsOf below) }
+        ensures joined { IfOk result.1.joined (λ bytes. AreBytesOf above.entry bytes.items) }
+        ensures refused { IfErr result.1.joined (λ _. above.entry.first < above.entry.end) }
+        ensures below { IfSome result.1.bins (AreBinsOf below.entry) }
     {
         let bins = match bins {
             Some(bins) => bins,
             None => match self.bins(alloc) {
                 Ok(bins) => bins,
                 Err(OutOfMemory) => {
-                    let beside = join_and_bin(alloc, above, tiles, bytes, below);
+                    let beside = TileRows::join_and_bin(alloc, above, tiles, bytes, below);
                     return (Err(PoolFault::OutOfMemory), beside);
                 }
             },
@@ -265,7 +264,7 @@ impl<'a> TileRows<'a> {
         };
         // A worker without a tile would be a thread started for nothing.
         let workers = workers.min(self.tiles()).max(1);
-        let beside = || join_and_bin(alloc, above, tiles, bytes, below);
+        let beside = || TileRows::join_and_bin(alloc, above, tiles, bytes, below);
         run_beside::<_, Desks, _, _, _, _>(rt, alloc, self.tiles(), workers, &job, gate, beside)
     }
 
