@@ -4,8 +4,8 @@
     scripts/hostile.py [NAME ..]
 
 Each run ends by itself, with the picture or with one line and its status. What the system here does not give is named and
-skipped, as is gcc, by which single threads are refused. The last line is 'N passed, M failed', or 'N passed, M failed, K skipped'. Linux, Python 3.8 or later, standard
-library alone.
+skipped, as is gcc, by which single threads are refused. The last line is 'N passed, M failed', or 'N passed, M failed, K
+skipped'. Linux, Python 3.8 or later, standard library alone.
 """
 
 import json
@@ -284,6 +284,19 @@ class RefusedThreads(refusals.Refusals):
 
     def test_each_thread_of_four_workers(self):
         self.check_threads(4)
+
+    def test_stacks_that_find_no_address_space(self):
+        drawn_without = 0
+        for megabytes in range(3, 64):
+            most = megabytes * 1024 * 1024
+            run = self.run_once(
+                tall.words(4), tall.LIST, preexec_fn=lambda most=most: resource.setrlimit(resource.RLIMIT_AS, (most, most))
+            )
+            # With less the system cannot load the program, or memory is refused.
+            if run.status == 0:
+                self.assertTrue((run.output, run.line) == (tall.PICTURE, b""), f"another picture in {megabytes} MiB")
+                drawn_without += bool(run.refusals)
+        self.assertLess(0, drawn_without)
 
     def test_all_threads_from_each_one_on(self):
         self.check_threads(2, later=refusals.EACH)

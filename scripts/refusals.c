@@ -6,7 +6,7 @@
 //     REFUSE_LATER        what else is refused after that: -1 is each later one of its kind, and K is the Kth allocation of the
 //                         first thread, counted from there
 //     TILE_BYTES          a malloc of this size is counted as one of a tile's pixels
-//     REPORT              the file descriptor to which each refusal is reported, in one line
+//     REPORT              the file descriptor to which each refusal is reported, in one line; so is a thread that the system refuses
 //
 // 0 is none of them. A line has the refusal's number, whether the first thread was refused, and what was counted before it: the
 // bytes written to standard output, the tiles that the first thread allocated, the threads that were started and that were
@@ -103,7 +103,10 @@ int pthread_create(pthread_t *thread, const pthread_attr_t *attributes, void *(*
     if (is_refused(atomic_fetch_add(&threads, 1) + 1, which_thread, 0)) return EAGAIN;
     atomic_fetch_add(&started, 1);
     int status = next_create(thread, attributes, body, argument);
-    if (status != 0) atomic_fetch_sub(&started, 1);
+    if (status != 0) {
+        atomic_fetch_sub(&started, 1);
+        report(atomic_fetch_add(&refusals, 1) + 1);
+    }
     return status;
 }
 

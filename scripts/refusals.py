@@ -60,12 +60,13 @@ class Refusals(unittest.TestCase):
         cls.shim = os.path.join(folder.name, "refusals.so")
         subprocess.run(["gcc", "-O2", "-Wall", "-shared", "-fPIC", "-o", cls.shim, SOURCE, "-ldl"], check=True)
 
-    def run_once(self, words, text, allocation=0, thread=0, later=0):
+    def run_once(self, words, text, allocation=0, thread=0, later=0, **more):
+        """A run of the program. Further arguments are given to `subprocess.run`."""
         asked = {"REFUSE_ALLOCATION": allocation, "REFUSE_THREAD": thread, "REFUSE_LATER": later, "TILE_BYTES": self.tile_bytes}
         read_end, write_end = os.pipe()
         with open(read_end, "rb") as report:
             asked = {name: str(value) for name, value in {**asked, "REPORT": write_end}.items()}
-            how = {"capture_output": True, "timeout": MOST_SECONDS, "pass_fds": [write_end]}
+            how = {"capture_output": True, "timeout": MOST_SECONDS, "pass_fds": [write_end], **more}
             try:
                 environment = {**os.environ, **asked, "LD_PRELOAD": self.shim}
                 done = subprocess.run([self.program, *words], input=text, env=environment, **how)
