@@ -10,7 +10,7 @@
 #   make compare   draw generated lists, and compare each byte with the reference renderer
 #   make check-compare      test that comparison: what its lists cover, and faults planted in the reference's rules
 #   make schema    try the JSON Schema of the draw list
-#   make memory    refuse the program each growth of memory in turn
+#   make memory    run the program where allocations fail, and test that mistakes are seen there
 #   make hostile   run the program where devices, threads and lists fail
 #   make checks    the gate's checks without its proofs: compare, check-compare, schema, check-conformance, memory, hostile,
 #                  check-library where there is a C compiler, and the tests of the gate's counts and of the documents
@@ -137,6 +137,7 @@ $(READER): $(SOURCES)
 	install -D -m 755 crates/list_bench/out/list_bench $@
 
 memory: $(PROGRAM) $(TILES) $(READER)
+	$(PYTHON) scripts/test_refusals.py
 	$(PYTHON) scripts/refuse_memory.py
 
 hostile: $(PROGRAM)

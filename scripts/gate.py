@@ -59,6 +59,7 @@ CHECKS = (
     Check("generated lists", script("compare.py"), 20 * MINUTE),
     Check("faults planted in the rules", script("plant_faults.py"), 20 * MINUTE),
     Check("the comparison with drivers", script("test_conformance.py", "conformance"), 15 * MINUTE, runs_program=False),
+    Check("mistakes where memory is refused", script("test_refusals.py"), 5 * MINUTE, runs_program=False),
     Check("refused memory", script("refuse_memory.py"), 10 * MINUTE),
     Check("hostile use", script("hostile.py"), 20 * MINUTE),
     Check("the library", script("check_library.py"), 10 * MINUTE, runs_library=True, needs=("cc", "gcc")),
