@@ -1,0 +1,121 @@
+#!/usr/bin/env python3
+"""Tests of the must-fail edits: that each can be applied to the sources, is named for a function that it changes, and that the
+table of wrong bodies in docs/proofs.md names edits and tests that are there.
+
+    python3 scripts/test_edits.py
+"""
+
+import glob
+import os
+import re
+import sys
+import unittest
+
+sys.path.insert(0, os.path.dirname(os.path.abspath(__file__)))
+
+import counts
+
+TOP = os.path.dirname(os.path.dirname(os.path.abspath(__file__)))
+# As many rows as the table of wrong bodies has at least: a wrong body that was named once stays named.
+ROWS = 48
+
+
+def text_of(*path):
+    with open(os.path.join(TOP, *path), encoding="utf-8") as file:
+        return file.read()
+
+
+def edits():
+    """The must-fail edits, as crate/NAME without the suffix."""
+    paths = glob.glob(os.path.join(TOP, "crates", "*", "must-fail", "*.edit"))
+    return sorted(f"{path.split(os.sep)[-3]}/{os.path.basename(path)[:-len('.edit')]}" for path in paths)
+
+
+def pairs_of(edit):
+    """The pairs of an edit in order: the file, the old text and the new one."""
+    crate, name = edit.split("/")
+    file, old, pairs = None, None, []
+    for line in text_of("crates", crate, "must-fail", f"{name}.edit").splitlines():
+        kind, _colon, text = line.partition(": ")
+        if kind == "file":
+            file = text.strip()
+        elif kind == "old":
+            old = text
+        elif line.startswith("new:"):
+            pairs.append((file, old, text))
+            old = None
+    return pairs
+
+
+def fault_of(edit):
+    """Why an edit cannot be applied, or None where it can: each old text stands once in what the pairs before it made."""
+    crate = edit.split("/")[0]
+    texts = {}
+    for file, old, new in pairs_of(edit):
+        if not file or not old:
+            return "a new text without a file or an old one"
+        if not file.startswith("src/") or not os.path.isfile(os.path.join(TOP, "crates", crate, file)):
+            return f"there is no {file}"
+        texts.setdefault(file, text_of("crates", crate, file))
+        if texts[file].count(old) != 1:
+            return f"{texts[file].count(old)} times in {file}: {old}"
+        if old == new:
+            return f"nothing is changed: {old}"
+        texts[file] = texts[file].replace(old, new)
+    return None if texts else "it has no pair of texts"
+
+
+def tests():
+    """The tests of all crates, as crate::function."""
+    found = set()
+    for path in glob.glob(os.path.join(TOP, "crates", "*", "src", "**", "*.rt"), recursive=True):
+        crate = os.path.relpath(path, TOP).split(os.sep)[1]
+        found.update(f"{crate}::{name}" for name in re.findall(r"#\[test\]\s+fn (\w+)", text_of(path)))
+    return found
+
+
+def wrong_bodies():
+    """The table of wrong bodies: of each row the wrong body in words, and the names that refuse it."""
+    section = text_of("docs", "proofs.md").split("\n## Wrong bodies\n")[1].split("\n## ")[0]
+    rows = [line.strip("|").split(" | ") for line in section.split("\n") if line.startswith("| ")]
+    return [(body.strip(), re.findall(r"`([^`]+)`", refused)) for body, refused in rows[1:]]
+
+
+class Edits(unittest.TestCase):
+    def test_can_be_applied(self):
+        for edit in edits():
+            self.assertIsNone(fault_of(edit), edit)
+
+    def test_are_named_for_a_function(self):
+        for edit in edits():
+            crate, name = edit.split("/")
+            parts = name.split(".")
+            self.assertGreaterEqual(len(parts), 3, edit)
+            texts = [text_of("crates", crate, file) for file, _old, _new in pairs_of(edit)]
+            item = re.compile(rf"\b(?:fn|const) {parts[-2]}\b")
+            self.assertTrue(any(item.search(text) for text in texts), f"{edit}: no function or constant {parts[-2]}")
+
+    def test_change_different_texts(self):
+        seen = {}
+        for edit in edits():
+            made = (edit.split("/")[0], tuple(pairs_of(edit)))
+            self.assertNotIn(made, seen, f"{edit} is {seen.get(made)}")
+            seen[made] = edit
+
+
+class WrongBodies(unittest.TestCase):
+    def test_named_edits_and_tests_are_there(self):
+        known = set(edits()) | tests()
+        for body, names in wrong_bodies():
+            self.assertTrue(names, f"nothing refuses: {body}")
+            for name in names:
+                self.assertIn(name, known, body)
+
+    def test_none_is_lost(self):
+        bodies = [body for body, _names in wrong_bodies()]
+        self.assertGreaterEqual(len(bodies), ROWS)
+        self.assertEqual(len(bodies), len(set(bodies)))
+
+
+if __name__ == "__main__":
+    counts.run_tests()
