@@ -10,10 +10,11 @@
 #   make compare   draw generated lists, and compare each byte with the reference renderer
 #   make check-compare      test that comparison: what its lists cover, and faults planted in the reference's rules
 #   make schema    try the JSON Schema of the draw list
-#   make memory    refuse the program each growth of memory in turn
+#   make memory    run the program where allocations fail, and test that mistakes are seen there
 #   make hostile   run the program where devices, threads and lists fail
 #   make checks    the gate's checks without its proofs: compare, check-compare, schema, check-conformance, memory, hostile,
-#                  and the tests of the gate's counts, of the documents and of the must-fail edits
+#                  check-library where there is a C compiler, and the tests of the gate's counts, of the documents and of
+#                  the must-fail edits
 #   make races     run the program under valgrind; no part of the gate
 #   make bench     time the program on generated scenes
 #   make frames    build the program that times frames by themselves, for bench/llvmpipe.py
@@ -118,7 +119,7 @@ demo: $(PICTURES)
 test:
 	@$(PYTHON) scripts/gate.py --rt $(RT)
 
-checks: $(PROGRAM) $(TILES) $(READER)
+checks: $(PROGRAM) $(TILES) $(READER) $(if $(shell command -v gcc),library)
 	@$(PYTHON) scripts/gate.py --without-proofs
 
 compare: $(PROGRAM)
@@ -137,6 +138,7 @@ $(READER): $(SOURCES)
 	install -D -m 755 crates/list_bench/out/list_bench $@
 
 memory: $(PROGRAM) $(TILES) $(READER)
+	$(PYTHON) scripts/test_refusals.py
 	$(PYTHON) scripts/refuse_memory.py
 
 hostile: $(PROGRAM)

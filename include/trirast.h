@@ -7,18 +7,24 @@
  *
  * - Memory. The caller owns all that it passes. Nothing that is passed is kept, and nothing has to be freed: what a call
  *   takes from malloc it gives back before it returns. A program with a heap of its own replaces malloc, realloc and free
- *   together. No pointer may be NULL but that to a list or a buffer of no bytes.
- * - A list is `length` bytes at `list`, with no byte of zero at their end. They are read and not changed.
+ *   together.
+ * - Arrays. An array is passed as a pointer and the count of its elements: the bytes of a list, the bytes of a buffer, and the
+ *   draws, vertices and indices of a scene. An array of no elements may be NULL. No other pointer may be NULL.
+ * - Overlap. What a call may write, all of `buffer`, `*picture` and `*fault`, must not overlap with anything else that is
+ *   passed to the call. What a call reads it does not change, and other calls may read it at the same time.
+ * - Threads. No call keeps a state or starts a thread, so any number of threads may call at once, as long as what one of them
+ *   may write is not touched by another. Not to be called from a signal handler, nor in the forked child of a process with
+ *   threads.
+ *
+ * What holds of every call with a list or a scene:
+ *
+ * - A list is `length` bytes at `list`, and needs no byte of zero behind them. Each call reads its list or its scene anew, so it may be
+ *   changed or freed as soon as the call returns.
  * - A buffer is `room` bytes at `buffer`. Where a call answers 0 it wrote as many bytes as its text says at the buffer's
- *   beginning, and the rest is as it was. After a fault the whole buffer is as it was.
- * - What is written (`buffer`, `picture`, `fault`) must not overlap with each other nor with the list.
+ *   beginning, and the rest is unchanged. After a fault the whole buffer is unchanged.
  * - The answer is 0 or the kind of the fault, TRIRAST_LIST_FAULT to TRIRAST_NO_SUCH_ROWS. `fault` is written in either
- *   case, and its `kind` is the answer. Of several faults the first is told: the side of a tile, the list, the rows, the
- *   buffer; and want of memory where it is met.
- * - Threads. No call keeps a state or starts a thread, so any number of threads may call at once, with the same list too,
- *   as long as what one of them writes is not touched by another. Not to be called from a signal handler, nor in the forked
- *   child of a process with threads.
- * - Each call reads its list anew. A list may be changed or freed as soon as the call returns.
+ *   case, and its `kind` is the answer. Of several faults the first is reported: the side of a tile, the list or the scene, the
+ *   rows, the buffer; and TRIRAST_OUT_OF_MEMORY where an allocation fails.
  */
 #ifndef TRIRAST_H
 #define TRIRAST_H
@@ -42,7 +48,7 @@ enum {
     TRIRAST_OK = 0,               /* done */
     TRIRAST_LIST_FAULT = 1,       /* the bytes are no draw list: `list_kind` and `draw` say why and where */
     TRIRAST_TOO_LONG = 2,         /* the list has more than 67,108,864 bytes */
-    TRIRAST_OUT_OF_MEMORY = 3,    /* malloc or realloc refused */
+    TRIRAST_OUT_OF_MEMORY = 3,    /* malloc or realloc gave none */
     TRIRAST_BUFFER_TOO_SHORT = 4, /* `room` is less than what would be written */
     TRIRAST_NO_TILE_SIDE = 5,     /* `tile` is none of 8, 16, 32 and 64 */
     TRIRAST_NO_SUCH_ROWS = 6      /* `first` is not before `end`, or the picture has fewer rows of tiles than `end` */
@@ -81,12 +87,12 @@ typedef struct {
 /* The version of the library: 1. */
 uint32_t trirast_version(void);
 
-/* Reads a list and tells what its picture takes. After a fault `*picture` is as it was.
+/* Reads a list and gives what its picture takes. After a fault `*picture` is unchanged.
  * Faults: TRIRAST_LIST_FAULT, TRIRAST_TOO_LONG, TRIRAST_OUT_OF_MEMORY. */
 uint32_t trirast_size(const uint8_t *list, size_t length, trirast_picture *picture, trirast_fault *fault);
 
 /* Draws a list's picture: the whole file, header and pixels, goes to the buffer's first `file_bytes` bytes. `tile` is
- * the side of a tile in pixels, 8, 16, 32 or 64; it changes no byte, and 32 is a good one. So that the buffer is as it was
+ * the side of a tile in pixels, 8, 16, 32 or 64; it changes no byte, and 32 is a good one. So that the buffer is unchanged
  * after a fault, the file is drawn beside it and copied: drawing takes as much memory again as is written.
  * Faults: all but TRIRAST_NO_SUCH_ROWS. */
 uint32_t trirast_draw(const uint8_t *list, size_t length, uint32_t tile, uint8_t *buffer, size_t room,
@@ -166,8 +172,7 @@ typedef struct {
 } trirast_scene_vertex;
 
 /* Draws a scene as trirast_draw draws a list, from arrays in place of a text. `draws` are the draws in their order; `vertices`
- * and `indices` are those of all draws, one draw's after another's; an index names a vertex of its own draw, from 0. Each
- * pair is an array and the number of its elements, and an array of none may be NULL.
+ * and `indices` are those of all draws, one draw's after another's; an index names a vertex of its own draw, from 0.
  * Faults: TRIRAST_LIST_FAULT, with TRIRAST_OUT_OF_RANGE, TRIRAST_TOO_MANY, TRIRAST_BAD_INDEX or TRIRAST_NOT_CONVEX as for a
  * list, or TRIRAST_WRONG_KIND where the arrays are shorter or longer than the draws say, or the indices make no whole
  * triangles or quads; and as for trirast_draw, but not TRIRAST_TOO_LONG. */
@@ -177,7 +182,7 @@ uint32_t trirast_draw_scene(const trirast_scene_head *head, const trirast_scene_
 
 /* Writes the line that the program trirast has for a fault, as "trirast: list fault 6 BadIndex in draw 1\n", or as much of
  * it as there is room for, and gives the length of the whole line, which is at most 96 bytes, without a byte of zero at its
- * end. Of what no call tells, as of a fault of kind 0, there is no line: nothing is written, and the answer is 0. */
+ * end. Of what no call reports, as of a fault of kind 0, there is no line: nothing is written, and the answer is 0. */
 size_t trirast_fault_line(const trirast_fault *fault, uint8_t *buffer, size_t room);
 
 #ifdef __cplusplus

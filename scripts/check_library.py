@@ -4,8 +4,8 @@
     scripts/check_library.py [--only WORD ..] [--seed 1]
 
 `make check-library` builds the program and the library first. It prints a line for each check, names what is not installed
-and so was skipped, and ends in `N passed, M failed`; exit status 0 only where nothing failed. What it builds is left in
-out/check-library/. Python 3.8 or later, standard library alone; gcc; g++, pkg-config, nm, valgrind and numpy where they are.
+and so was skipped, and ends in `N passed, M failed`, or `N passed, M failed, K skipped`; exit status 0 only where nothing
+failed. What it builds is left in out/check-library/. Python 3.8 or later, standard library alone; gcc; g++, pkg-config, nm, valgrind and numpy where they are.
 """
 
 import argparse
@@ -52,10 +52,8 @@ def main():
     shutil.rmtree(OUT, ignore_errors=True)
     tally = Tally(words.only)
     check_all(tally, words.seed)
-    if tally.skipped:
-        print(f"{tally.skipped} skipped, since this machine lacks what they need")
-    print(f"{tally.passed} passed, {tally.failed} failed")
-    return 1 if tally.failed else 0
+    print(tally.counts, flush=True)
+    return 1 if tally.counts.failed else 0
 
 
 if __name__ == "__main__":

@@ -3,11 +3,12 @@
 
     scripts/gate.py [--rt rt] [--without-proofs]
 
-`rt ci` proves every crate from nothing and leaves the programs that it built, which the checks then run, so nothing is
-proved twice. The last line is `N passed, M failed`, or `N passed, M failed, K skipped`, over all of them: what rt ci
-counts, and for each check the counts of its own last line, or one. A check is skipped where something of the system is
-missing, which it names; nothing is installed. Exit status 0 where nothing failed. With --without-proofs the checks run
-what stands in bin/. Python 3.8 or later, standard library alone.
+`rt ci` proves every crate from nothing and leaves the programs that it built, which the checks then run. It proves the
+library for C too and leaves no archive of it, so `make library` builds that, over the work that earlier checks kept. The
+last line is `N passed, M failed`, or `N passed, M failed, K skipped`, over all of them: what rt ci counts, and for each
+check the counts of its own last line, or one. A check is skipped where something of the system is missing, which is named;
+nothing is installed. Exit status 0 where nothing failed. With --without-proofs the checks run what stands in bin/ and lib/.
+Python 3.8 or later, standard library alone.
 """
 
 import argparse
@@ -27,7 +28,11 @@ from counts import MISSING, Counts
 TOP = os.path.dirname(os.path.dirname(os.path.abspath(__file__)))
 # The crates whose programs the checks run, and the names under which they stand in bin/.
 PROGRAMS = {"trirast_cli": "trirast", "refused_tiles": "refused_tiles", "list_bench": "list_bench"}
+# The library that `make library` builds for the checks.
+LIBRARY = (os.path.join("lib", "libtrirast.a"), os.path.join("lib", "libtrirast.so"))
 MINUTE = 60
+# With no kept work, `make library` proves the crates below the library.
+LIBRARY_SECONDS = 90 * MINUTE
 
 
 @dataclass(frozen=True)
@@ -36,6 +41,9 @@ class Check:
     words: tuple
     seconds: int
     runs_program: bool = True
+    runs_library: bool = False
+    # Commands of the system; where one is missing, the check is skipped.
+    needs: tuple = ()
 
 
 def script(name, folder="scripts"):
@@ -52,8 +60,10 @@ CHECKS = (
     Check("generated lists", script("compare.py"), 20 * MINUTE),
     Check("faults planted in the rules", script("plant_faults.py"), 20 * MINUTE),
     Check("the comparison with drivers", script("test_conformance.py", "conformance"), 15 * MINUTE, runs_program=False),
+    Check("mistakes where memory is refused", script("test_refusals.py"), 5 * MINUTE, runs_program=False),
     Check("refused memory", script("refuse_memory.py"), 10 * MINUTE),
     Check("hostile use", script("hostile.py"), 20 * MINUTE),
+    Check("the library", script("check_library.py"), 10 * MINUTE, runs_library=True, needs=("cc", "gcc")),
 )
 
 
@@ -143,11 +153,33 @@ def take_programs(top, since):
     return True
 
 
-def try_check(check, top, has_programs):
+def has_library(top):
+    return all(os.path.isfile(os.path.join(top, path)) for path in LIBRARY)
+
+
+def build_library(top, rt):
+    """Builds the library of the crate that rt ci has proved; whether it is there then."""
+    # As if a source were new, so that a library of another run is not taken.
+    ended = run(("make", "-W", "crates.txt", "library", f"RT={rt}"), top, LIBRARY_SECONDS)
+    return ended.status == 0 and has_library(top)
+
+
+def missing(check):
+    """The commands of the system that a check needs and that are not there."""
+    return [name for name in check.needs if shutil.which(name) is None]
+
+
+def try_check(check, top, are_programs_built, is_library_built):
     """Runs a check. Its counts: those of its last line, or one."""
     say(f"{check.name}: {' '.join(check.words)}")
-    if check.runs_program and not has_programs:
+    if missing(check):
+        say(f"{check.name} SKIPPED: needs {' and '.join(missing(check))}")
+        return Counts(skipped=1)
+    if check.runs_program and not are_programs_built:
         say(f"{check.name} FAILED: there is no program to run")
+        return Counts(failed=1)
+    if check.runs_library and not is_library_built:
+        say(f"{check.name} FAILED: there is no library to run")
         return Counts(failed=1)
     ended = run(check.words, top, check.seconds)
     if ended.status is None:
@@ -170,12 +202,14 @@ def pass_gate(top, rt, checks, with_proofs=True):
     since = int(time.time())
     if with_proofs:
         total += prove(rt, top)
-        has_programs = take_programs(top, since)
+        are_programs_built = take_programs(top, since)
+        is_library_built = any(check.runs_library and not missing(check) for check in checks) and build_library(top, rt)
     else:
-        has_programs = all(os.access(program(top, name), os.X_OK) for name in PROGRAMS.values())
+        are_programs_built = all(os.access(program(top, name), os.X_OK) for name in PROGRAMS.values())
+        is_library_built = has_library(top)
     for check in checks:
         begun = time.monotonic()
-        counts = try_check(check, top, has_programs)
+        counts = try_check(check, top, are_programs_built, is_library_built)
         say(f"{check.name}: {counts}, in {time.monotonic() - begun:.0f} s")
         total += counts
     return total

@@ -4,8 +4,8 @@
     scripts/hostile.py [NAME ..]
 
 Each run ends by itself, with the picture or with one line and its status. What the system here does not give is named and
-skipped. The last line is 'N passed, M failed', or 'N passed, M failed, K skipped'. Linux, Python 3.8 or later, standard
-library alone.
+skipped, as is gcc, by which single threads are refused. The last line is 'N passed, M failed', or 'N passed, M failed, K
+skipped'. Linux, Python 3.8 or later, standard library alone.
 """
 
 import json
@@ -21,6 +21,8 @@ sys.path.insert(0, os.path.dirname(os.path.abspath(__file__)))
 
 import counts
 import reference
+import refusals
+import tall_picture as tall
 
 TOP = os.path.dirname(os.path.dirname(os.path.abspath(__file__)))
 PROGRAM = os.path.join(TOP, "bin", "trirast")
@@ -62,7 +64,6 @@ WIDE = json.dumps(scene(1024, 1024)).encode()
 WIDE_PICTURE = b"P6\n1024 1024\n255\n" + bytes(3 * 1024 * 1024)
 
 NO_JSON = b"trirast: list fault 1 NotJson\n"
-NO_WORKER = b"trirast: pool fault 2 NoWorker\n"
 OUT_OF_MEMORY = b"trirast: out of memory\n"
 
 
@@ -198,7 +199,7 @@ class Errors(unittest.TestCase):
 
 
 class Threads(unittest.TestCase):
-    """A thread that the system does not start is told, and what went out is a beginning of the file."""
+    """A thread that the system does not start costs time and no picture: the calling thread draws in its place."""
 
     def setUp(self):
         # A user of another number has to reach the program.
@@ -208,8 +209,8 @@ class Threads(unittest.TestCase):
         self.program = shutil.copy(PROGRAM, os.path.join(folder.name, "trirast"))
         os.chmod(self.program, 0o755)
 
-    def run_with_processes(self, most, *words):
-        """A run of a user who may have so many processes, threads counted in."""
+    def run_with_processes(self, most, *words, program=None):
+        """A run of a user who may have this many processes, threads counted in."""
 
         def limit():
             if os.geteuid() == 0:
@@ -221,50 +222,40 @@ class Threads(unittest.TestCase):
                 resource.setrlimit(resource.RLIMIT_NPROC, (1, 1))
 
         try:
-            return run(LARGE, "--tile", "32", *words, program=self.program, preexec_fn=limit)
+            return run(LARGE, *words, program=program or self.program, preexec_fn=limit)
         except subprocess.SubprocessError:
             self.skipTest("this system lets no process take another user's number")
 
-    def check_that_threads_count(self):
-        if self.run_with_processes(1, "--workers", "2")[0] == 0:
-            self.skipTest("this system does not count threads against the limit on processes")
+    def check_that_the_limit_holds(self):
+        """Threads are counted as processes are, so a shell that cannot start one has no thread left either."""
+        if self.run_with_processes(1, "-c", "(:) & wait $!", program="/bin/sh")[0] == 0:
+            self.skipTest("this system does not keep the limit on processes")
 
     def test_no_thread_at_all(self):
-        self.check_that_threads_count()
-        for workers in ("2", "3", "16"):
-            self.assertEqual(self.run_with_processes(1, "--workers", workers), (1, LARGE_PICTURE[:13], NO_WORKER))
-
-    def test_one_worker_needs_no_thread(self):
-        self.assertEqual(self.run_with_processes(1, "--workers", "1"), (0, LARGE_PICTURE, b""))
+        self.check_that_the_limit_holds()
+        for workers in ("1", "2", "3", "16"):
+            found = self.run_with_processes(1, "--tile", "32", "--workers", workers)
+            self.assertEqual(found, (0, LARGE_PICTURE, b""), workers)
 
     def test_some_threads_of_three(self):
-        """A thread that has ended makes room for another, so a run may come through."""
         if os.geteuid() != 0:
             self.skipTest("only root can take a user's number that has no other process")
-        self.check_that_threads_count()
-        for most in (2, 3, 4):
-            status, output, line = self.run_with_processes(most, "--workers", "3")
-            if status == 0:
-                self.assertEqual((output, line), (LARGE_PICTURE, b""))
-            else:
-                self.assertEqual((status, line), (1, NO_WORKER))
-                self.assertIn(len(output), (13, 6253, 12493))
-                self.assertTrue(LARGE_PICTURE.startswith(output))
-        self.assertEqual(self.run_with_processes(64, "--workers", "3"), (0, LARGE_PICTURE, b""))
+        self.check_that_the_limit_holds()
+        for most in (2, 3, 4, 64):
+            found = self.run_with_processes(most, "--tile", "32", "--workers", "3")
+            self.assertEqual(found, (0, LARGE_PICTURE, b""), most)
 
     def test_each_size_of_the_address_space(self):
         """With too little of it the program is not loaded, or memory or a thread's stack is refused."""
-        lines = set()
         for kilobytes in range(2048, 160 * 1024, 2048):
             limited = f'ulimit -c 0; ulimit -v {kilobytes}; exec "$0" --tile 32'
             how = {"input": LARGE, "capture_output": True, "timeout": MOST_SECONDS}
             done = subprocess.run(["sh", "-c", limited, self.program], **how)
             status, output, line = done.returncode, done.stdout, done.stderr
-            if line in (OUT_OF_MEMORY, NO_WORKER):
+            if line == OUT_OF_MEMORY:
                 self.assertEqual(status, 1)
                 self.assertIn(len(output), (0, 13, 6253, 12493))
                 self.assertTrue(LARGE_PICTURE.startswith(output))
-                lines.add(line)
             elif status == 0:
                 self.assertEqual((output, line), (LARGE_PICTURE, b""))
             else:
@@ -272,7 +263,44 @@ class Threads(unittest.TestCase):
                 self.assertFalse(output)
                 self.assertFalse(line.startswith(b"trirast: "), line)
         self.assertEqual((status, line), (0, b""))
-        self.assertIn(NO_WORKER, lines)
+
+
+class RefusedThreads(refusals.Refusals):
+    """A picture of eight batches comes whole where one thread is not started, whichever it is, and where no later one is either."""
+
+    program = PROGRAM
+
+    def check_threads(self, workers, later=0):
+        runs = self.each_run(lambda number: self.run_once(tall.words(workers), tall.LIST, thread=number, later=later))
+        # Each batch has a thread for each worker, and those before the refused one were started.
+        threads = workers * tall.ROWS // tall.TOGETHER
+        self.assertEqual([run.refusals[0].started for run in runs], list(range(threads)))
+        for run in runs:
+            self.assertEqual((run.status, run.line), (0, b""), run.refusals)
+            self.assertTrue(run.output == tall.PICTURE, f"another picture after {run.refusals}")
+
+    def test_each_thread_of_two_workers(self):
+        self.check_threads(2)
+
+    def test_each_thread_of_four_workers(self):
+        self.check_threads(4)
+
+    def test_stacks_that_find_no_address_space(self):
+        drawn_without = 0
+        for megabytes in range(3, 64):
+            most = megabytes * 1024 * 1024
+            run = self.run_once(
+                tall.words(4), tall.LIST, preexec_fn=lambda most=most: resource.setrlimit(resource.RLIMIT_AS, (most, most))
+            )
+            # With less the system cannot load the program, or memory is refused.
+            if run.status == 0:
+                self.assertTrue((run.output, run.line) == (tall.PICTURE, b""), f"another picture in {megabytes} MiB")
+                drawn_without += bool(run.refusals)
+        self.assertLess(0, drawn_without)
+
+    def test_all_threads_from_each_one_on(self):
+        self.check_threads(2, later=refusals.EACH)
+        self.check_threads(4, later=refusals.EACH)
 
 
 class Lists(unittest.TestCase):

@@ -1,34 +1,30 @@
 #!/usr/bin/env python3
-"""Runs bin/trirast with each of its growths of memory refused in turn, until no round meets a refusal any more.
+"""Runs bin/trirast with allocations that fail: each in turn, each and all behind it, and two of them.
 
-A run whose growth was refused ends in one of three ways: as it would have without (a list that could grow ahead of need
-grows by less), or with status 1, the line `trirast: out of memory` and a beginning of the file that ends where a band
-ends, or, where the refused growth is the toolchain's own record of a thread that is to be started, with `trirast: pool
-fault 2 NoWorker`: a thread was not started then, and the toolchain does not say why. There is one such place in the
-program, and no other growth may be told so. bin/refused_tiles, which draws the tiles of a list in one store, goes on after a
-refusal: the tiles that follow are right. The program's line has no draw, so which draw is told with want of memory is
-seen by crates/list_bench, which prints it. Needs gcc. The last line is 'N passed, M failed'.
+Where an allocation fails, a run ends as it would have without (a list that could grow ahead of need grows by less, and a
+batch of tile rows whose workers lack memory is drawn again by the calling thread), or with status 1, the line `trirast: out of
+memory` and exactly the tile rows before the one for which the calling thread lacked memory. bin/refused_tiles, which draws the
+tiles of a list in one store, goes on after a refusal: the tiles that follow are right. The program's line names no draw, so
+the draw in which memory ran out is seen by crates/list_bench, which prints it. Needs gcc. The last line is 'N passed, M failed'.
 """
 
+import collections
 import itertools
 import json
 import os
-import shutil
 import subprocess
 import sys
-import tempfile
-import unittest
-from dataclasses import dataclass
+
+sys.path.insert(0, os.path.dirname(os.path.abspath(__file__)))
 
 import counts
+import refusals
+import tall_picture as tall
 
-HERE = os.path.dirname(os.path.abspath(__file__))
-TOP = os.path.dirname(HERE)
+TOP = os.path.dirname(os.path.dirname(os.path.abspath(__file__)))
 PROGRAM = os.path.join(TOP, "bin", "trirast")
 TILES = os.path.join(TOP, "bin", "refused_tiles")
 READER = os.path.join(TOP, "bin", "list_bench")
-# With several workers two runs can ask for memory in another order, so one round that meets none is not the end.
-ROUNDS_THAT_MEET_NONE = 10
 
 WHITE = [255, 255, 255, 255]
 
@@ -52,113 +48,211 @@ HEADER = b"P6\n65 65\n255\n"
 LARGE_PICTURE = HEADER + b"".join(
     b"\xff\xff\xff" if column + row <= 63 else b"\0\0\0" for row in range(65) for column in range(65)
 )
-# Where a run may stop: before the header, after it, and after whole bands of 32 rows.
+# Where a run may stop: before the header, after it, and after whole tile rows of 32 rows of pixels.
 ENDS = [0, 13, 13 + 32 * 65 * 3, 13 + 64 * 65 * 3]
 OUT_OF_MEMORY = b"trirast: out of memory\n"
-NO_WORKER = b"trirast: pool fault 2 NoWorker\n"
 
 
-@dataclass(frozen=True)
-class Run:
-    """A run with one growth refused: where it was asked for (None: the run met no refusal), and how the run ended."""
-
-    place: object
-    output: bytes
-    line: bytes
-    status: int
-
-
-@unittest.skipUnless(shutil.which("gcc"), "gcc is not there")
-class Refusals(unittest.TestCase):
+class Refusals(refusals.Refusals):
     program = PROGRAM
 
-    @classmethod
-    def setUpClass(cls):
-        folder = tempfile.TemporaryDirectory()
-        cls.addClassCleanup(folder.cleanup)
-        cls.shim = os.path.join(folder.name, "refuse_memory.so")
-        source = os.path.join(HERE, "refuse_memory.c")
-        subprocess.run(["gcc", "-O2", "-Wall", "-shared", "-fPIC", "-o", cls.shim, source, "-ldl"], check=True)
-
-    def run_once(self, number, words, text):
-        read_end, write_end = os.pipe()
-        with open(read_end, "rb") as told:
-            refused = {"LD_PRELOAD": self.shim, "REFUSE_MEMORY": str(number), "REFUSE_MEMORY_TELL": str(write_end)}
-            how = {"capture_output": True, "timeout": 60, "env": {**os.environ, **refused}, "pass_fds": [write_end]}
-            try:
-                done = subprocess.run([self.program, *words], input=text, **how)
-            finally:
-                os.close(write_end)
-            return Run(told.read().decode() or None, done.stdout, done.stderr, done.returncode)
-
     def runs(self, words, text):
-        """A run for each growth, from the first on, that met its refusal."""
-        found, number, met_none = [], 0, 0
-        while met_none < ROUNDS_THAT_MEET_NONE:
-            number += 1
-            run = self.run_once(number, words, text)
-            if run.place is None:
-                met_none += 1
-            else:
-                met_none = 0
-                found.append(run)
-        self.assertTrue(found, "no growth was refused")
-        return found
+        """A run for each allocation that fails, from the first on."""
+        return self.each_run(lambda number: self.run_once(words, text, allocation=number))
 
     def cut_runs(self, words, text, status, output, line=b""):
         """The runs that were cut short; all others ended as they would have without a refusal."""
         whole = (output, line, status)
         cut = [run for run in self.runs(words, text) if (run.output, run.line, run.status) != whole]
         for run in cut:
-            self.assertEqual(run.status, 1, run)
-            self.assertIn(run.line, (OUT_OF_MEMORY, NO_WORKER), run)
+            self.assertEqual((run.status, run.line), (1, OUT_OF_MEMORY), run)
             self.assertTrue(output.startswith(run.output), run)
-        self.assertTrue(any(run.line == OUT_OF_MEMORY for run in cut), "no run was out of memory")
+        self.assertTrue(cut, "no run was out of memory")
         return cut
 
-    def threads(self, cut):
-        """How many runs told that a worker was not started. Only the start of a thread may, and it tells nothing else."""
-        places = {run.place for run in cut if run.line == NO_WORKER}
-        self.assertLessEqual(len(places), 1, "growths at several places were told as a worker that was not started")
-        told = [run.line for run in cut if run.place in places]
-        self.assertTrue(all(line == NO_WORKER for line in told), "a growth of the program's own was told as no worker")
-        return len(told)
+
+class TileRows(Refusals):
+    """A picture of 24 tile rows, which several workers draw in batches of three.
+
+    Which tile row was refused is known without the picture: one worker is the calling thread, and the tiles that it allocated
+    say how far it came. Of several workers the threads that were started say which batch was being drawn. The calling thread
+    allocates tiles only where it draws a batch again, so their number says how far it came in that batch.
+    """
+
+    tile_bytes = tall.TILE_BYTES
+
+    @classmethod
+    def setUpClass(cls):
+        super().setUpClass()
+        cls.found = collections.defaultdict(collections.Counter)
+
+    @classmethod
+    def tearDownClass(cls):
+        for workers, found in sorted(cls.found.items()):
+            print(
+                f"{tall.ROWS} tile rows, workers {workers}: {found['runs']} runs with refusals, {found['faults']} of them out of "
+                "memory, each after exactly the whole tile rows before the refused one",
+                flush=True,
+            )
+
+    def run_tall(self, workers, **refused):
+        return self.run_once(tall.words(workers), tall.LIST, **refused)
+
+    def each_tall(self, workers, **refused):
+        return self.each_run(lambda number: self.run_tall(workers, allocation=number, **refused))
+
+    def check_runs(self, workers, runs, row_of):
+        """Checks that each run wrote the picture, or exactly the tile rows before the refused one. These rows, without repeats."""
+        rows = set()
+        for run in runs:
+            if run.status == 0:
+                self.assertTrue((run.output, run.line) == (tall.PICTURE, b""), f"not the picture after {run.refusals}")
+                continue
+            self.assertEqual((run.status, run.line), (1, OUT_OF_MEMORY), run.refusals)
+            own = [refusal for refusal in run.refusals if refusal.in_first_thread]
+            self.assertTrue(own, f"out of memory, and the calling thread was refused none: {run.refusals}")
+            row = row_of(run.refusals[0], own[-1])
+            before_header = row == 0 and own[-1].written == 0
+            expected = b"" if before_header else tall.with_rows(row)
+            self.assertTrue(run.output == expected, f"{len(run.output)} bytes for {row} tile rows after {run.refusals}")
+            rows |= set() if before_header else {row}
+        self.found[workers]["runs"] += len(runs)
+        self.found[workers]["faults"] += sum(run.status != 0 for run in runs)
+        return rows
+
+    def check_one_worker(self, later):
+        runs = self.each_tall(1, later=later)
+        rows = self.check_runs(1, runs, lambda _first, last: last.tiles // tall.COLUMNS)
+        self.assertEqual(rows, set(range(tall.ROWS)))
+        # The calling thread is refused each of its tiles once, so tiles are told apart by their size.
+        counted = {run.refusals[-1].tiles for run in runs if run.status != 0}
+        self.assertEqual(counted, set(range(tall.ROWS * tall.COLUMNS)))
+
+    def test_one_worker(self):
+        """Catches a body that fails before it has written a tile row that is whole, or that writes one twice."""
+        self.check_one_worker(later=0)
+
+    def test_one_worker_each_later_allocation(self):
+        """Catches the same where nothing can be allocated any more."""
+        self.check_one_worker(later=refusals.EACH)
+
+    def check_one_refusal(self, workers):
+        runs = self.each_tall(workers)
+        drawing = [run for run in runs if run.refusals[0].written > 0]
+        self.assertLess(tall.ROWS * tall.COLUMNS, len(drawing))
+        for run in drawing:
+            self.assertEqual((run.status, run.line), (0, b""), run.refusals)
+        self.check_runs(workers, runs, lambda _first, _last: 0)
+
+    def test_one_refusal_of_two_workers(self):
+        """Catches a body that draws a batch again from its second tile row on, that writes a tile row or a batch twice, that
+        loses the batch above, or that draws nothing again."""
+        self.check_one_refusal(2)
+
+    def test_one_refusal_of_four_workers(self):
+        """Catches the same bodies."""
+        self.check_one_refusal(4)
+
+    def gathering(self, workers):
+        """How many allocations the calling thread makes after it joined the workers of a batch until the batch is done, which is
+        when the one above is written: as many as before the first batch was written."""
+        third_batch = 2 * workers + 1
+        return self.run_tall(workers, thread=third_batch).refusals[0].at_write
+
+    def batch_of(self, workers, gathering, first):
+        """The batch that was being drawn at a run's first refusal."""
+        if first.started > first.joined or (first.started > 0 and first.since_join < gathering):
+            return (first.started - 1) // workers
+        return first.started // workers
+
+    def check_each_later_allocation(self, workers):
+        runs = self.each_tall(workers, later=refusals.EACH)
+        gathering = self.gathering(workers)
+
+        def row_of(first, last):
+            self.assertEqual(last.tiles, 0, "the calling thread allocated a tile after memory ran out")
+            return tall.TOGETHER * self.batch_of(workers, gathering, first)
+
+        self.assertEqual(self.check_runs(workers, runs, row_of), set(range(0, tall.ROWS, tall.TOGETHER)))
+
+    def test_each_later_allocation_of_two_workers(self):
+        """Catches a body that loses the batch above where the one below fails."""
+        self.check_each_later_allocation(2)
+
+    def test_each_later_allocation_of_four_workers(self):
+        """Catches the same body."""
+        self.check_each_later_allocation(4)
+
+    def check_drawing_again(self, workers):
+        """The first or the last thread of a batch is not started, and then an allocation of the calling thread fails, each in
+        turn. So the batch that is drawn again is known by the number of the thread."""
+        for batch in (0, 4, 7):
+            for thread in (batch * workers + 1, (batch + 1) * workers):
+                again = self.each_run(lambda later: self.run_tall(workers, thread=thread, later=later), least=2)
+                rows = self.check_runs(workers, again, lambda _first, last: tall.TOGETHER * batch + last.tiles // tall.COLUMNS)
+                first = tall.TOGETHER * batch
+                self.assertEqual(rows, set(range(first, first + tall.TOGETHER)))
+
+    def test_drawing_again_for_two_workers(self):
+        """Catches a body that fails before it has written the whole tile rows of a batch that is drawn again, that writes one of
+        them twice, that begins with the second, or that loses the batch above."""
+        self.check_drawing_again(2)
+
+    def test_drawing_again_for_four_workers(self):
+        """Catches the same bodies."""
+        self.check_drawing_again(4)
+
+    def check_two_refusals(self, workers):
+        alone = self.each_tall(workers)
+        gathering = self.gathering(workers)
+        begun = sum(run.refusals[0].written == 0 for run in alone)
+
+        def row_of(first, last):
+            return tall.TOGETHER * self.batch_of(workers, gathering, first) + last.tiles // tall.COLUMNS
+
+        rows = set()
+        # Two runs can differ in how often they allocate, so the last ones are left out.
+        for number in range(begun + 1, len(alone) * 9 // 10, len(alone) // 12):
+            runs = self.each_run(lambda later: self.run_tall(workers, allocation=number, later=later), least=2)
+            rows |= self.check_runs(workers, runs, row_of)
+        self.assertEqual({row % tall.TOGETHER for row in rows}, set(range(tall.TOGETHER)))
+
+    def test_two_refusals_of_two_workers(self):
+        """Catches the bodies of drawing again where memory for the workers and not a thread was refused."""
+        self.check_two_refusals(2)
+
+    def test_two_refusals_of_four_workers(self):
+        """Catches the same bodies."""
+        self.check_two_refusals(4)
 
 
 class Pictures(Refusals):
-    """A picture of three bands."""
+    """A picture of three tile rows, the last of them not as high as its tiles."""
 
     def cut_pictures(self, workers):
-        words = ["--tile", "32", "--workers", str(workers)]
-        cut = self.cut_runs(words, json.dumps(LARGE).encode(), 0, LARGE_PICTURE)
-        for run in cut:
-            self.assertIn(len(run.output), ENDS, run)
-        return cut
+        return self.cut_runs(["--tile", "32", "--workers", str(workers)], json.dumps(LARGE).encode(), 0, LARGE_PICTURE)
 
     def test_one_worker(self):
-        cut = self.cut_pictures(1)
-        lengths = [len(run.output) for run in cut]
+        lengths = [len(run.output) for run in self.cut_pictures(1)]
         self.assertEqual(lengths, sorted(lengths))
         # A program that holds the whole picture would not stop at each of them.
         self.assertEqual(sorted(set(lengths)), ENDS)
-        self.assertEqual(self.threads(cut), 0, "one worker is the calling thread")
 
-    def test_the_second_band_of_one_worker(self):
+    def test_the_second_tile_row_of_one_worker(self):
         second = next(run for run in self.cut_pictures(1) if len(run.output) > len(HEADER))
         self.assertEqual((second.line, len(second.output)), (OUT_OF_MEMORY, 6253))
 
     def test_three_workers(self):
-        cut = self.cut_pictures(3)
-        self.assertEqual(sorted({len(run.output) for run in cut}), ENDS)
-        self.assertGreaterEqual(self.threads(cut), 3)
+        """Once the header is written, no single refusal costs the picture."""
+        for run in self.cut_pictures(3):
+            self.assertEqual(run.output, b"", run.refusals)
 
 
 class Lists(Refusals):
-    """A list is read, or memory is told; a refusal is never told as a fault of the list."""
+    """A list is read, or the run is out of memory; a refusal is never reported as a fault of the list."""
 
     def check_picture(self, value, picture):
-        cut = self.cut_runs(["--workers", "1"], json.dumps(value).encode(), 0, picture)
-        self.threads(cut)
+        self.cut_runs(["--workers", "1"], json.dumps(value).encode(), 0, picture)
 
     def check_fault(self, text, line):
         for run in self.cut_runs(["--workers", "1"], text, 1, b"", line):
@@ -194,13 +288,13 @@ class Lists(Refusals):
 
 
 class Draws(Refusals):
-    """Want of memory is told with the draw that was being read, and without one before the first draw and after the last."""
+    """`OutOfMemory` is reported with the draw that was being read, and without one before the first draw and after the last."""
 
     program = READER
     FIRST_DRAW = {"vertices": FIRST, "triangles": [[0, 1, 2]]}
 
-    def told(self, second, line):
-        """What is told in place of this line where a growth is refused, in turn, without repeats."""
+    def reported(self, second, line):
+        """What is printed in place of this line as each allocation fails in turn, without repeats."""
         # The draws stand first, so that the list is read by its JSON value: the one pass tells no fault.
         text = json.dumps({"draws": [self.FIRST_DRAW, second], "height": 3, "width": 3}).encode()
         answers = [run.output.splitlines()[0] for run in self.runs([], text) if run.output]
@@ -208,19 +302,19 @@ class Draws(Refusals):
 
     def test_two_draws(self):
         no_memory = b"no list: fault 8 OutOfMemory"
-        told = self.told(self.FIRST_DRAW, b"a list of 2 triangles")
-        self.assertEqual(told, [no_memory, no_memory + b" in draw 0", no_memory + b" in draw 1", no_memory])
+        reported = self.reported(self.FIRST_DRAW, b"a list of 2 triangles")
+        self.assertEqual(reported, [no_memory, no_memory + b" in draw 0", no_memory + b" in draw 1", no_memory])
 
     def test_checks_before_the_vertices_of_the_second_draw(self):
         no_memory = b"no list: fault 8 OutOfMemory"
         fault = b"no list: fault 2 UnknownKey in draw 1"
-        self.assertEqual(self.told({**self.FIRST_DRAW, "fog": 1}, fault), [no_memory, no_memory + b" in draw 0"])
+        self.assertEqual(self.reported({**self.FIRST_DRAW, "fog": 1}, fault), [no_memory, no_memory + b" in draw 0"])
 
     def test_vertices_of_the_second_draw(self):
         no_memory = b"no list: fault 8 OutOfMemory"
         fault = b"no list: fault 4 WrongKind in draw 1"
-        told = self.told({"vertices": [[0]], "triangles": []}, fault)
-        self.assertEqual(told, [no_memory, no_memory + b" in draw 0", no_memory + b" in draw 1"])
+        reported = self.reported({"vertices": [[0]], "triangles": []}, fault)
+        self.assertEqual(reported, [no_memory, no_memory + b" in draw 0", no_memory + b" in draw 1"])
 
 
 class Words(Refusals):
@@ -246,8 +340,8 @@ class Tiles(Refusals):
             return f"{right} tiles right, 0 wrong, {refused} refused\n".encode()
 
         none_refused, one_refused = (line(tiles, 0), 0), (line(tiles - 1, 1), 0)
-        told = subprocess.run([TILES], input=text, capture_output=True, timeout=60)
-        self.assertEqual((told.stdout, told.returncode), none_refused)
+        done = subprocess.run([TILES], input=text, capture_output=True, timeout=60)
+        self.assertEqual((done.stdout, done.returncode), none_refused)
         ends = [(run.output, run.status) for run in self.runs([], text)]
         # Elsewhere than in a tile a refusal is status 1, or a list that could grow ahead of need grew by less.
         self.assertLessEqual(set(ends), {none_refused, one_refused, (b"", 1)})

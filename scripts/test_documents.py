@@ -15,6 +15,7 @@ sys.path.insert(0, os.path.dirname(os.path.abspath(__file__)))
 import counts
 import plant_faults
 import reference
+from public_calls import CRATES, calls_in, given_out, named_calls, public_calls
 
 TOP = os.path.dirname(os.path.dirname(os.path.abspath(__file__)))
 PATH = re.compile(r"`((?:[a-z_.]+/)+[\w.-]+\.(?:antt|rt|md|py|json|png|1|c|cpp|txt))`")
@@ -115,6 +116,19 @@ class Names(unittest.TestCase):
         for line in lines:
             self.assertIn(line, page)
 
+    def test_what_crates_stand_on(self):
+        named = {crate: set(below.split()) for crate, below in re.findall(r"^(\w+)(?: staticlib)?:(.*)$", text_of("crates.txt"), re.MULTILINE)}
+        table = text_of("docs/architecture.md").split("## The crates")[1].split("\n\n")[1]
+        for crates, _does, below in list(rows(table))[1:]:
+            crates = re.findall(r"`(\w+)`", crates)
+            self.assertLessEqual(set(crates), set(named))
+            if len(crates) == 1:
+                below = set(re.findall(r"`(\w+)`", re.sub(r"\(.*?\)", "", below)))
+                self.assertEqual(below - {"std"}, named[crates[0]], crates[0])
+        trusted = re.search(r"\*\*Trusted\.\*\*(.*?)\n\n", text_of("README.md"), re.DOTALL)[1]
+        of_toolchain = set().union(*named.values()) - set(named)
+        self.assertLessEqual(of_toolchain, set(re.findall(r"`(\w+)`", trusted)))
+
     def test_number_of_planted_faults(self):
         self.assertIn(f"that {len(plant_faults.FAULTS)} wrong rules", text_of("docs/proofs.md"))
 
@@ -141,6 +155,52 @@ class Proofs(unittest.TestCase):
                 if not re.search(r"[A-Z]\w*`$", head):
                     for word in re.findall(r"`(\w+)`", named):
                         self.assertTrue(word in clauses or word[0].isupper(), f"{word} is no clause: {carriers}")
+
+    def test_every_public_call_is_named(self):
+        public = public_calls()
+        promises, tested = text_of("docs/proofs.md").split("## What is only tested")
+        cells = [cell for *_promise, cell in rows(promises)] + [cell for cell, *_tests in rows(tested)]
+        named = set().union(*(named_calls(cell, public) for cell in cells))
+        self.assertEqual(sorted(public - named), [])
+
+    def test_public_calls_are_read_of_sources(self):
+        root = "pub use a::Shape;\npub use b::{\n    draw,\n    Job,\n};\nmod c;\npub fn version() {}\n"
+        self.assertEqual(given_out(root), {"Shape", "draw", "Job", "version"})
+        text = """\
+pub fn draw() {
+    fn inside() {}
+}
+pub fn hidden() {}
+pub(crate) fn draw() {}
+impl<'a, T: Into<u8>> Shape<'a, T> {
+    pub fn side(&self) {}
+    pub(crate) fn area(&self) {}
+    fn own(&self) {}
+}
+impl Clone for Shape {
+    pub fn clone(&self) {}
+}
+pub trait Job: Sync {
+    fn work(&self);
+}
+impl Hidden {
+    pub fn new() {}
+}
+pub extern "C" fn version() {}
+"""
+        self.assertEqual(set(calls_in(text, "plain", given_out(root))), {"plain::draw", "Shape::side", "Job::work", "plain::version"})
+        self.assertLessEqual({call.split("::")[0] for call in public_calls() if call[0].islower()}, set(CRATES))
+
+    def test_calls_are_read_of_cells(self):
+        public = {"Tri::covers", "Tri::new", "Row::new", "Row::step", "Row::value", "grid::side", "plain::draw", "trirast::draw"}
+        for cell, named in (
+            ("`grid::Tri::covers`: its clause", {"Tri::covers"}),
+            ("`Row`: `new`, `step`: their clauses; `value`: `new`", {"Row::new", "Row::step", "Row::value"}),
+            ("`Tri::new`: `step` (`Row::step`); `side`: its clause", {"Tri::new", "grid::side"}),
+            ("`plain::draw` and `draw`", {"plain::draw"}),
+            ("`Tri::new`; `draw`: its clause", {"Tri::new"}),
+        ):
+            self.assertEqual(named_calls(cell, public), named, cell)
 
     def test_what_layers_rely_on(self):
         known = contracts()

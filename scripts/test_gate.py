@@ -19,9 +19,9 @@ import gate
 from counts import Counts
 
 
-def check(text, seconds=60, runs_program=False):
+def check(text, seconds=60, runs_program=False, **more):
     """A check that runs this python text."""
-    return gate.Check("a check", (sys.executable, "-c", text), seconds, runs_program)
+    return gate.Check("a check", (sys.executable, "-c", text), seconds, runs_program, **more)
 
 
 PASSES = check("print('all is well')")
@@ -132,6 +132,53 @@ class Gate(unittest.TestCase):
             rt = self.rt("5 passed, 1 failed", status=1, builds=builds)
             self.assertEqual(self.total(rt, needs, PASSES), Counts(6, 2, 0))
             self.assertIn("there is no program to run", self.printed)
+
+    def make(self, line):
+        """A Makefile of which the target `library` runs this line."""
+        with open(os.path.join(self.top, "Makefile"), "w", encoding="utf-8") as file:
+            file.write(f".PHONY: library\nlibrary: lib/libtrirast.a lib/libtrirast.so\nlib/%: crates.txt\n\tmkdir -p lib\n\t{line}\n")
+        with open(os.path.join(self.top, "crates.txt"), "w", encoding="utf-8"):
+            pass
+
+    def library(self, text):
+        """Puts a library of this text where the checks look for it."""
+        os.makedirs(os.path.join(self.top, "lib"))
+        for path in gate.LIBRARY:
+            with open(os.path.join(self.top, path), "w", encoding="utf-8") as file:
+                file.write(text)
+
+    def test_checks_run_the_library_that_make_builds(self):
+        self.make("echo '$(RT)' > $@")
+        self.library("an older library")
+        rt = self.rt("5 passed, 0 failed")
+        paths = [os.path.join(self.top, path) for path in gate.LIBRARY]
+        reads = check(f"for path in {paths!r}: assert open(path).read() == {rt!r} + chr(10)", runs_library=True)
+        self.assertEqual(self.total(rt, reads), Counts(6, 0, 0))
+
+    def test_a_library_that_is_not_built_is_a_failure(self):
+        needs = check("pass", runs_library=True)
+        self.library("an older library")
+        for line in ("false", "rm -f $@"):
+            self.make(line)
+            self.assertEqual(self.total(self.rt("5 passed, 0 failed"), needs, PASSES), Counts(6, 1, 0))
+            self.assertIn("there is no library to run", self.printed)
+
+    def test_no_library_is_built_where_no_check_runs_it(self):
+        self.make("touch tried; false")
+        lacks = check("pass", runs_library=True, needs=("no_such_compiler",))
+        self.assertEqual(self.total(self.rt("5 passed, 0 failed"), PASSES, lacks), Counts(6, 0, 1))
+        self.assertFalse(os.path.exists(os.path.join(self.top, "tried")))
+
+    def test_a_check_without_the_commands_that_it_needs_is_skipped(self):
+        lacks = check("raise SystemExit(1)", needs=("python3", "no_such_compiler"))
+        self.assertEqual(self.total(self.rt("5 passed, 0 failed"), lacks), Counts(5, 0, 1))
+        self.assertIn("SKIPPED: needs no_such_compiler", self.printed)
+
+    def test_without_proofs_the_library_is_taken_as_it_is(self):
+        needs = check("pass", runs_library=True)
+        self.assertEqual(self.total("no such rt", needs, with_proofs=False), Counts(0, 1, 0))
+        self.library("a library")
+        self.assertEqual(self.total("no such rt", needs, with_proofs=False), Counts(1, 0, 0))
 
     def test_the_checks_are_files_of_their_own(self):
         for one in gate.CHECKS:

@@ -12,6 +12,7 @@ TOP = os.path.dirname(SCRIPTS)
 sys.path[:0] = [SCRIPTS, os.path.join(TOP, "python")]
 
 import reference
+from counts import Counts
 
 OUT = os.path.join(TOP, "out", "check-library")
 PROGRAM = os.path.join(TOP, "bin", "trirast")
@@ -36,11 +37,10 @@ class Tally:
 
     def __init__(self, only):
         self.only = only
-        self.passed, self.failed, self.skipped = 0, 0, 0
+        self.counts = Counts()
 
     def line(self, word, name, why=""):
-        count = {"ok": "passed", "failed": "failed", "skipped": "skipped"}[word]
-        setattr(self, count, getattr(self, count) + 1)
+        self.counts += {"ok": Counts(passed=1), "failed": Counts(failed=1), "skipped": Counts(skipped=1)}[word]
         print(f"{word:7} {name}{': ' if why else ''}{why}", flush=True)
 
     def run(self, name, check, *words):

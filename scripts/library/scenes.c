@@ -75,6 +75,21 @@ static void look_at_broken(int change, uint32_t list_kind, int draw) {
     free(buffer.all);
 }
 
+// A scene of one pixel whose draws, if any, have neither vertices nor indices: arrays of no elements are NULL.
+static void look_at_empty(size_t draw_count) {
+    trirast_scene_head head = {1, 1, 1, 0, 1, 2, 3, 65535};
+    trirast_scene_draw draw = {0, 0, TRIRAST_STRIP, TRIRAST_CULL_NONE, TRIRAST_ALWAYS, 0, 0, 1, 1, 1, 15, 0, 0, 1, 1};
+    scene all = {.head = &head, .draws = draw_count ? &draw : NULL, .draw_count = draw_count};
+    const uint8_t wanted[] = {'P', '6', '\n', '1', ' ', '1', '\n', '2', '5', '5', '\n', 1, 2, 3};
+    marked buffer = mark(sizeof wanted);
+    trirast_fault fault;
+    uint32_t answer = draw_scene(&all, 32, &buffer, &fault);
+    expect(is_fault(&fault, answer, TRIRAST_OK) && holds_just(&buffer, wanted, sizeof wanted), "%zu draws: answer %u", draw_count, answer);
+    answer = trirast_draw_scene(&head, all.draws, draw_count, NULL, 0, NULL, 0, 32, NULL, 0, &fault);
+    expect(is_fault(&fault, answer, TRIRAST_BUFFER_TOO_SHORT), "no buffer: answer %u", answer);
+    free(buffer.all);
+}
+
 void look_at_scenes(void) {
     for (int k = 0; k < drawn_count; k++) {
         look_at_scene(&drawn[k], 32, drawn[k].wanted.length, TRIRAST_OK);
@@ -83,6 +98,9 @@ void look_at_scenes(void) {
         look_at_scene(&drawn[k], 33, drawn[k].wanted.length, TRIRAST_NO_TILE_SIDE);
     }
     tell("trirast_draw_scene draws the arrays of a list as the program draws the list");
+    look_at_empty(0);
+    look_at_empty(1);
+    tell("a scene without draws, vertices or indices, NULL and 0, is drawn, and with no buffer is told to be too long");
     look_at_broken(0, 0, -1);
     look_at_broken(1, TRIRAST_OUT_OF_RANGE, -1);
     look_at_broken(2, TRIRAST_OUT_OF_RANGE, -1);

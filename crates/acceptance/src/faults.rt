@@ -82,6 +82,18 @@ fn tells_the_first_fault_of_a_list(rt: HostRuntime) -> Result<(), Fail> {
 }
 
 #[test]
+fn refuses_a_triangle_with_an_index_past_the_last_vertex(rt: HostRuntime) -> Result<(), Fail> {
+    let list =
+        r#"{"width":3,"height":3,"draws":[{"vertices":[[128,128,0,255,255,255,255],[640,128,0,255,255,255,255],[128,640,0,255,255,255,255]],"triangles":[[0,1,3]]}]}"#;
+    refuses(
+        &rt,
+        rt.alloc(),
+        list.as_bytes(),
+        "list fault 6 BadIndex in draw 0",
+    )
+}
+
+#[test]
 fn refuses_each_beginning(rt: HostRuntime) -> Result<(), Fail> {
     let bytes = TRIANGLE.as_bytes();
     for end in 0..bytes.len() {
@@ -185,6 +197,20 @@ fn refuses_lists_past_their_limits(rt: HostRuntime) -> Result<(), Fail> {
         alloc,
         list.as_bytes(),
         "list fault 7 TooMany in draw 1",
+    )
+}
+
+#[test]
+fn refuses_more_than_32768_quads(rt: HostRuntime) -> Result<(), Fail> {
+    let quads = listed(rt.alloc(), "[0,1,2,3]", 32_769)?;
+    let list = format!(in rt.alloc();
+        "{{\"width\":3,\"height\":3,\"draws\":[{{\"vertices\":[[128,128,0,255,255,255,255],[640,128,0,255,255,255,255],[640,640,0,255,255,255,255],[128,640,0,255,255,255,255]],\"quads\":[{quads}]}}]}}"
+    )?;
+    refuses(
+        &rt,
+        rt.alloc(),
+        list.as_bytes(),
+        "list fault 7 TooMany in draw 0",
     )
 }
 

@@ -75,6 +75,18 @@ fn holds_the_largest_triangle(rt: HostRuntime) {
     assert!(rt; !largest.covers(point(&rt, (-8_388_608, -8_388_608))));
 }
 
+// Half of each way of the guard band: 8388607 squared.
+#[test]
+fn measures_a_triangle_half_as_wide_as_the_guard_band(rt: HostRuntime) {
+    let half = triangle(
+        &rt,
+        (4_194_303, 4_194_303),
+        (-4_194_304, 4_194_303),
+        (4_194_303, -4_194_304),
+    );
+    assert_eq!(rt; half.area2(), 70_368_727_400_449);
+}
+
 #[test]
 fn covers_by_the_top_left_rule(rt: HostRuntime) {
     let clockwise = triangle(&rt, (128, 128), (640, 128), (128, 640));

@@ -66,6 +66,29 @@ fn holds_the_largest_triangle(rt: HostRuntime) {
     );
 }
 
+// The value and what is left of the division give the weighted sum back: the value times the area, and the rest. At the centre of
+// pixel (0, 0) the weights of the largest triangle are 16777215 times 257, 8388479 and 8388479.
+#[test]
+fn forms_the_greatest_weighted_sum(rt: HostRuntime) {
+    let largest = triangle(&rt, GREATEST);
+    let p = point(&rt, (128, 128));
+    assert!(rt; largest.covers(p));
+    let weights = Weights::at(&largest, p);
+    let greatest = 18_446_460_399_743_205_375;
+    for (v, sum) in [
+        ([65535, 65535, 65535], greatest),
+        ([65534, 65535, 65535], greatest - 4_311_744_255),
+        ([65535, 65534, 65535], greatest - 140_735_315_705_985),
+        ([65535, 65535, 65534], greatest - 140_735_315_705_985),
+    ] {
+        let (value, rest) = weights.divided(v);
+        assert_eq!(rt;
+            u128::from(value) * 281_474_943_156_225 + u128::from(rest),
+            sum
+        );
+    }
+}
+
 #[test]
 fn makes_all_values_of_the_same_weights(rt: HostRuntime) {
     let t = triangle(&rt, [(0, 0), (256, 0), (0, 256)]);

@@ -10,7 +10,7 @@ use Rattle.list.proofs.Pixels.{bytes_of_none}
 use Rattle.bins.specs.Grid.{TileGrid, rows_of, tiles_over}
 use Rattle.trirast.specs.Band.{AddsBand, AddsBands}
 use Rattle.trirast.specs.File.{header_of, IsPictureFile}
-use Rattle.trirast.specs.Strip.{strip_begin}
+use Rattle.trirast.specs.TileRows.{strip_begin}
 use Rattle.trirast.proofs.Strips.{strip_before, strip_next, strips_all}
 
 no_rows : (l : Scene) (y height : ℕ) → height ≡ 0 → IsPart l 0 y l.width height []

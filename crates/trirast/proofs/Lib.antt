@@ -4,5 +4,6 @@ pub mod Strips
 pub mod Columns
 pub mod Tiled
 pub mod Written
+pub mod Writing
 pub mod Bands
 pub mod Lines

@@ -1,4 +1,4 @@
--- Tiles that are counted row by row from a first row of tiles on, and the strips that they make.
+-- Tiles that are counted row by row from a first row of tiles on.
 use Rattle.std.proofs.Common.{◌≡◌, ◌⊎◌, inl, inr, refl, sym, ap, subst, ◌∙◌, ℕ, ◌+◌, ◌-◌, ◌*◌, ◌/◌, ◌%◌, ◌<◌, ◌≤◌, min, zero, suc, List, [], ◌∷◌, ◌++◌, length, take, drop, slice_get, Some, Result, IfOk, zero-add, arith}
 use Rattle.std.proofs.lemmas.Bool.{cases_lt}
 use Rattle.std.proofs.lemmas.List.{length_push, length-take, length-drop}
@@ -10,7 +10,7 @@ use Rattle.bins.specs.Grid.{TileGrid, columns_of, rect_of, rows_of}
 use Rattle.tile.specs.Picture.{IsPictureIn}
 use Rattle.tile.specs.declared.drawing.TilePixels.{TilePixels}
 use Rattle.trirast.specs.Band.{AreColumns, IsColumn}
-use Rattle.trirast.specs.Strip.{AreTiles, IsTileIn, strip_begin}
+use Rattle.trirast.specs.TileRows.{AreTiles, IsTileIn}
 use Rattle.trirast.proofs.Columns.{column_of_answer, tile_of_column}
 
 -- the tile of this number among those from a row of tiles on, by its row and its column
@@ -98,47 +98,3 @@ module _ (l : Scene) (g : TileGrid) (first end row : ℕ) (tiles : List TilePixe
       let here : first + (row - first) ≡ row = omega arith in
       subst (λ r. IsColumn l g r column pixels) here (rw (at.0, at.1) at (are.each (start + column) pixels in_tiles)) in
       record { number = size; each = each }
-
--- a strip that is there begins above the end of the rows
-pub begins_within : (g : TileGrid) (together number : ℕ) → number * together < rows_of g → strip_begin g together number < rows_of g
-begins_within g together number h = omega arith
-
--- and a strip begins behind the one above
-pub begins_behind : (g : TileGrid) (together number : ℕ) → strip_begin g together (number - 1) ≤ strip_begin g together number
-begins_behind g together number =
-    let more : together * (number - 1) ≤ together * number = mul-le-mul_left together (omega arith) in
-    omega arith
-
--- so many strips, as many as their rows make up all rows of tiles
-module _ (rows together count : ℕ) (some : 1 ≤ together) (e : count ≡ rows / together + min 1 (rows % together)) where
-  pub strip_there : (number : ℕ) → number < count → number * together < rows
-  strip_there number h = there (cases_lt 0 (rows % together)) where
-    there : (0 < rows % together) ⊎ (rows % together ≤ 0) → number * together < rows
-    there (inl left) =
-        let more : together * number ≤ together * (rows / together) = mul-le-mul_left together (omega arith) in
-        omega (arith, div-add-mod' rows together)
-    there (inr none) =
-        let more : together * (number + 1) ≤ together * (rows / together) = mul-le-mul_left together (omega arith) in
-        omega (arith, div-add-mod' rows together)
-
-  pub strips_reach : rows ≤ count * together
-  strips_reach =
-      let positive : 0 < together = omega arith in
-      reach (mod-lt rows positive) (cases_lt 0 (rows % together)) where
-        reach : rows % together < together → (0 < rows % together) ⊎ (rows % together ≤ 0) → rows ≤ count * together
-        reach short (inl left) =
-            let one : count ≡ rows / together + 1 = omega arith in
-            rw one (omega (arith, div-add-mod' rows together))
-        reach short (inr none) =
-            let no_more : count ≡ rows / together = omega arith in
-            rw no_more (omega (arith, div-add-mod' rows together))
-
-  pub some_strips : 1 ≤ rows → 1 ≤ count
-  some_strips h = at_least (cases_lt 0 count) where
-    at_least : (0 < count) ⊎ (count ≤ 0) → 1 ≤ count
-    at_least (inl left) = left
-    at_least (inr none) =
-        let zero : count ≡ 0 = omega arith in
-        let nothing : count * together ≡ 0 * together = ap (λ n. n * together) zero in
-        let reach = strips_reach in
-        absurd (omega arith)

@@ -13,16 +13,10 @@ use Rattle.list.specs.Picture.{IsPart}
 use Rattle.list.proofs.Exists.{part-exists}
 use Rattle.list.proofs.Parts.{part-append}
 use Rattle.list.proofs.Pixels.{bytes_of_none}
-use Rattle.bins.specs.Bin.{TileBins, AreBins}
-use Rattle.bins.specs.Grid.{TileGrid, tiles_over}
-use Rattle.pool.specs.declared.fault.PoolFault.TheVariants.{NoWorker}
-use Rattle.trirast.specs.declared.fault.Fault.{Fault}
-use Rattle.trirast.specs.declared.fault.Fault.TheVariants.{OutOfMemory, Pool}
-use Rattle.tile.specs.declared.drawing.TilePixels.{TilePixels}
+use Rattle.bins.specs.Grid.{tiles_over}
 use Rattle.trirast.specs.Band.{AreBands}
 use Rattle.trirast.specs.File.{header_of, file_of, IsPictureFile}
-use Rattle.trirast.specs.Strip.{AreTiles, AreTilesAbove, strip_begin, strip_rows}
-use Rattle.trirast.specs.Runs.{ExplainsOutput, WritesAll, WritesBands, WritesFileUpTo, bytes_before}
+use Rattle.trirast.specs.Runs.{WritesAll, WritesBands, WritesFileUpTo, bytes_before}
 use Rattle.trirast.proofs.Beginnings.{Appends-front}
 use Rattle.trirast.proofs.Strips.{begins_within, strip_before, strips_all}
 
@@ -78,34 +72,6 @@ short_header l output width height count d e f many short =
     let header : header_of output width height ≡ header_of l.output l.width l.height = rw (d, e, f) refl in
     omega (arith, many, ap length header)
 
--- before the next strip all but the last one went out
-pub before_next : (l : Scene) (side : TileSide) (begin : ℕ → ℕ) (number count : ℕ) (held held_after : Option (List ℕ)) → HasWritten l side (begin number) count held held_after → HasWritten l side (begin (number + 1 - 1)) count held held_after
-before_next l side begin number count held held_after h = let back : number ≡ number + 1 - 1 = omega arith in subst (λ n. HasWritten l side (begin n) count held held_after) back h
-
--- and behind the last strip all but that one
-pub behind_last : (l : Scene) (side : TileSide) (begin : ℕ → ℕ) (number strips count : ℕ) (held held_after : Option (List ℕ)) → number ≡ strips → HasWritten l side (begin (number - 1)) count held held_after → HasWritten l side (begin (strips - 1)) count held held_after
-behind_last l side begin number strips count held held_after e h = subst (λ n. HasWritten l side (begin (n - 1)) count held held_after) e h
-
-module _ (l l' : Scene) (g g' : TileGrid) (together together' number number' : ℕ) (d : l' ≡ l) (e : g' ≡ g) (f : together' ≡ together) (h : number' ≡ number) where
-  -- the bytes of the strip above by what its parts are called
-  pub above_of : (side : TileSide) (bytes : List ℕ) → g.side ≡ side → AreBands l' g'.side (strip_begin g' together' (number' - 1)) (strip_begin g' together' number') bytes
-      → AreBands l side (strip_begin g together (number - 1)) (strip_begin g together number) bytes
-  above_of side bytes same above =
-      let here : AreBands l g.side (strip_begin g together (number - 1)) (strip_begin g together number) bytes = rw (← d, ← e, ← f, ← h) above in
-      subst (λ side. AreBands l side (strip_begin g together (number - 1)) (strip_begin g together number) bytes) same here
-
-  -- the bins of the strip below by what its parts are called
-  pub below_of : (bins : Option TileBins) → IfSome bins (AreBins l' g' (strip_begin g' together' (number' + 1)) (strip_rows g' together' (number' + 1)))
-      → IfSome bins (AreBins l g (strip_begin g together (number + 1)) (strip_rows g together (number + 1)))
-  below_of bins below = rw (← d, ← e, ← f, ← h) below
-
-  -- and the tiles of a strip, above the next one
-  pub tiles_of : (tiles : List TilePixels) → AreTiles l' g' (strip_begin g' together' number') (strip_begin g' together' (number' + 1)) tiles → AreTilesAbove l g together (number + 1) tiles
-  tiles_of tiles are some =
-      let here : AreTiles l g (strip_begin g together number) (strip_begin g together (number + 1)) tiles = rw (← d, ← e, ← f, ← h) are in
-      let back : number ≡ number + 1 - 1 = omega arith in
-      subst (λ n. AreTiles l g (strip_begin g together n) (strip_begin g together (number + 1)) tiles) back here
-
 module _ (l : Scene) (side : TileSide) (first count : ℕ) (held held' : Option (List ℕ)) (wide : 1 ≤ l.width) (within : first < tiles_over l.height side) (h : HasWritten l side first count held held') where
   abbrev header : List ℕ
   header = header_of l.output l.width l.height
@@ -120,7 +86,7 @@ module _ (l : Scene) (side : TileSide) (first count : ℕ) (held held' : Option 
   below_top = begins_within first l.height side within
 
   -- no band more went out
-  pub whole_bands : WritesBands l side held held'
+  pub whole_bands : WritesBands l side first held held'
   whole_bands =
       let part : IsPart l 0 0 l.width (side_of side * first) h.rows = rw top at h.part in
       let start = below_top in
@@ -132,7 +98,6 @@ module _ (l : Scene) (side : TileSide) (first count : ℕ) (held held' : Option 
       record {
         file = file_of l.output l.width l.height (h.rows ++ all.0);
         picture = all.1;
-        band = first;
         within = below_top;
         written = subst (Appends held held') (sym (ap (take (bytes_before l side first)) file ∙ front)) h.written;
       }
@@ -190,8 +155,3 @@ all_written l side row count held held' past h =
       many = h.many ∙ sym (length-append (header_of l.output l.width l.height) h.rows);
       written = h.written;
     }
-
--- a fault in drawing a band
-pub drawing_fault : (l : Scene) (side : TileSide) (e : Fault) (held held' : Option (List ℕ)) → WritesBands l side held held' → (e ≡ OutOfMemory) ⊎ (e ≡ Pool NoWorker) → ExplainsOutput l side e held held'
-drawing_fault l side e held held' whole (inl memory) = rw memory (inr whole)
-drawing_fault l side e held held' whole (inr worker) = rw worker (refl, whole)

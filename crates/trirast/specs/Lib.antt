@@ -5,4 +5,5 @@ pub mod Runs
 pub mod Words
 pub mod Program
 pub mod Band
-pub mod Strip
+pub mod TileRows
+pub mod Picture

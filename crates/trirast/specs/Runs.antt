@@ -5,7 +5,6 @@ use Rattle.grid.specs.Pixels.{side_of}
 use Rattle.grid.specs.declared.pixels.TileSide.{TileSide}
 use Rattle.list.specs.Picture.{pixel_bytes}
 use Rattle.list.specs.Scene.{Scene}
-use Rattle.pool.specs.declared.fault.PoolFault.TheVariants.{NoWorker}
 use Rattle.list.specs.declared.fault.ReadFault.{ReadFault}
 use Rattle.trirast.specs.declared.fault.Fault.{Fault}
 use Rattle.trirast.specs.declared.fault.Fault.TheVariants.{List as BadList, Pool, InputFailed, InputTooLong, WriteFailed, OutOfMemory}
@@ -50,11 +49,10 @@ pub record WritesAll (list : Scene) (count : ℕ) (held held_after : Option (Lis
 abbrev pub bytes_before : Scene → TileSide → ℕ → ℕ
 bytes_before list side band = length (header_of list.output list.width list.height) + pixel_bytes list.output * (side_of side * band * list.width)
 
--- What was written is the header of that file and all bands before one of the picture's, each whole.
-pub record WritesBands (list : Scene) (side : TileSide) (held held_after : Option (List ℕ)) : Type 0 where
+-- What was written is the header of that file and all bands before this one of the picture's, each whole.
+pub record WritesBands (list : Scene) (side : TileSide) (band : ℕ) (held held_after : Option (List ℕ)) : Type 0 where
   pub file : List ℕ
   pub picture : IsPictureFile list file
-  pub band : ℕ
   pub within : side_of side * band < list.height
   pub written : Appends held held_after (take (bytes_before list side band) file)
 
@@ -80,7 +78,8 @@ pub record WritesWholeBands (side : TileSide) (left left_after held held_after :
   pub list : Scene
   pub input : GivesAll left left_after bytes
   pub denoted : Denotes bytes list
-  pub output : WritesBands list side held held_after
+  pub band : ℕ
+  pub output : WritesBands list side band held held_after
 
 -- The input's bytes, up to its end, have this first fault.
 pub record HasFault (left left_after : Option (List ℕ)) (fault : ReadFault) : Type 0 where
@@ -94,11 +93,11 @@ pub record Gives (left left_after : Option (List ℕ)) (count : ℕ) : Type 0 wh
   pub given : Consumes left left_after bytes
   pub many : length bytes ≡ count
 
--- What each fault says of the input's and the output's bytes, where the tiles have this side. After want of memory, or a worker
--- that was not started, either nothing went out, or the header and whole bands.
+-- What each fault says of the input's and the output's bytes, where the tiles have this side. A run never ends in a fault of the
+-- pool: what a worker was refused is drawn by the calling thread.
 abbrev pub Explains : TileSide → Fault → Option (List ℕ) → Option (List ℕ) → Option (List ℕ) → Option (List ℕ) → Type 0
 Explains side (BadList fault) left left_after held held_after = HasFault left left_after fault × Keeps held held_after
-Explains side (Pool fault) left left_after held held_after = (fault ≡ NoWorker) × WritesWholeBands side left left_after held held_after
+Explains side (Pool fault) left left_after held held_after = ⊥
 Explains side InputFailed left left_after held held_after = Keeps held held_after
 Explains side InputTooLong left left_after held held_after = Gives left left_after 67_108_865 × Keeps held held_after
 Explains side (WriteFailed count) left left_after held held_after = WritesBeginning left left_after held held_after count
@@ -111,12 +110,3 @@ pub record EndsAs {Done : Type 0} (side : TileSide) (result : Result Done Fault)
   pub fault : IfErr result (λ e. Explains side e left left_after held held_after)
   pub input_failed : IsErrOf result InputFailed ↔ ReadHasFailed
   pub write_failed : ((count : ℕ) × IsErrOf result (WriteFailed count)) ↔ WriteHasFailed
-
--- What a fault in drawing and writing says of the output's bytes.
-abbrev pub ExplainsOutput : Scene → TileSide → Fault → Option (List ℕ) → Option (List ℕ) → Type 0
-ExplainsOutput list side (BadList fault) held held_after = ⊥
-ExplainsOutput list side (Pool fault) held held_after = (fault ≡ NoWorker) × WritesBands list side held held_after
-ExplainsOutput list side InputFailed held held_after = ⊥
-ExplainsOutput list side InputTooLong held held_after = ⊥
-ExplainsOutput list side (WriteFailed count) held held_after = WritesFileUpTo list count held held_after
-ExplainsOutput list side OutOfMemory held held_after = Keeps held held_after ⊎ WritesBands list side held held_after

@@ -5,10 +5,11 @@ ghost use Rattle.trirast.specs.Band.{AreBands, AddsBands};
 ghost use Rattle.trirast.specs.File.{IsPictureFile};
 
 use crate::header::{HEADER_BYTES, file_header};
-use crate::strip::Strip;
+use crate::tile_rows::TileRows;
 use bins::Tiling;
 use grid::{OutOfMemory, TileSide};
 use list::DrawList;
+use pool::Open;
 use std::alloc::Global;
 use tile::Store;
 
@@ -36,7 +37,7 @@ fn push_bands(
     let tiling = Tiling::new(list.width(), list.height(), tile);
     let mut store = Store::new(alloc, tile, list.count())?;
     for row in first..end {
-        Strip::new(list, &tiling, 1, row).push_alone(alloc, &mut store, bytes)?;
+        TileRows::new(list, &tiling, row, row + 1).push_alone(alloc, &mut store, &Open, bytes)?;
     }
     Ok(())
 }

@@ -14,7 +14,7 @@ pub enum Fault {
     /// The input denotes no draw list. Nothing went out.
     #[error("the input denotes no draw list: {0:?}")]
     List(ReadFault),
-    /// A worker was not started. The header and whole bands of the file went out.
+    /// A worker was not started. A run never ends so: the calling thread draws what a worker was refused.
     #[error("no worker: {0:?}")]
     Pool(PoolFault),
     /// The reader failed. Nothing went out.
@@ -26,7 +26,7 @@ pub enum Fault {
     /// The writer failed, after so many bytes of the file.
     #[error("the output failed after {0} bytes")]
     WriteFailed(u64),
-    /// A growth of memory was refused. Nothing went out, or the header and whole bands of the file.
+    /// Memory was refused to the calling thread. Nothing was written, or the header and whole tile rows of the file.
     #[error("out of memory")]
     OutOfMemory,
 }

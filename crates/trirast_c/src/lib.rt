@@ -24,3 +24,6 @@ pub extern "C" fn trirast_version() -> u32
 {
     VERSION
 }
+
+#[cfg(test)]
+mod tests;

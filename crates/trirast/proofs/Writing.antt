@@ -1,0 +1,134 @@
+-- Tile rows that are written one after another, and what a fault among them explains.
+use Rattle.std.proofs.Common.{◌≡◌, ◌⊎◌, inl, inr, refl, sym, ap, subst, ◌∙◌, ℕ, ◌+◌, ◌-◌, ◌*◌, ◌<◌, ◌≤◌, min, List, [], ◌++◌, length, take, Option, append_assoc, append-nil, length-append, arith}
+use Rattle.std.proofs.lemmas.Bool.{cases_lt}
+use Rattle.std.proofs.lemmas.List.{nil_from_length}
+use Rattle.std.proofs.Math.Nat.{mul-le-mul, mul-le-mul_left}
+use Rattle.std.proofs.KnownBytes.{Appends-nil, Appends-trans}
+use Rattle.std.specs.Io.KnownBytes.{Appends}
+use Rattle.grid.specs.Pixels.{side_of}
+use Rattle.grid.specs.declared.pixels.TileSide.{TileSide}
+use Rattle.list.specs.declared.output.Output.{Output}
+use Rattle.list.specs.declared.output.Output.TheVariants.{Color, Depth}
+use Rattle.list.specs.Scene.{Scene}
+use Rattle.list.specs.Picture.{IsPart, pixel_bytes}
+use Rattle.list.proofs.Parts.{part-append}
+use Rattle.list.proofs.Pixels.{bytes_of_none, bytes_up_to}
+use Rattle.bins.specs.Grid.{tiles_over}
+use Rattle.trirast.specs.Band.{AreBands}
+use Rattle.trirast.specs.File.{header_of}
+use Rattle.trirast.specs.Runs.{WritesAll}
+use Rattle.trirast.specs.Picture.{CutsRows, ExplainsPicture, ExplainsRows, WritesRows}
+use Rattle.trirast.specs.declared.picture.PictureFault.{PictureFault}
+use Rattle.trirast.specs.declared.picture.PictureFault.TheVariants.{NotBegun, OutOfMemory, WriteFailed}
+use Rattle.trirast.proofs.Beginnings.{Appends-front}
+use Rattle.trirast.proofs.Written.{HasWritten, all_written, bands_cut, bands_written, whole_bands}
+
+-- no rows of pixels
+no_rows : (l : Scene) (y height : ℕ) → height ≡ 0 → IsPart l 0 y l.width height []
+no_rows l y height none = rw none (record { size = sym (bytes_of_none l.output (0 * l.width) (omega arith)); pixels = λ i j wide high. absurd (omega arith) })
+
+pub no_tile_rows : (l : Scene) (side : TileSide) (row : ℕ) → AreBands l side row row []
+no_tile_rows l side row = no_rows l (side_of side * row) _ (omega arith)
+
+-- tile rows and those below them
+module _ (l : Scene) (side : TileSide) (first middle end : ℕ) (order : first ≤ middle) (order' : middle ≤ end) (upper lower : List ℕ) (h : AreBands l side first middle upper) (k : AreBands l side middle end lower) where
+  top : side_of side * first ≤ side_of side * middle
+  top = mul-le-mul_left (side_of side) order
+
+  bottom : side_of side * middle ≤ side_of side * end
+  bottom = mul-le-mul_left (side_of side) order'
+
+  inside : side_of side * middle ≤ l.height → AreBands l side first end (upper ++ lower)
+  inside within =
+      let above = top in
+      let below = bottom in
+      let high : ℕ = min l.height (side_of side * middle) - side_of side * first in
+      let low : ℕ = min l.height (side_of side * end) - side_of side * middle in
+      let begin : side_of side * middle ≡ side_of side * first + high = omega arith in
+      let lower' = subst (λ y. IsPart l 0 y l.width low lower) begin k in
+      let both = part-append l 0 (side_of side * first) l.width high low upper lower h lower' in
+      let sum : high + low ≡ min l.height (side_of side * end) - side_of side * first = omega arith in
+      subst (λ n. IsPart l 0 (side_of side * first) l.width n (upper ++ lower)) sum both
+
+  past : l.height < side_of side * middle → AreBands l side first end (upper ++ lower)
+  past behind =
+      let above = top in
+      let below = bottom in
+      let flat : (min l.height (side_of side * end) - side_of side * middle) * l.width ≡ 0 * l.width = ap (λ n. n * l.width) (omega arith) in
+      let nothing : length lower ≡ 0 = k.size ∙ bytes_of_none l.output _ (omega (arith, flat)) in
+      let none : lower ≡ [] = nil_from_length lower nothing in
+      let same : min l.height (side_of side * middle) ≡ min l.height (side_of side * end) = omega arith in
+      let all : AreBands l side first end upper = subst (λ n. IsPart l 0 (side_of side * first) l.width (n - side_of side * first) upper) same h in
+      subst (AreBands l side first end) (sym (ap (λ xs. upper ++ xs) none ∙ append-nil upper)) all
+
+  pub tile_rows_behind : AreBands l side first end (upper ++ lower)
+  tile_rows_behind = here (cases_lt l.height (side_of side * middle)) where
+    here : (l.height < side_of side * middle) ⊎ (side_of side * middle ≤ l.height) → AreBands l side first end (upper ++ lower)
+    here (inl behind) = past behind
+    here (inr within) = inside within
+
+-- a picture has at most 50,331,648 bytes
+pub few_bytes : (l : Scene) (side : TileSide) (first end : ℕ) (bytes : List ℕ) → l.width ≤ 4096 → l.height ≤ 4096 → AreBands l side first end bytes → length bytes ≤ 50331648
+few_bytes l side first end bytes wide high are =
+    let rows : min l.height (side_of side * end) - side_of side * first ≤ 4096 = omega arith in
+    let pixels : (min l.height (side_of side * end) - side_of side * first) * l.width ≤ 4096 * 4096 = mul-le-mul rows wide in
+    let all = bytes_up_to l.output _ _ pixels in
+    let size = are.size in
+    let most = greatest l.output in
+    omega arith where
+      greatest : (o : Output) → pixel_bytes o * (4096 * 4096) ≤ 50331648
+      greatest Color = omega arith
+      greatest Depth = omega arith
+
+module _ (l : Scene) (side : TileSide) where
+  -- nothing is written yet
+  pub none_written : (row count : ℕ) (held : Option (List ℕ)) → WritesRows l side row row count count held held
+  none_written row count held = record { rows = []; are = no_tile_rows l side row; many = omega arith; written = Appends-nil held }
+
+  module _ (first middle before count : ℕ) (order : first ≤ middle) (held held' : Option (List ℕ)) (h : WritesRows l side first middle before count held held') where
+    -- more tile rows are written behind others
+    pub more_written : (end count' : ℕ) (bytes : List ℕ) (held'' : Option (List ℕ)) → middle ≤ end → AreBands l side middle end bytes → count' ≡ count + length bytes → Appends held' held'' bytes
+        → WritesRows l side first end before count' held held''
+    more_written end count' bytes held'' order' are many written =
+        let size = h.many in record {
+          rows = h.rows ++ bytes;
+          are = tile_rows_behind l side first middle end order order' h.rows bytes h.are are;
+          many = omega (arith, length-append h.rows bytes);
+          written = Appends-trans held held' held'' h.rows bytes h.written written;
+        }
+
+    pub then_written : (end count' : ℕ) (held'' : Option (List ℕ)) → middle ≤ end → WritesRows l side middle end count count' held' held'' → WritesRows l side first end before count' held held''
+    then_written end count' held'' order' k = more_written end count' k.rows held'' order' k.are k.many k.written
+
+    -- or a beginning of them
+    pub more_cut : (end count' : ℕ) (bytes : List ℕ) (held'' : Option (List ℕ)) → middle ≤ end → AreBands l side middle end bytes → (count ≤ count') × (count' ≤ count + length bytes)
+        → Appends held' held'' (take (count' - count) bytes) → CutsRows l side first before count' held held''
+    more_cut end count' bytes held'' order' are within written =
+        let size = h.many in
+        let low = within.0 in
+        let high = within.1 in
+        let rest : count' - count ≡ (count' - before) - length h.rows = omega arith in record {
+          end = end;
+          ordered = omega arith;
+          rows = h.rows ++ bytes;
+          are = tile_rows_behind l side first middle end order order' h.rows bytes h.are are;
+          within = (omega arith, omega (arith, length-append h.rows bytes));
+          written = Appends-front held held' held'' h.rows bytes (count' - before) (omega arith) h.written (subst (λ n. Appends held' held'' (take n bytes)) rest written);
+        }
+
+    -- what a fault explains of tile rows behind others
+    pub explains_behind : (end : ℕ) (e : PictureFault) (held'' : Option (List ℕ)) → ExplainsRows l side middle end count e held' held'' → ExplainsRows l side first end before e held held''
+    explains_behind end (OutOfMemory row) held'' k = (omega (arith, k.0), k.1, (k.2.0, then_written row k.2.0 held'' k.0 k.2.1))
+    explains_behind end (WriteFailed count') held'' k = more_cut k.end count' k.rows held'' k.ordered k.are k.within k.written
+
+-- behind the header they are the file
+module _ (l : Scene) (side : TileSide) (rows header : ℕ) (wide : 1 ≤ l.width) (some : 0 < tiles_over l.height side) (all : rows ≡ tiles_over l.height side) (held held' : Option (List ℕ)) (h : HasWritten l side 0 header held held') where
+  behind : (row count : ℕ) (held'' : Option (List ℕ)) → WritesRows l side 0 row header count held' held'' → HasWritten l side row count held held''
+  behind row count held'' k = bands_written l side 0 header held held' wide some h row (omega arith) k.rows k.are count held'' k.many k.written
+
+  pub file_written : (count : ℕ) (held'' : Option (List ℕ)) → WritesRows l side 0 rows header count held' held'' → WritesAll l count held held''
+  file_written count held'' k = all_written l side rows count held held'' (omega arith) (behind rows count held'' k)
+
+  pub file_explained : (e : PictureFault) (held'' : Option (List ℕ)) → ExplainsRows l side 0 rows header e held' held'' → ExplainsPicture l side e held held''
+  file_explained (OutOfMemory row) held'' k = whole_bands l side row k.2.0 held held'' wide (omega (arith, k.1)) (behind row k.2.0 held'' k.2.1)
+  file_explained (WriteFailed count) held'' k = bands_cut l side 0 header held held' wide some h k.end (omega arith) k.rows k.are count held'' k.within k.written

@@ -1,0 +1,46 @@
+-- How a picture's file is written, tile row after tile row.
+use Rattle.std.specs.Prelude.{◌≡◌, ℕ, ◌+◌, ◌-◌, ◌<◌, ◌≤◌, List, length, take, Option}
+use Rattle.std.specs.Io.KnownBytes.{Keeps, Appends}
+use Rattle.grid.specs.declared.pixels.TileSide.{TileSide}
+use Rattle.list.specs.Scene.{Scene}
+use Rattle.trirast.specs.Band.{AreBands}
+use Rattle.trirast.specs.Runs.{WritesBands, WritesFileUpTo}
+use Rattle.trirast.specs.declared.fault.Fault.{Fault}
+use Rattle.trirast.specs.declared.fault.Fault.TheVariants.{OutOfMemory as NoMemory, WriteFailed as FailedWrite}
+use Rattle.trirast.specs.declared.picture.PictureFault.{PictureFault}
+use Rattle.trirast.specs.declared.picture.PictureFault.TheVariants.{NotBegun, OutOfMemory, WriteFailed}
+
+-- What was written is the bytes of the tile rows from `first` to before `end`; with the bytes that were written before they are `count`.
+pub record WritesRows (l : Scene) (side : TileSide) (first end before count : ℕ) (held held_after : Option (List ℕ)) : Type 0 where
+  pub rows : List ℕ
+  pub are : AreBands l side first end rows
+  pub many : count ≡ before + length rows
+  pub written : Appends held held_after rows
+
+-- What was written is a beginning of them; with the bytes that were written before it is `count`.
+pub record CutsRows (l : Scene) (side : TileSide) (first before count : ℕ) (held held_after : Option (List ℕ)) : Type 0 where
+  pub end : ℕ
+  pub ordered : first ≤ end
+  pub rows : List ℕ
+  pub are : AreBands l side first end rows
+  pub within : (before ≤ count) × (count ≤ before + length rows)
+  pub written : Appends held held_after (take (count - before) rows)
+
+-- What was written of tile rows from `first` to before `end`, where this fault came.
+abbrev pub ExplainsRows : Scene → TileSide → ℕ → ℕ → ℕ → PictureFault → Option (List ℕ) → Option (List ℕ) → Type 0
+ExplainsRows l side first end before NotBegun held held_after = ⊥
+ExplainsRows l side first end before (OutOfMemory row) held held_after = (first ≤ row) × (row < end) × ((count : ℕ) × WritesRows l side first row before count held held_after)
+ExplainsRows l side first end before (WriteFailed count) held held_after = CutsRows l side first before count held held_after
+
+-- What was written of a list's picture file, where this fault came: after want of memory for a tile row exactly the header and the
+-- tile rows before it.
+abbrev pub ExplainsPicture : Scene → TileSide → PictureFault → Option (List ℕ) → Option (List ℕ) → Type 0
+ExplainsPicture l side NotBegun held held_after = Keeps held held_after
+ExplainsPicture l side (OutOfMemory row) held held_after = WritesBands l side row held held_after
+ExplainsPicture l side (WriteFailed count) held held_after = WritesFileUpTo l count held held_after
+
+-- The run's fault.
+abbrev pub fault_of : PictureFault → Fault
+fault_of NotBegun = NoMemory
+fault_of (OutOfMemory row) = NoMemory
+fault_of (WriteFailed count) = FailedWrite count

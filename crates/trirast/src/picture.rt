@@ -1,0 +1,213 @@
+//! The file of a list's picture: the header, and then tile row after tile row, from the top.
+ghost use Rattle.std.specs.Prelude.{◌≡◌, ◌↔◌, ◌<◌, ◌≤◌, ℕ, OnOk, IfOk, IfErr, IsErrOf};
+ghost use Rattle.grid.specs.Pixels.{side_of};
+ghost use Rattle.trirast.specs.Picture.{ExplainsPicture, ExplainsRows, WritesRows, fault_of};
+ghost use Rattle.trirast.specs.Runs.{WritesAll, WritesFile};
+ghost use Rattle.trirast.specs.declared.picture.PictureFault.TheVariants as picture;
+
+use crate::counted::Counted;
+use crate::fault::Fault;
+use crate::header::write_header;
+use crate::line::Options;
+use crate::ppm::ppm_rows;
+use crate::sending::WriteFault;
+use crate::tile_rows::{Beside, TileRows, rows_together};
+use bins::Tiling;
+use list::DrawList;
+use pool::Gate;
+use std::alloc::Global;
+use std::io::Write;
+use std::sync::Wait;
+use std::thread::Threads;
+
+/// Why a picture's file was not written whole.
+#[derive(Clone, Copy, Debug, PartialEq, Eq)]
+pub enum PictureFault {
+    /// Memory for the bytes of tile rows was refused. Nothing was written.
+    NotBegun,
+    /// Memory was refused for the tile row of this number, counted from the top. The header and all tile rows before it were
+    /// written, each whole, and nothing else.
+    OutOfMemory(u32),
+    /// The writer failed after this many bytes of the file.
+    WriteFailed(u64),
+}
+
+impl From<WriteFault> for PictureFault {
+    ghost from_gives = { λ write fault. fault ≡ picture.WriteFailed write.written };
+
+    fn from(fault: WriteFault) -> PictureFault {
+        PictureFault::WriteFailed(fault.written)
+    }
+}
+
+impl From<PictureFault> for Fault {
+    ghost from_gives = { λ unwritten fault. fault ≡ fault_of unwritten };
+
+    fn from(fault: PictureFault) -> Fault {
+        match fault {
+            PictureFault::NotBegun | PictureFault::OutOfMemory(_) => Fault::OutOfMemory,
+            PictureFault::WriteFailed(written) => Fault::WriteFailed(written),
+        }
+    }
+}
+
+/// Draws tile rows on the calling thread, in one store, and writes each of them before the next one is drawn. `before` bytes of
+/// the file were written earlier, and the answer is how many are written then. The bytes that are given are used for each row.
+fn write_alone<W: Write, G: Gate>(
+    alloc: Global,
+    rows: TileRows,
+    gate: &G,
+    mut bytes: Vec<u8>,
+    before: u64,
+    output: &mut Counted<W>,
+) -> Result<(u64, Vec<u8>), PictureFault>
+    requires before { before ≤ 50331667 }
+    requires some { rows.first < rows.end }
+    requires failures { output.old.failures < u64.MAX }
+    ensures rows { IfOk result (λ done. WritesRows rows.entry.list.now rows.entry.tiling.now.side rows.entry.first rows.entry.end before done.0 (W.contents output.old.inner) (W.contents output.new.inner)) }
+    ensures fault { IfErr result (λ e. ExplainsRows rows.entry.list.now rows.entry.tiling.now.side rows.entry.first rows.entry.end before e (W.contents output.old.inner) (W.contents output.new.inner)) }
+    ensures write_failed { ((count : ℕ) × IsErrOf result (PictureFault.WriteFailed count)) ↔ (output.old.failures < output.new.failures) }
+    ensures same_failures { OnOk result (output.new.failures ≡ output.old.failures) }
+{
+    let Ok(mut store) = rows.store(alloc) else {
+        return Err(PictureFault::OutOfMemory(rows.first()));
+    };
+    let mut written = before;
+    for row in rows.first()..rows.end() {
+        bytes.clear();
+        let drawn = rows
+            .others(row, row + 1)
+            .push_alone(alloc, &mut store, gate, &mut bytes);
+        if drawn.is_err() {
+            return Err(PictureFault::OutOfMemory(row));
+        }
+        written = ppm_rows(&bytes, written, output)?;
+    }
+    Ok((written, bytes))
+}
+
+/// Draws tile rows by several workers, a batch of them at a time, and writes them. While a batch is drawn, the calling thread puts
+/// the one above together, which is written then, and makes the bins of the one below. A batch for which memory or a worker was
+/// refused is drawn by the calling thread.
+fn write_together<R: Threads + Wait + Sync, W: Write, G: Gate>(
+    rt: &R,
+    alloc: Global,
+    rows: TileRows,
+    together: u32,
+    workers: u32,
+    gate: &G,
+    mut bytes: Vec<u8>,
+    before: u64,
+    output: &mut Counted<W>,
+) -> Result<u64, PictureFault>
+    requires workers { (1 ≤ workers) × (workers ≤ 16) }
+    requires together { (1 ≤ together) × (together ≤ 512) }
+    requires before { before ≤ 19 }
+    requires failures { output.old.failures < u64.MAX }
+    ensures rows { IfOk result (λ count. WritesRows rows.entry.list.now rows.entry.tiling.now.side rows.entry.first rows.entry.end before count (W.contents output.old.inner) (W.contents output.new.inner)) }
+    ensures fault { IfErr result (λ e. ExplainsRows rows.entry.list.now rows.entry.tiling.now.side rows.entry.first rows.entry.end before e (W.contents output.old.inner) (W.contents output.new.inner)) }
+    ensures write_failed { ((count : ℕ) × IsErrOf result (PictureFault.WriteFailed count)) ↔ (output.old.failures < output.new.failures) }
+    ensures same_failures { OnOk result (output.new.failures ≡ output.old.failures) }
+{
+    let mut above = rows.others(rows.first(), rows.first());
+    let mut tiles = Vec::new(alloc);
+    let mut bins = None;
+    let mut written = before;
+    while above.end() < rows.end() {
+        let batch = rows.batch(above.end(), together);
+        let below = rows.batch(batch.end(), together);
+        let (drawn, Beside { joined, bins: next }) = batch.draw(
+            rt, alloc, workers, gate, bins, above, tiles, bytes, below,
+        );
+        let Ok(joined) = joined else {
+            return Err(PictureFault::OutOfMemory(above.first()));
+        };
+        written = ppm_rows(&joined, written, output)?;
+        bytes = joined;
+        // The batch above is written now, whatever came of this one.
+        if let Ok(drawn) = drawn {
+            tiles = drawn;
+            above = batch;
+        } else {
+            (written, bytes) = write_alone(alloc, batch, gate, bytes, written, output)?;
+            tiles = Vec::new(alloc);
+            above = rows.others(batch.end(), batch.end());
+        }
+        bins = next;
+    }
+    let Ok(last) = above.joined(tiles, bytes) else {
+        return Err(PictureFault::OutOfMemory(above.first()));
+    };
+    Ok(ppm_rows(&last, written, output)?)
+}
+
+/// Writes the header and all tile rows, and answers how many bytes they are.
+fn write_rows<R: Threads + Wait + Sync, W: Write, G: Gate>(
+    rt: &R,
+    alloc: Global,
+    list: &DrawList,
+    options: Options,
+    gate: &G,
+    output: &mut Counted<W>,
+) -> Result<u64, PictureFault>
+    requires workers { (1 ≤ options.workers) × (options.workers ≤ 16) }
+    requires failures { output.old.failures < u64.MAX }
+    ensures file { IfOk result (λ count. WritesAll list.now count (W.contents output.old.inner) (W.contents output.new.inner)) }
+    ensures fault { IfErr result (λ e. ExplainsPicture list.now options.tile e (W.contents output.old.inner) (W.contents output.new.inner)) }
+    ensures write_failed { ((count : ℕ) × IsErrOf result (PictureFault.WriteFailed count)) ↔ (output.old.failures < output.new.failures) }
+    ensures same_failures { OnOk result (output.new.failures ≡ output.old.failures) }
+{
+    let tiling = Tiling::new(list.width(), list.height(), options.tile);
+    let together = if options.workers == 1 {
+        1
+    } else {
+        rows_together(&tiling)
+    };
+    let most_rows = (together * options.tile.pixels()).min(list.height());
+    let most_bytes = list.output().pixel_bytes() * list.width() * most_rows;
+    let Ok(bytes) = Vec::with_capacity(alloc, most_bytes as usize) else {
+        return Err(PictureFault::NotBegun);
+    };
+    let header = write_header(list.output(), list.width(), list.height(), output)?;
+    let rows = TileRows::new(list, &tiling, 0, tiling.rows());
+    // Nobody would work beside one worker, or beside the one that draws a batch of one tile.
+    if options.workers == 1 || tiling.columns() * together == 1 {
+        let (written, _bytes) = write_alone(alloc, rows, gate, bytes, header, output)?;
+        Ok(written)
+    } else {
+        write_together(
+            rt,
+            alloc,
+            rows,
+            together,
+            options.workers,
+            gate,
+            bytes,
+            header,
+            output,
+        )
+    }
+}
+
+/// Draws a list's picture, writes its file, and flushes the output. Each worker passes through the gate before it draws a tile.
+/// `run_with` is this after reading the list; a program that has a list, or draws one several times, calls this.
+pub fn write_picture<R: Threads + Wait + Sync, W: Write, G: Gate>(
+    rt: &R,
+    alloc: Global,
+    list: &DrawList,
+    options: Options,
+    gate: &G,
+    output: &mut Counted<W>,
+) -> Result<(), PictureFault>
+    requires workers { (1 ≤ options.workers) × (options.workers ≤ 16) }
+    requires failures { output.old.failures < u64.MAX }
+    ensures file { OnOk result (WritesFile list.now (W.contents output.old.inner) (W.contents output.new.inner)) }
+    ensures fault { IfErr result (λ e. ExplainsPicture list.now options.tile e (W.contents output.old.inner) (W.contents output.new.inner)) }
+    ensures write_failed { ((count : ℕ) × IsErrOf result (PictureFault.WriteFailed count)) ↔ (output.old.failures < output.new.failures) }
+{
+    let length = write_rows(rt, alloc, list, options, gate, output)?;
+    match output.flush() {
+        Ok(()) => Ok(()),
+        Err(_) => Err(PictureFault::WriteFailed(length)),
+    }
+}

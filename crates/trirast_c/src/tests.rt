@@ -1,0 +1,420 @@
+use crate::{
+    LibraryFault, PictureSize, trirast_draw, trirast_draw_rows, trirast_draw_scene,
+    trirast_fault_line, trirast_size, trirast_version,
+};
+use scene::{SceneDraw, SceneHead, SceneVertex};
+use std::alloc::Global;
+use std::test::Fail;
+
+/// 3 by 3 pixels, and a triangle over the upper left half of them.
+const TRIANGLE: &str =
+    r#"{"width":3,"height":3,"draws":[{"vertices":[[128,128,0,255,255,255,255],[640,128,0,255,255,255,255],[128,640,0,255,255,255,255]],"triangles":[[0,1,2]]}]}"#;
+
+/// The file of its picture: the other centres of the half lie on the hypotenuse, which is a right edge.
+const FILE: &[u8; 38] =
+    b"P6\n3 3\n255\n\xFF\xFF\xFF\xFF\xFF\xFF\0\0\0\xFF\xFF\xFF\0\0\0\0\0\0\0\0\0\0\0\0\0\0\0";
+
+/// 2 by 9 pixels of depth 258, and in the last row of depth 772: bytes 1, 2 and 3, 4.
+const LAST_ROW: &str =
+    r#"{"width":2,"height":9,"output":"depth","clear_depth":258,"draws":[{"vertices":[[0,0,772,0,0,0,0],[8000,0,772,0,0,0,0],[0,8000,772,0,0,0,0]],"triangles":[[0,1,2]],"depth_write":true,"scissor":[0,8,2,9]}]}"#;
+
+/// The same triangle as arrays.
+const HEAD: SceneHead = SceneHead {
+    width: 3,
+    height: 3,
+    samples: 1,
+    output: 0,
+    clear_red: 0,
+    clear_green: 0,
+    clear_blue: 0,
+    clear_depth: 65_535,
+};
+
+const DRAW: SceneDraw = SceneDraw {
+    vertices: 3,
+    indices: 3,
+    primitives: 0,
+    cull: 0,
+    depth_test: 7,
+    depth_write: 0,
+    blend: 0,
+    write_red: 1,
+    write_green: 1,
+    write_blue: 1,
+    sample_mask: 15,
+    scissor_left: 0,
+    scissor_top: 0,
+    scissor_right: 3,
+    scissor_bottom: 3,
+};
+
+fn white(x: i32, y: i32) -> SceneVertex {
+    SceneVertex {
+        x,
+        y,
+        z: 0,
+        r: 255,
+        g: 255,
+        b: 255,
+        a: 255,
+    }
+}
+
+fn vertices() -> [SceneVertex; 3] {
+    [white(128, 128), white(640, 128), white(128, 640)]
+}
+
+/// What a caller's fault may hold before a call.
+const UNSET: LibraryFault = LibraryFault {
+    kind: 77,
+    list_kind: 77,
+    in_draw: 77,
+    draw: 77,
+};
+
+/// The fault with this number alone, or none with number 0.
+fn alone(kind: u32) -> LibraryFault {
+    LibraryFault {
+        kind,
+        list_kind: 0,
+        in_draw: 0,
+        draw: 0,
+    }
+}
+
+/// A fault of the list with this number, outside of its draws.
+fn in_list(list_kind: u32) -> LibraryFault {
+    LibraryFault {
+        list_kind,
+        ..alone(1)
+    }
+}
+
+/// A fault of the list with this number, in this draw.
+fn in_draw(list_kind: u32, draw: u32) -> LibraryFault {
+    LibraryFault {
+        in_draw: 1,
+        draw,
+        ..in_list(list_kind)
+    }
+}
+
+/// The answer of `trirast_draw`, and the fault that it wrote.
+fn drawn(alloc: Global, list: &[u8], tile: u32, buffer: &mut [u8]) -> (u32, LibraryFault) {
+    let mut fault = UNSET;
+    let answer = trirast_draw(alloc, list, tile, buffer, &mut fault);
+    (answer, fault)
+}
+
+#[test]
+fn has_the_version_of_the_header(rt: HostRuntime) {
+    assert_eq!(rt; trirast_version(), 1);
+}
+
+#[test]
+fn sizes_pictures_of_colours_and_of_depths(rt: HostRuntime) {
+    let mut size = PictureSize {
+        width: 0,
+        height: 0,
+        pixel_bytes: 0,
+        header_bytes: 0,
+        file_bytes: 0,
+    };
+    let mut fault = UNSET;
+    let colours = trirast_size(rt.alloc(), TRIANGLE.as_bytes(), &mut size, &mut fault);
+    assert_eq!(rt; (colours, fault), (0, alone(0)));
+    assert_eq!(rt; (size.width, size.height), (3, 3));
+    assert_eq!(rt;
+        (size.pixel_bytes, size.header_bytes, size.file_bytes),
+        (3, 11, 38)
+    );
+    let depths = trirast_size(rt.alloc(), LAST_ROW.as_bytes(), &mut size, &mut fault);
+    assert_eq!(rt; (depths, fault), (0, alone(0)));
+    assert_eq!(rt; (size.width, size.height), (2, 9));
+    assert_eq!(rt;
+        (size.pixel_bytes, size.header_bytes, size.file_bytes),
+        (2, 13, 49)
+    );
+}
+
+#[test]
+fn draws_a_file_into_the_beginning_of_a_buffer(rt: HostRuntime) {
+    for tile in [8, 16, 32, 64] {
+        let mut buffer = [7; 40];
+        let ended = drawn(rt.alloc(), TRIANGLE.as_bytes(), tile, &mut buffer);
+        assert_eq!(rt; ended, (0, alone(0)));
+        assert_eq!(rt; &buffer[..38], &FILE[..]);
+        assert_eq!(rt; &buffer[38..], [7, 7].as_slice());
+    }
+}
+
+#[test]
+fn draws_rows_without_a_header(rt: HostRuntime) {
+    let mut buffer = [7; 6];
+    let mut fault = UNSET;
+    let list = LAST_ROW.as_bytes();
+    let last = trirast_draw_rows(rt.alloc(), list, 8, 1, 2, &mut buffer, &mut fault);
+    assert_eq!(rt; (last, fault), (0, alone(0)));
+    assert_eq!(rt; buffer, [3, 4, 3, 4, 7, 7]);
+    let mut buffer = [7; 36];
+    let all = trirast_draw_rows(rt.alloc(), list, 8, 0, 2, &mut buffer, &mut fault);
+    assert_eq!(rt; (all, fault), (0, alone(0)));
+    assert_eq!(rt; &buffer[..4], [1, 2, 1, 2].as_slice());
+    assert_eq!(rt; &buffer[28..], [1, 2, 1, 2, 3, 4, 3, 4].as_slice());
+}
+
+#[test]
+fn draws_a_scene_as_its_list(rt: HostRuntime) {
+    let mut buffer = [7; 38];
+    let mut fault = UNSET;
+    let answer = trirast_draw_scene(
+        rt.alloc(),
+        &HEAD,
+        &[DRAW],
+        &vertices(),
+        &[0, 1, 2],
+        32,
+        &mut buffer,
+        &mut fault,
+    );
+    assert_eq!(rt; (answer, fault), (0, alone(0)));
+    assert_eq!(rt; &buffer[..], &FILE[..]);
+}
+
+// The numbers are those of `include/trirast.h`.
+#[test]
+fn numbers_the_faults_of_lists_as_the_header(rt: HostRuntime) {
+    for (list, fault) in [
+        ("", in_list(1)),
+        (r#"{"width":1,"height":1,"draws":[],"fog":1}"#, in_list(2)),
+        ("{}", in_list(3)),
+        ("[]", in_list(4)),
+        (r#"{"width":0,"height":1,"draws":[]}"#, in_list(5)),
+        (
+            r#"{"width":1,"height":1,"draws":[{"vertices":[],"strip":[]},{"vertices":[],"strip":[0]}]}"#,
+            in_draw(6, 1),
+        ),
+        (
+            r#"{"width":1,"height":1,"draws":[{"vertices":[],"strip":[],"quads":[]}]}"#,
+            in_draw(9, 0),
+        ),
+        (
+            r#"{"width":1,"height":1,"draws":[{"vertices":[[0,0,0,0,0,0,0]],"quads":[[0,0,0,0]]}]}"#,
+            in_draw(10, 0),
+        ),
+    ] {
+        let ended = drawn(rt.alloc(), list.as_bytes(), 8, &mut []);
+        assert_eq!(rt; ended, (1, fault), "{list}");
+    }
+}
+
+// Of several faults the first is told: the side of a tile, the list, the rows, the buffer.
+#[test]
+fn numbers_the_faults_of_calls_as_the_header_and_in_its_order(rt: HostRuntime) {
+    for (list, tile, first, end, fault) in [
+        ("[]", 12, 1, 1, alone(5)),
+        ("[]", 8, 1, 1, in_list(4)),
+        (TRIANGLE, 8, 1, 1, alone(6)),
+        (TRIANGLE, 8, 0, 2, alone(6)),
+        (TRIANGLE, 8, 0, 1, alone(4)),
+    ] {
+        let mut buffer = [7; 26];
+        let mut told = UNSET;
+        let answer = trirast_draw_rows(
+            rt.alloc(),
+            list.as_bytes(),
+            tile,
+            first,
+            end,
+            &mut buffer,
+            &mut told,
+        );
+        assert_eq!(rt; (answer, told), (fault.kind, fault));
+        assert_eq!(rt; buffer, [7; 26]);
+    }
+    let ended = drawn(rt.alloc(), TRIANGLE.as_bytes(), 0, &mut []);
+    assert_eq!(rt; ended, (5, alone(5)));
+    let ended = drawn(rt.alloc(), TRIANGLE.as_bytes(), 8, &mut [0; 37]);
+    assert_eq!(rt; ended, (4, alone(4)));
+}
+
+#[test]
+fn refuses_a_list_of_one_byte_too_many(rt: HostRuntime) -> Result<(), Fail> {
+    let list = vec![in rt.alloc(); b' '; 67_108_865]?;
+    let ended = drawn(rt.alloc(), &list, 8, &mut []);
+    assert_eq!(rt; ended, (2, alone(2)));
+    Ok(())
+}
+
+/// Asserts nothing itself: the answer of `trirast_draw_scene` for these arrays, and the fault that it wrote.
+fn drawn_scene(
+    alloc: Global,
+    head: &SceneHead,
+    draws: &[SceneDraw],
+    vertices: &[SceneVertex],
+    indices: &[u32],
+) -> (u32, LibraryFault) {
+    let mut fault = UNSET;
+    let answer = trirast_draw_scene(
+        alloc,
+        head,
+        draws,
+        vertices,
+        indices,
+        8,
+        &mut [],
+        &mut fault,
+    );
+    (answer, fault)
+}
+
+#[test]
+fn refuses_scenes_with_bad_numbers(rt: HostRuntime) {
+    let alloc = rt.alloc();
+    let indices = [0, 1, 2];
+    let head = SceneHead { samples: 2, ..HEAD };
+    let ended = drawn_scene(alloc, &head, &[DRAW], &vertices(), &indices);
+    assert_eq!(rt; ended, (1, in_list(5)));
+    for (draw, list_kind) in [
+        (
+            SceneDraw {
+                primitives: 3,
+                ..DRAW
+            },
+            5,
+        ),
+        (SceneDraw { cull: 3, ..DRAW }, 5),
+        (
+            SceneDraw {
+                depth_test: 8,
+                ..DRAW
+            },
+            5,
+        ),
+        (SceneDraw { blend: 2, ..DRAW }, 5),
+        (
+            SceneDraw {
+                sample_mask: 16,
+                ..DRAW
+            },
+            5,
+        ),
+        (
+            SceneDraw {
+                scissor_right: 4097,
+                ..DRAW
+            },
+            5,
+        ),
+        (
+            SceneDraw {
+                vertices: 4,
+                ..DRAW
+            },
+            4,
+        ),
+        (
+            SceneDraw {
+                primitives: 2,
+                ..DRAW
+            },
+            4,
+        ),
+        (
+            SceneDraw {
+                vertices: 2,
+                ..DRAW
+            },
+            6,
+        ),
+    ] {
+        let ended = drawn_scene(alloc, &HEAD, &[draw], &vertices(), &indices);
+        assert_eq!(rt; ended, (1, in_draw(list_kind, 0)));
+    }
+    let outside = [white(128, 128), white(640, 128), white(8_388_608, 0)];
+    let ended = drawn_scene(alloc, &HEAD, &[DRAW], &outside, &indices);
+    assert_eq!(rt; ended, (1, in_draw(5, 0)));
+    let left_over = drawn_scene(alloc, &HEAD, &[DRAW], &vertices(), &[0, 1, 2, 0]);
+    assert_eq!(rt; left_over, (1, in_list(4)));
+    let many = drawn_scene(alloc, &HEAD, &[DRAW; 1025], &vertices(), &indices);
+    assert_eq!(rt; many, (1, in_list(7)));
+}
+
+// An array of none is what a NULL pointer of the caller becomes.
+#[test]
+fn takes_a_scene_of_nothing(rt: HostRuntime) {
+    let ended = drawn_scene(rt.alloc(), &HEAD, &[], &[], &[]);
+    assert_eq!(rt; ended, (4, alone(4)));
+    let mut buffer = [7; 38];
+    let mut fault = UNSET;
+    let answer = trirast_draw_scene(rt.alloc(), &HEAD, &[], &[], &[], 8, &mut buffer, &mut fault);
+    assert_eq!(rt; (answer, fault), (0, alone(0)));
+    assert_eq!(rt; &buffer[..11], &FILE[..11]);
+    assert_eq!(rt; &buffer[11..], [0; 27].as_slice());
+}
+
+#[test]
+fn has_the_line_of_each_fault(rt: HostRuntime) {
+    for (fault, line) in [
+        (in_list(1), "trirast: list fault 1 NotJson\n"),
+        (in_list(2), "trirast: list fault 2 UnknownKey\n"),
+        (in_list(3), "trirast: list fault 3 MissingKey\n"),
+        (in_list(4), "trirast: list fault 4 WrongKind\n"),
+        (in_list(5), "trirast: list fault 5 OutOfRange\n"),
+        (in_draw(6, 1), "trirast: list fault 6 BadIndex in draw 1\n"),
+        (in_draw(7, 0), "trirast: list fault 7 TooMany in draw 0\n"),
+        (in_draw(9, 0), "trirast: list fault 9 TwoLists in draw 0\n"),
+        (
+            in_draw(10, 1023),
+            "trirast: list fault 10 NotConvex in draw 1023\n",
+        ),
+        (alone(2), "trirast: input too long\n"),
+        (alone(3), "trirast: out of memory\n"),
+        (alone(4), "trirast: buffer too short\n"),
+        (alone(5), "trirast: no such tile side\n"),
+        (alone(6), "trirast: no such rows\n"),
+    ] {
+        let mut buffer = [7; 96];
+        let length = trirast_fault_line(&fault, &mut buffer);
+        assert_eq!(rt; buffer.get(..length), Some(line.as_bytes()));
+        assert_eq!(rt; length, line.len());
+    }
+}
+
+#[test]
+fn cuts_a_line_to_its_buffer(rt: HostRuntime) {
+    let mut buffer = [7; 9];
+    assert_eq!(rt; trirast_fault_line(&alone(3), &mut buffer), 23);
+    assert_eq!(rt; buffer, *b"trirast: ");
+    assert_eq!(rt; trirast_fault_line(&alone(3), &mut []), 23);
+}
+
+#[test]
+fn has_no_line_of_what_no_call_tells(rt: HostRuntime) {
+    let twice = LibraryFault {
+        in_draw: 2,
+        ..in_draw(6, 1)
+    };
+    let nowhere = LibraryFault {
+        draw: 1,
+        ..in_list(6)
+    };
+    let both = LibraryFault {
+        list_kind: 6,
+        ..alone(3)
+    };
+    for fault in [
+        alone(0),
+        alone(7),
+        alone(1),
+        in_list(0),
+        in_list(11),
+        twice,
+        nowhere,
+        both,
+    ] {
+        let mut buffer = [7; 96];
+        assert_eq!(rt; trirast_fault_line(&fault, &mut buffer), 0);
+        assert_eq!(rt; buffer, [7; 96]);
+    }
+}

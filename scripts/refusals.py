@@ -1,0 +1,90 @@
+"""Runs a program with allocations that fail and threads that do not start, by the shim of scripts/refusals.c. Needs gcc."""
+
+import os
+import shutil
+import subprocess
+import tempfile
+import unittest
+from concurrent.futures import ThreadPoolExecutor
+from dataclasses import dataclass
+
+SOURCE = os.path.join(os.path.dirname(os.path.abspath(__file__)), "refusals.c")
+MOST_SECONDS = 60
+# What `later` means by -1: after the first refusal each later allocation fails too, or no later thread is started.
+EACH = -1
+# With several workers two runs can allocate in another order, so one run that meets no refusal is not the end.
+RUNS_IN_A_ROW = 10
+RUNS_AT_ONCE = 32
+
+
+@dataclass(frozen=True)
+class Refusal:
+    """A refused call, and what the shim counted before it."""
+
+    number: int
+    in_first_thread: int
+    written: int
+    tiles: int
+    started: int
+    joined: int
+    since_join: int
+    at_write: int
+
+
+@dataclass(frozen=True)
+class Run:
+    """The refusals that a run met, in their order, and how the run ended."""
+
+    refusals: tuple
+    output: bytes
+    line: bytes
+    status: int
+
+
+def read_refusals(report):
+    lines = (Refusal(*map(int, line.split())) for line in report.decode().splitlines())
+    return tuple(sorted(lines, key=lambda refusal: refusal.number))
+
+
+@unittest.skipUnless(shutil.which("gcc"), "gcc is not there")
+class Refusals(unittest.TestCase):
+    """Tests that run a program with the shim."""
+
+    program = None
+    tile_bytes = 0
+
+    @classmethod
+    def setUpClass(cls):
+        folder = tempfile.TemporaryDirectory()
+        cls.addClassCleanup(folder.cleanup)
+        cls.shim = os.path.join(folder.name, "refusals.so")
+        subprocess.run(["gcc", "-O2", "-Wall", "-shared", "-fPIC", "-o", cls.shim, SOURCE, "-ldl"], check=True)
+
+    def run_once(self, words, text, allocation=0, thread=0, later=0, **more):
+        """A run of the program. Further arguments are given to `subprocess.run`."""
+        asked = {"REFUSE_ALLOCATION": allocation, "REFUSE_THREAD": thread, "REFUSE_LATER": later, "TILE_BYTES": self.tile_bytes}
+        read_end, write_end = os.pipe()
+        with open(read_end, "rb") as report:
+            asked = {name: str(value) for name, value in {**asked, "REPORT": write_end}.items()}
+            how = {"capture_output": True, "timeout": MOST_SECONDS, "pass_fds": [write_end], **more}
+            try:
+                environment = {**os.environ, **asked, "LD_PRELOAD": self.shim}
+                done = subprocess.run([self.program, *words], input=text, env=environment, **how)
+            finally:
+                os.close(write_end)
+            return Run(read_refusals(report.read()), done.stdout, done.stderr, done.returncode)
+
+    def each_run(self, run, least=1):
+        """The runs of the numbers from 1 on that meet this many refusals, up to ten in a row that meet fewer."""
+        found, first, met_fewer = [], 1, 0
+        with ThreadPoolExecutor(os.cpu_count()) as pool:
+            while met_fewer < RUNS_IN_A_ROW:
+                for each in pool.map(run, range(first, first + RUNS_AT_ONCE)):
+                    met = len(each.refusals) >= least
+                    found += [each] if met else []
+                    met_fewer = 0 if met else met_fewer + 1
+                    if met_fewer == RUNS_IN_A_ROW:
+                        break
+                first += RUNS_AT_ONCE
+        self.assertTrue(found, "nothing was refused")
+        return found

@@ -1,0 +1,77 @@
+#!/usr/bin/env python3
+"""Tests of scripts/refuse_memory.py and of the threads in scripts/hostile.py: mistakes in scripts/stand_in.c are caught.
+
+    python3 scripts/test_refusals.py
+
+The stand-in writes one picture with the program's ways out where memory or a thread is refused, or with a mistake in them. Needs gcc.
+"""
+
+import os
+import shutil
+import subprocess
+import sys
+import tempfile
+import unittest
+from unittest import mock
+
+sys.path.insert(0, os.path.dirname(os.path.abspath(__file__)))
+
+import counts
+import hostile
+import refuse_memory
+
+SOURCE = os.path.join(os.path.dirname(os.path.abspath(__file__)), "stand_in.c")
+
+ONE_WORKER = (refuse_memory.TileRows, "test_one_worker")
+ONE_REFUSAL = (refuse_memory.TileRows, "test_one_refusal_of_two_workers")
+EACH_LATER = (refuse_memory.TileRows, "test_each_later_allocation_of_two_workers")
+DRAWING_AGAIN = (refuse_memory.TileRows, "test_drawing_again_for_two_workers")
+TWO_REFUSALS = (refuse_memory.TileRows, "test_two_refusals_of_two_workers")
+EACH_THREAD = (hostile.RefusedThreads, "test_each_thread_of_two_workers")
+ALL_THREADS = (hostile.RefusedThreads, "test_all_threads_from_each_one_on")
+
+CAUGHT_BY = {
+    "begin with the second row": (ONE_REFUSAL, DRAWING_AGAIN, EACH_THREAD, ALL_THREADS),
+    "draw all rows again before one is written": (DRAWING_AGAIN, TWO_REFUSALS),
+    "ask for the next row before this one is written": (ONE_WORKER, DRAWING_AGAIN, TWO_REFUSALS),
+    "write a row twice": (ONE_WORKER, ONE_REFUSAL, DRAWING_AGAIN, EACH_THREAD),
+    "lose the batch above": (ONE_REFUSAL, EACH_LATER, DRAWING_AGAIN, EACH_THREAD),
+    "write the batch above twice": (ONE_REFUSAL, EACH_LATER, EACH_THREAD),
+    "fail before the batch above is written": (EACH_LATER,),
+    "give up": (ONE_REFUSAL, EACH_THREAD, ALL_THREADS),
+}
+
+
+@unittest.skipUnless(shutil.which("gcc"), "gcc is not there")
+class Mistakes(unittest.TestCase):
+    @classmethod
+    def setUpClass(cls):
+        folder = tempfile.TemporaryDirectory()
+        cls.addClassCleanup(folder.cleanup)
+        cls.program = os.path.join(folder.name, "stand_in")
+        # Without -fno-builtin gcc leaves out an allocation that nothing uses.
+        subprocess.run(["gcc", "-O1", "-Wall", "-fno-builtin", "-pthread", "-o", cls.program, SOURCE], check=True)
+
+    def result(self, test_class, name, mistake=""):
+        """What a test finds in the stand-in with this mistake."""
+        test = type(test_class.__name__, (test_class,), {"program": self.program, "tearDownClass": lambda: None})(name)
+        result = unittest.TestResult()
+        with mock.patch.dict(os.environ, MISTAKE=mistake):
+            unittest.TestSuite([test]).run(result)
+        self.assertEqual((result.testsRun, result.errors), (1, []), f"{name} with {mistake or 'no mistake'}")
+        return result
+
+    def test_no_mistake(self):
+        tests = {test for tests in CAUGHT_BY.values() for test in tests}
+        for test_class, name in tests:
+            self.assertEqual(self.result(test_class, name).failures, [], name)
+
+    def test_each_mistake(self):
+        for mistake, tests in CAUGHT_BY.items():
+            for test_class, name in tests:
+                with self.subTest(mistake=mistake, test=name):
+                    self.assertTrue(self.result(test_class, name, mistake).failures)
+
+
+if __name__ == "__main__":
+    counts.run_tests()
