@@ -109,7 +109,7 @@ class WrongBodies(unittest.TestCase):
         for body, names in wrong_bodies():
             self.assertTrue(names, f"nothing refuses: {body}")
             for name in names:
-                self.assertIn(name, known, body)
+                self.assertTrue(name in known, f"there is no {name}: {body}")
 
     def test_none_is_lost(self):
         bodies = [body for body, _names in wrong_bodies()]
