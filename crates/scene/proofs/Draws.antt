@@ -1,15 +1,18 @@
 -- The draws of a scene, one at a time.
-use Rattle.std.proofs.Common.{◌≡◌, ℕ, ◌+◌, ◌<◌, ◌≤◌, List, [], ◌∷◌, ◌++◌, length, drop, get_or, map, Some, None, inl, inr, refl, ap, sym, ◌∙◌, drop-cons, add-one, append_assoc, append-nil, arith}
+use Rattle.std.proofs.Common.{◌≡◌, ℕ, ◌+◌, ◌<◌, ◌≤◌, Option, IfSome, List, [], ◌∷◌, ◌++◌, length, drop, get_or, map, Some, None, inl, inr, refl, ap, sym, ◌∙◌, drop-cons, add-one, append_assoc, append-nil, arith}
 use Rattle.std.proofs.lemmas.List.{map-append, drop_all}
 use Rattle.list.specs.declared.draw.Draw.{Draw}
 use Rattle.list.specs.declared.fault.ReadFault.{ReadFault}
-use Rattle.list.specs.declared.fault.ReadKind.TheVariants.{WrongKind}
+use Rattle.list.specs.declared.fault.ReadKind.{ReadKind}
+use Rattle.list.specs.declared.fault.ReadKind.TheVariants.{WrongKind, OutOfMemory}
 use Rattle.list.specs.Listing.{draw_listing, DrawListing}
+use Rattle.scene.specs.declared.head.SceneHead.{SceneHead}
 use Rattle.scene.specs.declared.draw.SceneDraw.{SceneDraw}
 use Rattle.scene.specs.declared.vertex.SceneVertex.{SceneVertex}
+use Rattle.scene.specs.Ranges.{IsHeadInRange}
 use Rattle.scene.specs.Listed.{draw_listed, draws_listed}
 use Rattle.scene.specs.Checking.{Pass, FirstIs}
-use Rattle.scene.specs.Checks.{draw_checks, triangles_listed, DrawsPass, IsFirstOfDraws}
+use Rattle.scene.specs.Checks.{draw_checks, checks_before_vertices, triangles_listed, DrawsPass, IsFirstOfDraws, IsReached, Reaches}
 
 -- from the draw of number i on
 module _ (ds : List SceneDraw) (i : ℕ) (x : SceneDraw) (lt : i < length ds) (earlier : ℕ) (vs : List SceneVertex) (is : List ℕ) where
@@ -24,6 +27,15 @@ module _ (ds : List SceneDraw) (i : ℕ) (x : SceneDraw) (lt : i < length ds) (e
       → IsFirstOfDraws (i + 1) (earlier + triangles_listed (get_or ds i x) is) (drop (i + 1) ds) (drop (get_or ds i x).vertices vs) (drop (get_or ds i x).indices is) fault
       → IsFirstOfDraws i earlier (drop i ds) vs is fault
   fails_later fault pass later = rw from_here (inr (pass, later))
+
+  pub reached_here : (kind : ReadKind) → (kind ≡ OutOfMemory → Pass (checks_before_vertices (get_or ds i x) vs is))
+      → IsReached i earlier (drop i ds) vs is kind i
+  reached_here kind memory = rw from_here (inl (refl, memory))
+
+  pub reached_later : (kind : ReadKind) (n : ℕ) → Pass (draw_checks earlier (get_or ds i x) vs is)
+      → IsReached (i + 1) (earlier + triangles_listed (get_or ds i x) is) (drop (i + 1) ds) (drop (get_or ds i x).vertices vs) (drop (get_or ds i x).indices is) kind n
+      → IsReached i earlier (drop i ds) vs is kind n
+  reached_later kind n pass later = rw from_here (inr (pass, later))
 
   pub passes_here : Pass (draw_checks earlier (get_or ds i x) vs is)
       → DrawsPass (earlier + triangles_listed (get_or ds i x) is) (drop (i + 1) ds) (drop (get_or ds i x).vertices vs) (drop (get_or ds i x).indices is)
@@ -64,3 +76,13 @@ module _ (ds : List SceneDraw) (i : ℕ) (past : length ds ≤ i) (earlier : ℕ
 pub none_of_none : {X : Type 0} (xs : List X) → length xs ≡ 0 → xs ≡ []
 none_of_none [] e = refl
 none_of_none (x ∷ xs) e = absurd (omega arith)
+
+module _ (head : SceneHead) (ds : List SceneDraw) (vs : List SceneVertex) (is : List ℕ) (kind : ReadKind) (inside : IsHeadInRange head) (few : length ds ≤ 1024) where
+  reached_in : (draw : Option ℕ) → IfSome draw (IsReached 0 0 ds vs is kind) → IfSome draw (λ n. IsHeadInRange head × (length ds ≤ 1024) × IsReached 0 0 ds vs is kind n)
+  reached_in None none = none
+  reached_in (Some n) reached = (inside, few, reached)
+
+-- where the numbers of the picture and the number of draws pass, what was reached among the draws is reached in the scene
+pub reaches : (head : SceneHead) (ds : List SceneDraw) (vs : List SceneVertex) (is : List ℕ) (fault : ReadFault) → IsHeadInRange head → length ds ≤ 1024
+    → IfSome fault.draw (IsReached 0 0 ds vs is fault.kind) → Reaches head ds vs is fault
+reaches head ds vs is fault inside few reached = reached_in head ds vs is fault.kind inside few fault.draw reached

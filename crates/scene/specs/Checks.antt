@@ -1,8 +1,9 @@
 -- The checks of a caller's arrays, in their order.
-use Rattle.std.specs.Prelude.{◌≡◌, ℕ, ◌+◌, ◌%◌, ◌<◌, ◌≤◌, ◌⊎◌, List, [], ◌∷◌, length, map, take, drop, Some, None}
+use Rattle.std.specs.Prelude.{◌≡◌, ℕ, ◌+◌, ◌%◌, ◌<◌, ◌≤◌, ◌⊎◌, List, [], ◌∷◌, length, map, take, drop, IfSome, Some, None}
 use Rattle.std.specs.List.{All}
 use Rattle.list.specs.declared.draw.Vertex.{Vertex}
-use Rattle.list.specs.declared.fault.ReadKind.TheVariants.{WrongKind, OutOfRange, BadIndex, TooMany, NotConvex}
+use Rattle.list.specs.declared.fault.ReadKind.{ReadKind}
+use Rattle.list.specs.declared.fault.ReadKind.TheVariants.{WrongKind, OutOfRange, BadIndex, TooMany, OutOfMemory, NotConvex}
 use Rattle.list.specs.declared.fault.ReadFault.{ReadFault}
 use Rattle.list.specs.Primitives.{count_of_triangles, AreOver}
 use Rattle.list.specs.Listing.{scene_of}
@@ -14,11 +15,12 @@ use Rattle.scene.specs.Listed.{vertex_listed, corners_of, primitives_listed, sce
 use Rattle.scene.specs.Ranges.{IsHeadInRange, IsVertexInRange, IsDrawInRange}
 use Rattle.scene.specs.Checking.{Checks, done, check, followed_by, Pass, FirstIs}
 
+-- Whether they are too many.
+abbrev pub number_checks : List SceneVertex → Checks
+number_checks vertices = check (length vertices ≤ 65536) TooMany done
+
 abbrev pub vertices_checks : List SceneVertex → Checks
-vertices_checks vertices =
-    check (length vertices ≤ 65536) TooMany (
-    check (All IsVertexInRange vertices) OutOfRange
-    done)
+vertices_checks vertices = followed_by (number_checks vertices) (check (All IsVertexInRange vertices) OutOfRange done)
 
 -- The primitives of a draw of these vertices, before which the draws have so many triangles. Where each index names a vertex, only
 -- a quad that is not strictly convex is not over the vertices.
@@ -30,13 +32,23 @@ primitives_checks earlier vertices kind indices =
     check (AreOver vertices (primitives_listed kind indices)) NotConvex
     done)))
 
+-- The checks of a draw that come before its vertices and primitives.
+abbrev pub opening_checks : SceneDraw → List SceneVertex → List ℕ → Checks
+opening_checks d vertices indices =
+    check ((d.vertices ≤ length vertices) × (d.indices ≤ length indices)) WrongKind (
+    check (IsDrawInRange d) OutOfRange
+    done)
+
 -- A draw, whose vertices and indices are the first of these.
 abbrev pub draw_checks : ℕ → SceneDraw → List SceneVertex → List ℕ → Checks
 draw_checks earlier d vertices indices =
-    check ((d.vertices ≤ length vertices) × (d.indices ≤ length indices)) WrongKind (
-    check (IsDrawInRange d) OutOfRange (
+    followed_by (opening_checks d vertices indices) (
     followed_by (vertices_checks (take d.vertices vertices))
-    (primitives_checks earlier (map vertex_listed (take d.vertices vertices)) d.primitives (take d.indices indices))))
+    (primitives_checks earlier (map vertex_listed (take d.vertices vertices)) d.primitives (take d.indices indices)))
+
+-- The checks of a draw that come before its vertices themselves.
+abbrev pub checks_before_vertices : SceneDraw → List SceneVertex → List ℕ → Checks
+checks_before_vertices d vertices indices = followed_by (opening_checks d vertices indices) (number_checks (take d.vertices vertices))
 
 -- How many triangles such a draw has.
 abbrev pub triangles_listed : SceneDraw → List ℕ → ℕ
@@ -57,6 +69,20 @@ IsFirstOfDraws number earlier (d ∷ ds) vertices indices fault =
     (FirstIs (draw_checks earlier d vertices indices) fault.kind × (fault.draw ≡ Some number))
     ⊎ (Pass (draw_checks earlier d vertices indices)
     × IsFirstOfDraws (number + 1) (earlier + triangles_listed d indices) ds (drop d.vertices vertices) (drop d.indices indices) fault)
+
+-- Draw n is one of these, which are numbered from here on, and no check of a draw before it fails. If the kind is out of memory,
+-- none of its own that come before its vertices fails either.
+abbrev pub IsReached : ℕ → ℕ → List SceneDraw → List SceneVertex → List ℕ → ReadKind → ℕ → Type 0
+IsReached number earlier [] vertices indices kind n = ⊥
+IsReached number earlier (d ∷ ds) vertices indices kind n =
+    ((n ≡ number) × (kind ≡ OutOfMemory → Pass (checks_before_vertices d vertices indices)))
+    ⊎ (Pass (draw_checks earlier d vertices indices)
+    × IsReached (number + 1) (earlier + triangles_listed d indices) ds (drop d.vertices vertices) (drop d.indices indices) kind n)
+
+-- A draw that a fault names was reached: the numbers of the picture and the number of draws pass their checks too.
+abbrev pub Reaches : SceneHead → List SceneDraw → List SceneVertex → List ℕ → ReadFault → Type 0
+Reaches head draws vertices indices fault =
+    IfSome fault.draw (λ n. IsHeadInRange head × (length draws ≤ 1024) × IsReached 0 0 draws vertices indices fault.kind n)
 
 -- The first check of a scene that fails tells this fault.
 pub data IsFirstFault (head : SceneHead) (draws : List SceneDraw) (vertices : List SceneVertex) (indices : List ℕ) (fault : ReadFault) : Type 0 where

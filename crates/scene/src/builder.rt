@@ -1,9 +1,10 @@
-ghost use Rattle.std.specs.Prelude.{◌≡◌, ◌≢◌, ◌≤◌, length, map, IfOk, IfErr, MatchResult};
+ghost use Rattle.std.specs.Prelude.{◌≡◌, ◌≢◌, ◌≤◌, length, map, IfOk, IfErr, IfSome, Some, MatchResult};
 ghost use Rattle.list.specs.Scene.{Scene};
 ghost use Rattle.list.specs.Listing.{draw_listing};
 ghost use Rattle.list.specs.declared.fault.ReadKind.TheVariants.{OutOfMemory};
-ghost use Rattle.scene.specs.Listed.{draws_listed};
-ghost use Rattle.scene.specs.Checks.{DrawsPass, IsFirstOfDraws, IsFirstFault, IsListOf};
+ghost use Rattle.scene.specs.Listed.{draw_listed, draws_listed};
+ghost use Rattle.scene.specs.Checking.{Pass, FirstIs};
+ghost use Rattle.scene.specs.Checks.{draw_checks, checks_before_vertices, DrawsPass, IsFirstOfDraws, IsFirstFault, IsReached, Reaches, IsListOf};
 
 use crate::draw::SceneDraw;
 use crate::head::SceneHead;
@@ -21,6 +22,32 @@ fn outside(kind: ReadKind) -> ReadFault
     ReadFault { kind, draw: None }
 }
 
+/// The draw of this number, whose vertices and indices are the first of these. The draws before it have `earlier` triangles.
+fn numbered_draw(
+    alloc: Global,
+    draw: &SceneDraw,
+    number: u32,
+    vertices: &[SceneVertex],
+    indices: &[u32],
+    earlier: usize,
+) -> Result<Draw, ReadFault>
+    requires { earlier ≤ 65536 }
+    ensures told { let checks = draw_checks earlier draw.now vertices.now indices.now in MatchResult result
+        (λ found. Pass checks × (draw_listing found ≡ draw_listed draw.now vertices.now indices.now))
+        (λ fault. fault.kind ≢ OutOfMemory → FirstIs checks fault.kind) }
+    ensures named { IfErr result (λ fault. fault.draw ≡ Some number) }
+    ensures memory { IfErr result (λ fault. fault.kind ≡ OutOfMemory
+        → Pass (checks_before_vertices draw.now vertices.now indices.now)) }
+{
+    match draw.draw(alloc, vertices, indices, earlier) {
+        Ok(found) => Ok(found),
+        Err(kind) => Err(ReadFault {
+            kind,
+            draw: Some(number),
+        }),
+    }
+}
+
 /// The draws of a scene.
 fn draws_of(
     alloc: Global,
@@ -33,6 +60,8 @@ fn draws_of(
         × (map draw_listing found.items ≡ draws_listed draws.now vertices.now indices.now)) }
     ensures fault { IfErr result (λ fault. fault.kind ≢ OutOfMemory
         → IsFirstOfDraws 0 0 draws.now vertices.now indices.now fault) }
+    ensures reached { IfErr result (λ fault. IfSome fault.draw
+        (IsReached 0 0 draws.now vertices.now indices.now fault.kind)) }
 {
     let Ok(mut found) = Vec::with_capacity(alloc, draws.len()) else {
         return Err(outside(ReadKind::OutOfMemory));
@@ -40,15 +69,8 @@ fn draws_of(
     let mut earlier = 0;
     let (mut vertices_left, mut indices_left) = (vertices, indices);
     for (number, draw) in draws.iter().enumerate() {
-        let next = match draw.draw(alloc, vertices_left, indices_left, earlier) {
-            Ok(next) => next,
-            Err(kind) => {
-                return Err(ReadFault {
-                    kind,
-                    draw: Some(number as u32),
-                });
-            }
-        };
+        let number = number as u32;
+        let next = numbered_draw(alloc, draw, number, vertices_left, indices_left, earlier)?;
         earlier += next.primitives.triangles();
         found.push_reserved(next);
         (_, vertices_left) = vertices_left.split_at(draw.vertices as usize);
@@ -70,8 +92,8 @@ fn draws_of(
 /// 65,536 triangles together (`TooMany`), each index names a vertex of the draw (`BadIndex`), each quad is strictly convex
 /// (`NotConvex`). At the end no vertex and no index is left over: else `WrongKind`. A fault of a draw tells the draw's number.
 ///
-/// `OutOfMemory` is told where a growth of memory was refused, in place of whatever would have come later. Nothing of the arrays is
-/// kept.
+/// `OutOfMemory` is returned as soon as an allocation fails; later checks are not made. It names the draw that was being read, of
+/// which no check before its vertices fails. Before the first draw and after the last it names none. Nothing of the arrays is kept.
 pub fn build(
     alloc: Global,
     head: &SceneHead,
@@ -87,6 +109,8 @@ pub fn build(
     // A fault is the first one, unless memory ran out.
     ensures first { IfErr result (λ fault. fault.kind ≢ OutOfMemory
         → IsFirstFault head.now draws.now vertices.now indices.now fault) }
+    // Out of memory too names a draw only if all before that draw is right, and all of it before its vertices.
+    ensures reached { IfErr result (Reaches head.now draws.now vertices.now indices.now) }
 {
     if !head.is_in_range() {
         return Err(outside(ReadKind::OutOfRange));

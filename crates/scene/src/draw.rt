@@ -1,9 +1,10 @@
-ghost use Rattle.std.specs.Prelude.{◌≡◌, ◌↔◌, ◌≤◌, IsTrue, IfOk};
+ghost use Rattle.std.specs.Prelude.{◌≡◌, ◌↔◌, ◌≤◌, IsTrue, IfErr};
 ghost use Rattle.list.specs.Listing.{draw_listing};
+ghost use Rattle.list.specs.declared.fault.ReadKind.TheVariants.{OutOfMemory};
 ghost use Rattle.scene.specs.Listed.{truth_listed, cull_listed, depth_test_listed, state_listed, draw_listed};
 ghost use Rattle.scene.specs.Ranges.{IsDrawInRange};
-ghost use Rattle.scene.specs.Checking.{Reads};
-ghost use Rattle.scene.specs.Checks.{draw_checks};
+ghost use Rattle.scene.specs.Checking.{Pass, Reads};
+ghost use Rattle.scene.specs.Checks.{draw_checks, checks_before_vertices};
 
 use crate::primitives::primitives_of;
 use crate::vertex::{SceneVertex, vertices_of};
@@ -125,8 +126,10 @@ impl SceneDraw {
         earlier: usize,
     ) -> Result<Draw, ReadKind>
         requires { earlier ≤ 65536 }
-        ensures { Reads (draw_checks earlier self.now vertices.now indices.now)
+        ensures told { Reads (draw_checks earlier self.now vertices.now indices.now)
             (λ found. draw_listing found ≡ draw_listed self.now vertices.now indices.now) result }
+        ensures memory { IfErr result (λ kind. kind ≡ OutOfMemory
+            → Pass (checks_before_vertices self.now vertices.now indices.now)) }
     {
         let (own_vertices, own_indices) = (self.vertices as usize, self.indices as usize);
         if own_vertices > vertices.len() || own_indices > indices.len() {

@@ -1,8 +1,9 @@
-ghost use Rattle.std.specs.Prelude.{◌≡◌, ◌↔◌, ◌≤◌, IsSome, IfSome, length, map};
+ghost use Rattle.std.specs.Prelude.{◌≡◌, ◌↔◌, ◌≤◌, IsSome, IfSome, IfErr, length, map};
+ghost use Rattle.list.specs.declared.fault.ReadKind.TheVariants.{OutOfMemory};
 ghost use Rattle.scene.specs.Listed.{vertex_listed};
 ghost use Rattle.scene.specs.Ranges.{IsVertexInRange};
-ghost use Rattle.scene.specs.Checking.{Reads};
-ghost use Rattle.scene.specs.Checks.{vertices_checks};
+ghost use Rattle.scene.specs.Checking.{Pass, Reads};
+ghost use Rattle.scene.specs.Checks.{number_checks, vertices_checks};
 
 use grid::Point;
 use list::{ReadKind, Vertex};
@@ -51,7 +52,8 @@ impl SceneVertex {
 
 /// The vertices of a draw.
 pub(crate) fn vertices_of(alloc: Global, vertices: &[SceneVertex]) -> Result<Vec<Vertex>, ReadKind>
-    ensures { Reads (vertices_checks vertices.now) (λ found. found.items ≡ map vertex_listed vertices.now) result }
+    ensures told { Reads (vertices_checks vertices.now) (λ found. found.items ≡ map vertex_listed vertices.now) result }
+    ensures memory { IfErr result (λ kind. kind ≡ OutOfMemory → Pass (number_checks vertices.now)) }
 {
     if vertices.len() > MOST_VERTICES {
         return Err(ReadKind::TooMany);

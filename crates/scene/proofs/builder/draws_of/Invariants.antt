@@ -1,8 +1,9 @@
-use Rattle.std.proofs.Common.{◌≡◌, ◌≤◌, ◌++◌, length, map, drop, vec_len, vec_capacity}
+use Rattle.std.proofs.Common.{◌≡◌, ℕ, ◌≤◌, ◌++◌, length, map, drop, vec_len, vec_capacity}
 use Rattle.list.specs.declared.fault.ReadFault.{ReadFault}
+use Rattle.list.specs.declared.fault.ReadKind.{ReadKind}
 use Rattle.list.specs.Listing.{draw_listing}
 use Rattle.scene.specs.Listed.{draws_listed}
-use Rattle.scene.specs.Checks.{DrawsPass, IsFirstOfDraws}
+use Rattle.scene.specs.Checks.{DrawsPass, IsFirstOfDraws, IsReached}
 use Rattle.scene.proofs.builder.draws_of.Given as goal
 
 abbrev pub invariant-loop-number : goal.invariant-loop-number
@@ -10,6 +11,8 @@ invariant-loop-number l = record {
   passed : DrawsPass l.earlier (drop l.number l.draws) l.vertices_left l.indices_left → DrawsPass 0 l.draws l.vertices l.indices;
   faults : (fault : ReadFault) → IsFirstOfDraws l.number l.earlier (drop l.number l.draws) l.vertices_left l.indices_left fault
       → IsFirstOfDraws 0 0 l.draws l.vertices l.indices fault;
+  reached : (kind : ReadKind) (n : ℕ) → IsReached l.number l.earlier (drop l.number l.draws) l.vertices_left l.indices_left kind n
+      → IsReached 0 0 l.draws l.vertices l.indices kind n;
   listed : map draw_listing l.found.items ++ draws_listed (drop l.number l.draws) l.vertices_left l.indices_left
       ≡ draws_listed l.draws l.vertices l.indices;
   room : l.earlier ≤ 65536;
