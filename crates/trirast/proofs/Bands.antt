@@ -7,10 +7,9 @@ use Rattle.list.specs.Picture.{IsPart}
 use Rattle.list.specs.Scene.{Scene}
 use Rattle.list.proofs.Parts.{part-append}
 use Rattle.list.proofs.Pixels.{bytes_of_none}
-use Rattle.bins.specs.Grid.{TileGrid, rows_of, tiles_over}
+use Rattle.bins.specs.Grid.{TileGrid, tiles_over}
 use Rattle.trirast.specs.Band.{AddsBand, AddsBands}
 use Rattle.trirast.specs.File.{header_of, IsPictureFile}
-use Rattle.trirast.specs.TileRows.{strip_begin}
 use Rattle.trirast.proofs.Strips.{strip_before, strip_next, strips_all}
 
 no_rows : (l : Scene) (y height : ℕ) → height ≡ 0 → IsPart l 0 y l.width height []
@@ -54,14 +53,9 @@ band_next l g first row old bytes new same order within above h =
     let one : AddsBands l g.side row (row + 1) bytes new = record { bands = h.band; are = subst (λ n. IsPart l 0 (side * row) l.width n h.band) high h.is; behind = h.behind } in
     bands_behind l g.side first row (row + 1) old bytes new order (omega arith) within above one
 
--- a strip of one row of tiles by what its parts are called
-pub band_of_one : (l l' : Scene) (g g' : TileGrid) (together row row' : ℕ) (old new : List ℕ) → l' ≡ l → g' ≡ g → together ≡ 1 → row' ≡ row → row < rows_of g
-    → AddsBands l' g'.side (strip_begin g' together row') (strip_begin g' together (row' + 1)) old new → AddsBands l g.side row (row + 1) old new
-band_of_one l l' g g' together row row' old new d e one f within h =
-    let here : AddsBands l g.side (strip_begin g together row) (strip_begin g together (row + 1)) old new = rw (← d, ← e, ← f) h in
-    let first : strip_begin g together row ≡ row = rw one (omega arith) in
-    let end : strip_begin g together (row + 1) ≡ row + 1 = rw one (omega arith) in
-    subst (λ n. AddsBands l g.side n (row + 1) old new) first (subst (λ n. AddsBands l g.side (strip_begin g together row) n old new) end here)
+-- tile rows by what their parts are called
+pub bands_of : (l l' : Scene) (g g' : TileGrid) (row first end : ℕ) (old new : List ℕ) → l' ≡ l → g' ≡ g → first ≡ row → end ≡ row + 1 → AddsBands l' g'.side first end old new → AddsBands l g.side row (row + 1) old new
+bands_of l l' g g' row first end old new d e f h bands = rw (← d, ← e, ← h, ← f) bands
 
 -- all bands behind the header are the file
 pub file_of_bands : (l : Scene) (side : TileSide) (rows : ℕ) (header file : List ℕ) → tiles_over l.height side ≤ rows → header ≡ header_of l.output l.width l.height → AddsBands l side 0 rows header file → IsPictureFile l file

@@ -5,5 +5,6 @@ pub mod Columns
 pub mod Tiled
 pub mod Written
 pub mod Writing
+pub mod Ended
 pub mod Bands
 pub mod Lines

@@ -1,6 +1,5 @@
 -- Tiles that are counted row by row from a first row of tiles on.
-use Rattle.std.proofs.Common.{◌≡◌, ◌⊎◌, inl, inr, refl, sym, ap, subst, ◌∙◌, ℕ, ◌+◌, ◌-◌, ◌*◌, ◌/◌, ◌%◌, ◌<◌, ◌≤◌, min, zero, suc, List, [], ◌∷◌, ◌++◌, length, take, drop, slice_get, Some, Result, IfOk, zero-add, arith}
-use Rattle.std.proofs.lemmas.Bool.{cases_lt}
+use Rattle.std.proofs.Common.{◌≡◌, refl, sym, ap, subst, ◌∙◌, ℕ, ◌+◌, ◌-◌, ◌*◌, ◌/◌, ◌%◌, ◌<◌, ◌≤◌, zero, suc, List, [], ◌∷◌, ◌++◌, length, take, drop, slice_get, Some, Result, IfOk, zero-add, arith}
 use Rattle.std.proofs.lemmas.List.{length_push, length-take, length-drop}
 use Rattle.std.proofs.lemmas.Option.{none-some, same_Some, slice_get_within}
 use Rattle.std.proofs.Math.Nat.{mod-lt, div-add-mod', mul-le-mul_left}
@@ -51,6 +50,14 @@ tile_pushed l g first many tiles new pixels before last e =
 
 pub all_tiles : (l : Scene) (g : TileGrid) (first end many : ℕ) (tiles : List TilePixels) → many ≡ (end - first) * columns_of g → AreFirst l g first many tiles → AreTiles l g first end tiles
 all_tiles l g first end many tiles e all = record { number = all.number ∙ e; each = all.each }
+
+pub no_tiles_between : (l : Scene) (g : TileGrid) (first end : ℕ) (tiles : List TilePixels) → first ≡ end → tiles ≡ [] → AreTiles l g first end tiles
+no_tiles_between l g first end tiles same none =
+    let product : (end - first) * columns_of g ≡ 0 * columns_of g = ap (λ n. n * columns_of g) (omega arith) in
+    all_tiles l g first end 0 tiles (omega (arith, product)) (no_tiles l g first 0 tiles refl none)
+
+pub tiles_of : (l l' : Scene) (g g' : TileGrid) (first first' end end' : ℕ) (tiles : List TilePixels) → l' ≡ l → g' ≡ g → first' ≡ first → end' ≡ end → AreTiles l' g' first' end' tiles → AreTiles l g first end tiles
+tiles_of l l' g g' first first' end end' tiles d e f h are = rw (← d, ← e, ← f, ← h) are
 
 -- an item of a part of a list
 get_taken : {X : Type 0} (n i : ℕ) (xs : List X) (x : X) → slice_get (take n xs) i ≡ Some x → slice_get xs i ≡ Some x

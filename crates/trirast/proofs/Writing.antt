@@ -1,7 +1,9 @@
 -- Tile rows that are written one after another, and what a fault among them explains.
-use Rattle.std.proofs.Common.{◌≡◌, ◌⊎◌, inl, inr, refl, sym, ap, subst, ◌∙◌, ℕ, ◌+◌, ◌-◌, ◌*◌, ◌<◌, ◌≤◌, min, List, [], ◌++◌, length, take, Option, append_assoc, append-nil, length-append, arith}
+use Rattle.std.proofs.Common.{◌≡◌, ◌⊎◌, inl, inr, sym, ap, subst, ◌∙◌, ℕ, ◌+◌, ◌-◌, ◌*◌, ◌<◌, ◌≤◌, min, List, [], ◌++◌, length, take, Option, IfSome, Err, IsErrOf, append-nil, length-append, arith}
 use Rattle.std.proofs.lemmas.Bool.{cases_lt}
 use Rattle.std.proofs.lemmas.List.{nil_from_length}
+use Rattle.std.proofs.lemmas.Option.{same_Some}
+use Rattle.std.specs.Result.{result_err}
 use Rattle.std.proofs.Math.Nat.{mul-le-mul, mul-le-mul_left}
 use Rattle.std.proofs.KnownBytes.{Appends-nil, Appends-trans}
 use Rattle.std.specs.Io.KnownBytes.{Appends}
@@ -13,9 +15,9 @@ use Rattle.list.specs.Scene.{Scene}
 use Rattle.list.specs.Picture.{IsPart, pixel_bytes}
 use Rattle.list.proofs.Parts.{part-append}
 use Rattle.list.proofs.Pixels.{bytes_of_none, bytes_up_to}
-use Rattle.bins.specs.Grid.{tiles_over}
-use Rattle.trirast.specs.Band.{AreBands}
-use Rattle.trirast.specs.File.{header_of}
+use Rattle.bins.specs.Bin.{TileBins, AreBins}
+use Rattle.bins.specs.Grid.{TileGrid, tiles_over}
+use Rattle.trirast.specs.Band.{AddsBands, AreBands}
 use Rattle.trirast.specs.Runs.{WritesAll}
 use Rattle.trirast.specs.Picture.{CutsRows, ExplainsPicture, ExplainsRows, WritesRows}
 use Rattle.trirast.specs.declared.picture.PictureFault.{PictureFault}
@@ -67,6 +69,20 @@ module _ (l : Scene) (side : TileSide) (first middle end : ℕ) (order : first �
     here (inl behind) = past behind
     here (inr within) = inside within
 
+-- the bytes of one tile row by what its parts are called, where there were none before
+pub tile_row_of : (l l' : Scene) (g g' : TileGrid) (row first end : ℕ) (old new : List ℕ) → l' ≡ l → g' ≡ g → first ≡ row → end ≡ row + 1 → old ≡ [] → AddsBands l' g'.side first end old new → AreBands l g.side row (row + 1) new
+tile_row_of l l' g g' row first end old new d e f h none adds =
+    let same : new ≡ adds.bands = adds.behind ∙ ap (λ xs. xs ++ adds.bands) none in
+    let here : AreBands l' g'.side first end new = subst (AreBands l' g'.side first end) (sym same) adds.are in
+    rw (← d, ← e, ← h, ← f) here
+
+-- the bytes and the bins of tile rows by what their parts are called
+pub bytes_of : (l l' : Scene) (g g' : TileGrid) (first end : ℕ) (bytes : List ℕ) → l' ≡ l → g' ≡ g → AreBands l' g'.side first end bytes → AreBands l g.side first end bytes
+bytes_of l l' g g' first end bytes d e are = rw (← d, ← e) are
+
+pub bins_of : (l l' : Scene) (g g' : TileGrid) (first first' end end' : ℕ) (bins : Option TileBins) → l' ≡ l → g' ≡ g → first' ≡ first → end' ≡ end → IfSome bins (AreBins l' g' first' (end' - first')) → IfSome bins (AreBins l g first (end - first))
+bins_of l l' g g' first first' end end' bins d e f h are = rw (← d, ← e, ← f, ← h) are
+
 -- a picture has at most 50,331,648 bytes
 pub few_bytes : (l : Scene) (side : TileSide) (first end : ℕ) (bytes : List ℕ) → l.width ≤ 4096 → l.height ≤ 4096 → AreBands l side first end bytes → length bytes ≤ 50331648
 few_bytes l side first end bytes wide high are =
@@ -84,6 +100,12 @@ module _ (l : Scene) (side : TileSide) where
   -- nothing is written yet
   pub none_written : (row count : ℕ) (held : Option (List ℕ)) → WritesRows l side row row count count held held
   none_written row count held = record { rows = []; are = no_tile_rows l side row; many = omega arith; written = Appends-nil held }
+
+  -- a fault of the first of some tile rows
+  pub explains_more : (first end end' before : ℕ) (e : PictureFault) (held held' : Option (List ℕ)) → end ≤ end' → ExplainsRows l side first end before e held held' → ExplainsRows l side first end' before e held held'
+  explains_more first end end' before NotBegun held held' order k = elim k [ ]
+  explains_more first end end' before (OutOfMemory row) held held' order k = (k.0, omega (arith, k.1), k.2)
+  explains_more first end end' before (WriteFailed count) held held' order k = k
 
   module _ (first middle before count : ℕ) (order : first ≤ middle) (held held' : Option (List ℕ)) (h : WritesRows l side first middle before count held held') where
     -- more tile rows are written behind others
@@ -118,8 +140,34 @@ module _ (l : Scene) (side : TileSide) where
 
     -- what a fault explains of tile rows behind others
     pub explains_behind : (end : ℕ) (e : PictureFault) (held'' : Option (List ℕ)) → ExplainsRows l side middle end count e held' held'' → ExplainsRows l side first end before e held held''
+    explains_behind end NotBegun held'' k = elim k [ ]
     explains_behind end (OutOfMemory row) held'' k = (omega (arith, k.0), k.1, (k.2.0, then_written row k.2.0 held'' k.0 k.2.1))
     explains_behind end (WriteFailed count') held'' k = more_cut k.end count' k.rows held'' k.ordered k.are k.within k.written
+
+-- what was written by what the parts are called
+pub writes_of : (l l' : Scene) (g g' : TileGrid) (first first' end before count : ℕ) (held held' : Option (List ℕ)) → l' ≡ l → g' ≡ g → first' ≡ first
+    → WritesRows l' g'.side first' end before count held held' → WritesRows l g.side first end before count held held'
+writes_of l l' g g' first first' end before count held held' d e f k = rw (← d, ← e, ← f) k
+
+-- the error of an answer of another type
+pub err_of : {T T' E : Type 0} (e x : E) → IsErrOf {T = T} {E = E} (Err e) x → IsErrOf {T = T'} {E = E} (Err e) x
+err_of e x h = ap Err (same_Some e x (ap result_err h))
+
+-- what a fault explains by what the parts are called
+pub explains_of : (l l' : Scene) (g g' : TileGrid) (first first' end end' before : ℕ) (e : PictureFault) (held held' : Option (List ℕ)) → l' ≡ l → g' ≡ g → first' ≡ first → end' ≤ end
+    → ExplainsRows l' g'.side first' end' before e held held' → ExplainsRows l g.side first end before e held held'
+explains_of l l' g g' first first' end end' before e held held' d h f order k =
+    explains_more l g.side first end' end before e held held' order (rw (← d, ← h, ← f) k)
+
+-- what is said of tile rows by what the parts are called
+pub by_names : (l l' : Scene) (g g' : TileGrid) (side : TileSide) (first first' end end' : ℕ) → l' ≡ l → g' ≡ g → g.side ≡ side → first' ≡ first → end' ≡ end
+    → (P : Scene → TileSide → ℕ → ℕ → Type 0) → P l' g'.side first' end' → P l side first end
+by_names l l' g g' side first first' end end' d e same f h P k =
+    let list = subst (λ l. P l g'.side first' end') d k in
+    let grid = subst (λ (g : TileGrid). P l g.side first' end') e list in
+    let tile = subst (λ side. P l side first' end') same grid in
+    let begin = subst (λ first. P l side first end') f tile in
+    subst (λ end. P l side first end) h begin
 
 -- behind the header they are the file
 module _ (l : Scene) (side : TileSide) (rows header : ℕ) (wide : 1 ≤ l.width) (some : 0 < tiles_over l.height side) (all : rows ≡ tiles_over l.height side) (held held' : Option (List ℕ)) (h : HasWritten l side 0 header held held') where
@@ -130,5 +178,6 @@ module _ (l : Scene) (side : TileSide) (rows header : ℕ) (wide : 1 ≤ l.width
   file_written count held'' k = all_written l side rows count held held'' (omega arith) (behind rows count held'' k)
 
   pub file_explained : (e : PictureFault) (held'' : Option (List ℕ)) → ExplainsRows l side 0 rows header e held' held'' → ExplainsPicture l side e held held''
+  file_explained NotBegun held'' k = elim k [ ]
   file_explained (OutOfMemory row) held'' k = whole_bands l side row k.2.0 held held'' wide (omega (arith, k.1)) (behind row k.2.0 held'' k.2.1)
   file_explained (WriteFailed count) held'' k = bands_cut l side 0 header held held' wide some h k.end (omega arith) k.rows k.are count held'' k.within k.written

@@ -75,12 +75,12 @@ fn write_alone<W: Write, G: Gate>(
     let mut written = before;
     for row in rows.first()..rows.end() {
         bytes.clear();
-        let drawn = rows
+        let Ok(()) = rows
             .others(row, row + 1)
-            .push_alone(alloc, &mut store, gate, &mut bytes);
-        if drawn.is_err() {
+            .push_alone(alloc, &mut store, gate, &mut bytes)
+        else {
             return Err(PictureFault::OutOfMemory(row));
-        }
+        };
         written = ppm_rows(&bytes, written, output)?;
     }
     Ok((written, bytes))
@@ -109,34 +109,45 @@ fn write_together<R: Threads + Wait + Sync, W: Write, G: Gate>(
     ensures write_failed { ((count : ℕ) × IsErrOf result (PictureFault.WriteFailed count)) ↔ (output.old.failures < output.new.failures) }
     ensures same_failures { OnOk result (output.new.failures ≡ output.old.failures) }
 {
-    let mut above = rows.others(rows.first(), rows.first());
+    // The tile rows before `above` are written, and those from there to before `first` are drawn.
+    let mut above = rows.first();
+    let mut first = rows.first();
     let mut tiles = Vec::new(alloc);
     let mut bins = None;
     let mut written = before;
-    while above.end() < rows.end() {
-        let batch = rows.batch(above.end(), together);
+    while first < rows.end() {
+        let batch = rows.batch(first, together);
         let below = rows.batch(batch.end(), together);
         let (drawn, Beside { joined, bins: next }) = batch.draw(
-            rt, alloc, workers, gate, bins, above, tiles, bytes, below,
+            rt,
+            alloc,
+            workers,
+            gate,
+            bins,
+            above,
+            tiles,
+            bytes,
+            below.end(),
         );
         let Ok(joined) = joined else {
-            return Err(PictureFault::OutOfMemory(above.first()));
+            return Err(PictureFault::OutOfMemory(above));
         };
         written = ppm_rows(&joined, written, output)?;
         bytes = joined;
         // The batch above is written now, whatever came of this one.
         if let Ok(drawn) = drawn {
             tiles = drawn;
-            above = batch;
+            above = first;
         } else {
             (written, bytes) = write_alone(alloc, batch, gate, bytes, written, output)?;
             tiles = Vec::new(alloc);
-            above = rows.others(batch.end(), batch.end());
+            above = batch.end();
         }
+        first = batch.end();
         bins = next;
     }
-    let Ok(last) = above.joined(tiles, bytes) else {
-        return Err(PictureFault::OutOfMemory(above.first()));
+    let Ok(last) = rows.others(above, first).joined(tiles, bytes) else {
+        return Err(PictureFault::OutOfMemory(above));
     };
     Ok(ppm_rows(&last, written, output)?)
 }

@@ -89,7 +89,7 @@ pub(crate) struct Beside {
 
 impl<'a> TileRows<'a> {
     ghost use Rattle.trirast.specs.Band.{AddsBands};
-    ghost use Rattle.trirast.specs.TileRows.{AreBinsOf, AreBytesOf, AreTilesOf, tiles_in};
+    ghost use Rattle.trirast.specs.TileRows.{AreBinsOf, AreBytesOf, AreTiles, AreTilesOf, IsBeside, tiles_in};
 
     /// The tile rows of this list's picture from `first` to before `end`.
     pub(crate) fn new(list: &'a DrawList, tiling: &'a Tiling, first: u32, end: u32) -> TileRows<'a>
@@ -200,24 +200,26 @@ impl<'a> TileRows<'a> {
         Ok(bytes)
     }
 
-    /// Puts the tiles of tile rows together in place of the bytes that are given, and makes the bins of other tile rows. If memory for
-    /// these is refused, they are made when their turn comes.
-    fn join_and_bin(
+    /// What the calling thread does while workers draw these tile rows. It puts the tiles of those above, from `above` on, together in
+    /// place of the bytes that are given, and makes the bins of those below, to before `below`. If memory for these bins is refused,
+    /// they are made when their turn comes.
+    fn beside(
+        &self,
         alloc: Global,
-        above: TileRows<'a>,
+        above: u32,
         tiles: Vec<TilePixels>,
         bytes: Vec<u8>,
-        below: TileRows<'a>,
+        below: u32,
     ) -> Beside
-        requires { AreTilesOf above tiles.items }
-        ensures joined { IfOk result.joined (λ bytes. AreBytesOf above.entry bytes.items) }
-        ensures refused { IfErr result.joined (λ _. above.entry.first < above.entry.end) }
-        ensures bins { IfSome result.bins (AreBinsOf below.entry) }
+        requires above { above ≤ self.now.first }
+        requires tiles { AreTiles self.now.list.now self.now.tiling.now above self.now.first tiles.items }
+        requires below { (self.now.end ≤ below) × (below ≤ rows_of self.now.tiling.now) }
+        ensures { IsBeside self.now above below result }
     {
         Beside {
-            joined: above.joined(tiles, bytes),
-            bins: if below.rows() > 0 {
-                below.bins(alloc).ok()
+            joined: self.others(above, self.first).joined(tiles, bytes),
+            bins: if self.end < below {
+                self.others(self.end, below).bins(alloc).ok()
             } else {
                 None
             },
@@ -225,8 +227,7 @@ impl<'a> TileRows<'a> {
     }
 
     /// Has the tiles drawn by this many workers, or by one for each tile if there are fewer tiles. Their bins are made if they are
-    /// not given. Meanwhile, and also if memory or a worker is refused, the calling thread puts the tiles of the tile rows above
-    /// together, in place of the bytes that are given, and makes the bins of those below.
+    /// not given. Meanwhile, and also if memory or a worker is refused, the calling thread sees to the tile rows above and below.
     pub(crate) fn draw<R: Threads + Wait + Sync, G: Gate>(
         &self,
         rt: &R,
@@ -234,25 +235,25 @@ impl<'a> TileRows<'a> {
         workers: u32,
         gate: &G,
         bins: Option<Bins>,
-        above: TileRows<'a>,
+        above: u32,
         tiles: Vec<TilePixels>,
         bytes: Vec<u8>,
-        below: TileRows<'a>,
+        below: u32,
     ) -> (Result<Vec<TilePixels>, PoolFault>, Beside)
         requires workers { (1 ≤ workers) × (workers ≤ 16) }
         requires bins { IfSome bins (AreBinsOf self.now) }
-        requires above { AreTilesOf above tiles.items }
+        requires above { above ≤ self.now.first }
+        requires tiles { AreTiles self.now.list.now self.now.tiling.now above self.now.first tiles.items }
+        requires below { (self.now.end ≤ below) × (below ≤ rows_of self.now.tiling.now) }
         ensures tiles { IfOk result.0 (λ tiles. AreTilesOf self.now tiles.items) }
-        ensures joined { IfOk result.1.joined (λ bytes. AreBytesOf above.entry bytes.items) }
-        ensures refused { IfErr result.1.joined (λ _. above.entry.first < above.entry.end) }
-        ensures below { IfSome result.1.bins (AreBinsOf below.entry) }
+        ensures beside { IsBeside self.now above below result.1 }
     {
         let bins = match bins {
             Some(bins) => bins,
             None => match self.bins(alloc) {
                 Ok(bins) => bins,
                 Err(OutOfMemory) => {
-                    let beside = TileRows::join_and_bin(alloc, above, tiles, bytes, below);
+                    let beside = self.beside(alloc, above, tiles, bytes, below);
                     return (Err(PoolFault::OutOfMemory), beside);
                 }
             },
@@ -264,7 +265,10 @@ impl<'a> TileRows<'a> {
         };
         // A worker without a tile would be a thread started for nothing.
         let workers = workers.min(self.tiles()).max(1);
-        let beside = || TileRows::join_and_bin(alloc, above, tiles, bytes, below);
+        let (list, tiling, first, end) = (self.list, self.tiling, self.first, self.end);
+        let beside = || TileRows::new(list, tiling, first, end).beside(
+            alloc, above, tiles, bytes, below,
+        );
         run_beside::<_, Desks, _, _, _, _>(rt, alloc, self.tiles(), workers, &job, gate, beside)
     }
 

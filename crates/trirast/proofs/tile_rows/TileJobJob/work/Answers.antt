@@ -1,4 +1,4 @@
-use Rattle.std.proofs.Common.{◌≡◌, ◌+◌, ◌*◌, ap, ap₂, arith}
+use Rattle.std.proofs.Common.{◌≡◌, ◌+◌, ◌*◌, ap, arith}
 use Rattle.bins.specs.Grid.{columns_of}
 use Rattle.trirast.proofs.Tiled.{has_tile, tile_of_answer, tile_within}
 use Rattle.trirast.proofs.tile_rows.TileJobJob.work.Goals as goal

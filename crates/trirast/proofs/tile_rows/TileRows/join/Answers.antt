@@ -7,27 +7,22 @@ use Rattle.trirast.proofs.tile_rows.TileRows.join.Goals as goal
 pub slice_bounds-join-end : goal.slice_bounds-join-end
 slice_bounds-join-end c =
     let s = c.args.self.now in
-    let from : s.first ≤ c.loop-row.row = rw c.first-first.ensures.value at c.loop-row.auto.row in
-    let below : c.loop-row.row < s.end = rw c.end-row-end.ensures.value at c.loop-row-test.true in
-    let fits : (c.loop-row.row - c.first-first.result) * c.columns-columns.result + c.columns-columns.result ≤ length c.args.tiles.now =
-    rw (c.first-first.ensures.value, c.columns-columns.ensures.value) (row_fits s.list.now s.tiling.now (s.first) (s.end) c.loop-row.row c.args.tiles.now c.requires from below) in
+    let fits : (c.loop-row.row - s.first) * c.columns-columns.result + c.columns-columns.result ≤ length c.args.tiles.now =
+    rw c.columns-columns.ensures.value (row_fits s.list.now s.tiling.now s.first s.end c.loop-row.row c.args.tiles.now c.requires c.loop-row.auto.row c.loop-row-test.true) in
     search rules
 
 pub join-requires : goal.join-requires
 join-requires c =
     let s = c.args.self.now in
-    let from : s.first ≤ c.loop-row.row = rw c.first-first.ensures.value at c.loop-row.auto.row in
-    let below : c.loop-row.row < s.end = rw c.end-row-end.ensures.value at c.loop-row-test.true in
-    let start : (c.loop-row.row - c.first-first.result) * c.columns-columns.result ≡ (c.loop-row.row - s.first) * columns_of s.tiling.now =
-    ap₂ ◌*◌ (ap (λ n. c.loop-row.row - n) c.first-first.ensures.value) c.columns-columns.ensures.value in
-    let many : (c.loop-row.row - c.first-first.result) * c.columns-columns.result + c.columns-columns.result - (c.loop-row.row - c.first-first.result) * c.columns-columns.result ≡ columns_of s.tiling.now =
+    let start : (c.loop-row.row - s.first) * c.columns-columns.result ≡ (c.loop-row.row - s.first) * columns_of s.tiling.now = ap (λ n. (c.loop-row.row - s.first) * n) c.columns-columns.ensures.value in
+    let many : (c.loop-row.row - s.first) * c.columns-columns.result + c.columns-columns.result - (c.loop-row.row - s.first) * c.columns-columns.result ≡ columns_of s.tiling.now =
     omega (arith, c.columns-columns.ensures.value) in
-    let row = row_of_tiles s.list.now s.tiling.now (s.first) (s.end) c.loop-row.row c.args.tiles.now c.requires from below _ (ap₂ (λ n m. take n (drop m c.args.tiles.now)) many start) in
+    let row = row_of_tiles s.list.now s.tiling.now s.first s.end c.loop-row.row c.args.tiles.now c.requires c.loop-row.auto.row c.loop-row-test.true _ (ap₂ (λ n m. take n (drop m c.args.tiles.now)) many start) in
     rw (c.new-band.ensures.0, c.new-band.ensures.1, c.new-band.ensures.2) row
 
 pub loop-row-preserved : goal.loop-row-preserved
 loop-row-preserved c =
     let s = c.args.self.now in
     let band = adds_of s.list.now c.new-band.result.list.now s.tiling.now c.new-band.result.tiling.now c.loop-row.row c.new-band.result.row _ _ c.new-band.ensures.0 c.new-band.ensures.1 c.new-band.ensures.2 c.in_ok-join.ensures in
-    let below : c.loop-row.row < tiles_over s.tiling.now.height s.tiling.now.side = omega (arith, c.loop-row-test.true, c.end-row-end.ensures.within) in
-    band_next s.list.now s.tiling.now c.first-first.result c.loop-row.row _ _ _ s.height c.loop-row.auto.row (rw s.height at below) c.loop-row.invariant band
+    let below : c.loop-row.row < tiles_over s.tiling.now.height s.tiling.now.side = omega (arith, c.loop-row-test.true, s.within) in
+    band_next s.list.now s.tiling.now s.first c.loop-row.row _ _ _ s.height c.loop-row.auto.row (rw s.height at below) c.loop-row.invariant band

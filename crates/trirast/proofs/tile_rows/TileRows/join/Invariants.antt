@@ -3,4 +3,4 @@ use Rattle.trirast.proofs.tile_rows.TileRows.join.Given as goal
 
 -- the bands so far
 abbrev pub invariant-loop-row : goal.invariant-loop-row
-invariant-loop-row l = AddsBands l.self.list.now l.self.tiling.now.side l.first l.row l.initial.bytes.items l.bytes.items
+invariant-loop-row l = AddsBands l.self.list.now l.self.tiling.now.side l.self.first l.row l.initial.bytes.items l.bytes.items
