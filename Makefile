@@ -29,6 +29,7 @@ PREFIX ?= /usr/local
 PROGRAM := bin/trirast
 TILES := bin/refused_tiles
 READER := bin/list_bench
+ARCHIVE := crates/trirast_c/out/libtrirast_c.a
 SOURCES := crates.txt $(shell find crates -name out -prune -o -type f \( -name '*.rt' -o -name '*.antt' \) -print)
 LISTS := $(wildcard examples/*.json)
 PICTURES := $(LISTS:examples/%.json=out/%.pnm)
@@ -55,11 +56,14 @@ library: lib/libtrirast.a lib/libtrirast.so lib/trirast.pc
 
 # The library's code with what it calls: the toolchain's heap over malloc, realloc and free, and of the compiler's own
 # library the division of 128 bits. Only trirast_* is left to be seen.
-lib/trirast.o: $(SOURCES) | lib
-	cd crates/trirast_c && $(RT) lib
-	$(LD) -r -o $@ --whole-archive crates/trirast_c/out/libtrirast_c.a --no-whole-archive \
+lib/trirast.o: $(ARCHIVE) | lib
+	$(LD) -r -o $@ --whole-archive $< --no-whole-archive \
 	    "$$(dirname "$$($(RT) doc)")/c/liblibc_c.a" "$$($(CC) -print-libgcc-file-name)"
 	objcopy --wildcard --keep-global-symbol='trirast_*' $@
+
+$(ARCHIVE): $(SOURCES)
+	cd crates/trirast_c && $(RT) lib
+	touch $@
 
 lib/libtrirast.a: lib/trirast.o
 	rm -f $@

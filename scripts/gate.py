@@ -4,9 +4,9 @@
     scripts/gate.py [--rt rt] [--without-proofs]
 
 `rt ci` proves every crate from nothing and leaves the programs that it built, which the checks then run. It proves the
-library for C too and leaves no archive of it, so `make library` builds that, over the work that earlier checks kept. The
-last line is `N passed, M failed`, or `N passed, M failed, K skipped`, over all of them: what rt ci counts, and for each
-check the counts of its own last line, or one. A check is skipped where something of the system is missing, which is named;
+library for C too and leaves no archive of it, which `archive.py` builds over what it proved. The last line is
+`N passed, M failed`, or `N passed, M failed, K skipped`, over all of them: what rt ci counts, and for each check the counts
+of its own last line, or one. A check is skipped where something of the system is missing, which is named;
 nothing is installed. Exit status 0 where nothing failed. With --without-proofs the checks run what stands in bin/ and lib/.
 Python 3.8 or later, standard library alone.
 """
@@ -23,6 +23,7 @@ from dataclasses import dataclass
 
 sys.path.insert(0, os.path.dirname(os.path.abspath(__file__)))
 
+import archive
 from counts import MISSING, Counts
 
 TOP = os.path.dirname(os.path.dirname(os.path.abspath(__file__)))
@@ -159,8 +160,12 @@ def has_library(top):
 
 def build_library(top, rt):
     """Builds the library of the crate that rt ci has proved; whether it is there then."""
-    # As if a source were new, so that a library of another run is not taken.
-    ended = run(("make", "-W", "crates.txt", "library", f"RT={rt}"), top, LIBRARY_SECONDS)
+    if archive.build(top, rt, LIBRARY_SECONDS):
+        words = ("make", "-W", archive.ARCHIVE, "library", f"RT={rt}")
+    else:
+        # As if a source were new, so that a library of another run is not taken.
+        words = ("make", "-W", "crates.txt", "library", f"RT={rt}")
+    ended = run(words, top, LIBRARY_SECONDS)
     return ended.status == 0 and has_library(top)
 
 
