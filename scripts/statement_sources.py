@@ -17,7 +17,8 @@ TOP = os.path.dirname(os.path.dirname(os.path.abspath(__file__)))
 HEAD = re.compile(r"(?:abbrev |unfoldable )?pub (record |data |)(\S+)")
 USE = re.compile(r"^\s*(?:ghost )?use (Rattle\.[^;\n]*?);?$", re.MULTILINE)
 RUST_USE = re.compile(r"^\s*(?:pub )?use ([a-z]\w*)::([^;]*);", re.MULTILINE)
-TOKEN = re.compile(r'"(?:[^"\\]|\\.)*"|[(){};,]|[^\s(){};,"]+')
+TOKEN = re.compile(r'"(?:[^"\\]|\\.)*"|--.*|[(){};,]|[^\s(){};,"]+')
+DECLARES = r"(?:pub(?:\(\w+\))? )?(?:struct|enum) "
 WORD = re.compile(r"[^\W\d]\w*")
 # Words and signs of the language, which no `use` line brings.
 BUILT_IN = set("→ × ⊥ ¬ λ : = _ Type Unit record data let in where pub abbrev unfoldable ( ) { } ; ,".split())
@@ -89,7 +90,7 @@ def file_of_type(crate: str, word: str) -> str:
     """The .rt file of a crate that declares a struct or an enum."""
     paths = glob.glob(os.path.join(TOP, "crates", crate, "src", "**", "*.rt"), recursive=True)
     paths = sorted(os.path.relpath(path, TOP) for path in paths)
-    declares = re.compile(rf"^pub(?:\(crate\))? (?:struct|enum) {word}\b", re.MULTILINE)
+    declares = re.compile(rf"^{DECLARES}{word}\b", re.MULTILINE)
     found = [path for path in paths if declares.search(text_of(path))]
     if len(found) != 1:
         raise Unclear(f"the type {word} of {crate} is declared in {len(found)} files")
@@ -129,7 +130,7 @@ def scope_of_uses(text: str) -> Scope:
 
 
 def tokens(code: str) -> List[str]:
-    return TOKEN.findall(re.sub(r"--.*", "", code))
+    return [word for word in TOKEN.findall(code) if not word.startswith("--")]
 
 
 def binders(words: List[str]) -> Iterator[str]:
@@ -278,7 +279,7 @@ def rust_scope(path: str) -> Scope:
         for word in re.findall(r"([A-Z]\w*)\s*(?:[,}]|$)", rest):
             scope.crates[word] = crate if root == "crate" else root
     scope.crates["crate"] = crate
-    for word in re.findall(r"^pub(?:\(crate\))? (?:struct|enum) (\w+)", text, re.MULTILINE):
+    for word in re.findall(rf"^{DECLARES}(\w+)", text, re.MULTILINE):
         scope.add(word, Name(path, word))
     return scope
 
@@ -325,7 +326,7 @@ def model_of(lines: List[str], word: str) -> List[str]:
 @lru_cache(maxsize=None)
 def type_of(path: str, word: str) -> Definition:
     lines = text_of(path).split("\n")
-    start = next(at for at, line in enumerate(lines) if re.match(rf"pub(?:\(crate\))? (?:struct|enum) {word}\b", line))
+    start = next(at for at, line in enumerate(lines) if re.match(rf"{DECLARES}{word}\b", line))
     code, model, scope = block(lines, start, "}"), model_of(lines, word), rust_scope(path)
     declared = "\n".join(code)
     inside = re.sub(r"^\s*[A-Z]\w*", "", declared.split("{", 1)[1], flags=re.MULTILINE) if " enum " in declared else declared

@@ -27,10 +27,11 @@ and the gate compares the two.
 HOW_TO_READ = """\
 - `requires` is what the caller promises. `ensures` is what holds when the call returns. `x.old` is the value behind a reference
   as the call begins, `x.new` the value at the return, and `result` what is returned.
-- A definition that ends in `Type 0` is a statement. `f a b` is `f` of `a` and `b`. A definition by cases has a line for each case.
+- `f a b` is `f` of `a` and `b`. A definition with arguments that ends in `Type 0` is a statement, and one without them, as
+  `Checks`, is a type. A definition by cases has a line for each case.
 - A record of values, as `Covers` of four positions, is a statement too: all its fields hold. A field that is a value, as
   `pub file : List ℕ`, says that there is one, and later fields speak of it. Any other record, as `Position`, is data.
-- `P × Q` is both, `P ⊎ Q` at least one, `P → Q` if P then Q, `¬ P` not P, `⊥` never, and `Unit {0}` always.
+- `P × Q` is both, `P ⊎ Q` at least one, `P → Q` if P then Q, and `¬ P` not P. `⊥` never holds, and `Unit {0}` always does.
 - `(x : T) → P` is P for each x, `(x : T) × P` is P for some x, and `λ x. e` is the function that takes x to e. A parameter in
   braces, as `{X : Type 0}`, is left out where the definition is used.
 - Numbers have no bound. An unsigned integer of Rust is an `ℕ` in its range, a signed one a `ℤ`, and an array or a `Vec` a list.

@@ -218,6 +218,7 @@ class Reading(unittest.TestCase):
 
     def test_cases_and_labels(self) -> None:
         before = "pub data D : Type 0 where\n  one : D\n  more : List D → D\n\n"
+        self.assertEqual(words_used('abbrev pub f : ℕ\nf = "a -- b" + 1 -- not g\n'), {"ℕ", "◌+◌"})
         by_cases = "abbrev pub f : List ℕ → ℕ\nf [] = 0\nf (x ∷ xs) = x\n"
         self.assertEqual(words_used(before + by_cases), {"ℕ", "List", "[]", "◌∷◌"})
         self.assertEqual(words_used(before + "abbrev pub f : D → ℕ\nf one = 0\nf (more ds) = 1\n"), {"ℕ", "D"})
