@@ -13,8 +13,8 @@
 #   make memory    run the program where allocations fail, and test that mistakes are seen there
 #   make hostile   run the program where devices, threads and lists fail
 #   make checks    the gate's checks without its proofs: compare, check-compare, schema, check-conformance, memory, hostile,
-#                  check-library where there is a C compiler, and the tests of the gate's counts, of the documents and of
-#                  the must-fail edits
+#                  check-library where there is a C compiler, and the tests of the gate's counts, of the documents, of
+#                  docs/statement.md and of the must-fail edits
 #   make races     run the program under valgrind; no part of the gate
 #   make bench     time the program on generated scenes
 #   make frames    build the program that times frames by themselves, for bench/llvmpipe.py

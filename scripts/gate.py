@@ -55,6 +55,7 @@ CHECKS = (
     Check("the gate's counts", script("test_gate.py"), 2 * MINUTE, runs_program=False),
     Check("worked values of the reference", script("test_reference.py"), 5 * MINUTE, runs_program=False),
     Check("what documents name", script("test_documents.py"), 2 * MINUTE, runs_program=False),
+    Check("the statement", script("test_statement.py"), 2 * MINUTE, runs_program=False),
     Check("must-fail edits by name", script("test_edits.py"), 2 * MINUTE, runs_program=False),
     Check("the schema", script("check_schema.py"), 10 * MINUTE, runs_program=False),
     Check("what generated lists cover", script("test_compare.py"), 5 * MINUTE, runs_program=False),
