@@ -18,6 +18,7 @@
 #   make races     run the program under valgrind; no part of the gate
 #   make bench     time the program on generated scenes
 #   make frames    build the program that times frames by themselves, for bench/llvmpipe.py
+#   make model     build the same rules in C++ to time beside, for bench/llvmpipe.py: g++ 12 or clang++ 14, or later, on x86-64
 #   make conformance        compare the machine's OpenGL driver with the program, sample by sample; out/conformance.html
 #   make check-conformance  test that comparison without a driver, by planted faults
 #   make clean     remove what this file made; what rt keeps in crates/*/out/ stays
@@ -29,6 +30,7 @@ PREFIX ?= /usr/local
 PROGRAM := bin/trirast
 TILES := bin/refused_tiles
 READER := bin/list_bench
+MODEL := bench/out/model
 ARCHIVE := crates/trirast_c/out/libtrirast_c.a
 SOURCES := crates.txt $(shell find crates -name out -prune -o -type f \( -name '*.rt' -o -name '*.antt' \) -print)
 LISTS := $(wildcard examples/*.json)
@@ -39,7 +41,7 @@ INSTALLED := bin/trirast share/man/man1/trirast.1 share/trirast/draw-list.schema
     lib/libtrirast.a lib/$(SHARED) lib/libtrirast.so lib/pkgconfig/trirast.pc
 
 .PHONY: all library check-library install uninstall demo test checks compare check-compare schema memory hostile races \
-    bench frames conformance check-conformance clean
+    bench frames model conformance check-conformance clean
 .DELETE_ON_ERROR:
 
 all: $(PROGRAM)
@@ -153,6 +155,12 @@ races: $(PROGRAM)
 
 frames: $(PROGRAM)
 	cd crates/frames && $(RT) run < "$(CURDIR)/examples/triangle.json" > /dev/null
+
+model: $(MODEL)
+
+$(MODEL): bench/draw_list.hpp $(wildcard bench/model/*)
+	@mkdir -p $(@D)
+	$(CXX) -std=c++17 -O3 -march=x86-64-v2 -Wall -Wextra -pthread -o $@ bench/model/main.cpp
 
 bench: $(PROGRAM)
 	$(PYTHON) bench/run.py

@@ -12,7 +12,8 @@ of ours starts, reads the list, draws it once and ends; llvmpipe has no such num
 llvmpipe's numbers are floating point, so its pictures are near the program's and not equal: the last column is the share
 of pixels of which a channel is more than 4 away. Mesa's EGL and OpenGL are called by ctypes, so nothing is compiled.
 
-Python 3.8 or later, standard library alone. Exit status 2 where there is no llvmpipe or no program.
+Python 3.8 or later, standard library alone. Exit status 2 where there is no llvmpipe or no program, or the model draws
+other bytes.
 """
 
 import argparse
@@ -28,6 +29,7 @@ from array import array
 BENCH = os.path.dirname(os.path.abspath(__file__))
 TOP = os.path.dirname(BENCH)
 OUT = os.path.join(BENCH, "out")
+MODEL = os.path.join(OUT, "model")
 SCENES = (
     "smooth", "small", "mesh", "slivers", "blended", "flat", "flat_depth", "flat_blended", "large_mesh", "whole_values",
     "thin_slivers", "level_rows", "depths_first",
@@ -226,12 +228,28 @@ def ours(program, source, workers):
     return int(re.search(r"least (\d+) ns", told).group(1)) / 1e9
 
 
-def model(program, source, workers):
-    """The same of the third program."""
-    words = [program, "--frames", str(FRAMES_A_TURN), "--workers", str(workers)]
+def run_model(words, source, output):
+    """Runs the model, and OSError with its line where it refuses the list."""
     with open(source, "rb") as file:
-        done = subprocess.run(words, stdin=file, stdout=subprocess.DEVNULL, stderr=subprocess.PIPE, check=True, text=True)
-    return float(re.search(r"least_ms ([\d.]+)", done.stderr).group(1)) / 1000
+        done = subprocess.run(words, stdin=file, stdout=output, stderr=subprocess.PIPE)
+    if done.returncode:
+        told = done.stderr.decode(errors="replace").strip()
+        raise OSError(f"the model ended with status {done.returncode} at {source}: {told}")
+    return done
+
+
+def model(program, source, workers):
+    """The same of the model."""
+    done = run_model([program, "--frames", str(FRAMES_A_TURN), "--workers", str(workers)], source, subprocess.DEVNULL)
+    return float(re.search(rb"least_ms ([\d.]+)", done.stderr).group(1)) / 1000
+
+
+def must_draw_the_same(model, program, source):
+    """OSError if the model's picture has other bytes than the program's."""
+    with open(source, "rb") as file:
+        picture = subprocess.run([program], stdin=file, stdout=subprocess.PIPE, check=True).stdout
+    if run_model([model], source, subprocess.PIPE).stdout != picture:
+        raise OSError(f"the model draws {source} with other bytes than the program")
 
 
 def whole_process(program, source, workers):
@@ -292,6 +310,8 @@ def table(words):
     print("| " + " | ".join(names) + " |\n" + "|---" * len(names) + "|")
     lists = words.lists or [os.path.join(OUT, f"{scene}.json") for scene in words.scenes]
     for source in lists:
+        if words.model:
+            must_draw_the_same(words.model, words.program, source)
         for workers in words.workers:
             renderer, cells = row(words, source, workers)
             label = os.path.splitext(os.path.basename(source))[0]
@@ -304,13 +324,24 @@ def parsed():
     frames = os.path.join(TOP, "crates", "frames", "out", "frames")
     parser.add_argument("--program", default=os.path.join(TOP, "bin", "trirast"), help="default bin/trirast")
     parser.add_argument("--frames", default=frames, help="the program of crates/frames (default: where rt builds it)")
-    parser.add_argument("--model", help="a third program, which draws frames and tells least_ms")
+    parser.add_argument("--model", help="the program of bench/model (default: where make model builds it, if it is there)")
     parser.add_argument("--runs", type=int, default=5, help="turns of each program, of which the best counts (default 5)")
     parser.add_argument("--workers", type=int, nargs="+", default=WORKERS, help="default 1 4")
     parser.add_argument("--scenes", nargs="+", choices=SCENES, default=SCENES, metavar="NAME", help=", ".join(SCENES))
     parser.add_argument("--lists", nargs="+", metavar="FILE", help="draw lists in place of scenes")
     parser.add_argument("--serve", nargs=2, help=argparse.SUPPRESS)
     return parser.parse_args()
+
+
+def chosen_model(chosen):
+    """The model to time: the one that was asked for, else the one that is built, else None."""
+    program = chosen or MODEL
+    if os.access(program, os.X_OK):
+        return os.path.abspath(program)
+    if chosen:
+        raise OSError(f"no model at {program}; make model builds {os.path.relpath(MODEL)}")
+    print(f"llvmpipe.py: no model at {program}, so its columns are left out; run make model for them", file=sys.stderr)
+    return None
 
 
 def main():
@@ -326,6 +357,7 @@ def main():
     if not words.lists:
         subprocess.run([sys.executable, os.path.join(BENCH, "scenes.py"), *words.scenes], check=True)
     try:
+        words.model = chosen_model(words.model)
         table(words)
     except (subprocess.CalledProcessError, OSError) as fault:
         print(f"llvmpipe.py: {fault}", file=sys.stderr)
