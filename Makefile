@@ -9,12 +9,13 @@
 #                  /usr/local if not given), behind DESTDIR where that is given; make uninstall takes them away
 #   make compare   draw generated lists, and compare each byte with the reference renderer
 #   make check-compare      test that comparison: what its lists cover, and faults planted in the reference's rules
+#   make golden    compare the pictures of examples/ and tests/regressions/ with their checksums and the reference renderer
 #   make schema    try the JSON Schema of the draw list
 #   make memory    run the program where allocations fail, and test that mistakes are seen there
 #   make hostile   run the program where devices, threads and lists fail
-#   make checks    the gate's checks without its proofs: compare, check-compare, schema, check-conformance, memory, hostile,
-#                  check-library where there is a C compiler, and the tests of the gate's counts, of the documents, of
-#                  docs/statement.md and of the must-fail edits
+#   make checks    the gate's checks without its proofs: compare, check-compare, golden, schema, check-conformance, memory,
+#                  hostile, check-library where there is a C compiler, and the tests of the gate's counts, of the documents,
+#                  of docs/statement.md and of the must-fail edits
 #   make races     run the program under valgrind; no part of the gate
 #   make bench     time the program on generated scenes
 #   make frames    build the program that times frames by themselves, for bench/llvmpipe.py
@@ -40,7 +41,7 @@ SHARED := libtrirast.so.1
 INSTALLED := bin/trirast share/man/man1/trirast.1 share/trirast/draw-list.schema.json include/trirast.h \
     lib/libtrirast.a lib/$(SHARED) lib/libtrirast.so lib/pkgconfig/trirast.pc
 
-.PHONY: all library check-library install uninstall demo test checks compare check-compare schema memory hostile races \
+.PHONY: all library check-library install uninstall demo test checks compare check-compare golden schema memory hostile races \
     bench frames model conformance check-conformance clean
 .DELETE_ON_ERROR:
 
@@ -135,6 +136,10 @@ compare: $(PROGRAM)
 check-compare: $(PROGRAM)
 	$(PYTHON) scripts/test_compare.py
 	$(PYTHON) scripts/plant_faults.py
+
+golden: $(PROGRAM)
+	$(PYTHON) scripts/test_golden.py
+	$(PYTHON) scripts/golden.py
 
 schema:
 	$(PYTHON) scripts/check_schema.py

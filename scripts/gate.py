@@ -60,6 +60,8 @@ CHECKS = (
     Check("the schema", script("check_schema.py"), 10 * MINUTE, runs_program=False),
     Check("what generated lists cover", script("test_compare.py"), 5 * MINUTE, runs_program=False),
     Check("generated lists", script("compare.py"), 20 * MINUTE),
+    Check("checks of golden pictures", script("test_golden.py"), 5 * MINUTE, runs_program=False),
+    Check("golden pictures", script("golden.py"), 15 * MINUTE),
     Check("faults planted in the rules", script("plant_faults.py"), 20 * MINUTE),
     Check("the comparison with drivers", script("test_conformance.py", "conformance"), 15 * MINUTE, runs_program=False),
     Check("mistakes where memory is refused", script("test_refusals.py"), 5 * MINUTE, runs_program=False),

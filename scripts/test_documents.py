@@ -27,7 +27,8 @@ def text_of(path):
 
 
 def documents():
-    names = ["README.md", "CONTRIBUTING.md", "RELEASING.md", os.path.join("examples", "README.md")]
+    names = ["README.md", "CONTRIBUTING.md", "RELEASING.md"]
+    names += [os.path.join(folder, "README.md") for folder in ("examples", os.path.join("tests", "regressions"))]
     names += sorted(os.path.relpath(path, TOP) for path in glob.glob(os.path.join(TOP, "docs", "*.md")))
     return {name: text_of(name) for name in names}
 
