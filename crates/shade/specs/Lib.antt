@@ -7,16 +7,4 @@ pub mod Blend
 pub mod Merging
 pub mod Resolve
 pub mod Placed
-pub mod Block
-pub mod BlockMask
-pub mod Lanes
-pub mod Sources
-pub mod Mode
 pub mod Ending
-pub mod Candidate
-pub mod Modulo
-pub mod Reciprocal
-pub mod Plane
-pub mod Slope
-pub mod Group
-pub mod AttributePlane

@@ -1,7 +1,4 @@
-ghost use Rattle.std.specs.Prelude.{◌≡◌, ℕ, ◌<◌, ◌≤◌, length, slice_index};
 ghost use Rattle.shade.specs.Blend.{IsOver};
-
-use std::simd::prelude::*;
 
 /// The source channel `s` over the stored channel `d` by the source's alpha `a`, where 255 is whole (source-over of Porter and
 /// Duff 1984), rounded to nearest (the rounding is this project's rule).
@@ -10,16 +7,4 @@ pub fn over(s: u8, a: u8, d: u8) -> u8
 {
     let sum = u32::from(s) * u32::from(a) + u32::from(d) * (255 - u32::from(a)) + 127;
     (sum / 255) as u8
-}
-
-/// The same in each lane, where the three are at most 255: no sum exceeds 65152, and up to there `(n + 1 + (n >> 8)) >> 8` is
-/// `n / 255`.
-#[inline(always)]
-pub(crate) fn over_lanes(s: u16x16, a: u16x16, d: u16x16) -> u16x16
-    ensures whole { length result ≡ 16 }
-    ensures over { (i : ℕ) → i < 16 → slice_index s i ≤ 255 → slice_index a i ≤ 255 → slice_index d i ≤ 255
-        → IsOver (slice_index s i) (slice_index a i) (slice_index d i) (slice_index result i) }
-{
-    let sum = s * a + d * (u16x16::splat(255) - a) + u16x16::splat(127);
-    (sum + u16x16::splat(1) + (sum >> 8)) >> 8
 }

@@ -23,7 +23,7 @@ impl Placed {
     ghost use Rattle.shade.specs.Placed.{channel as channel_of, AreWeightsOf, IsInterpolated, IsFragmentAt, IsNeededAt, IsDrawnAt};
 
     /// What the vertices have as red, green, blue or alpha, which are the channels 0 to 3.
-    pub(crate) fn channel(&self, number: usize) -> [u8; 3]
+    pub fn channel(&self, number: usize) -> [u8; 3]
         requires { number < 4 }
         ensures { result ≡ channel_of self.now number }
     {

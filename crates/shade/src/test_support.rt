@@ -1,6 +1,5 @@
-//! Points, triangles and states for the tests.
-use crate::{Merge, State};
-use grid::{Cull, PixelBox, Point, Tri};
+//! Points and triangles for the tests.
+use grid::{Point, Tri};
 use std::process::Abort;
 
 /// The triangle of the greatest area that covers the screen.
@@ -24,19 +23,4 @@ pub(crate) fn point(rt: &impl Abort, (x, y): (i32, i32)) -> Point {
 pub(crate) fn triangle(rt: &impl Abort, corners: [(i32, i32); 3]) -> Tri {
     let [a, b, c] = corners;
     Tri::new(point(rt, a), point(rt, b), point(rt, c))
-}
-
-/// The state that merges in this way at each sample of each pixel, in both orientations.
-pub(crate) fn everywhere(merge: Merge) -> State {
-    State {
-        merge,
-        cull: Cull::None,
-        sample_mask: 15,
-        scissor: PixelBox {
-            x0: 0,
-            y0: 0,
-            x1: 4096,
-            y1: 4096,
-        },
-    }
 }

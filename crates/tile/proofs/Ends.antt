@@ -1,14 +1,14 @@
 -- What the triangles of a tile's bin make of its samples.
 use Rattle.std.proofs.Common.{◌≡◌, ℕ, ◌+◌, ◌*◌, ◌/◌, ◌%◌, ◌<◌, ◌≤◌, List, length, slice_get, slice_index, Some, subst, arith}
-use Rattle.shade.specs.declared.block.BlockSamples.{BlockSamples}
+use Rattle.lanes.specs.declared.block_samples.BlockSamples.{BlockSamples}
 use Rattle.shade.specs.declared.placed.Placed.{Placed}
 use Rattle.shade.specs.Placed.{Draws}
 use Rattle.list.specs.Scene.{Scene}
 use Rattle.bins.proofs.Drawn.{HasDrawn, none_drawn, one_drawn, all_drawn}
-use Rattle.tile.specs.declared.tile.Tile.{Tile}
-use Rattle.tile.specs.Samples.{place_of, planes_of, stored, AreAll}
-use Rattle.tile.proofs.Places.{sample_within}
-use Rattle.tile.specs.Drawing.{DrawsTile}
+use Rattle.raster.specs.declared.tile.Tile.{Tile}
+use Rattle.raster.specs.Samples.{place_of, planes_of, stored, AreAll}
+use Rattle.raster.proofs.Places.{sample_within}
+use Rattle.raster.specs.Drawing.{DrawsTile}
 use Rattle.tile.specs.Picture.{IsShown, IsTileBin, AreEnds}
 
 -- the first b triangles of the bin have been drawn

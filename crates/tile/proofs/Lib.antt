@@ -1,9 +1,3 @@
-pub mod Places
-pub mod Cut
-pub mod Parts
-pub mod Bits
-pub mod BlockDrawn
-pub mod Rows
 pub mod Ends
 pub mod Shown
 pub mod PixelRuns

@@ -2,7 +2,7 @@
 use Rattle.std.proofs.Common.{◌≡◌, inl, inr, zero, suc, refl, sym, ap, subst, ◌∙◌, ℕ, ◌+◌, ◌*◌, ◌/◌, ◌%◌, ◌<◌, ◌≤◌, List, [], ◌∷◌, ◌++◌, length, take, slice_index, slice_index_or, slice_set, get_or-set_same, get_or-set_other, Result, Ok, Err, OnOk, length-take, length-set, arith}
 use Rattle.std.proofs.lemmas.Bool.{cases_lt}
 use Rattle.grid.specs.declared.sample_count.SampleCount.TheVariants.{One, Four}
-use Rattle.shade.specs.declared.block.BlockSamples.{BlockSamples}
+use Rattle.lanes.specs.declared.block_samples.BlockSamples.{BlockSamples}
 use Rattle.shade.specs.Quotient.{IsQuotient}
 use Rattle.shade.specs.Resolve.{IsResolved}
 use Rattle.list.specs.PixelPrefix.{IsPixelPrefix, IsPixelRun}
@@ -11,9 +11,10 @@ use Rattle.list.specs.Scene.{Scene}
 use Rattle.list.specs.declared.output.Output.TheVariants.{Color, Depth}
 use Rattle.list.proofs.PixelPrefix.{prefix_run}
 use Rattle.list.proofs.Pixels.{same_pixel, pixel_of_part, pixel_of_three, pixel_of_two, pixel_of_colour, pixel_of_depth}
-use Rattle.tile.specs.declared.tile.Tile.{Tile}
-use Rattle.tile.specs.Samples.{place_of, stored}
-use Rattle.tile.specs.Picture.{IsShown, AreEnds, IsColourAt, AreColoursAt, AreDepthsAt, AddsPixelRun}
+use Rattle.raster.specs.declared.tile.Tile.{Tile}
+use Rattle.raster.specs.Samples.{place_of, stored}
+use Rattle.tile.specs.Picture.{IsShown, AreEnds, AreDepthsAt, AddsPixelRun}
+use Rattle.raster.specs.Colours.{IsColourAt, AreColoursAt}
 use Rattle.tile.proofs.Shown.{colour_shown}
 
 -- ---- lists
@@ -42,19 +43,6 @@ set_two_more P xs i x y below begun here k h =
           ) here
     ]
 
-pub interleaved_is : (r g b : ℕ → ℕ) (rest : List ℕ) (i : ℕ) → i < 8
-    → let bytes : List ℕ = r 0 ∷ g 0 ∷ b 0 ∷ r 1 ∷ g 1 ∷ b 1 ∷ r 2 ∷ g 2 ∷ b 2 ∷ r 3 ∷ g 3 ∷ b 3 ∷ r 4 ∷ g 4 ∷ b 4 ∷ r 5 ∷ g 5 ∷ b 5 ∷ r 6 ∷ g 6 ∷ b 6 ∷ r 7 ∷ g 7 ∷ b 7 ∷ rest in
-    (slice_index bytes (3 * i) ≡ r i) × (slice_index bytes (3 * i + 1) ≡ g i) × (slice_index bytes (3 * i + 2) ≡ b i)
-interleaved_is r g b rest zero h = (refl, refl, refl)
-interleaved_is r g b rest (suc zero) h = (refl, refl, refl)
-interleaved_is r g b rest (suc (suc zero)) h = (refl, refl, refl)
-interleaved_is r g b rest (suc (suc (suc zero))) h = (refl, refl, refl)
-interleaved_is r g b rest (suc (suc (suc (suc zero)))) h = (refl, refl, refl)
-interleaved_is r g b rest (suc (suc (suc (suc (suc zero))))) h = (refl, refl, refl)
-interleaved_is r g b rest (suc (suc (suc (suc (suc (suc zero)))))) h = (refl, refl, refl)
-interleaved_is r g b rest (suc (suc (suc (suc (suc (suc (suc zero))))))) h = (refl, refl, refl)
-interleaved_is r g b rest (suc (suc (suc (suc (suc (suc (suc (suc i)))))))) h = absurd (omega arith)
-
 -- ---- eight samples in a row of a block
 module _ (tile : Tile) (samples : List BlockSamples) (row column : ℕ) where
   abbrev plane : ℕ → BlockSamples
@@ -70,35 +58,9 @@ module _ (tile : Tile) (samples : List BlockSamples) (row column : ℕ) where
     pixel : (8 * column + i) % 8 ≡ i
     pixel = omega arith
 
-    pub one_resolved : tile.count ≡ One → (r g b : ℕ) → r ≡ slice_index (plane 0).r k → g ≡ slice_index (plane 0).g k → b ≡ slice_index (plane 0).b k
-        → IsColourAt tile samples row (8 * column + i) r g b
-    one_resolved e r g b red green blue = record {
-      red = subst (λ n. IsResolved n (λ s. (stored tile samples row (8 * column + i) s).r) r) (sym e) (rw (block, pixel) red);
-      green = subst (λ n. IsResolved n (λ s. (stored tile samples row (8 * column + i) s).g) g) (sym e) (rw (block, pixel) green);
-      blue = subst (λ n. IsResolved n (λ s. (stored tile samples row (8 * column + i) s).b) b) (sym e) (rw (block, pixel) blue);
-    }
-
-    pub four_resolved : tile.count ≡ Four → (r g b : ℕ)
-        → IsQuotient (slice_index (plane 0).r k + slice_index (plane 1).r k + slice_index (plane 2).r k + slice_index (plane 3).r k + 2) 4 r
-        → IsQuotient (slice_index (plane 0).g k + slice_index (plane 1).g k + slice_index (plane 2).g k + slice_index (plane 3).g k + 2) 4 g
-        → IsQuotient (slice_index (plane 0).b k + slice_index (plane 1).b k + slice_index (plane 2).b k + slice_index (plane 3).b k + 2) 4 b
-        → IsColourAt tile samples row (8 * column + i) r g b
-    four_resolved e r g b red green blue = record {
-      red = subst (λ n. IsResolved n (λ s. (stored tile samples row (8 * column + i) s).r) r) (sym e) (rw (block, pixel) red);
-      green = subst (λ n. IsResolved n (λ s. (stored tile samples row (8 * column + i) s).g) g) (sym e) (rw (block, pixel) green);
-      blue = subst (λ n. IsResolved n (λ s. (stored tile samples row (8 * column + i) s).b) b) (sym e) (rw (block, pixel) blue);
-    }
-
     pub depth_in : (high low : ℕ) → high ≡ slice_index (plane 0).z k / 256 → low ≡ slice_index (plane 0).z k % 256
         → (high ≡ (stored tile samples row (8 * column + i) 0).z / 256) × (low ≡ (stored tile samples row (8 * column + i) 0).z % 256)
     depth_in high low e f = rw (block, pixel) (e, f)
-
--- a mean of sixteen that begin elsewhere
-pub four_of_sixteen : (first second third fourth means : List ℕ) (begin skip from i q : ℕ) → begin + (skip + i) ≡ from + i
-    → IsResolved Four (slice_index (slice_index first (begin + (skip + i)) ∷ slice_index second (begin + (skip + i)) ∷ slice_index third (begin + (skip + i)) ∷ slice_index fourth (begin + (skip + i)) ∷ [])) (slice_index means (skip + i))
-    → q ≡ slice_index means (skip + i) → IsQuotient (slice_index first (from + i) + slice_index second (from + i) + slice_index third (from + i) + slice_index fourth (from + i) + 2) 4 q
-four_of_sixteen first second third fourth means begin skip from i q e h same =
-    rw same (subst (λ n. IsQuotient (slice_index first n + slice_index second n + slice_index third n + slice_index fourth n + 2) 4 (slice_index means (skip + i))) e h)
 
 -- ---- runs of pixels
 pub adds_run : {X E : Type 0} (r : Result X E) (l : Scene) (i j many : ℕ) (run old new : List ℕ) → IsPixelRun l i j many run → OnOk r (new ≡ old ++ run) → OnOk r (AddsPixelRun l i j many old new)

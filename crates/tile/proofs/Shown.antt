@@ -7,7 +7,7 @@ use Rattle.grid.specs.Pixels.{side_of, IsInBox}
 use Rattle.grid.specs.Samples.{count_of}
 use Rattle.grid.specs.declared.sample_count.SampleCount.{SampleCount}
 use Rattle.grid.specs.declared.sample_count.SampleCount.TheVariants.{One, Four}
-use Rattle.shade.specs.declared.block.BlockSamples.{BlockSamples}
+use Rattle.lanes.specs.declared.block_samples.BlockSamples.{BlockSamples}
 use Rattle.shade.specs.Resolve.{IsResolved}
 use Rattle.list.specs.Scene.{Scene}
 use Rattle.list.specs.Picture.{IsColour, IsPart}
@@ -15,9 +15,10 @@ use Rattle.bins.specs.Grid.{TileGrid, columns_of, rows_of, tiles_of, rect_of}
 use Rattle.bins.specs.Bin.{IsBinOf}
 use Rattle.bins.proofs.Tiles.{starts_within, in_rect}
 use Rattle.bins.proofs.Drawn.{bin_at_sample}
-use Rattle.tile.specs.declared.tile.Tile.{Tile}
-use Rattle.tile.specs.Samples.{stored}
-use Rattle.tile.specs.Picture.{IsTileAt, IsPictureIn, IsShown, IsTileBin, AreEnds, IsColourAt}
+use Rattle.raster.specs.declared.tile.Tile.{Tile}
+use Rattle.raster.specs.Samples.{stored}
+use Rattle.tile.specs.Picture.{IsTileAt, IsPictureIn, IsShown, IsTileBin, AreEnds}
+use Rattle.raster.specs.Colours.{IsColourAt}
 
 -- tile k stands in one of the columns and rows
 module _ (g : TileGrid) (k : ℕ) (h : k < tiles_of g) where
@@ -72,19 +73,6 @@ module _ (g : TileGrid) (k : ℕ) (h : k < tiles_of g) (tile : Tile) (at : IsTil
         bottom = ap pos (let begins = begins_in_height in let side : side_of tile.side ≡ side_of g.side = ap side_of at.side in omega (arith, at.top));
         part = part;
       }
-
-some_sample : (count : SampleCount) → 0 < count_of count
-some_sample One = omega arith
-some_sample Four = omega arith
-
--- the first samples of a row of pixels in the picture
-pub row_shown : (l : Scene) (tile : Tile) (width height row : ℕ) → width ≤ side_of tile.side → height ≤ side_of tile.side → 8 * tile.bx + width ≤ l.width → 8 * tile.by + height ≤ l.height → row < height
-    → (column : ℕ) → column < width → IsShown l tile row column 0
-row_shown l tile width height row wide high right bottom within column below = record {
-  sample = record { high = omega arith; wide = omega arith; is_sample = some_sample tile.count };
-  in_width = omega arith;
-  in_height = omega arith;
-}
 
 -- the colour of a pixel, where its samples are their ends
 pub colour_shown : (l : Scene) (tile : Tile) (samples : List BlockSamples) (row column r g b : ℕ) → AreEnds l tile samples → tile.count ≡ l.count → IsShown l tile row column 0

@@ -1,5 +1,2 @@
-pub mod Samples
-pub mod Drawing
-pub mod Region
 pub mod Store
 pub mod Picture

@@ -2,7 +2,7 @@
 use Rattle.std.specs.Prelude.{◌≡◌, ℕ, ◌+◌, ◌*◌, ◌/◌, ◌%◌, ◌<◌, List, ◌++◌, slice_index, pos}
 use Rattle.grid.specs.Pixels.{side_of}
 use Rattle.grid.specs.declared.pixels.PixelBox.{PixelBox}
-use Rattle.shade.specs.declared.block.BlockSamples.{BlockSamples}
+use Rattle.lanes.specs.declared.block_samples.BlockSamples.{BlockSamples}
 use Rattle.shade.specs.Resolve.{IsResolved}
 use Rattle.shade.specs.Placed.{Meets}
 use Rattle.list.specs.Scene.{Scene}
@@ -10,8 +10,8 @@ use Rattle.list.specs.PixelPrefix.{IsPixelRun}
 use Rattle.list.specs.Picture.{IsEnd, IsPart}
 use Rattle.bins.specs.Grid.{TileGrid, columns_of}
 use Rattle.bins.specs.Bin.{IsBin}
-use Rattle.tile.specs.declared.tile.Tile.{Tile}
-use Rattle.tile.specs.Samples.{IsSampleOf, stored}
+use Rattle.raster.specs.declared.tile.Tile.{Tile}
+use Rattle.raster.specs.Samples.{IsSampleOf, stored}
 
 -- A tile lies where tile k of the picture does.
 pub record IsTileAt (g : TileGrid) (k : ℕ) (tile : Tile) : Type 0 where
@@ -47,27 +47,12 @@ abbrev pub AreEnds : Scene → Tile → List BlockSamples → Type 0
 AreEnds l tile samples =
     (row column s : ℕ) → IsShown l tile row column s → IsEnd l (8 * tile.bx + column) (8 * tile.by + row) s (stored tile samples row column s)
 
--- The colour of the pixel in a row and a column of the tile: each channel resolved from the pixel's samples.
-pub record IsColourAt (tile : Tile) (samples : List BlockSamples) (row column : ℕ) (r g b : ℕ) : Type 0 where
-  pub red : IsResolved tile.count (λ s. (stored tile samples row column s).r) r
-  pub green : IsResolved tile.count (λ s. (stored tile samples row column s).g) g
-  pub blue : IsResolved tile.count (λ s. (stored tile samples row column s).b) b
-
--- The bytes of the eight pixels in a row of the tile and a column of its blocks: red, green and blue of each.
-abbrev pub AreColoursAt : Tile → List BlockSamples → ℕ → ℕ → List ℕ → Type 0
-AreColoursAt tile samples row column bytes =
-    (i : ℕ) → i < 8 → IsColourAt tile samples row (8 * column + i) (slice_index bytes (3 * i)) (slice_index bytes (3 * i + 1)) (slice_index bytes (3 * i + 2))
-
--- Of each of them the more and the less significant byte of the depth of sample 0.
+-- The bytes of the eight pixels in a row of the tile and a column of its blocks: of each the more and the less significant byte of
+-- the depth of sample 0.
 abbrev pub AreDepthsAt : Tile → List BlockSamples → ℕ → ℕ → List ℕ → Type 0
 AreDepthsAt tile samples row column bytes =
     (i : ℕ) → i < 8
     → (slice_index bytes (2 * i) ≡ (stored tile samples row (8 * column + i) 0).z / 256) × (slice_index bytes (2 * i + 1) ≡ (stored tile samples row (8 * column + i) 0).z % 256)
-
--- The first eight of three lists, one of each after another.
-abbrev pub AreInterleaved : List ℕ → List ℕ → List ℕ → List ℕ → Type 0
-AreInterleaved r g b bytes =
-    (i : ℕ) → i < 8 → (slice_index bytes (3 * i) ≡ slice_index r i) × (slice_index bytes (3 * i + 1) ≡ slice_index g i) × (slice_index bytes (3 * i + 2) ≡ slice_index b i)
 
 -- The new bytes are the old ones, and behind them those of so many pixels of one row of the picture, from pixel (i, j) on.
 pub record AddsPixelRun (l : Scene) (i j many : ℕ) (old new : List ℕ) : Type 0 where

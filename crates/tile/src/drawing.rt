@@ -4,17 +4,16 @@ ghost use Rattle.std.specs.List.{All};
 ghost use Rattle.grid.specs.Pixels.{side_of};
 ghost use Rattle.bins.specs.Grid.{tiles_of, rect_of};
 ghost use Rattle.bins.specs.Bin.{HasTile, IsBinOf, bin_of};
-ghost use Rattle.tile.specs.Samples.{planes_of, AreAll};
+ghost use Rattle.raster.specs.Samples.{planes_of, AreAll};
 ghost use Rattle.tile.specs.Picture.{IsTileAt, IsPictureIn, IsTileBin, AreEnds};
 
 use crate::pixels::resolve;
-use crate::scan::draw_triangle;
-use crate::store::{Store, clear};
-use crate::tile::Tile;
+use crate::store::Store;
 use bins::{BATCH, Bins, Tiling, fetch};
 use grid::{OutOfMemory, PixelBox, SampleCount, TileSide};
+use lanes::BlockSamples;
 use list::DrawList;
-use shade::BlockSamples;
+use raster::{Tile, clear, draw_triangle};
 use std::alloc::Global;
 
 /// A tile of the picture.

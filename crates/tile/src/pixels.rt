@@ -3,14 +3,14 @@ ghost use Rattle.std.specs.Prelude.{◌≡◌, ℕ, ◌+◌, ◌*◌, ◌/◌, �
 ghost use Rattle.grid.specs.Pixels.{side_of};
 ghost use Rattle.list.specs.PixelPrefix.{IsPixelPrefix};
 ghost use Rattle.list.specs.Picture.{IsPart};
-ghost use Rattle.tile.specs.Samples.{planes_of};
+ghost use Rattle.raster.specs.Samples.{planes_of};
 ghost use Rattle.tile.specs.Picture.{IsShown, AreEnds, AddsPixelRun};
 
-use crate::eight::{colours, depths};
-use crate::tile::Tile;
+use crate::depths::depths;
 use grid::OutOfMemory;
+use lanes::BlockSamples;
 use list::{DrawList, Output};
-use shade::BlockSamples;
+use raster::{Tile, colours};
 use std::alloc::Global;
 
 /// Appends the first pixels of eight, so many of them, with `each` bytes a pixel. The length of a whole run is known where this is

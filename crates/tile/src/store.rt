@@ -1,9 +1,10 @@
 //! The samples of one tile.
 ghost use Rattle.std.specs.Prelude.{◌≡◌, vec_len, IfOk};
-ghost use Rattle.tile.specs.Samples.{planes_of, AreAll};
+ghost use Rattle.raster.specs.Samples.{planes_of};
 
 use grid::{OutOfMemory, SampleCount, TileSide};
-use shade::{BlockSamples, Sample};
+use lanes::BlockSamples;
+use shade::Sample;
 use std::alloc::Global;
 use std::marker::Model;
 
@@ -25,7 +26,7 @@ pub struct Store {
 
 impl Model for Store {
     ghost use Rattle.std.specs.Prelude.{◌≡◌, vec_len};
-    ghost use Rattle.tile.specs.Samples.{planes_of};
+    ghost use Rattle.raster.specs.Samples.{planes_of};
     ghost use Rattle.tile.specs.Store.{Room};
 
     ghost Value = { Room };
@@ -40,16 +41,6 @@ fn blank(alloc: Global, number: usize) -> Result<Vec<BlockSamples>, OutOfMemory>
     ensures { IfOk result (λ samples. vec_len samples ≡ number) }
 {
     Ok(vec![in alloc; BlockSamples::filled(BLANK); number]?)
-}
-
-/// Makes each sample the given one.
-pub(crate) fn clear(samples: &mut [BlockSamples], sample: Sample)
-    ensures { AreAll samples.new sample }
-{
-    let cleared = BlockSamples::filled(sample);
-    for plane in samples.iter_mut() {
-        *plane = cleared;
-    }
 }
 
 impl Store {

@@ -1,0 +1,17 @@
+pub mod BlockPlanes
+pub mod Blocks
+pub mod LaneNumbers
+pub mod Lanes
+pub mod Blending
+pub mod Flat
+pub mod Groups
+pub mod Certificate
+pub mod Reciprocals
+pub mod Gradients
+pub mod Modulos
+pub mod Heights
+pub mod Exactness
+pub mod FixedPoint
+pub mod CandidateLanes
+pub mod Slopes
+pub mod AttributePlanes

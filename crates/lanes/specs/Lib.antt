@@ -1,0 +1,13 @@
+pub mod Block
+pub mod BlockMask
+pub mod Lanes
+pub mod Sources
+pub mod Mode
+pub mod Candidate
+pub mod Modulo
+pub mod Reciprocal
+pub mod Plane
+pub mod Slope
+pub mod Group
+pub mod AttributePlane
+pub mod Merging

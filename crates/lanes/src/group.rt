@@ -1,0 +1,184 @@
+//! Sixteen samples of a block drawn at once: two rows of eight pixels.
+ghost use Rattle.std.specs.Prelude.{◌≡◌, ◌⊎◌, ℕ, true, if◌then◌else◌, ◌+◌, ◌<◌, ◌≤◌, length, slice_index};
+ghost use Rattle.std.specs.Simd.Lanes.{Each1};
+ghost use Rattle.grid.specs.Triangle.{Covers};
+ghost use Rattle.shade.specs.Blend.{IsBlended};
+ghost use Rattle.lanes.specs.Merging.{IsTested};
+ghost use Rattle.shade.specs.declared.placed.Placed.{Placed as Triangle};
+ghost use Rattle.shade.specs.Placed.{IsInterpolated, IsDrawnAt};
+ghost use Rattle.lanes.specs.Block.{stored_at, position_in};
+ghost use Rattle.lanes.specs.Group.{IsGroupOnScreen};
+ghost use Rattle.lanes.specs.Sources.{IsDepthOf, IsColourOf};
+
+use crate::blend::over_lanes;
+use crate::block_samples::BlockSamples;
+use crate::lane_bytes::{narrow, widen};
+use crate::lane_mask::{both, choose, choose_bytes, is_clear};
+use crate::merging::passes_lanes;
+use crate::sources::{ColourSource, DepthSource};
+use shade::{Merge, Placed};
+use std::simd::prelude::*;
+
+/// A written channel, where the mask is set.
+#[inline(always)]
+fn drawn_lanes(over: bool, mask: u16x16, s: u16x16, a: u16x16, d: u8x16) -> u8x16
+    requires bytes { Each1 (λ n. n ≤ 255) s × Each1 (λ n. n ≤ 255) a }
+    ensures whole { length result ≡ 16 }
+    ensures set { (i : ℕ) → i < 16 → slice_index mask i ≡ 65535 → IsBlended true over (slice_index s i) (slice_index a i) (slice_index d i) (slice_index result i) }
+    ensures clear { (i : ℕ) → i < 16 → slice_index mask i ≡ 0 → slice_index result i ≡ slice_index d i }
+{
+    let new = if over {
+        narrow(over_lanes(s, a, widen(d)))
+    } else {
+        narrow(s)
+    };
+    choose_bytes(mask, new, d)
+}
+
+/// A channel of stored samples, where the mask is set.
+#[inline(always)]
+fn draw_channel(
+    written: bool,
+    over: bool,
+    mask: u16x16,
+    s: u16x16,
+    a: u16x16,
+    stored: &mut [u8],
+    at: usize,
+)
+    requires room { at + 16 ≤ length stored.old }
+    requires bytes { Each1 (λ n. n ≤ 255) s × Each1 (λ n. n ≤ 255) a }
+    ensures set { (i : ℕ) → i < 16 → slice_index mask i ≡ 65535
+        → IsBlended written over (slice_index s i) (slice_index a i) (slice_index stored.old (at + i)) (slice_index stored.new (at + i)) }
+    ensures clear { (i : ℕ) → i < 16 → slice_index mask i ≡ 0 → slice_index stored.new (at + i) ≡ slice_index stored.old (at + i) }
+    ensures elsewhere { (k : ℕ) → (k < at) ⊎ (at + 16 ≤ k) → slice_index stored.new k ≡ slice_index stored.old k }
+    ensures room { length stored.new ≡ length stored.old }
+{
+    if written {
+        let old = u8x16::from_slice(&stored[at..]);
+        drawn_lanes(over, mask, s, a, old).copy_to_slice(&mut stored[at..]);
+    }
+}
+
+/// The stored depths, where the mask is set.
+#[inline(always)]
+fn store_depths(written: bool, mask: u16x16, z: u16x16, old: u16x16, stored: &mut [u16], at: usize)
+    requires room { at + 16 ≤ length stored.old }
+    requires old { (i : ℕ) → i < 16 → slice_index old i ≡ slice_index stored.old (at + i) }
+    ensures set { (i : ℕ) → i < 16 → slice_index mask i ≡ 65535
+        → slice_index stored.new (at + i) ≡ (if written then slice_index z i else slice_index stored.old (at + i)) }
+    ensures clear { (i : ℕ) → i < 16 → slice_index mask i ≡ 0 → slice_index stored.new (at + i) ≡ slice_index stored.old (at + i) }
+    ensures elsewhere { (k : ℕ) → (k < at) ⊎ (at + 16 ≤ k) → slice_index stored.new k ≡ slice_index stored.old k }
+    ensures room { length stored.new ≡ length stored.old }
+{
+    if written {
+        choose(mask, z, old).copy_to_slice(&mut stored[at..]);
+    }
+}
+
+/// Tests depths against sixteen stored ones from a place on, where the mask is set, and stores those that pass where depth
+/// writes are on. The answer is the mask of those that pass.
+#[inline(always)]
+fn test_depths(merge: &Merge, mask: u16x16, z: u16x16, stored: &mut [u16], at: usize) -> u16x16
+    requires room { at + 16 ≤ length stored.old }
+    ensures set { (i : ℕ) → i < 16 → slice_index mask i ≡ 65535
+        → IsTested merge.now (slice_index z i) (slice_index stored.old (at + i)) (slice_index stored.new (at + i)) (slice_index result i) }
+    ensures clear { (i : ℕ) → i < 16 → slice_index mask i ≡ 0 → (slice_index result i ≡ 0) × (slice_index stored.new (at + i) ≡ slice_index stored.old (at + i)) }
+    ensures elsewhere { (k : ℕ) → (k < at) ⊎ (at + 16 ≤ k) → slice_index stored.new k ≡ slice_index stored.old k }
+    ensures room { length stored.new ≡ length stored.old }
+{
+    let old = u16x16::from_slice(&stored[at..]);
+    let passed = both(mask, passes_lanes(merge.test, z, old));
+    if is_clear(passed) {
+        return passed;
+    }
+    store_depths(merge.depth_write, passed, z, old, stored, at);
+    passed
+}
+
+/// The same by where the depths come from; the first of the samples is at (x, y).
+#[inline(always)]
+fn test_depths_of(
+    source: &DepthSource<'_>,
+    merge: &Merge,
+    mask: u16x16,
+    x: i32,
+    y: i32,
+    stored: &mut [u16],
+    at: usize,
+) -> u16x16
+    requires room { at + 16 ≤ length stored.old }
+    requires on_screen { IsGroupOnScreen (record { x = x; y = y }) }
+    ensures set { (t : Triangle) (i z : ℕ) → IsDepthOf t source.now → t.state.merge ≡ merge.now → i < 16 → slice_index mask i ≡ 65535 → Covers t.tri.a t.tri.b t.tri.c (position_in (record { x = x; y = y }) i)
+        → IsInterpolated t (position_in (record { x = x; y = y }) i) t.z z
+        → IsTested merge.now z (slice_index stored.old (at + i)) (slice_index stored.new (at + i)) (slice_index result i) }
+    ensures clear { (i : ℕ) → i < 16 → slice_index mask i ≡ 0 → (slice_index result i ≡ 0) × (slice_index stored.new (at + i) ≡ slice_index stored.old (at + i)) }
+    ensures elsewhere { (k : ℕ) → (k < at) ⊎ (at + 16 ≤ k) → slice_index stored.new k ≡ slice_index stored.old k }
+    ensures room { length stored.new ≡ length stored.old }
+{
+    match source {
+        DepthSource::Unused => mask,
+        DepthSource::Flat(z) => test_depths(merge, mask, u16x16::splat(*z), stored, at),
+        DepthSource::Plane(placed, plane) => test_depths(
+            merge,
+            mask,
+            plane.values(placed, x, y),
+            stored,
+            at,
+        ),
+    }
+}
+
+/// Draws the triangle at sixteen samples of a block from a place on, where the mask is set; the first of them is at (x, y).
+#[inline(always)]
+pub(crate) fn draw_group(
+    merge: &Merge,
+    depth: &DepthSource<'_>,
+    colour: &ColourSource<'_>,
+    mask: u16x16,
+    x: i32,
+    y: i32,
+    samples: &mut BlockSamples,
+    at: usize,
+)
+    requires room { at + 16 ≤ 64 }
+    requires on_screen { IsGroupOnScreen (record { x = x; y = y }) }
+    ensures set { (t : Triangle) (i : ℕ) → t.state.merge ≡ merge.now → IsDepthOf t depth.now → IsColourOf t colour.now → i < 16 → slice_index mask i ≡ 65535
+        → Covers t.tri.a t.tri.b t.tri.c (position_in (record { x = x; y = y }) i)
+        → IsDrawnAt t (position_in (record { x = x; y = y }) i) (stored_at samples.old (at + i)) (stored_at samples.new (at + i)) }
+    ensures clear { (i : ℕ) → i < 16 → slice_index mask i ≡ 0 → stored_at samples.new (at + i) ≡ stored_at samples.old (at + i) }
+    ensures elsewhere { (k : ℕ) → (k < at) ⊎ (at + 16 ≤ k) → stored_at samples.new k ≡ stored_at samples.old k }
+{
+    let drawn = test_depths_of(depth, merge, mask, x, y, &mut samples.z, at);
+    if is_clear(drawn) {
+        return;
+    }
+    let c = colour.values(merge, x, y);
+    draw_channel(
+        merge.write[0],
+        merge.over,
+        drawn,
+        c.r,
+        c.a,
+        &mut samples.r,
+        at,
+    );
+    draw_channel(
+        merge.write[1],
+        merge.over,
+        drawn,
+        c.g,
+        c.a,
+        &mut samples.g,
+        at,
+    );
+    draw_channel(
+        merge.write[2],
+        merge.over,
+        drawn,
+        c.b,
+        c.a,
+        &mut samples.b,
+        at,
+    );
+}

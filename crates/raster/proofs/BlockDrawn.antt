@@ -1,0 +1,173 @@
+-- The samples of one block of a tile.
+use Rattle.std.proofs.Common.{◌≡◌, ◌≢◌, ◌∙◌, ap, sym, subst, suc, zero, ℕ, ◌+◌, ◌-◌, ◌*◌, ◌/◌, ◌%◌, ◌^◌, ◌<◌, ◌≤◌, ◌↔◌, List, [], length, take, drop, IsBitSet, bit_and, pos, ◌+ℤ◌, slice_index, arith}
+use Rattle.std.proofs.lemmas.Int.{ints}
+use Rattle.grid.specs.Pixels.{side_of, IsInBox}
+use Rattle.grid.specs.Samples.{count_of, sample_position, offsets_x, offsets_y}
+use Rattle.grid.specs.declared.sample_count.SampleCount.{SampleCount}
+use Rattle.grid.specs.declared.sample_count.SampleCount.TheVariants.{One, Four}
+use Rattle.cover.specs.Rasterized.{IsRasterized}
+use Rattle.cover.specs.Masks.{IsPlaneOf}
+use Rattle.lanes.specs.declared.block_samples.BlockSamples.{BlockSamples}
+use Rattle.lanes.specs.declared.block_mask.BlockMask.{BlockMask}
+use Rattle.shade.specs.declared.placed.Placed.{Placed}
+use Rattle.lanes.specs.Block.{stored_at, position_in, AreDrawn}
+use Rattle.lanes.specs.BlockMask.{CoversBlock, IsBlockDrawn, first_of, plane_of}
+use Rattle.shade.specs.Placed.{Meets}
+use Rattle.raster.specs.declared.tile.Tile.{Tile}
+use Rattle.raster.specs.Samples.{IsSampleOf, place_of, planes_of, stored}
+use Rattle.raster.specs.Drawing.{DrawsPart, DrawsAt, KeepsAt, IsInSquare, AreMet, LiesIn}
+use Rattle.raster.proofs.Bits.{both_set}
+use Rattle.raster.proofs.Cut.{put, put_here, put_elsewhere, part_of}
+use Rattle.raster.proofs.Places.{within, same_place, whole_blocks}
+
+-- ---- which samples are met
+-- those of one sample index
+module _ (t : Placed) (bx by : ℕ) (count : SampleCount) (d : IsRasterized t.tri t.state.cull) (scissor : ℕ)
+    (inside : (row column : ℕ) → row < 8 → column < 8 → (IsBitSet scissor (8 * row + column) ↔ IsInBox t.state.scissor (8 * bx + column) (8 * by + row))) where
+  pub met_plane : (s covered in_mask : ℕ) → IsPlaneOf t.tri bx by count s covered → ((k : ℕ) → k < 64 → (IsBitSet in_mask k ↔ (t.state.sample_mask / 2 ^ s % 2 ≡ 1))) → (row column : ℕ) → row < 8 → column < 8
+      → (IsBitSet (bit_and (bit_and covered scissor) in_mask) (8 * row + column) ↔ Meets t count (8 * bx + column) (8 * by + row) s)
+  met_plane s covered in_mask covers masked row column high wide =
+      let k : ℕ = 8 * row + column in
+      let outer = both_set (bit_and covered scissor) in_mask k in
+      let inner = both_set covered scissor k in
+      let c = covers row column high wide in
+      let i = inside row column high wide in
+      let m = masked k (omega arith) in (
+        λ set. record {
+          kept = d.kept;
+          covered = c.0 (inner.0 (outer.0 set).0).0;
+          in_scissor = i.0 (inner.0 (outer.0 set).0).1;
+          in_mask = m.0 (outer.0 set).1;
+        },
+        λ met. outer.1 (inner.1 (c.1 met.covered, i.1 met.in_scissor), m.1 met.in_mask),
+      )
+
+-- what holds of each sample index
+pub each_of_four : (P : ℕ → Type 0) → (n : ℕ) → n ≤ 4 → (0 < n → P 0) → (1 < n → P 1) → (2 < n → P 2) → (3 < n → P 3) → (s : ℕ) → s < n → P s
+each_of_four P n few a b c d zero l = a l
+each_of_four P n few a b c d (suc zero) l = b l
+each_of_four P n few a b c d (suc (suc zero)) l = c l
+each_of_four P n few a b c d (suc (suc (suc zero))) l = d l
+each_of_four P n few a b c d (suc (suc (suc (suc s)))) l = absurd (omega (arith, few, l))
+
+-- ---- where they lie
+module _ (t : Placed) (m : BlockMask) (met : AreMet t m) where
+  at_pixel : (s k : ℕ) → position_in (first_of m s) k ≡ sample_position (8 * m.bx + k % 8) (8 * m.by + k / 8) s m.count
+  at_pixel s k =
+      let ox : ℕ = slice_index (offsets_x m.count) s in
+      let oy : ℕ = slice_index (offsets_y m.count) s in
+      let x : pos (256 * (8 * m.bx) + ox) +ℤ pos (256 * (k % 8)) ≡ pos (256 * (8 * m.bx + k % 8) + ox) = omega (arith, ints) in
+      let y : pos (256 * (8 * m.by) + oy) +ℤ pos (256 * (k / 8)) ≡ pos (256 * (8 * m.by + k / 8) + oy) = omega (arith, ints) in
+      λ i. record { x = x i; y = y i }
+
+  -- the triangle covers what it meets
+  pub met_covered : CoversBlock t m
+  met_covered s small k low set =
+      let here : 8 * (k / 8) + k % 8 ≡ k = omega arith in
+      rw (at_pixel s k) ((met (k / 8) (k % 8) s (omega arith) (omega arith) small).0 (rw here set)).covered
+
+-- ---- a block of the tile, drawn
+module _ (t : Placed) (tile : Tile) (bx by : ℕ) (lies : LiesIn tile bx by 8) (m : BlockMask) (is : (m.bx ≡ bx) × (m.by ≡ by) × (m.count ≡ tile.count)) (met : AreMet t m) where
+  -- the pixel in its block
+  abbrev pixel : ℕ → ℕ → ℕ
+  pixel row column = 8 * (row % 8) + column % 8
+
+  row_within : by - tile.by < side_of tile.side / 8
+  row_within = omega (arith, lies.top, lies.bottom, whole_blocks tile.side)
+
+  column_within : bx - tile.bx < side_of tile.side / 8
+  column_within = omega (arith, lies.left, lies.right, whole_blocks tile.side)
+
+  module _ (row column s : ℕ) (p : IsInSquare tile bx by 8 row column s) where
+    in_row : row / 8 ≡ by - tile.by
+    in_row = omega (arith, lies.top, p.top, p.bottom)
+
+    in_column : column / 8 ≡ bx - tile.bx
+    in_column = omega (arith, lies.left, p.left, p.right)
+
+    across : 8 * bx + column % 8 ≡ 8 * tile.bx + column
+    across = omega (arith, lies.left, p.left, p.right)
+
+    down : 8 * by + row % 8 ≡ 8 * tile.by + row
+    down = omega (arith, lies.top, p.top, p.bottom)
+
+    met_here : s < count_of tile.count → (IsBitSet (slice_index m.plane s) (pixel row column) ↔ Meets t tile.count (8 * tile.bx + column) (8 * tile.by + row) s)
+    met_here small =
+        let there = met (row % 8) (column % 8) s (omega arith) (omega arith) (rw is.2 small) in
+        rw (is.0, is.1, is.2, across, down) at there
+
+    position : position_in (first_of m s) (pixel row column) ≡ sample_position (8 * tile.bx + column) (8 * tile.by + row) s tile.count
+    position =
+        let k : ℕ = pixel row column in
+        let x : 8 * m.bx + k % 8 ≡ 8 * tile.bx + column = omega (arith, across, is.0) in
+        let y : 8 * m.by + k / 8 ≡ 8 * tile.by + row = omega (arith, down, is.1) in
+        at_pixel t m met s k ∙ (λ i. sample_position (x i) (y i) s (is.2 i))
+
+  -- the block's samples are stored from here on
+  abbrev first : ℕ
+  first = place_of tile (by - tile.by) (bx - tile.bx) 0
+
+  module _ (xs ys : List BlockSamples) (long : length xs ≡ planes_of tile.side tile.count)
+      (here : (s : ℕ) → s < count_of tile.count → AreDrawn t (first_of m s) (slice_index m.plane s) (plane_of xs (first + s)) (plane_of ys (first + s)) 0 64)
+      (elsewhere : (k : ℕ) → ((s : ℕ) → s < count_of tile.count → k ≢ first + s) → plane_of ys k ≡ plane_of xs k) where
+    there : (row column s : ℕ) (zs : List BlockSamples) → IsInSquare tile bx by 8 row column s → stored tile zs row column s ≡ stored_at (plane_of zs (first + s)) (pixel row column)
+    there row column s zs p =
+        let place : place_of tile (row / 8) (column / 8) s ≡ first + s = rw (in_row row column s p, in_column row column s p) (omega arith) in
+        ap (λ k. stored_at (plane_of zs k) (pixel row column)) place
+
+    draws : (row column s : ℕ) → IsSampleOf tile row column s → IsInSquare tile bx by 8 row column s → DrawsAt t tile xs ys row column s
+    draws row column s h p =
+        let bit = met_here row column s p h.is_sample in
+        let drawn = here s h.is_sample in
+        rw (there row column s xs p, there row column s ys p) (record {
+          met = λ e. rw (← position row column s p) (drawn.drawn (pixel row column) (omega arith) (omega arith) (bit.1 e));
+          missed = λ n. drawn.kept (pixel row column) (omega arith) (omega arith) (λ set. n (bit.0 set));
+        })
+
+    in_block : (row column s : ℕ) → row / 8 ≡ by - tile.by → column / 8 ≡ bx - tile.bx → IsInSquare tile bx by 8 row column s
+    in_block row column s down across = record {
+      left = omega (arith, lies.left);
+      right = omega (arith, lies.left);
+      top = omega (arith, lies.top);
+      bottom = omega (arith, lies.top);
+    }
+
+    keeps : (row column s : ℕ) → IsSampleOf tile row column s → ¬ IsInSquare tile bx by 8 row column s → KeepsAt tile xs ys row column s
+    keeps row column s h n =
+        let other : (s' : ℕ) → s' < count_of tile.count → place_of tile (row / 8) (column / 8) s ≢ first + s' =
+        λ s' small e.
+        let same = same_place tile (by - tile.by) (bx - tile.bx) s' row_within column_within small (row / 8) (column / 8) s (omega (arith, h.wide, whole_blocks tile.side)) h.is_sample (rw e (omega arith)) in
+        n (in_block row column s same.0 same.1) in
+        ap (λ plane. stored_at plane (pixel row column)) (elsewhere (place_of tile (row / 8) (column / 8) s) other)
+
+    block_drawn : DrawsPart t tile (IsInSquare tile bx by 8) xs ys
+    block_drawn = record { drawn = draws; kept = keeps }
+
+  some_sample : (count : SampleCount) → 0 < count_of count
+  some_sample One = omega arith
+  some_sample Four = omega arith
+
+  -- the block's samples, drawn and put back
+  module _ (xs part : List BlockSamples) (at n : ℕ) (from : at ≡ first) (many : n ≡ count_of tile.count) (long : length xs ≡ planes_of tile.side tile.count) (whole : length part ≡ n)
+      (drawn : IsBlockDrawn t m (take n (drop at xs)) part) where
+    room : at + n ≤ length xs
+    room =
+        let last = within tile (by - tile.by) (bx - tile.bx) (count_of tile.count - 1) row_within column_within (omega (arith, some_sample tile.count)) in
+        omega (arith, from, many, long, last, some_sample tile.count)
+
+    abbrev none : BlockSamples
+    none = record { z = []; r = []; g = []; b = [] }
+
+    here : (s : ℕ) → s < count_of tile.count → AreDrawn t (first_of m s) (slice_index m.plane s) (plane_of xs (first + s)) (plane_of (put xs part at n) (first + s)) 0 64
+    here s small =
+        let in_part : s < n = omega (arith, many, small) in
+        let old : plane_of (take n (drop at xs)) s ≡ plane_of xs (first + s) = part_of xs at n none s in_part ∙ ap (λ k. plane_of xs (k + s)) from in
+        let new : plane_of (put xs part at n) (first + s) ≡ plane_of part s = ap (λ k. plane_of (put xs part at n) (k + s)) (sym from) ∙ put_here xs part at n none room whole s in_part in
+        subst (λ x. AreDrawn t (first_of m s) (slice_index m.plane s) x (plane_of (put xs part at n) (first + s)) 0 64) old
+        (subst (λ x. AreDrawn t (first_of m s) (slice_index m.plane s) (plane_of (take n (drop at xs)) s) x 0 64) (sym new) (drawn s (rw is.2 small)))
+
+    elsewhere : (k : ℕ) → ((s : ℕ) → s < count_of tile.count → k ≢ first + s) → plane_of (put xs part at n) k ≡ plane_of xs k
+    elsewhere k other = put_elsewhere xs part at n none room whole k (λ s l e. other s (omega (arith, many, l)) (omega (arith, e, from)))
+
+    pub part_drawn : DrawsPart t tile (IsInSquare tile bx by 8) xs (put xs part at n)
+    part_drawn = block_drawn xs (put xs part at n) long here elsewhere

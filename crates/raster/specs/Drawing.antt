@@ -1,0 +1,65 @@
+-- What a triangle makes of the samples of a tile.
+use Rattle.std.specs.Prelude.{◌≡◌, ◌↔◌, ℕ, ◌+◌, ◌*◌, ◌<◌, ◌≤◌, List, slice_index, IsBitSet}
+use Rattle.grid.specs.Pixels.{side_of}
+use Rattle.grid.specs.Samples.{count_of}
+use Rattle.grid.specs.declared.triangle.Tri.{Tri}
+use Rattle.grid.specs.declared.pixels.TileSide.TheVariants.{T8}
+use Rattle.grid.specs.declared.sample_count.SampleCount.{SampleCount}
+use Rattle.lanes.specs.declared.block_samples.BlockSamples.{BlockSamples}
+use Rattle.lanes.specs.declared.block_mask.BlockMask.{BlockMask}
+use Rattle.cover.specs.Masks.{IsPlaneOf}
+use Rattle.cover.specs.Square.{TestedSquare}
+use Rattle.shade.specs.declared.placed.Placed.{Placed}
+use Rattle.shade.specs.Placed.{Meets, Draws}
+use Rattle.raster.specs.declared.tile.Tile.{Tile}
+use Rattle.raster.specs.Samples.{IsSampleOf, stored}
+
+-- What the triangle makes of sample s of the pixel in a row and a column of the tile.
+abbrev pub DrawsAt : Placed → Tile → List BlockSamples → List BlockSamples → ℕ → ℕ → ℕ → Type 0
+DrawsAt t tile old new row column s =
+    Draws t tile.count (8 * tile.bx + column) (8 * tile.by + row) s (stored tile old row column s) (stored tile new row column s)
+
+abbrev pub KeepsAt : Tile → List BlockSamples → List BlockSamples → ℕ → ℕ → ℕ → Type 0
+KeepsAt tile old new row column s = stored tile new row column s ≡ stored tile old row column s
+
+-- The triangle is drawn at the samples of a part of the tile, and the others stay.
+pub record DrawsPart (t : Placed) (tile : Tile) (part : ℕ → ℕ → ℕ → Type 0) (old new : List BlockSamples) : Type 0 where
+  pub drawn : (row column s : ℕ) → IsSampleOf tile row column s → part row column s → DrawsAt t tile old new row column s
+  pub kept : (row column s : ℕ) → IsSampleOf tile row column s → ¬ part row column s → KeepsAt tile old new row column s
+
+-- The triangle is drawn at each sample of the tile.
+abbrev pub DrawsTile : Placed → Tile → List BlockSamples → List BlockSamples → Type 0
+DrawsTile t tile old new = (row column s : ℕ) → IsSampleOf tile row column s → DrawsAt t tile old new row column s
+
+-- ---- parts of a tile
+-- The pixel in a row and a column of the tile is in the square of this side that begins at pixel (8 bx, 8 by).
+pub record IsInSquare (tile : Tile) (bx by side : ℕ) (row column s : ℕ) : Type 0 where
+  pub left : 8 * bx ≤ 8 * tile.bx + column
+  pub right : 8 * tile.bx + column < 8 * bx + side
+  pub top : 8 * by ≤ 8 * tile.by + row
+  pub bottom : 8 * tile.by + row < 8 * by + side
+
+-- A square lies in the tile.
+pub record LiesIn (tile : Tile) (bx by side : ℕ) : Type 0 where
+  pub left : tile.bx ≤ bx
+  pub right : 8 * bx + side ≤ 8 * tile.bx + side_of tile.side
+  pub top : tile.by ≤ by
+  pub bottom : 8 * by + side ≤ 8 * tile.by + side_of tile.side
+
+-- The samples of the tile, and a triangle.
+abbrev pub square_of : Tri → Tile → TestedSquare
+square_of t tile = record { triangle = t; bx = tile.bx; by = tile.by; side = tile.side; count = tile.count }
+
+-- The samples of block (bx, by) of the tile, and a triangle.
+abbrev pub block_of : Tri → Tile → ℕ → ℕ → TestedSquare
+block_of t tile bx by = record { triangle = t; bx = bx; by = by; side = T8; count = tile.count }
+
+-- The bits of the mask tell which samples of its block the triangle meets.
+abbrev pub AreMet : Placed → BlockMask → Type 0
+AreMet t m =
+    (row column s : ℕ) → row < 8 → column < 8 → s < count_of m.count
+    → (IsBitSet (slice_index m.plane s) (8 * row + column) ↔ Meets t m.count (8 * m.bx + column) (8 * m.by + row) s)
+
+-- The words tell which samples of block (bx, by) the triangle covers.
+abbrev pub ArePlanesOf : Tri → ℕ → ℕ → SampleCount → List ℕ → Type 0
+ArePlanesOf t bx by count planes = (s : ℕ) → s < count_of count → IsPlaneOf t bx by count s (slice_index planes s)

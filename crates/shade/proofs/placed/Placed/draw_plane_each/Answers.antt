@@ -1,9 +1,0 @@
-use Rattle.std.proofs.Common.{◌≡◌, ◌+◌, ◌*◌, arith, subst}
-use Rattle.shade.proofs.Blocks.{IsDrawnBefore, and_next}
-use Rattle.shade.proofs.placed.Placed.draw_plane_each.Goals as goal
-
-pub loop-group-preserved : goal.loop-group-preserved
-loop-group-preserved c =
-    let next : 16 * c.loop-group.group + 16 ≡ 16 * (c.loop-group.group + 1) = omega arith in
-    subst (IsDrawnBefore c.args.self.now c.args.p c.args.mask _ _) next
-    (and_next c.args.self.now c.args.p c.args.mask _ _ _ (16 * c.loop-group.group) 16 (omega arith) c.loop-group.invariant c.draw_rows_each.ensures)

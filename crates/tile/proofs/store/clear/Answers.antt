@@ -1,5 +1,0 @@
-use Rattle.std.proofs.Common.{arith}
-use Rattle.tile.proofs.store.clear.Goals as goal
-
-pub returns : goal.returns
-returns c = λ place k h low. rw (c.loop-plane.invariant place (omega (arith, h))) (c.filled-cleared.ensures k low)

@@ -1,5 +1,0 @@
-use Rattle.std.proofs.Common.{◌≡◌, ℕ, ◌<◌, [], slice_index_or}
-use Rattle.tile.proofs.store.clear.Given as goal
-
-abbrev pub invariant-loop-plane : goal.invariant-loop-plane
-invariant-loop-plane l = (place : ℕ) → place < l.plane-index → slice_index_or l.samples place (record { z = []; r = []; g = []; b = [] }) ≡ l.cleared
