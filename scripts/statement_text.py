@@ -144,7 +144,7 @@ GROUPS = (
         "A scene is what a picture is drawn of. The picture has the bytes of its pixels, row by row from the top. A pixel is the "
         "resolved colour, or the depth of the pixel's sample 0.",
         "the order of a depth's two bytes is that of Netpbm's pgm(5); that sample 0 is shown is this project's rule.",
-        ("crates/list/src/output.rt", "crates/list/specs/Scene.antt", "crates/list/specs/Picture.antt"),
+        ("crates/list/src/output.rt", "crates/model/specs/Scene.antt", "crates/model/specs/Picture.antt"),
     ),
     Group(
         "The picture's file",
@@ -158,7 +158,7 @@ GROUPS = (
         "These look into a JSON value: what stands under a key or at an index, and the integer, string, boolean or array that it is. "
         "Which bytes are JSON, and of which value, is what `serde_json` says.",
         "RFC 8259 for JSON; the keys and words are this project's format.",
-        ("crates/list/specs/Json.antt", "crates/list/specs/Keys.antt"),
+        ("crates/model/specs/Json.antt", "crates/model/specs/Keys.antt"),
     ),
     Group(
         "Primitives and their triangles",
@@ -168,8 +168,8 @@ GROUPS = (
         (
             "crates/list/src/draw.rt",
             "crates/grid/specs/Quad.antt",
-            "crates/list/specs/Primitives.antt",
-            "crates/list/specs/Listing.antt",
+            "crates/model/specs/Primitives.antt",
+            "crates/model/specs/Listing.antt",
         ),
     ),
     Group(
@@ -177,13 +177,13 @@ GROUPS = (
         "These say, key by key, which JSON value is which part of a draw list. They have its ranges, its limits and the defaults of "
         "absent keys. `Denotes` says which scene the bytes stand for.",
         "this project's format, in words in `docs/draw-list.md`.",
-        ("crates/list/specs/Denotes.antt",),
+        ("crates/model/specs/Denotes.antt",),
     ),
     Group(
         "The first fault",
         "All checks of an input stand in one list, in a fixed order. An input that fails one has the fault of the first that fails.",
         "this project's format, in words in `docs/draw-list.md`.",
-        ("crates/list/src/fault.rt", "crates/list/specs/FirstFault.antt", "crates/list/specs/Checks.antt"),
+        ("crates/list/src/fault.rt", "crates/model/specs/FirstFault.antt", "crates/model/specs/Checks.antt"),
     ),
     Group(
         "Readers and writers",

@@ -4,7 +4,7 @@ use Rattle.std.proofs.lemmas.Bool.{cases_lt}
 use Rattle.std.proofs.lemmas.List.{length-set, get_or-set_same, get_or-set_other}
 use Rattle.std.proofs.lemmas.Option.{slice_get-get_or}
 use Rattle.shade.specs.declared.placed.Placed.{Placed}
-use Rattle.list.specs.Scene.{Scene}
+use Rattle.model.specs.Scene.{Scene}
 use Rattle.std.proofs.lemmas.Grind.{get_or_default_zero}
 use Rattle.bins.specs.Batch.{AreFetched}
 

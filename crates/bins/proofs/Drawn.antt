@@ -12,8 +12,8 @@ use Rattle.shade.specs.declared.sample.Sample.{Sample}
 use Rattle.shade.specs.declared.placed.Placed.{Placed}
 use Rattle.shade.specs.Placed.{Meets, Draws}
 use Rattle.shade.specs.Ending.{Ends}
-use Rattle.list.specs.Scene.{Scene}
-use Rattle.list.specs.Picture.{IsEnd}
+use Rattle.model.specs.Scene.{Scene}
+use Rattle.model.specs.Picture.{IsEnd}
 use Rattle.shade.proofs.Endings.{ends_more, ends_past}
 use Rattle.bins.specs.Bin.{IsBin, MeetsRect}
 

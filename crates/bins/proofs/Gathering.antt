@@ -13,12 +13,12 @@ use Rattle.grid.specs.declared.sample_count.SampleCount.{SampleCount}
 use Rattle.grid.specs.declared.triangle.Tri.{Tri}
 use Rattle.cover.specs.Bounds.{first_pixel, end_pixel, HoldsCovered}
 use Rattle.cover.proofs.Box.{box_holds}
-use Rattle.list.specs.Rows.{IsRowSpan}
-use Rattle.list.specs.declared.rows.RowSpan.{RowSpan}
+use Rattle.model.specs.Rows.{IsRowSpan}
+use Rattle.model.specs.declared.rows.RowSpan.{RowSpan}
 use Rattle.std.proofs.lemmas.Int.{ints, clamps}
 use Rattle.cover.specs.Rasterized.{IsRasterized}
 use Rattle.shade.specs.declared.placed.Placed.{Placed}
-use Rattle.list.specs.Scene.{Scene}
+use Rattle.model.specs.Scene.{Scene}
 use Rattle.bins.specs.declared.reach.Columns.{Columns}
 use Rattle.bins.specs.declared.tile_run.TileRun.{TileRun}
 use Rattle.bins.specs.Bin.{MeetsRect}

@@ -1,7 +1,7 @@
 -- Triangles that are fetched together.
 use Rattle.std.specs.Prelude.{◌≡◌, ℕ, ◌+◌, ◌<◌, List, length, slice_get, slice_index}
 use Rattle.shade.specs.declared.placed.Placed.{Placed}
-use Rattle.list.specs.Scene.{Scene}
+use Rattle.model.specs.Scene.{Scene}
 
 -- At each place of the batch, while there are numbers, the triangle of the number that stands so many places behind the first.
 abbrev pub AreFetched : Scene → List ℕ → ℕ → List Placed → Type 0

@@ -3,7 +3,7 @@ ghost use Rattle.std.specs.Prelude.{◌≡◌, ◌<◌, length};
 ghost use Rattle.std.specs.List.{All};
 ghost use Rattle.bins.specs.Batch.{AreFetched};
 
-use list::{DrawList, Placed};
+use model::{DrawList, Placed};
 
 /// How many triangles are fetched together.
 pub const BATCH: usize = 16;

@@ -4,7 +4,7 @@ ghost use Rattle.bins.specs.Grid.{rows_of, IsWithinLimits};
 ghost use Rattle.bins.specs.TileRuns.{AreCandidates};
 
 use crate::tiling::Tiling;
-use list::{DrawList, RowSpan};
+use model::{DrawList, RowSpan};
 use std::alloc::{AllocError, Global};
 
 /// Whether one of these rows of pixels lies between `top` and before `bottom`. There is one comparison and one branch: half of all

@@ -3,7 +3,7 @@ ghost use Rattle.std.specs.Prelude.{◌≡◌, IfOk};
 use crate::{Bins, Tiling};
 use cover::{Class, Setup};
 use grid::{Cull, PixelBox, Point, SampleCount, TileSide};
-use list::{Draw, DrawList, Output, Placed, Primitives, State, Vertex};
+use model::{Draw, DrawList, Output, Placed, Primitives, State, Vertex};
 use shade::{DepthTest, Merge, Sample};
 use std::alloc::Global;
 use std::process::Abort;

@@ -7,7 +7,7 @@ use crate::candidates::candidates_of;
 use crate::reach::{Columns, overlap};
 use crate::tiling::Tiling;
 use cover::Setup;
-use list::{DrawList, Placed};
+use model::{DrawList, Placed};
 use std::alloc::{AllocError, Global};
 
 /// Consecutive tiles of a row which a triangle can meet, from `first` to before `end`. They are counted from the first tile of

@@ -1,23 +1,12 @@
-//! Draw lists, and the picture that one stands for.
+//! Draw lists in JSON: the two readers behind one call, and what `model` says of a draw list.
 #![tactic(auto)]
 
-mod draw;
-mod draw_list;
-mod fault;
-mod limits;
-mod output;
-mod primitives;
 mod reader;
-mod rows;
-mod starts;
-mod tokens;
 
-pub use draw::{Draw, Vertex};
-pub use draw_list::{DrawList, ListFault};
-pub use fault::{ReadFault, ReadKind};
-pub use output::{Output, depth_bytes};
-pub use primitives::Primitives;
-pub use reader::{MOST_BYTES, read, read_by_value};
-pub use rows::RowSpan;
-pub use shade::{Placed, State};
-pub use tokens::read_in_one_pass;
+pub use checking_reader::read_by_value;
+pub use fast_reader::read_in_one_pass;
+pub use model::{
+    Draw, DrawList, ListFault, MOST_BYTES, Output, Placed, Primitives, ReadFault, ReadKind,
+    RowSpan, State, Vertex, depth_bytes,
+};
+pub use reader::read;

@@ -1,6 +1,8 @@
-//! Tests of `list`, through what it makes public.
+//! Tests of `list`, and of `scene` beside it, through what they make public.
 #![tactic(auto)]
 
+#[cfg(test)]
+mod arrays;
 #[cfg(test)]
 mod counts;
 #[cfg(test)]

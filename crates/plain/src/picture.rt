@@ -1,10 +1,10 @@
 ghost use Rattle.std.specs.Prelude.{◌≡◌, ◌<◌, ◌+◌, ◌*◌, ◌/◌, ◌%◌, ℕ, List, [], ◌∷◌, ◌++◌, IfOk, OnOk};
-ghost use Rattle.list.specs.PixelPrefix.{AddsPixel, IsPixelPrefix};
-ghost use Rattle.list.specs.Picture.{IsPicture};
+ghost use Rattle.model.specs.PixelPrefix.{AddsPixel, IsPixelPrefix};
+ghost use Rattle.model.specs.Picture.{IsPicture};
 
 use crate::pixel::{Colour, colour_at, end_at};
 use grid::OutOfMemory;
-use list::{DrawList, Output, depth_bytes};
+use model::{DrawList, Output, depth_bytes};
 use std::alloc::Global;
 
 /// Appends the bytes of a colour.

@@ -1,11 +1,11 @@
 ghost use Rattle.std.specs.Prelude.{◌≡◌, ◌<◌};
 ghost use Rattle.grid.specs.Samples.{count_of};
 ghost use Rattle.shade.specs.declared.sample.Sample.{Sample};
-ghost use Rattle.list.specs.Picture.{IsEnd, IsColour};
+ghost use Rattle.model.specs.Picture.{IsEnd, IsColour};
 
 use crate::drawing::draw;
 use grid::SampleCount;
-use list::DrawList;
+use model::DrawList;
 use shade::{Sample, mean_of_four};
 
 /// The colour of a pixel.

@@ -1,6 +1,6 @@
 use crate::render;
 use grid::{Cull, PixelBox, Point, SampleCount};
-use list::{Draw, DrawList, Output, Primitives, State, Vertex};
+use model::{Draw, DrawList, Output, Primitives, State, Vertex};
 use shade::{DepthTest, Merge, Sample};
 use std::alloc::Global;
 use std::process::Abort;

@@ -1,11 +1,11 @@
 -- The draws of a scene, one at a time.
 use Rattle.std.proofs.Common.{◌≡◌, ℕ, ◌+◌, ◌<◌, ◌≤◌, Option, IfSome, List, [], ◌∷◌, ◌++◌, length, drop, get_or, map, Some, None, inl, inr, refl, ap, sym, ◌∙◌, drop-cons, add-one, append_assoc, append-nil, arith}
 use Rattle.std.proofs.lemmas.List.{map-append, drop_all}
-use Rattle.list.specs.declared.draw.Draw.{Draw}
-use Rattle.list.specs.declared.fault.ReadFault.{ReadFault}
-use Rattle.list.specs.declared.fault.ReadKind.{ReadKind}
-use Rattle.list.specs.declared.fault.ReadKind.TheVariants.{WrongKind, OutOfMemory}
-use Rattle.list.specs.Listing.{draw_listing, DrawListing}
+use Rattle.model.specs.declared.draw.Draw.{Draw}
+use Rattle.model.specs.declared.fault.ReadFault.{ReadFault}
+use Rattle.model.specs.declared.fault.ReadKind.{ReadKind}
+use Rattle.model.specs.declared.fault.ReadKind.TheVariants.{WrongKind, OutOfMemory}
+use Rattle.model.specs.Listing.{draw_listing, DrawListing}
 use Rattle.scene.specs.declared.head.SceneHead.{SceneHead}
 use Rattle.scene.specs.declared.draw.SceneDraw.{SceneDraw}
 use Rattle.scene.specs.declared.vertex.SceneVertex.{SceneVertex}

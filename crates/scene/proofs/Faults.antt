@@ -1,10 +1,10 @@
 -- Where a check fails, the arrays list nothing.
 use Rattle.std.proofs.Common.{◌≡◌, ◌≢◌, ℕ, List, [], ◌∷◌, inl, inr}
-use Rattle.list.specs.declared.fault.ReadKind.{ReadKind}
-use Rattle.list.specs.declared.fault.ReadKind.TheVariants.{OutOfMemory}
-use Rattle.list.specs.declared.fault.ReadFault.{ReadFault}
-use Rattle.list.specs.Scene.{Scene}
-use Rattle.list.proofs.Finish.{no_other}
+use Rattle.model.specs.declared.fault.ReadKind.{ReadKind}
+use Rattle.model.specs.declared.fault.ReadKind.TheVariants.{OutOfMemory}
+use Rattle.model.specs.declared.fault.ReadFault.{ReadFault}
+use Rattle.model.specs.Scene.{Scene}
+use Rattle.model.proofs.FaultKinds.{no_other}
 use Rattle.scene.specs.declared.head.SceneHead.{SceneHead}
 use Rattle.scene.specs.declared.draw.SceneDraw.{SceneDraw}
 use Rattle.scene.specs.declared.vertex.SceneVertex.{SceneVertex}

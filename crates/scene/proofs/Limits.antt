@@ -4,8 +4,8 @@ use Rattle.std.specs.List.{All}
 use Rattle.std.proofs.lemmas.List.{length-map}
 use Rattle.std.proofs.lemmas.List.Sums.{sum_by-cons}
 use Rattle.std.proofs.lemmas.List.Elements.{All-nil, All-cons}
-use Rattle.list.specs.Primitives.{count_of_triangles}
-use Rattle.list.specs.Listing.{DrawListing, IsDrawWithinLimits, AreWithinLimits}
+use Rattle.model.specs.Primitives.{count_of_triangles}
+use Rattle.model.specs.Listing.{DrawListing, IsDrawWithinLimits, AreWithinLimits}
 use Rattle.scene.specs.declared.draw.SceneDraw.{SceneDraw}
 use Rattle.scene.specs.declared.vertex.SceneVertex.{SceneVertex}
 use Rattle.scene.specs.Listed.{vertex_listed, draw_listed, draws_listed}

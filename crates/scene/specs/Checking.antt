@@ -1,7 +1,7 @@
 -- Checks in their order, and the first that fails.
 use Rattle.std.specs.Prelude.{◌≡◌, ◌≢◌, ◌⊎◌, Result, MatchResult}
-use Rattle.list.specs.declared.fault.ReadKind.{ReadKind}
-use Rattle.list.specs.declared.fault.ReadKind.TheVariants.{OutOfMemory}
+use Rattle.model.specs.declared.fault.ReadKind.{ReadKind}
+use Rattle.model.specs.declared.fault.ReadKind.TheVariants.{OutOfMemory}
 
 -- Checks, one after another: what has to hold, and what is told where it does not.
 pub data Checks : Type 1 where

@@ -1,13 +1,13 @@
 -- The checks of a caller's arrays, in their order.
 use Rattle.std.specs.Prelude.{◌≡◌, ℕ, ◌+◌, ◌%◌, ◌<◌, ◌≤◌, ◌⊎◌, List, [], ◌∷◌, length, map, take, drop, IfSome, Some, None}
 use Rattle.std.specs.List.{All}
-use Rattle.list.specs.declared.draw.Vertex.{Vertex}
-use Rattle.list.specs.declared.fault.ReadKind.{ReadKind}
-use Rattle.list.specs.declared.fault.ReadKind.TheVariants.{WrongKind, OutOfRange, BadIndex, TooMany, OutOfMemory, NotConvex}
-use Rattle.list.specs.declared.fault.ReadFault.{ReadFault}
-use Rattle.list.specs.Primitives.{count_of_triangles, AreOver}
-use Rattle.list.specs.Listing.{scene_of}
-use Rattle.list.specs.Scene.{Scene}
+use Rattle.model.specs.declared.draw.Vertex.{Vertex}
+use Rattle.model.specs.declared.fault.ReadKind.{ReadKind}
+use Rattle.model.specs.declared.fault.ReadKind.TheVariants.{WrongKind, OutOfRange, BadIndex, TooMany, OutOfMemory, NotConvex}
+use Rattle.model.specs.declared.fault.ReadFault.{ReadFault}
+use Rattle.model.specs.Primitives.{count_of_triangles, AreOver}
+use Rattle.model.specs.Listing.{scene_of}
+use Rattle.model.specs.Scene.{Scene}
 use Rattle.scene.specs.declared.head.SceneHead.{SceneHead}
 use Rattle.scene.specs.declared.draw.SceneDraw.{SceneDraw}
 use Rattle.scene.specs.declared.vertex.SceneVertex.{SceneVertex}

@@ -9,11 +9,11 @@ use Rattle.shade.specs.declared.depth.DepthTest.{DepthTest}
 use Rattle.shade.specs.declared.depth.DepthTest.TheVariants as test
 use Rattle.shade.specs.declared.sample.Sample.{Sample}
 use Rattle.shade.specs.declared.state.State.{State}
-use Rattle.list.specs.declared.draw.Vertex.{Vertex}
-use Rattle.list.specs.declared.output.Output.{Output}
-use Rattle.list.specs.declared.output.Output.TheVariants as output
-use Rattle.list.specs.Primitives.{PrimitiveListing, triangle_list, triangle_strip, quad_list}
-use Rattle.list.specs.Listing.{DrawListing, Listing}
+use Rattle.model.specs.declared.draw.Vertex.{Vertex}
+use Rattle.model.specs.declared.output.Output.{Output}
+use Rattle.model.specs.declared.output.Output.TheVariants as output
+use Rattle.model.specs.Primitives.{PrimitiveListing, triangle_list, triangle_strip, quad_list}
+use Rattle.model.specs.Listing.{DrawListing, Listing}
 use Rattle.scene.specs.declared.head.SceneHead.{SceneHead}
 use Rattle.scene.specs.declared.draw.SceneDraw.{SceneDraw}
 use Rattle.scene.specs.declared.vertex.SceneVertex.{SceneVertex}

@@ -1,7 +1,7 @@
 ghost use Rattle.std.specs.Prelude.{◌≡◌, ◌≢◌, ◌≤◌, length, map, IfOk, IfErr, IfSome, Some, MatchResult};
-ghost use Rattle.list.specs.Scene.{Scene};
-ghost use Rattle.list.specs.Listing.{draw_listing};
-ghost use Rattle.list.specs.declared.fault.ReadKind.TheVariants.{OutOfMemory};
+ghost use Rattle.model.specs.Scene.{Scene};
+ghost use Rattle.model.specs.Listing.{draw_listing};
+ghost use Rattle.model.specs.declared.fault.ReadKind.TheVariants.{OutOfMemory};
 ghost use Rattle.scene.specs.Listed.{draw_listed, draws_listed};
 ghost use Rattle.scene.specs.Checking.{Pass, FirstIs};
 ghost use Rattle.scene.specs.Checks.{draw_checks, checks_before_vertices, DrawsPass, IsFirstOfDraws, IsFirstFault, IsReached, Reaches, IsListOf};
@@ -9,7 +9,7 @@ ghost use Rattle.scene.specs.Checks.{draw_checks, checks_before_vertices, DrawsP
 use crate::draw::SceneDraw;
 use crate::head::SceneHead;
 use crate::vertex::SceneVertex;
-use list::{Draw, DrawList, ReadFault, ReadKind};
+use model::{Draw, DrawList, ReadFault, ReadKind};
 use std::alloc::Global;
 
 /// The most draws of a draw list.

@@ -1,6 +1,6 @@
 ghost use Rattle.std.specs.Prelude.{◌≡◌, ◌↔◌, ◌≤◌, IsTrue, IfErr};
-ghost use Rattle.list.specs.Listing.{draw_listing};
-ghost use Rattle.list.specs.declared.fault.ReadKind.TheVariants.{OutOfMemory};
+ghost use Rattle.model.specs.Listing.{draw_listing};
+ghost use Rattle.model.specs.declared.fault.ReadKind.TheVariants.{OutOfMemory};
 ghost use Rattle.scene.specs.Listed.{truth_listed, cull_listed, depth_test_listed, state_listed, draw_listed};
 ghost use Rattle.scene.specs.Ranges.{IsDrawInRange};
 ghost use Rattle.scene.specs.Checking.{Pass, Reads};
@@ -9,7 +9,7 @@ ghost use Rattle.scene.specs.Checks.{draw_checks, checks_before_vertices};
 use crate::primitives::primitives_of;
 use crate::vertex::{SceneVertex, vertices_of};
 use grid::{Cull, PixelBox};
-use list::{Draw, ReadKind, State};
+use model::{Draw, ReadKind, State};
 use shade::{DepthTest, Merge};
 use std::alloc::Global;
 

@@ -3,7 +3,7 @@ ghost use Rattle.scene.specs.Listed.{samples_listed, clear_listed, output_listed
 ghost use Rattle.scene.specs.Ranges.{IsHeadInRange};
 
 use grid::SampleCount;
-use list::Output;
+use model::Output;
 use shade::Sample;
 
 /// The picture that a scene is drawn on, laid out as in C.

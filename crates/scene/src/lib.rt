@@ -11,6 +11,3 @@ pub use builder::build;
 pub use draw::SceneDraw;
 pub use head::SceneHead;
 pub use vertex::SceneVertex;
-
-#[cfg(test)]
-mod tests;

@@ -1,11 +1,11 @@
 ghost use Rattle.std.specs.Prelude.{◌≡◌, ◌↔◌, ◌<◌, ◌≤◌, IsTrue, IfOk, length};
 ghost use Rattle.std.specs.List.{All};
-ghost use Rattle.list.specs.Primitives.{primitive_listing, count_of_triangles};
+ghost use Rattle.model.specs.Primitives.{primitive_listing, count_of_triangles};
 ghost use Rattle.scene.specs.Listed.{corners_of, primitives_listed};
 ghost use Rattle.scene.specs.Checking.{Reads};
 ghost use Rattle.scene.specs.Checks.{primitives_checks};
 
-use list::{Primitives, ReadKind, Vertex};
+use model::{Primitives, ReadKind, Vertex};
 use std::alloc::{AllocError, Global};
 
 /// The most triangles of all draws together.

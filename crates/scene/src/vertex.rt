@@ -1,12 +1,12 @@
 ghost use Rattle.std.specs.Prelude.{◌≡◌, ◌↔◌, ◌≤◌, IsSome, IfSome, IfErr, length, map};
-ghost use Rattle.list.specs.declared.fault.ReadKind.TheVariants.{OutOfMemory};
+ghost use Rattle.model.specs.declared.fault.ReadKind.TheVariants.{OutOfMemory};
 ghost use Rattle.scene.specs.Listed.{vertex_listed};
 ghost use Rattle.scene.specs.Ranges.{IsVertexInRange};
 ghost use Rattle.scene.specs.Checking.{Pass, Reads};
 ghost use Rattle.scene.specs.Checks.{number_checks, vertices_checks};
 
 use grid::Point;
-use list::{ReadKind, Vertex};
+use model::{ReadKind, Vertex};
 use std::alloc::Global;
 
 /// The most vertices of a draw.

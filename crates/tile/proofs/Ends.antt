@@ -3,7 +3,7 @@ use Rattle.std.proofs.Common.{◌≡◌, ℕ, ◌+◌, ◌*◌, ◌/◌, ◌%◌
 use Rattle.lanes.specs.declared.block_samples.BlockSamples.{BlockSamples}
 use Rattle.shade.specs.declared.placed.Placed.{Placed}
 use Rattle.shade.specs.Placed.{Draws}
-use Rattle.list.specs.Scene.{Scene}
+use Rattle.model.specs.Scene.{Scene}
 use Rattle.bins.proofs.Drawn.{HasDrawn, none_drawn, one_drawn, all_drawn}
 use Rattle.raster.specs.declared.tile.Tile.{Tile}
 use Rattle.raster.specs.Samples.{place_of, planes_of, stored, AreAll}

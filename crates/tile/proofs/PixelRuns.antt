@@ -5,12 +5,12 @@ use Rattle.grid.specs.declared.sample_count.SampleCount.TheVariants.{One, Four}
 use Rattle.lanes.specs.declared.block_samples.BlockSamples.{BlockSamples}
 use Rattle.shade.specs.Quotient.{IsQuotient}
 use Rattle.shade.specs.Resolve.{IsResolved}
-use Rattle.list.specs.PixelPrefix.{IsPixelPrefix, IsPixelRun}
-use Rattle.list.specs.Picture.{pixel_at}
-use Rattle.list.specs.Scene.{Scene}
-use Rattle.list.specs.declared.output.Output.TheVariants.{Color, Depth}
-use Rattle.list.proofs.PixelPrefix.{prefix_run}
-use Rattle.list.proofs.Pixels.{same_pixel, pixel_of_part, pixel_of_three, pixel_of_two, pixel_of_colour, pixel_of_depth}
+use Rattle.model.specs.PixelPrefix.{IsPixelPrefix, IsPixelRun}
+use Rattle.model.specs.Picture.{pixel_at}
+use Rattle.model.specs.Scene.{Scene}
+use Rattle.model.specs.declared.output.Output.TheVariants.{Color, Depth}
+use Rattle.model.proofs.PixelPrefix.{prefix_run}
+use Rattle.model.proofs.Pixels.{same_pixel, pixel_of_part, pixel_of_three, pixel_of_two, pixel_of_colour, pixel_of_depth}
 use Rattle.raster.specs.declared.tile.Tile.{Tile}
 use Rattle.raster.specs.Samples.{place_of, stored}
 use Rattle.tile.specs.Picture.{IsShown, AreEnds, AreDepthsAt, AddsPixelRun}

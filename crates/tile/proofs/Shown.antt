@@ -9,8 +9,8 @@ use Rattle.grid.specs.declared.sample_count.SampleCount.{SampleCount}
 use Rattle.grid.specs.declared.sample_count.SampleCount.TheVariants.{One, Four}
 use Rattle.lanes.specs.declared.block_samples.BlockSamples.{BlockSamples}
 use Rattle.shade.specs.Resolve.{IsResolved}
-use Rattle.list.specs.Scene.{Scene}
-use Rattle.list.specs.Picture.{IsColour, IsPart}
+use Rattle.model.specs.Scene.{Scene}
+use Rattle.model.specs.Picture.{IsColour, IsPart}
 use Rattle.bins.specs.Grid.{TileGrid, columns_of, rows_of, tiles_of, rect_of}
 use Rattle.bins.specs.Bin.{IsBinOf}
 use Rattle.bins.proofs.Tiles.{starts_within, in_rect}

@@ -5,9 +5,9 @@ use Rattle.grid.specs.declared.pixels.PixelBox.{PixelBox}
 use Rattle.lanes.specs.declared.block_samples.BlockSamples.{BlockSamples}
 use Rattle.shade.specs.Resolve.{IsResolved}
 use Rattle.shade.specs.Placed.{Meets}
-use Rattle.list.specs.Scene.{Scene}
-use Rattle.list.specs.PixelPrefix.{IsPixelRun}
-use Rattle.list.specs.Picture.{IsEnd, IsPart}
+use Rattle.model.specs.Scene.{Scene}
+use Rattle.model.specs.PixelPrefix.{IsPixelRun}
+use Rattle.model.specs.Picture.{IsEnd, IsPart}
 use Rattle.bins.specs.Grid.{TileGrid, columns_of}
 use Rattle.bins.specs.Bin.{IsBin}
 use Rattle.raster.specs.declared.tile.Tile.{Tile}

@@ -5,7 +5,7 @@ ghost use Rattle.raster.specs.Samples.{planes_of};
 ghost use Rattle.tile.specs.Picture.{AreDepthsAt};
 
 use lanes::BlockSamples;
-use list::depth_bytes;
+use model::depth_bytes;
 use raster::Tile;
 
 /// The bytes of eight depths in order, from a pixel of a block on.

@@ -12,7 +12,7 @@ use crate::store::Store;
 use bins::{BATCH, Bins, Tiling, fetch};
 use grid::{OutOfMemory, PixelBox, SampleCount, TileSide};
 use lanes::BlockSamples;
-use list::DrawList;
+use model::DrawList;
 use raster::{Tile, clear, draw_triangle};
 use std::alloc::Global;
 

@@ -1,15 +1,15 @@
 //! The bytes of a tile's pixels.
 ghost use Rattle.std.specs.Prelude.{◌≡◌, ℕ, ◌+◌, ◌*◌, ◌/◌, ◌%◌, ◌<◌, ◌≤◌, ◌++◌, length, take, IfOk, OnOk};
 ghost use Rattle.grid.specs.Pixels.{side_of};
-ghost use Rattle.list.specs.PixelPrefix.{IsPixelPrefix};
-ghost use Rattle.list.specs.Picture.{IsPart};
+ghost use Rattle.model.specs.PixelPrefix.{IsPixelPrefix};
+ghost use Rattle.model.specs.Picture.{IsPart};
 ghost use Rattle.raster.specs.Samples.{planes_of};
 ghost use Rattle.tile.specs.Picture.{IsShown, AreEnds, AddsPixelRun};
 
 use crate::depths::depths;
 use grid::OutOfMemory;
 use lanes::BlockSamples;
-use list::{DrawList, Output};
+use model::{DrawList, Output};
 use raster::{Tile, colours};
 use std::alloc::Global;
 

@@ -3,7 +3,7 @@ ghost use Rattle.std.specs.Prelude.{◌<◌};
 
 use crate::rendering::{Numbers, SIDES, are_parts};
 use grid::{Cull, PixelBox, Point, SampleCount};
-use list::{Draw, DrawList, Output, Primitives, State, Vertex};
+use model::{Draw, DrawList, Output, Primitives, State, Vertex};
 use shade::{DepthTest, Merge, Sample};
 use std::alloc::Global;
 use std::process::Abort;

@@ -2,7 +2,7 @@ ghost use Rattle.std.specs.Prelude.{◌<◌};
 
 use bins::{Bins, Tiling};
 use grid::{Cull, OutOfMemory, PixelBox, Point, SampleCount, TileSide};
-use list::{Draw, DrawList, Output, Primitives, State, Vertex};
+use model::{Draw, DrawList, Output, Primitives, State, Vertex};
 use shade::{DepthTest, Merge, Sample};
 use std::alloc::Global;
 use std::process::Abort;

@@ -3,10 +3,10 @@ use Rattle.std.proofs.Common.{◌≡◌, sym, ap, subst, ◌∙◌, ℕ, ◌+◌
 use Rattle.std.proofs.Math.Nat.{mul-le-mul_left}
 use Rattle.grid.specs.Pixels.{side_of}
 use Rattle.grid.specs.declared.pixels.TileSide.{TileSide}
-use Rattle.list.specs.Picture.{IsPart}
-use Rattle.list.specs.Scene.{Scene}
-use Rattle.list.proofs.Parts.{part-append}
-use Rattle.list.proofs.Pixels.{bytes_of_none}
+use Rattle.model.specs.Picture.{IsPart}
+use Rattle.model.specs.Scene.{Scene}
+use Rattle.model.proofs.Parts.{part-append}
+use Rattle.model.proofs.Pixels.{bytes_of_none}
 use Rattle.bins.specs.Grid.{TileGrid, tiles_over}
 use Rattle.trirast.specs.Band.{AddsBand, AddsBands}
 use Rattle.trirast.specs.File.{header_of, IsPictureFile}

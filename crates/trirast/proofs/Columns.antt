@@ -6,11 +6,11 @@ use Rattle.std.proofs.Math.Nat.{mod-lt, div-add-mod'}
 use Rattle.std.proofs.lemmas.Int.{ints}
 use Rattle.grid.specs.Pixels.{side_of}
 use Rattle.grid.specs.declared.pixels.PixelBox.{PixelBox}
-use Rattle.list.specs.PixelPrefix.{IsPixelPrefix, IsPixelRun}
-use Rattle.list.specs.Scene.{Scene}
-use Rattle.list.specs.Picture.{IsPixel, pixel_at}
-use Rattle.list.proofs.PixelPrefix.{prefix_run, empty_prefix, part_of_rows}
-use Rattle.list.proofs.Pixels.{bytes_of_both, bytes_of_none, same_pixel, pixel_before, pixel_behind}
+use Rattle.model.specs.PixelPrefix.{IsPixelPrefix, IsPixelRun}
+use Rattle.model.specs.Scene.{Scene}
+use Rattle.model.specs.Picture.{IsPixel, pixel_at}
+use Rattle.model.proofs.PixelPrefix.{prefix_run, empty_prefix, part_of_rows}
+use Rattle.model.proofs.Pixels.{bytes_of_both, bytes_of_none, same_pixel, pixel_before, pixel_behind}
 use Rattle.bins.specs.Grid.{TileGrid, columns_of, rect_at, rect_of, tiles_over}
 use Rattle.tile.specs.Picture.{AddsPixelRun, IsPictureIn}
 use Rattle.tile.specs.declared.drawing.TilePixels.{TilePixels}

@@ -3,8 +3,8 @@ use Rattle.std.proofs.Common.{rules, ◌↔◌, ℕ, inl, inr, List, Option, Non
 use Rattle.std.proofs.lemmas.Option.{none-some, same_Some}
 use Rattle.std.specs.Result.{result_err}
 use Rattle.grid.specs.declared.pixels.TileSide.{TileSide}
-use Rattle.list.specs.Denotes.{Denotes}
-use Rattle.list.specs.Scene.{Scene}
+use Rattle.model.specs.Denotes.{Denotes}
+use Rattle.model.specs.Scene.{Scene}
 use Rattle.trirast.specs.Picture.{ExplainsPicture, fault_of}
 use Rattle.trirast.specs.Runs.{EndsAs, GivesAll}
 use Rattle.trirast.specs.declared.fault.Fault.{Fault}

@@ -9,12 +9,12 @@ use Rattle.std.proofs.KnownBytes.{Appends-nil, Appends-trans}
 use Rattle.std.specs.Io.KnownBytes.{Appends}
 use Rattle.grid.specs.Pixels.{side_of}
 use Rattle.grid.specs.declared.pixels.TileSide.{TileSide}
-use Rattle.list.specs.declared.output.Output.{Output}
-use Rattle.list.specs.declared.output.Output.TheVariants.{Color, Depth}
-use Rattle.list.specs.Scene.{Scene}
-use Rattle.list.specs.Picture.{IsPart, pixel_bytes}
-use Rattle.list.proofs.Parts.{part-append}
-use Rattle.list.proofs.Pixels.{bytes_of_none, bytes_up_to}
+use Rattle.model.specs.declared.output.Output.{Output}
+use Rattle.model.specs.declared.output.Output.TheVariants.{Color, Depth}
+use Rattle.model.specs.Scene.{Scene}
+use Rattle.model.specs.Picture.{IsPart, pixel_bytes}
+use Rattle.model.proofs.Parts.{part-append}
+use Rattle.model.proofs.Pixels.{bytes_of_none, bytes_up_to}
 use Rattle.bins.specs.Bin.{TileBins, AreBins}
 use Rattle.bins.specs.Grid.{TileGrid, tiles_over}
 use Rattle.trirast.specs.Band.{AddsBands, AreBands}

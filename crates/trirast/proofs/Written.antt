@@ -7,12 +7,12 @@ use Rattle.std.proofs.KnownBytes.{Appends-trans}
 use Rattle.std.specs.Io.KnownBytes.{Appends}
 use Rattle.grid.specs.Pixels.{side_of}
 use Rattle.grid.specs.declared.pixels.TileSide.{TileSide}
-use Rattle.list.specs.declared.output.Output.{Output}
-use Rattle.list.specs.Scene.{Scene}
-use Rattle.list.specs.Picture.{IsPart}
-use Rattle.list.proofs.Exists.{part-exists}
-use Rattle.list.proofs.Parts.{part-append}
-use Rattle.list.proofs.Pixels.{bytes_of_none}
+use Rattle.model.specs.declared.output.Output.{Output}
+use Rattle.model.specs.Scene.{Scene}
+use Rattle.model.specs.Picture.{IsPart}
+use Rattle.model.proofs.Exists.{part-exists}
+use Rattle.model.proofs.Parts.{part-append}
+use Rattle.model.proofs.Pixels.{bytes_of_none}
 use Rattle.bins.specs.Grid.{tiles_over}
 use Rattle.trirast.specs.Band.{AreBands}
 use Rattle.trirast.specs.File.{header_of, file_of, IsPictureFile}

@@ -2,8 +2,8 @@
 use Rattle.std.specs.Prelude.{◌≡◌, ℕ, ◌+◌, ◌-◌, ◌*◌, List, ◌++◌, length, min, slice_get, Some}
 use Rattle.grid.specs.Pixels.{side_of}
 use Rattle.grid.specs.declared.pixels.TileSide.{TileSide}
-use Rattle.list.specs.Picture.{IsPart}
-use Rattle.list.specs.Scene.{Scene}
+use Rattle.model.specs.Picture.{IsPart}
+use Rattle.model.specs.Scene.{Scene}
 use Rattle.bins.specs.Grid.{TileGrid, columns_of, rect_at}
 use Rattle.tile.specs.declared.drawing.TilePixels.{TilePixels}
 

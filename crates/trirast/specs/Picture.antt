@@ -2,7 +2,7 @@
 use Rattle.std.specs.Prelude.{◌≡◌, ℕ, ◌+◌, ◌-◌, ◌<◌, ◌≤◌, List, length, take, Option}
 use Rattle.std.specs.Io.KnownBytes.{Keeps, Appends}
 use Rattle.grid.specs.declared.pixels.TileSide.{TileSide}
-use Rattle.list.specs.Scene.{Scene}
+use Rattle.model.specs.Scene.{Scene}
 use Rattle.trirast.specs.Band.{AreBands}
 use Rattle.trirast.specs.Runs.{WritesBands, WritesFileUpTo}
 use Rattle.trirast.specs.declared.fault.Fault.{Fault}

@@ -3,15 +3,15 @@ use Rattle.std.specs.Prelude.{◌≡◌, ◌↔◌, ℕ, ◌+◌, ◌*◌, ◌<�
 use Rattle.std.specs.Io.KnownBytes.{Keeps, Appends, Consumes, IsAtEnd}
 use Rattle.grid.specs.Pixels.{side_of}
 use Rattle.grid.specs.declared.pixels.TileSide.{TileSide}
-use Rattle.list.specs.Picture.{pixel_bytes}
-use Rattle.list.specs.Scene.{Scene}
-use Rattle.list.specs.declared.fault.ReadFault.{ReadFault}
+use Rattle.model.specs.Picture.{pixel_bytes}
+use Rattle.model.specs.Scene.{Scene}
+use Rattle.model.specs.declared.fault.ReadFault.{ReadFault}
 use Rattle.trirast.specs.declared.fault.Fault.{Fault}
 use Rattle.trirast.specs.declared.fault.Fault.TheVariants.{List as BadList, Pool, InputFailed, InputTooLong, WriteFailed, OutOfMemory}
-use Rattle.list.specs.Checks.{all_checks}
-use Rattle.list.specs.Denotes.{Denotes}
-use Rattle.list.specs.Json.{json_of}
-use Rattle.list.specs.FirstFault.{IsFirstFault}
+use Rattle.model.specs.Checks.{all_checks}
+use Rattle.model.specs.Denotes.{Denotes}
+use Rattle.model.specs.Json.{json_of}
+use Rattle.model.specs.FirstFault.{IsFirstFault}
 use Rattle.trirast.specs.File.{header_of, IsPictureFile}
 
 -- a reader that had `left` gave these bytes, and then was at its end

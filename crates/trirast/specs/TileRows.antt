@@ -1,6 +1,6 @@
 -- Tile rows that are drawn together.
 use Rattle.std.specs.Prelude.{◌≡◌, ℕ, ◌+◌, ◌-◌, ◌*◌, ◌/◌, ◌%◌, ◌<◌, List, length, slice_get, Some, IfOk, IfErr, IfSome}
-use Rattle.list.specs.Scene.{Scene}
+use Rattle.model.specs.Scene.{Scene}
 use Rattle.bins.specs.Bin.{TileBins, AreBins}
 use Rattle.bins.specs.Grid.{TileGrid, columns_of}
 use Rattle.tile.specs.declared.drawing.TilePixels.{TilePixels}

@@ -21,7 +21,7 @@ pub(crate) struct Band<'a> {
 }
 
 impl<'a> Band<'a> {
-    ghost use Rattle.list.specs.PixelPrefix.{IsPixelRun};
+    ghost use Rattle.model.specs.PixelPrefix.{IsPixelRun};
     ghost use Rattle.tile.specs.Picture.{AddsPixelRun};
     ghost use Rattle.trirast.specs.Band.{band_top, band_height, column_left, column_width as width_of_column, IsColumn, AddsBand};
 

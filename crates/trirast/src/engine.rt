@@ -1,10 +1,10 @@
 //! From the bytes of an input to the bytes of a picture.
 ghost use Rattle.std.specs.Prelude.{◌≡◌, ◌<◌, ◌≤◌, ◌↔◌, ◌⊎◌, ℕ, ◌+◌, length, Ok, OnOk, IfOk, IfErr, IsErrOf, vec_len};
-ghost use Rattle.list.specs.declared.fault.ReadFault.{ReadFault};
-ghost use Rattle.list.specs.Checks.{all_checks};
-ghost use Rattle.list.specs.Denotes.{Denotes};
-ghost use Rattle.list.specs.Json.{json_of};
-ghost use Rattle.list.specs.FirstFault.{IsFirstFault};
+ghost use Rattle.model.specs.declared.fault.ReadFault.{ReadFault};
+ghost use Rattle.model.specs.Checks.{all_checks};
+ghost use Rattle.model.specs.Denotes.{Denotes};
+ghost use Rattle.model.specs.Json.{json_of};
+ghost use Rattle.model.specs.FirstFault.{IsFirstFault};
 ghost use Rattle.trirast.specs.Runs.{EndsAs};
 
 use crate::counted::Counted;

@@ -1,6 +1,6 @@
 -- What drawing a list into a buffer tells of the list that the caller gave.
 use Rattle.std.proofs.Common.{◌≡◌, ◌⊎◌, inl, inr, ℕ, Result, Ok, Err, IfErr}
-use Rattle.list.specs.Scene.{Scene}
+use Rattle.model.specs.Scene.{Scene}
 use Rattle.trirast_c.specs.declared.fault.CallFault.{CallFault}
 use Rattle.trirast_c.specs.declared.fault.CallFault.TheVariants.{OutOfMemory, BufferTooShort}
 use Rattle.trirast_c.specs.Library.{Given, ExplainsDraw, IsFileLonger}

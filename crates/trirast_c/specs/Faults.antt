@@ -1,6 +1,6 @@
 -- The faults of the library's calls, as numbers.
 use Rattle.std.specs.Prelude.{◌≡◌, ℕ, ⊤, Option, Some, None, Result, Ok, Err}
-use Rattle.list.specs.Fault.{number_of as list_number_of}
+use Rattle.model.specs.Fault.{number_of as list_number_of}
 use Rattle.trirast_c.specs.declared.fault.CallFault.{CallFault}
 use Rattle.trirast_c.specs.declared.fault.CallFault.TheVariants.{List as BadList, InputTooLong, OutOfMemory, BufferTooShort, NoSide, NoRows}
 use Rattle.trirast_c.specs.declared.fault.LibraryFault.{LibraryFault}

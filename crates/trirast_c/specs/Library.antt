@@ -3,13 +3,13 @@
 use Rattle.std.specs.Prelude.{◌≡◌, ℕ, ◌<◌, ◌≤◌, List, ◌++◌, length, drop, ⊤}
 use Rattle.grid.specs.Pixels.{side_of}
 use Rattle.grid.specs.declared.pixels.TileSide.{TileSide}
-use Rattle.list.specs.Checks.{all_checks}
-use Rattle.list.specs.Denotes.{Denotes}
-use Rattle.list.specs.Json.{json_of}
-use Rattle.list.specs.Picture.{pixel_bytes}
-use Rattle.list.specs.FirstFault.{IsFirstFault}
-use Rattle.list.specs.Scene.{Scene}
-use Rattle.list.specs.declared.fault.ReadFault.{ReadFault}
+use Rattle.model.specs.Checks.{all_checks}
+use Rattle.model.specs.Denotes.{Denotes}
+use Rattle.model.specs.Json.{json_of}
+use Rattle.model.specs.Picture.{pixel_bytes}
+use Rattle.model.specs.FirstFault.{IsFirstFault}
+use Rattle.model.specs.Scene.{Scene}
+use Rattle.model.specs.declared.fault.ReadFault.{ReadFault}
 use Rattle.scene.specs.Checks.{IsListOf, IsFirstFault as IsFirstOfArrays}
 use Rattle.scene.specs.declared.draw.SceneDraw.{SceneDraw}
 use Rattle.scene.specs.declared.head.SceneHead.{SceneHead}

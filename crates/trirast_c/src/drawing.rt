@@ -1,6 +1,6 @@
 //! Pictures and rows of them, into the caller's buffer.
 ghost use Rattle.std.specs.Prelude.{◌≡◌, ◌≢◌, ◌<◌, ◌≤◌, ◌↔◌, ◌⊎◌, ℕ, List, length, OnOk, OnErr, IfErr};
-ghost use Rattle.list.specs.Denotes.{Denotes};
+ghost use Rattle.model.specs.Denotes.{Denotes};
 ghost use Rattle.scene.specs.Checks.{IsListOf};
 ghost use Rattle.bins.specs.Grid.{tiles_over};
 ghost use Rattle.trirast.specs.Band.{AreBands};

@@ -1,7 +1,7 @@
 //! What the caller gives: a list, and the side of a tile.
 ghost use Rattle.std.specs.Prelude.{◌≡◌, ◌<◌, ◌↔◌, length, IfOk, IfErr, Err};
 ghost use Rattle.grid.specs.Pixels.{side_of as pixels_of};
-ghost use Rattle.list.specs.Denotes.{Denotes};
+ghost use Rattle.model.specs.Denotes.{Denotes};
 ghost use Rattle.scene.specs.Checks.{IsListOf};
 ghost use Rattle.trirast_c.specs.Library.{ExplainsSize, IsSide, arrays, text};
 ghost use Rattle.trirast_c.specs.declared.fault.CallFault.TheVariants as call;

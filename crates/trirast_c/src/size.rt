@@ -1,6 +1,6 @@
 //! What a picture takes.
 ghost use Rattle.std.specs.Prelude.{◌≡◌, ◌≢◌, ◌<◌, ◌↔◌, length, OnOk, OnErr, IfErr};
-ghost use Rattle.list.specs.Denotes.{Denotes};
+ghost use Rattle.model.specs.Denotes.{Denotes};
 ghost use Rattle.trirast_c.specs.Faults.{no_fault, number_of, told};
 ghost use Rattle.trirast_c.specs.Library.{ExplainsSize, IsSizeOf, TellsSize, text};
 

@@ -1,6 +1,6 @@
 //! The line of a fault, into the caller's buffer.
 ghost use Rattle.std.specs.Prelude.{◌≡◌, ◌≤◌, length, drop, IfSome};
-ghost use Rattle.list.specs.Fault.{number_of as list_number_of};
+ghost use Rattle.model.specs.Fault.{number_of as list_number_of};
 ghost use Rattle.trirast_c.specs.Faults.{told};
 
 use crate::fault::{CallFault, LibraryFault};

@@ -1,6 +1,6 @@
 use Rattle.std.proofs.Common.{sym, ◌∙◌}
-use Rattle.list.proofs.PixelPrefix.{adds_pixel}
-use Rattle.list.proofs.Pixels.{pixel_of_colour, pixel_of_depth}
+use Rattle.model.proofs.PixelPrefix.{adds_pixel}
+use Rattle.model.proofs.Pixels.{pixel_of_colour, pixel_of_depth}
 use Rattle.plain.proofs.picture.push_pixel.Goals as goal
 
 pub returns-in-Color : goal.returns-in-Color

@@ -1,5 +1,5 @@
 use Rattle.std.proofs.Common.{◌≡◌, refl, ◌+◌, ◌*◌, ◌<◌, zero-add, arith}
-use Rattle.list.proofs.PixelPrefix.{prefix_pixel}
+use Rattle.model.proofs.PixelPrefix.{prefix_pixel}
 use Rattle.plain.proofs.picture.push_row.Goals as goal
 
 pub loop-px-preserved : goal.loop-px-preserved

@@ -1,5 +1,5 @@
 use Rattle.std.proofs.Common.{◌+◌, ◌*◌}
-use Rattle.list.specs.PixelPrefix.{IsPixelPrefix}
+use Rattle.model.specs.PixelPrefix.{IsPixelPrefix}
 use Rattle.plain.proofs.picture.push_row.Given as goal
 
 abbrev pub invariant-loop-px : goal.invariant-loop-px

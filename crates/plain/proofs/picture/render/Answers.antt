@@ -1,6 +1,6 @@
 use Rattle.std.proofs.Common.{◌≡◌, arith}
-use Rattle.list.proofs.PixelPrefix.{part_of_rows}
-use Rattle.list.proofs.Unique.{part-unique}
+use Rattle.model.proofs.PixelPrefix.{part_of_rows}
+use Rattle.model.proofs.Unique.{part-unique}
 use Rattle.plain.proofs.picture.render.Goals as goal
 
 pub returns-clause-picture : goal.returns-clause-picture

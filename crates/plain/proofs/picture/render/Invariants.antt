@@ -1,5 +1,5 @@
 use Rattle.std.proofs.Common.{◌*◌}
-use Rattle.list.specs.PixelPrefix.{IsPixelPrefix}
+use Rattle.model.specs.PixelPrefix.{IsPixelPrefix}
 use Rattle.plain.proofs.picture.render.Given as goal
 
 abbrev pub invariant-loop-py : goal.invariant-loop-py

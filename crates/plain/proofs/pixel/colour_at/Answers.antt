@@ -1,5 +1,5 @@
 use Rattle.std.proofs.Common.{sym, ◌∙◌}
-use Rattle.list.proofs.Colours.{colour_of_one, colour_of_four}
+use Rattle.model.proofs.Colours.{colour_of_one, colour_of_four}
 use Rattle.plain.proofs.pixel.colour_at.Goals as goal
 
 pub returns-in-One : goal.returns-in-One

@@ -1,7 +1,7 @@
 use Rattle.std.proofs.Common.{◌<◌, length, ap, ◌∙◌, arith}
 use Rattle.std.proofs.lemmas.Result.{err_from_is_err_and}
-use Rattle.list.specs.Primitives.{count_of_triangles}
-use Rattle.list.specs.Listing.{DrawListing}
+use Rattle.model.specs.Primitives.{count_of_triangles}
+use Rattle.model.specs.Listing.{DrawListing}
 use Rattle.scene.proofs.Draws.{fails_here, fails_later, reached_here, reached_later, passes_here, one_more_listed}
 use Rattle.scene.proofs.builder.draws_of.Goals as goal
 

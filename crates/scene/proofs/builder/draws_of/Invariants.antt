@@ -1,7 +1,7 @@
 use Rattle.std.proofs.Common.{◌≡◌, ℕ, ◌≤◌, ◌++◌, length, map, drop, vec_len, vec_capacity}
-use Rattle.list.specs.declared.fault.ReadFault.{ReadFault}
-use Rattle.list.specs.declared.fault.ReadKind.{ReadKind}
-use Rattle.list.specs.Listing.{draw_listing}
+use Rattle.model.specs.declared.fault.ReadFault.{ReadFault}
+use Rattle.model.specs.declared.fault.ReadKind.{ReadKind}
+use Rattle.model.specs.Listing.{draw_listing}
 use Rattle.scene.specs.Listed.{draws_listed}
 use Rattle.scene.specs.Checks.{DrawsPass, IsFirstOfDraws, IsReached}
 use Rattle.scene.proofs.builder.draws_of.Given as goal

@@ -1,5 +1,5 @@
 use Rattle.std.proofs.Common.{◌≡◌, arith}
-use Rattle.list.proofs.PixelPrefix.{part_of_rows}
+use Rattle.model.proofs.PixelPrefix.{part_of_rows}
 use Rattle.tile.proofs.pixels.resolve.Goals as goal
 
 pub returns : goal.returns

@@ -1,5 +1,5 @@
 use Rattle.std.proofs.Common.{◌*◌}
-use Rattle.list.specs.PixelPrefix.{IsPixelPrefix}
+use Rattle.model.specs.PixelPrefix.{IsPixelPrefix}
 use Rattle.tile.proofs.pixels.resolve.Given as goal
 
 abbrev pub invariant-loop-row : goal.invariant-loop-row

@@ -1,6 +1,6 @@
 use Rattle.std.proofs.Common.{rules, refl, ap, ap₂, ℕ, ◌+◌, ◌*◌, ◌≤◌, length, ◌∙◌}
-use Rattle.list.specs.Picture.{pixel_bytes}
-use Rattle.list.proofs.PixelPrefix.{part_run, row_within}
+use Rattle.model.specs.Picture.{pixel_bytes}
+use Rattle.model.proofs.PixelPrefix.{part_run, row_within}
 use Rattle.trirast.proofs.band.Band.row_of.Goals as goal
 
 pub slice_bounds-result-end : goal.slice_bounds-result-end

@@ -1,0 +1,31 @@
+-- A top object and its draws.
+use Rattle.std.proofs.Common.{◌≡◌, ◌≤◌, List, sum_by, arith}
+use Rattle.serde_json.specs.Data.{Data}
+use Rattle.serde_json.specs.View.{items_view}
+use Rattle.model.specs.Primitives.{count_of_triangles}
+use Rattle.model.specs.Listing.{DrawListing}
+use Rattle.model.specs.Denotes.{Each, picture_box, IsDraw, IsListing}
+use Rattle.model.proofs.Counts.{items_len_each}
+use Rattle.checking_reader.specs.declared.header.Header.{Header}
+use Rattle.checking_reader.specs.Header.{IsHeader}
+use Rattle.checking_reader.proofs.Elements.{items_len_view}
+
+-- a top object with its draws is a draw list
+pub headed : (d : Data) (h : Header) (draws : List DrawListing) → IsHeader d h → Each (IsDraw (picture_box h.width h.height)) (items_view h.draws.now) draws
+    → sum_by (λ d. count_of_triangles d.primitives) draws ≤ 65536
+    → IsListing d (record { width = h.width; height = h.height; count = h.count; clear = h.clear; output = h.output; draws = draws })
+headed d h draws is parts few =
+    let many = items_len_each _ _ _ parts in
+    let all = items_len_view h.draws.now in
+    record {
+      object = is.object;
+      keys = is.keys;
+      width = is.width;
+      height = is.height;
+      samples = is.beginning.samples;
+      clear = is.beginning.colour;
+      clear_depth = is.beginning.depth;
+      output = is.beginning.output;
+      draws = record { array = is.array; parts = rw is.draws at parts; at_most = omega (arith, many, all, is.at_most) };
+      triangles = few;
+    }

@@ -1,0 +1,9 @@
+pub mod Finish
+pub mod Elements
+pub mod Draws
+pub mod KnownKeys
+pub mod Memory
+pub mod Reached
+pub mod Words
+pub mod Headed
+pub mod Parts

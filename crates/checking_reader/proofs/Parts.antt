@@ -1,0 +1,23 @@
+-- The vertices of a draw, and the primitives over them.
+use Rattle.std.proofs.Common.{◌≡◌, ap, ◌∙◌, ℕ, List, length, map, Option, None}
+use Rattle.std.specs.Option.{option_or}
+use Rattle.serde_json.specs.Data.{Data}
+use Rattle.model.specs.declared.draw.Vertex.{Vertex}
+use Rattle.model.specs.declared.fault.ReadKind.{ReadKind}
+use Rattle.model.specs.Json.{elements, count}
+use Rattle.model.specs.FirstFault.{first_fault}
+use Rattle.model.specs.Checks.{Checks, where_there, vertices_checks, primitive_checks, part_checks, positions_written}
+use Rattle.model.specs.Denotes.{IsArrayOf, IsVertex}
+use Rattle.model.proofs.Corners.{same_places}
+use Rattle.model.proofs.Counts.{items_len_each}
+use Rattle.model.proofs.Faults.{first_fault_of_both}
+
+-- the first fault of the primitives is that of the vertices and primitives, where the vertices pass
+pub parts_answer : (earlier : ℕ) (v t s q : Option Data) (vs : List Vertex) (answer : Option ReadKind) → first_fault (where_there vertices_checks v) ≡ None → IsArrayOf 65536 IsVertex v vs
+    → first_fault (primitive_checks earlier (length vs) (map (λ v. v.at) vs) t s q) ≡ answer → first_fault (part_checks earlier v t s q) ≡ answer
+parts_answer earlier v t s q vs answer passed is told =
+    let many = items_len_each IsVertex (elements v) vs is.parts in
+    let places = same_places (elements v) vs is.parts in
+    let lists : Checks = primitive_checks earlier (count v) (positions_written (elements v)) t s q in
+    let first : first_fault lists ≡ answer = rw (many, places) told in
+    first_fault_of_both (where_there vertices_checks v) lists ∙ (ap (λ o. option_or o (first_fault lists)) passed ∙ first)

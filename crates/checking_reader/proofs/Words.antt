@@ -1,0 +1,25 @@
+-- A text that is none of the words.
+use Rattle.std.proofs.Common.{◌≡◌, ℕ, List, [], ◌∷◌, Bool, true, false, bytes_eq, Option, Some, None, sym}
+use Rattle.std.specs.List.{AllByRecursion}
+use Rattle.std.proofs.lemmas.Slice.Eq.{bytes_eq-Decides}
+use Rattle.serde_json.specs.Data.{Data}
+use Rattle.model.specs.declared.fault.ReadKind.TheVariants.{OutOfRange}
+use Rattle.model.specs.Json.{text, is_among}
+use Rattle.model.specs.FirstFault.{first_fault}
+use Rattle.model.specs.Checks.{where_there, word_checks}
+
+decided : (b : Bool) (P : Type 0) → (b ≡ true → P) → (P → ⊥) → b ≡ false
+decided true P holds not = absurd (not (holds (cc)))
+decided false P holds not = cc
+
+bytes_eq-other : (word t : List ℕ) → (t ≡ word → ⊥) → bytes_eq word t ≡ false
+bytes_eq-other word t other = decided (bytes_eq word t) (word ≡ t) (bytes_eq-Decides word t).0 (λ e. other (sym e))
+
+is_among-none : (words : List (List ℕ)) (t : List ℕ) → AllByRecursion (λ word. t ≡ word → ⊥) words → is_among words t ≡ false
+is_among-none [] t h = cc
+is_among-none (word ∷ words) t h = rw (bytes_eq-other word t h.0) (is_among-none words t h.1)
+
+pub unknown_word : (words : List (List ℕ)) (value : Option Data) (t : List ℕ) → text value ≡ Some t → AllByRecursion (λ word. t ≡ word → ⊥) words
+    → first_fault (where_there (word_checks words) value) ≡ Some OutOfRange
+unknown_word words None t is other = absurd (cc)
+unknown_word words (Some v) t is other = rw (is, is_among-none words t other) (cc)

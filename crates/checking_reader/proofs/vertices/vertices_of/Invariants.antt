@@ -1,0 +1,13 @@
+use Rattle.std.proofs.Common.{◌≡◌, length, vec_len, vec_capacity}
+use Rattle.model.specs.Checks.{vertex_checks}
+use Rattle.model.specs.Denotes.{IsVertex}
+use Rattle.checking_reader.proofs.Elements.{PassedTo, Continues}
+use Rattle.checking_reader.proofs.vertices.vertices_of.Given as goal
+
+abbrev pub invariant-loop-value : goal.invariant-loop-value
+invariant-loop-value l = record {
+  passed : PassedTo vertex_checks l.list l.value-index;
+  counted : vec_len l.found ≡ l.value-index;
+  room : vec_capacity l.found ≡ length l.list;
+  read : Continues IsVertex l.list l.value-index l.found.items;
+}

@@ -1,0 +1,30 @@
+-- The list of primitives that a draw has, still as it was written.
+use Rattle.std.specs.Prelude.{◌≡◌, codes, Option, Some, None}
+use Rattle.serde_json.specs.Data.{Data}
+use Rattle.serde_json.specs.Find.{get}
+use Rattle.serde_json.specs.View.{view}
+use Rattle.checking_reader.specs.declared.primitives.PrimitiveArray.{PrimitiveArray}
+use Rattle.checking_reader.specs.declared.primitives.PrimitiveArray.TheVariants.{Triangles, Strip, Quads}
+
+-- what stands under `triangles`
+abbrev pub given_triangles : PrimitiveArray → Option Data
+given_triangles (Triangles array) = Some (view array.now)
+given_triangles (Strip array) = None
+given_triangles (Quads array) = None
+
+-- what stands under `strip`
+abbrev pub given_strip : PrimitiveArray → Option Data
+given_strip (Triangles array) = None
+given_strip (Strip array) = Some (view array.now)
+given_strip (Quads array) = None
+
+-- what stands under `quads`
+abbrev pub given_quads : PrimitiveArray → Option Data
+given_quads (Triangles array) = None
+given_quads (Strip array) = None
+given_quads (Quads array) = Some (view array.now)
+
+pub record IsGiven (value : Data) (given : PrimitiveArray) : Type 0 where
+  pub triangles : get (codes "triangles") value ≡ given_triangles given
+  pub strip : get (codes "strip") value ≡ given_strip given
+  pub quads : get (codes "quads") value ≡ given_quads given

@@ -1,0 +1,20 @@
+-- The top object, with its draws still as they were written.
+use Rattle.std.specs.Prelude.{◌≡◌, ◌≤◌, length, false, codes, IsSome}
+use Rattle.serde_json.specs.Data.{Data}
+use Rattle.serde_json.specs.Find.{get, as_object}
+use Rattle.serde_json.specs.View.{items_view}
+use Rattle.model.specs.Json.{array_of, elements, has_other_key}
+use Rattle.model.specs.Keys.{top_keys}
+use Rattle.model.specs.Beginning.{IsBeginning}
+use Rattle.model.specs.Denotes.{IsSize}
+use Rattle.checking_reader.specs.declared.header.Header.{Header}
+
+pub record IsHeader (value : Data) (h : Header) : Type 0 where
+  pub object : IsSome (as_object value)
+  pub keys : has_other_key top_keys (as_object value) ≡ false
+  pub width : IsSize (get (codes "width") value) h.width
+  pub height : IsSize (get (codes "height") value) h.height
+  pub beginning : IsBeginning value h.count h.clear h.output
+  pub array : IsSome (array_of (get (codes "draws") value))
+  pub draws : items_view h.draws.now ≡ elements (get (codes "draws") value)
+  pub at_most : length h.draws.now ≤ 1024

@@ -1,0 +1,136 @@
+ghost use Rattle.std.specs.Prelude.{◌≡◌, ◌≤◌, pos, Some, length, option_map, [], ◌∷◌};
+ghost use Rattle.serde_json.specs.View.{view, items_view};
+ghost use Rattle.grid.specs.declared.sample_count.SampleCount.TheVariants as count_of;
+ghost use Rattle.model.specs.Beginning.{IsBeginning};
+ghost use Rattle.checking_reader.specs.Answer.{Tells};
+ghost use Rattle.model.specs.Checks.{where_there, size_checks, sample_count_checks, colour_checks, depth_checks, clear_checks, top_checks};
+ghost use Rattle.model.specs.Denotes.{OrDefault, IsSize, IsSampleCount, IsClearColour, IsDepthNumber};
+
+use model::{Output, ReadKind, MOST_DRAWS};
+use crate::array::{array_of, has_length};
+use crate::keys::has_other;
+use crate::number::{channel, depth, whole_number};
+use crate::word::output;
+use grid::SampleCount;
+use serde_json::Value;
+use shade::Sample;
+
+/// The parts of the top object, with its draws still as they were written.
+#[derive(Drop)]
+pub(crate) struct Header<'v> {
+    pub width: u32,
+    pub height: u32,
+    pub count: SampleCount,
+    pub clear: Sample,
+    pub output: Output,
+    pub draws: &'v [Value],
+}
+
+/// The width or the height of a picture, in pixels.
+fn size(value: Option<&Value>) -> Result<u32, ReadKind>
+    ensures { let seen = option_map (λ v. view v.now) value.entry in
+        Tells (size_checks seen) (IsSize seen) result }
+{
+    Ok(whole_number(value, 1, 4096, ReadKind::OutOfRange)? as u32)
+}
+
+/// How many samples a pixel has; one where the key is absent.
+fn sample_count(value: Option<&Value>) -> Result<SampleCount, ReadKind>
+    ensures { let seen = option_map (λ v. view v.now) value.entry in
+        Tells (where_there sample_count_checks seen) (OrDefault count_of.One IsSampleCount seen) result }
+{
+    if value.is_none() {
+        return Ok(SampleCount::One);
+    }
+    match whole_number(value, 1, 4, ReadKind::OutOfRange)? {
+        1 => Ok(SampleCount::One),
+        4 => Ok(SampleCount::Four),
+        _ => Err(ReadKind::OutOfRange),
+    }
+}
+
+/// The colour that each sample begins with; black where the key is absent.
+fn clear_colour(value: Option<&Value>) -> Result<[u8; 3], ReadKind>
+    ensures { let seen = option_map (λ v. view v.now) value.entry in
+        Tells (where_there colour_checks seen) (OrDefault (0 ∷ 0 ∷ 0 ∷ []) IsClearColour seen) result }
+{
+    let Some(value) = value else {
+        return Ok([0, 0, 0]);
+    };
+    if !has_length(value, 3) {
+        return Err(ReadKind::WrongKind);
+    }
+    let red = channel(value.get(0usize))?;
+    let green = channel(value.get(1usize))?;
+    let blue = channel(value.get(2usize))?;
+    Ok([red, green, blue])
+}
+
+/// The depth that each sample begins with; the greatest where the key is absent.
+fn clear_depth(value: Option<&Value>) -> Result<u16, ReadKind>
+    ensures { let seen = option_map (λ v. view v.now) value.entry in
+        Tells (where_there depth_checks seen) (OrDefault 65535 IsDepthNumber seen) result }
+{
+    if value.is_none() {
+        return Ok(65_535);
+    }
+    depth(value)
+}
+
+/// How many samples a pixel has, what each begins with, and what the picture shows.
+#[tactic(auto, using(model::proofs::Faults::first_fault_of_both), unfolding(model::specs::Checks::clear_checks))]
+fn beginning(value: &Value) -> Result<(SampleCount, Sample, Output), ReadKind>
+    ensures { Tells (clear_checks (view value.now)) (λ found. IsBeginning (view value.now) found.0 found.1 found.2) result }
+{
+    let count = sample_count(value.get("samples"))?;
+    let [r, g, b] = clear_colour(value.get("clear"))?;
+    let z = clear_depth(value.get("clear_depth"))?;
+    let output = output(value.get("output"))?;
+    Ok((count, Sample { r, g, b, z }, output))
+}
+
+impl<'v> Header<'v> {
+    ghost use Rattle.checking_reader.specs.Header.{IsHeader};
+
+    /// The parts of the top object, or the first fault of it outside of its draws.
+    #[tactic(auto, using(model::proofs::Faults::first_fault_of_both), unfolding(model::specs::Checks::top_checks))]
+    pub(crate) fn read(value: &'v Value) -> Result<Header<'v>, ReadKind>
+        ensures { Tells (top_checks (view value.now)) (IsHeader (view value.now)) result }
+    {
+        let Some(object) = value.as_object() else {
+            return Err(ReadKind::WrongKind);
+        };
+        if has_other(
+            object,
+            &[
+                "width",
+                "height",
+                "samples",
+                "clear",
+                "clear_depth",
+                "output",
+                "draws",
+            ],
+        ) {
+            return Err(ReadKind::UnknownKey);
+        }
+        if value.get("width").is_none() || value.get("height").is_none() {
+            return Err(ReadKind::MissingKey);
+        }
+        let Some(draw_array) = value.get("draws") else {
+            return Err(ReadKind::MissingKey);
+        };
+        let width = size(value.get("width"))?;
+        let height = size(value.get("height"))?;
+        let (count, clear, output) = beginning(value)?;
+        let draws = array_of(draw_array, MOST_DRAWS)?;
+        Ok(Header {
+            width,
+            height,
+            count,
+            clear,
+            output,
+            draws,
+        })
+    }
+}

@@ -1,0 +1,58 @@
+ghost use Rattle.std.specs.Prelude.{◌≡◌, pos, ◌≤ℤ◌, option_map};
+ghost use Rattle.serde_json.specs.View.{view};
+ghost use Rattle.checking_reader.specs.Answer.{Tells};
+ghost use Rattle.model.specs.Checks.{number_checks, coordinate_checks, depth_checks, channel_checks, is_from_to};
+ghost use Rattle.model.specs.Denotes.{IsWhole, IsCoordinate, IsDepthNumber, IsChannel};
+
+use model::ReadKind;
+use grid::Point;
+use serde_json::Value;
+
+/// A whole number from `low` to `high`; `outside` is told of another whole number.
+pub(crate) fn whole_number(
+    value: Option<&Value>,
+    low: i64,
+    high: i64,
+    outside: ReadKind,
+) -> Result<i64, ReadKind>
+    ensures { let seen = option_map (λ v. view v.now) value.entry in
+        Tells (number_checks (is_from_to low high) outside seen) (IsWhole low high seen) result }
+{
+    let Some(value) = value else {
+        return Err(ReadKind::WrongKind);
+    };
+    match value.as_i64() {
+        Some(number) if low <= number && number <= high => Ok(number),
+        Some(_) => Err(outside),
+        None if value.is_u64() => Err(outside),
+        None => Err(ReadKind::WrongKind),
+    }
+}
+
+/// A coordinate of the guard band, in 1/256 pixel: a number at which there can be a point.
+pub(crate) fn coordinate(value: Option<&Value>) -> Result<i32, ReadKind>
+    ensures { let seen = option_map (λ v. view v.now) value.entry in
+        Tells (coordinate_checks seen) (IsCoordinate seen) result }
+{
+    let (low, high) = (i64::from(i32::MIN), i64::from(i32::MAX));
+    let number = whole_number(value, low, high, ReadKind::OutOfRange)? as i32;
+    if Point::new(number, number).is_none() {
+        return Err(ReadKind::OutOfRange);
+    }
+    Ok(number)
+}
+
+pub(crate) fn depth(value: Option<&Value>) -> Result<u16, ReadKind>
+    ensures { let seen = option_map (λ v. view v.now) value.entry in
+        Tells (depth_checks seen) (IsDepthNumber seen) result }
+{
+    Ok(whole_number(value, 0, 65_535, ReadKind::OutOfRange)? as u16)
+}
+
+/// A colour channel or an alpha.
+pub(crate) fn channel(value: Option<&Value>) -> Result<u8, ReadKind>
+    ensures { let seen = option_map (λ v. view v.now) value.entry in
+        Tells (channel_checks seen) (IsChannel seen) result }
+{
+    Ok(whole_number(value, 0, 255, ReadKind::OutOfRange)? as u8)
+}

@@ -1,0 +1,132 @@
+ghost use Rattle.std.specs.Prelude.{◌≡◌, ◌≢◌, ◌≤◌, ◌⊎◌, ℕ, ◌+◌, pos, ◌≤ℤ◌, length, map, sum_by, Some, None, IfOk, IfErr, MatchResult};
+ghost use Rattle.serde_json.specs.View.{view, items_view};
+ghost use Rattle.model.specs.declared.fault.ReadKind.TheVariants.{NotJson, OutOfMemory};
+ghost use Rattle.serde_json.specs.Errors.{IsMemory};
+ghost use Rattle.model.specs.Json.{json_of};
+ghost use Rattle.checking_reader.specs.Answer.{ReadsAll};
+ghost use Rattle.model.specs.FirstFault.{IsFirstFault, first_fault};
+ghost use Rattle.model.specs.Primitives.{primitive_listing, count_of_triangles};
+ghost use Rattle.model.specs.Listing.{draw_listing};
+ghost use Rattle.model.specs.Scene.{Scene};
+ghost use Rattle.model.specs.Checks.{outside, draw_checks, checks_before_vertices, draws_checks, value_checks, all_checks, IsReached, Reaches};
+ghost use Rattle.model.specs.Denotes.{Each, picture_box, IsDraw, IsDrawList, Denotes};
+
+use model::{Draw, DrawList, ReadFault, ReadKind, MOST_BYTES, MOST_TRIANGLES};
+use crate::draw::read_draw;
+use grid::PixelBox;
+use crate::header::Header;
+use serde_json::{Error, Value};
+use std::alloc::Global;
+
+/// The draw of this number, before which the draws have `earlier` triangles.
+fn numbered_draw(
+    alloc: Global,
+    value: &Value,
+    number: u32,
+    picture: PixelBox,
+    earlier: usize,
+) -> Result<Draw, ReadFault>
+    requires { earlier ≤ MOST_TRIANGLES }
+    ensures told { let checks = draw_checks earlier (view value.now) in MatchResult result
+        (λ d. (first_fault checks ≡ None) × IsDraw picture (view value.now) (draw_listing d))
+        (λ fault. fault.kind ≢ OutOfMemory → first_fault checks ≡ Some fault.kind) }
+    ensures named { IfErr result (λ fault. fault.draw ≡ Some number) }
+    ensures memory { IfErr result (λ fault. fault.kind ≡ OutOfMemory
+        → first_fault (checks_before_vertices (view value.now)) ≡ None) }
+    ensures room { IfOk result (λ d. earlier + count_of_triangles (primitive_listing d.primitives) ≤ MOST_TRIANGLES) }
+{
+    match read_draw(alloc, value, picture, earlier) {
+        Ok(draw) => Ok(draw),
+        Err(kind) => Err(ReadFault::in_draw(kind, number)),
+    }
+}
+
+/// The draws on a picture of these pixels. Each fault tells its draw.
+fn draws_of(alloc: Global, list: &[Value], picture: PixelBox) -> Result<Vec<Draw>, ReadFault>
+    requires { length list.now ≤ 1024 }
+    ensures told { let items = items_view list.now in ReadsAll (draws_checks 0 0 items)
+        (λ found. let draws = map draw_listing found.items in
+        Each (IsDraw picture) items draws × (sum_by (λ d. count_of_triangles d.primitives) draws ≤ MOST_TRIANGLES)) result }
+    ensures reached { IfErr result (λ fault. (n : ℕ) × (fault.draw ≡ Some n) × IsReached (items_view list.now) fault.kind n) }
+{
+    let mut found = Vec::new(alloc);
+    let mut earlier = 0;
+    for (number, value) in list.iter().enumerate() {
+        let next = numbered_draw(alloc, value, number as u32, picture, earlier)?;
+        earlier += next.primitives.triangles();
+        if found.push(next).is_err() {
+            return Err(ReadFault::in_draw(ReadKind::OutOfMemory, number as u32));
+        }
+    }
+    Ok(found)
+}
+
+/// All pixels of a picture of this size.
+fn picture_of(width: u32, height: u32) -> PixelBox
+    requires width { pos width ≤ℤ pos 4096 }
+    requires height { pos height ≤ℤ pos 4096 }
+    ensures { result ≡ picture_box width height }
+{
+    PixelBox {
+        x0: 0,
+        y0: 0,
+        x1: width as i32,
+        y1: height as i32,
+    }
+}
+
+/// The draw list that a value denotes, or the first fault of it.
+#[tactic(auto, using(model::proofs::Faults::first_fault_of_both, model::proofs::Faults::first_fault_told_as, crate::proofs::Memory::top_never))]
+fn read_value(alloc: Global, value: &Value) -> Result<DrawList, ReadFault>
+    ensures told { ReadsAll (value_checks (view value.now)) (IsDrawList (view value.now)) result }
+    ensures reached { IfErr result (Reaches (Some (view value.now))) }
+    // Want of memory is told without a draw only after the last.
+    ensures after_all { IfErr result (λ fault. fault ≡ outside OutOfMemory → first_fault (value_checks (view value.now)) ≡ None) }
+{
+    let header = match Header::read(value) {
+        Ok(header) => header,
+        Err(kind) => return Err(ReadFault::outside(kind)),
+    };
+    let (width, height) = (header.width, header.height);
+    let draws = draws_of(alloc, header.draws, picture_of(width, height))?;
+    match DrawList::within_limits(
+        alloc,
+        width,
+        height,
+        header.count,
+        header.clear,
+        header.output,
+        draws,
+    ) {
+        Ok(list) => Ok(list),
+        Err(_) => Err(ReadFault::outside(ReadKind::OutOfMemory)),
+    }
+}
+
+/// What is told where `serde_json` gives no value.
+fn kind_of(error: &Error) -> ReadKind
+    ensures { (IsMemory error.now × (result ≡ OutOfMemory)) ⊎ ((¬ IsMemory error.now) × (result ≡ NotJson)) }
+{
+    if error.is_memory() {
+        ReadKind::OutOfMemory
+    } else {
+        ReadKind::NotJson
+    }
+}
+
+/// Reads a draw list from JSON through `serde_json`'s tree of values, and tells faults as `read` does.
+pub fn read_by_value(alloc: Global, bytes: &[u8]) -> Result<DrawList, ReadFault>
+    requires { length bytes.now ≤ MOST_BYTES }
+    ensures ok { IfOk result (Denotes bytes.now) }
+    ensures only { (list : Scene) → Denotes bytes.now list
+        → MatchResult result (λ found. found ≡ list) (λ fault. fault.kind ≡ OutOfMemory) }
+    ensures first { IfErr result (λ fault. fault.kind ≢ OutOfMemory
+        → IsFirstFault (all_checks (json_of bytes.now)) fault) }
+    ensures reached { IfErr result (Reaches (json_of bytes.now)) }
+{
+    let value = match Value::from_slice(alloc, bytes) {
+        Ok(value) => value,
+        Err(error) => return Err(ReadFault::outside(kind_of(&error))),
+    };
+    read_value(alloc, &value)
+}

@@ -1,0 +1,128 @@
+ghost use Rattle.std.specs.Prelude.{◌≡◌, pos, option_map, true, false, [], ◌∷◌};
+ghost use Rattle.serde_json.specs.View.{view};
+ghost use Rattle.checking_reader.specs.Answer.{Tells};
+ghost use Rattle.model.specs.Checks.{where_there, truth_checks, write_mask_checks, sample_mask_checks, scissor_side_checks, scissor_checks, merge_checks, state_checks};
+ghost use Rattle.model.specs.Denotes.{OrDefault, IsTruth, IsWriteMask, IsSampleMask, IsScissorSide, IsScissor, IsMerge, IsState};
+
+use model::ReadKind;
+use crate::array::has_length;
+use crate::number::whole_number;
+use crate::word::{blends_over, cull, depth_test};
+use grid::PixelBox;
+use serde_json::Value;
+use shade::{Merge, State};
+
+fn truth(value: Option<&Value>) -> Result<bool, ReadKind>
+    ensures { let seen = option_map (λ v. view v.now) value.entry in
+        Tells (truth_checks seen) (IsTruth seen) result }
+{
+    match value.and_then(Value::as_bool) {
+        Some(truth) => Ok(truth),
+        None => Err(ReadKind::WrongKind),
+    }
+}
+
+/// Whether a draw stores depths; it does not where the key is absent.
+fn depth_write(value: Option<&Value>) -> Result<bool, ReadKind>
+    ensures { let seen = option_map (λ v. view v.now) value.entry in
+        Tells (where_there truth_checks seen) (OrDefault false IsTruth seen) result }
+{
+    if value.is_none() {
+        return Ok(false);
+    }
+    truth(value)
+}
+
+/// Which of red, green and blue a draw writes; all of them where the key is absent.
+fn write_mask(value: Option<&Value>) -> Result<[bool; 3], ReadKind>
+    ensures { let seen = option_map (λ v. view v.now) value.entry in
+        Tells (where_there write_mask_checks seen) (OrDefault (true ∷ true ∷ true ∷ []) IsWriteMask seen) result }
+{
+    let Some(value) = value else {
+        return Ok([true, true, true]);
+    };
+    if !has_length(value, 3) {
+        return Err(ReadKind::WrongKind);
+    }
+    let red = truth(value.get(0usize))?;
+    let green = truth(value.get(1usize))?;
+    let blue = truth(value.get(2usize))?;
+    Ok([red, green, blue])
+}
+
+/// Which samples a draw writes, bit s for sample s; all of them where the key is absent. The number stays as it is read, also
+/// with one sample, of which only bit 0 counts.
+fn sample_mask(value: Option<&Value>) -> Result<u8, ReadKind>
+    ensures { let seen = option_map (λ v. view v.now) value.entry in
+        Tells (where_there sample_mask_checks seen) (OrDefault 15 IsSampleMask seen) result }
+{
+    if value.is_none() {
+        return Ok(15);
+    }
+    Ok(whole_number(value, 0, 15, ReadKind::OutOfRange)? as u8)
+}
+
+/// A side of a scissor, in pixels.
+fn scissor_side(value: Option<&Value>) -> Result<i32, ReadKind>
+    ensures { let seen = option_map (λ v. view v.now) value.entry in
+        Tells (scissor_side_checks seen) (IsScissorSide seen) result }
+{
+    Ok(whole_number(value, 0, 4096, ReadKind::OutOfRange)? as i32)
+}
+
+/// The scissor of a draw; all pixels of the picture where the key is absent. It may reach past the picture, and be empty.
+fn scissor(value: Option<&Value>, picture: PixelBox) -> Result<PixelBox, ReadKind>
+    ensures { let seen = option_map (λ v. view v.now) value.entry in
+        Tells (where_there scissor_checks seen) (OrDefault picture IsScissor seen) result }
+{
+    let Some(value) = value else {
+        return Ok(picture);
+    };
+    if !has_length(value, 4) {
+        return Err(ReadKind::WrongKind);
+    }
+    let left = scissor_side(value.get(0usize))?;
+    let top = scissor_side(value.get(1usize))?;
+    let right = scissor_side(value.get(2usize))?;
+    let bottom = scissor_side(value.get(3usize))?;
+    Ok(PixelBox {
+        x0: left,
+        y0: top,
+        x1: right,
+        y1: bottom,
+    })
+}
+
+/// How a draw's fragments are merged with what is stored.
+#[tactic(auto, using(model::proofs::Faults::first_fault_of_both), unfolding(model::specs::Checks::merge_checks))]
+fn merge(value: &Value) -> Result<Merge, ReadKind>
+    ensures { Tells (merge_checks (view value.now)) (IsMerge (view value.now)) result }
+{
+    let test = depth_test(value.get("depth_test"))?;
+    let depth_write = depth_write(value.get("depth_write"))?;
+    let over = blends_over(value.get("blend"))?;
+    let write = write_mask(value.get("write"))?;
+    Ok(Merge {
+        test,
+        depth_write,
+        write,
+        over,
+    })
+}
+
+/// The state of a draw on a picture of these pixels.
+#[tactic(auto, using(model::proofs::Faults::first_fault_of_both), unfolding(model::specs::Checks::state_checks))]
+pub(crate) fn read_state(value: &Value, picture: PixelBox) -> Result<State, ReadKind>
+    ensures { Tells (state_checks (view value.now)) (IsState picture (view value.now)) result }
+{
+    let cull = cull(value.get("cull"))?;
+    let merge = merge(value)?;
+    let sample_mask = sample_mask(value.get("sample_mask"))?;
+    let scissor = scissor(value.get("scissor"), picture)?;
+    Ok(State {
+        merge,
+        cull,
+        sample_mask,
+        scissor,
+    })
+}

@@ -1,0 +1,85 @@
+ghost use Rattle.std.specs.Prelude.{◌≡◌, ◌∷◌, IfSome, IsTrue, Some, option_map};
+ghost use Rattle.json.specs.Token.{begin_array, begin_object};
+ghost use Rattle.json.specs.Json.{read_key};
+ghost use Rattle.model.specs.Denotes.{IsClearColour, IsWriteMask, IsScissor};
+ghost use Rattle.fast_reader.specs.Took.{Took};
+
+use crate::number::{take_channel, take_scissor_side};
+use crate::word::take_truth;
+use grid::PixelBox;
+use json::{Reader, Token};
+
+/// Takes the bracket that opens an array, if it is next.
+pub(crate) fn take_begin_array(reader: &mut Reader<'_>) -> bool
+    ensures { IsTrue result → reader.old ≡ begin_array ∷ reader.new }
+{
+    matches!(reader.next(), Some(Token::BeginArray))
+}
+
+/// Takes the brace that opens an object, if it is next.
+pub(crate) fn take_begin_object(reader: &mut Reader<'_>) -> bool
+    ensures { IsTrue result → reader.old ≡ begin_object ∷ reader.new }
+{
+    matches!(reader.next(), Some(Token::BeginObject))
+}
+
+/// Takes a key, or the brace that closes the object.
+pub(crate) fn take_key<'a>(reader: &mut Reader<'a>) -> Option<Option<&'a str>>
+    ensures { IfSome result (λ k. read_key reader.old ≡ Some (option_map (λ s. s.now) k, reader.new)) }
+{
+    reader.next_key().ok()
+}
+
+/// Takes a colour, written as [red, green, blue].
+pub(crate) fn take_colour(reader: &mut Reader<'_>) -> Option<[u8; 3]>
+    ensures { IfSome result (λ c. Took 1 (λ d c. IsClearColour (Some d) c) reader.old c reader.new) }
+{
+    if !take_begin_array(reader) {
+        return None;
+    }
+    let red = take_channel(reader)?;
+    let green = take_channel(reader)?;
+    let blue = take_channel(reader)?;
+    if !reader.take_end_array() {
+        return None;
+    }
+    Some([red, green, blue])
+}
+
+/// Takes which channels are written, as [red, green, blue].
+pub(crate) fn take_write_mask(reader: &mut Reader<'_>) -> Option<[bool; 3]>
+    ensures { IfSome result (λ w. Took 1 (λ d w. IsWriteMask (Some d) w) reader.old w reader.new) }
+{
+    if !take_begin_array(reader) {
+        return None;
+    }
+    let red = take_truth(reader)?;
+    let green = take_truth(reader)?;
+    let blue = take_truth(reader)?;
+    if !reader.take_end_array() {
+        return None;
+    }
+    Some([red, green, blue])
+}
+
+/// Takes a scissor, written as [left, top, right, bottom].
+pub(crate) fn take_scissor(reader: &mut Reader<'_>) -> Option<PixelBox>
+    ensures { IfSome result (λ s. Took 1 (λ d s. IsScissor (Some d) s) reader.old s reader.new) }
+{
+    if !take_begin_array(reader) {
+        return None;
+    }
+    let left = take_scissor_side(reader)?;
+    let top = take_scissor_side(reader)?;
+    let right = take_scissor_side(reader)?;
+    let bottom = take_scissor_side(reader)?;
+    if !reader.take_end_array() {
+        return None;
+    }
+    Some(PixelBox {
+        x0: left,
+        y0: top,
+        x1: right,
+        y1: bottom,
+    })
+}

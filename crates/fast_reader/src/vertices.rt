@@ -1,0 +1,66 @@
+ghost use Rattle.std.specs.Prelude.{IfSome, ◌∷◌, Some};
+ghost use Rattle.json.specs.Token.{begin_array};
+ghost use Rattle.model.specs.Denotes.{IsVertex, IsArrayOf};
+ghost use Rattle.fast_reader.specs.Took.{Took};
+
+use model::{Vertex, MOST_VERTICES};
+use crate::array::take_begin_array;
+use crate::number::{take_channel, take_depth, take_i32};
+use grid::Point;
+use json::Reader;
+use std::alloc::Global;
+
+/// Takes a vertex, written as [x, y, z, red, green, blue, alpha].
+fn take_vertex(reader: &mut Reader<'_>) -> Option<Vertex>
+    ensures { IfSome result (λ v. Took 1 IsVertex reader.old v reader.new) }
+{
+    if !take_begin_array(reader) {
+        return None;
+    }
+    let x = take_i32(reader)?;
+    let y = take_i32(reader)?;
+    let at = Point::new(x, y)?;
+    let z = take_depth(reader)?;
+    let red = take_channel(reader)?;
+    let green = take_channel(reader)?;
+    let blue = take_channel(reader)?;
+    let alpha = take_channel(reader)?;
+    if !reader.take_end_array() {
+        return None;
+    }
+    Some(Vertex {
+        at,
+        z,
+        rgba: [red, green, blue, alpha],
+    })
+}
+
+/// Takes the vertices of an array whose bracket was taken, and the bracket that closes it.
+fn take_elements(alloc: Global, reader: &mut Reader<'_>) -> Option<Vec<Vertex>>
+    ensures { IfSome result (λ found. Took 2 (λ d xs. IsArrayOf 65536 IsVertex (Some d) xs)
+        (begin_array ∷ reader.old) found.items reader.new) }
+{
+    let mut found = Vec::new(alloc);
+    'vertices: while !reader.take_end_array() {
+        if found.len() >= MOST_VERTICES {
+            return None;
+        }
+        let vertex = take_vertex(reader)?;
+        if found.push(vertex).is_err() {
+            return None;
+        }
+    }
+    found.shrink_to_fit();
+    Some(found)
+}
+
+/// Takes the vertices of a draw.
+pub(crate) fn take_vertices(alloc: Global, reader: &mut Reader<'_>) -> Option<Vec<Vertex>>
+    ensures { IfSome result (λ found. Took 2 (λ d xs. IsArrayOf 65536 IsVertex (Some d) xs)
+        reader.old found.items reader.new) }
+{
+    if !take_begin_array(reader) {
+        return None;
+    }
+    take_elements(alloc, reader)
+}

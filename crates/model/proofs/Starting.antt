@@ -1,0 +1,56 @@
+-- The draw in which a triangle of a draw list stands.
+use Rattle.std.proofs.Common.{◌≡◌, ◌⊎◌, inl, inr, sym, ap, ◌∙◌, ℕ, ◌+◌, ◌-◌, ◌<◌, ◌≤◌, List, [], ◌∷◌, length, map, take, get_or, slice_get, slice_index, Some, arith}
+use Rattle.std.specs.List.{flat_map, sum_by}
+use Rattle.std.specs.List.Sorted.{IsNonDecreasing}
+use Rattle.std.proofs.lemmas.Bool.{cases_lt}
+use Rattle.std.proofs.lemmas.Grind.{get_or_default_zero}
+use Rattle.std.proofs.lemmas.List.{take_all}
+use Rattle.std.proofs.lemmas.List.Sorted.{IsNonDecreasingBy-from_all_adjacent}
+use Rattle.std.proofs.lemmas.List.Sums.{sum_by_more}
+use Rattle.model.specs.declared.draw.Draw.{Draw}
+use Rattle.model.specs.Starts.{AreStarts}
+use Rattle.model.specs.Listing.{draw_listing, placed, placed_all}
+use Rattle.model.proofs.Numbering.{count_of, indices_of_draw, triangle_at}
+
+-- some draw, where there is one
+first_draw : (ds : List Draw) (k : ℕ) → k < length ds → Draw
+first_draw [] k h = absurd (omega arith)
+first_draw (d ∷ ds) k h = d
+
+-- The triangle of a number stands in a draw that starts at another number.
+pub record StandsIn (ds : List Draw) (number start : ℕ) (d : Draw) : Type 0 where
+  pub within : number - start < count_of d
+  pub found : slice_get (flat_map placed_all (map draw_listing ds)) number ≡ Some (placed (draw_listing d) (get_or (indices_of_draw d) (number - start) []))
+
+module _ (ds : List Draw) (starts : List ℕ) (h : AreStarts ds starts) where
+  next_start : (k : ℕ) (d : Draw) → k + 1 < length ds → slice_index starts (k + 1) ≡ slice_index starts k + count_of (get_or ds k d)
+  next_start k d below =
+      h.each (k + 1) below ∙ sum_by_more count_of ds k d (omega arith) ∙ ap (λ n. n + count_of (get_or ds k d)) (sym (h.each k (omega arith)))
+
+  pub ascending : IsNonDecreasing starts
+  ascending = IsNonDecreasingBy-from_all_adjacent (λ n. n) starts (λ k e below.
+      let size = h.size in
+      let more = next_start k (first_draw ds k (omega arith)) (omega arith) in
+      let here = get_or_default_zero starts k e (omega arith) in
+      let there = get_or_default_zero starts (k + 1) e below in
+      omega arith)
+
+  module _ (number i : ℕ) (d : Draw) (low : slice_index starts i ≤ number) (last : (k : ℕ) → i < k → k < length starts → number < slice_index starts k) (below : i < length ds) (within : number < sum_by count_of ds) where
+    end_of : ((i + 1) < length ds) ⊎ (length ds ≤ (i + 1)) → number < slice_index starts i + count_of (get_or ds i d)
+    end_of (inl more) =
+        let size = h.size in
+        let next = last (i + 1) (omega arith) (omega arith) in
+        omega (arith, next_start i d more)
+    end_of (inr past) =
+        let all : sum_by count_of (take (i + 1) ds) ≡ sum_by count_of ds = ap (sum_by count_of) (take_all (i + 1) ds past) in
+        omega (arith, sum_by_more count_of ds i d below, h.each i below)
+
+    -- it stands in the last draw that starts at its number or before
+    pub stands : (start : ℕ) → d ≡ get_or ds i d → start ≡ get_or starts i start → StandsIn ds number start d
+    stands start is starts_at =
+        let size = h.size in
+        let same : start ≡ slice_index starts i = starts_at ∙ get_or_default_zero starts i start (omega arith) in
+        let many : count_of (get_or ds i d) ≡ count_of d = sym (ap count_of is) in
+        let end = end_of (cases_lt (i + 1) (length ds)) in
+        let left : number - start < count_of d = omega arith in
+        record { within = left; found = triangle_at ds i (number - start) number d below is left (omega (arith, h.each i below)) }

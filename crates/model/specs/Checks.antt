@@ -1,0 +1,305 @@
+-- The checks of a draw list, in their order.
+use Rattle.std.specs.Prelude.{◌≡◌, ℕ, ◌+◌, ◌||◌, ◌&&◌, ◌==◌, ℤ, pos, negsuc, int_le, ◌-ℤ◌, List, [], ◌∷◌, ◌++◌, Bool, true, false, not, nat_lt, IfSome, Option, Some, None, is_some, is_none, unwrap_or, unsigned_abs, int_lt, slice_index_or, length, map, codes}
+use Rattle.std.specs.Option.{option_map_or}
+use Rattle.std.specs.Ordering.{int_eq}
+use Rattle.serde_json.specs.Data.{Data, Items, no_items, item}
+use Rattle.serde_json.specs.Find.{get, get_item, at, as_object}
+use Rattle.model.specs.declared.draw.Vertex.{Vertex}
+use Rattle.model.specs.declared.fault.ReadKind.{ReadKind}
+use Rattle.model.specs.declared.fault.ReadKind.TheVariants.{NotJson, UnknownKey, MissingKey, WrongKind, OutOfRange, BadIndex, TooMany, OutOfMemory, TwoLists, NotConvex}
+use Rattle.model.specs.declared.fault.ReadFault.{ReadFault}
+use Rattle.model.specs.Json.{whole, text, truth, array_of, element, elements, count, length_of, is_among, has_other_key}
+use Rattle.grid.specs.Position.{Position}
+use Rattle.grid.specs.Edge.{side}
+use Rattle.model.specs.Primitives.{strip_count, quads_count}
+use Rattle.model.specs.Keys.{top_keys, draw_keys, output_words, cull_words, depth_test_words, blend_words}
+use Rattle.model.specs.FirstFault.{Check, AllPass, PassesBefore, check, told_as}
+
+abbrev pub Checks : Type 0
+Checks = List (Check ReadKind)
+
+-- ---- numbers, words and truth values
+
+abbrev pub is_from_to : ℤ → ℤ → ℤ → Bool
+is_from_to low high z = int_le low z && int_le z high
+
+-- a whole number, and in its range, else `outside` is told
+abbrev pub number_checks : (ℤ → Bool) → ReadKind → Option Data → Checks
+number_checks is_inside outside value =
+    check (is_none (whole value)) WrongKind
+    ∷ check (option_map_or (λ z. not (is_inside z)) (whole value) false) outside
+    ∷ []
+
+-- a coordinate of the guard band
+abbrev pub coordinate_checks : Option Data → Checks
+coordinate_checks value = number_checks (is_from_to (negsuc 8388607) (pos 8388607)) OutOfRange value
+
+abbrev pub depth_checks : Option Data → Checks
+depth_checks value = number_checks (is_from_to (pos 0) (pos 65535)) OutOfRange value
+
+abbrev pub channel_checks : Option Data → Checks
+channel_checks value = number_checks (is_from_to (pos 0) (pos 255)) OutOfRange value
+
+abbrev pub size_checks : Option Data → Checks
+size_checks value = number_checks (is_from_to (pos 1) (pos 4096)) OutOfRange value
+
+abbrev pub is_sample_count : ℤ → Bool
+is_sample_count z = int_eq z (pos 1) || int_eq z (pos 4)
+
+abbrev pub sample_count_checks : Option Data → Checks
+sample_count_checks value = number_checks is_sample_count OutOfRange value
+
+abbrev pub sample_mask_checks : Option Data → Checks
+sample_mask_checks value = number_checks (is_from_to (pos 0) (pos 15)) OutOfRange value
+
+abbrev pub scissor_side_checks : Option Data → Checks
+scissor_side_checks value = number_checks (is_from_to (pos 0) (pos 4096)) OutOfRange value
+
+-- a number of a vertex, where there are n
+abbrev pub index_checks : ℕ → Option Data → Checks
+index_checks n value = number_checks (is_from_to (pos 0) (pos n -ℤ pos 1)) BadIndex value
+
+-- a text, and one of the words
+abbrev pub word_checks : List (List ℕ) → Option Data → Checks
+word_checks words value =
+    check (is_none (text value)) WrongKind
+    ∷ check (option_map_or (λ t. not (is_among words t)) (text value) false) OutOfRange
+    ∷ []
+
+abbrev pub truth_checks : Option Data → Checks
+truth_checks value = check (is_none (truth value)) WrongKind ∷ []
+
+-- the checks of a key that may be absent
+abbrev pub where_there : (Option Data → Checks) → Option Data → Checks
+where_there checks None = []
+where_there checks (Some value) = checks (Some value)
+
+abbrev pub is_absent : List ℕ → Data → Bool
+is_absent name value = is_none (get name value)
+
+-- ---- arrays
+
+-- an array of just so many elements
+abbrev pub has_length : ℕ → Option Data → Bool
+has_length n value = option_map_or (λ m. m == n) (length_of value) false
+
+abbrev pub length_check : ℕ → Option Data → Check ReadKind
+length_check n value = check (not (has_length n value)) WrongKind
+
+-- an array of at most so many elements
+abbrev pub array_checks : ℕ → Option Data → Checks
+array_checks most value = check (is_none (array_of value)) WrongKind ∷ check (nat_lt most (count value)) TooMany ∷ []
+
+-- the checks of each element in turn
+abbrev pub each : (Data → Checks) → Items → Checks
+each checks no_items = []
+each checks (item value rest) = checks value ++ each checks rest
+
+-- the channels and the alpha of a vertex
+abbrev pub rgba_checks : Data → Checks
+rgba_checks value =
+    channel_checks (at 3 value) ++ (channel_checks (at 4 value) ++ (channel_checks (at 5 value) ++ channel_checks (at 6 value)))
+
+abbrev pub vertex_checks : Data → Checks
+vertex_checks value =
+    length_check 7 (Some value)
+    ∷ (coordinate_checks (at 0 value) ++ (coordinate_checks (at 1 value) ++ (depth_checks (at 2 value) ++ rgba_checks value)))
+
+abbrev pub triangle_checks : ℕ → Data → Checks
+triangle_checks n value =
+    length_check 3 (Some value) ∷ (index_checks n (at 0 value) ++ (index_checks n (at 1 value) ++ index_checks n (at 2 value)))
+
+-- where a vertex is written to lie
+abbrev pub position_written : Data → Position
+position_written value = record { x = unwrap_or (whole (at 0 value)) (pos 0); y = unwrap_or (whole (at 1 value)) (pos 0) }
+
+abbrev pub positions_written : Items → List Position
+positions_written no_items = []
+positions_written (item value rest) = position_written value ∷ positions_written rest
+
+-- the position that an index names
+abbrev pub corner_written : List Position → Option Data → Position
+corner_written positions index = slice_index_or positions (unsigned_abs (unwrap_or (whole index) (pos 0))) (record { x = pos 0; y = pos 0 })
+
+-- whether all four turns of the quad abcd pass the test
+abbrev pub each_turn : (ℤ → Bool) → Position → Position → Position → Position → Bool
+each_turn is_so a b c d = is_so (side a b c) && (is_so (side b c d) && (is_so (side c d a) && is_so (side d a b)))
+
+-- whether the quad abcd is strictly convex
+abbrev pub is_strictly_convex : Position → Position → Position → Position → Bool
+is_strictly_convex a b c d = each_turn (λ turn. int_lt (pos 0) turn) a b c d || each_turn (λ turn. int_lt turn (pos 0)) a b c d
+
+-- a quad over n vertices at these positions
+abbrev pub quad_checks : ℕ → List Position → Data → Checks
+quad_checks n positions value =
+    let corner : ℕ → Position = λ i. corner_written positions (at i value) in
+    length_check 4 (Some value)
+    ∷ (index_checks n (at 0 value) ++ (index_checks n (at 1 value) ++ (index_checks n (at 2 value) ++ (index_checks n (at 3 value)
+    ++ check (not (is_strictly_convex (corner 0) (corner 1) (corner 2) (corner 3))) NotConvex ∷ []))))
+
+-- the same over vertices that were read
+abbrev pub quad_checks_over : List Vertex → Data → Checks
+quad_checks_over vertices = quad_checks (length vertices) (map (λ v. v.at) vertices)
+
+abbrev pub strip_index_checks : ℕ → Data → Checks
+strip_index_checks n value = index_checks n (Some value)
+
+abbrev pub colour_checks : Option Data → Checks
+colour_checks value =
+    length_check 3 value ∷ (channel_checks (element 0 value) ++ (channel_checks (element 1 value) ++ channel_checks (element 2 value)))
+
+abbrev pub write_mask_checks : Option Data → Checks
+write_mask_checks value =
+    length_check 3 value ∷ (truth_checks (element 0 value) ++ (truth_checks (element 1 value) ++ truth_checks (element 2 value)))
+
+abbrev pub scissor_checks : Option Data → Checks
+scissor_checks value =
+    length_check 4 value
+    ∷ (scissor_side_checks (element 0 value) ++ (scissor_side_checks (element 1 value)
+    ++ (scissor_side_checks (element 2 value) ++ scissor_side_checks (element 3 value))))
+
+-- ---- a draw
+
+unfoldable pub merge_checks : Data → Checks
+merge_checks value =
+    where_there (word_checks depth_test_words) (get (codes "depth_test") value)
+    ++ (where_there truth_checks (get (codes "depth_write") value)
+    ++ (where_there (word_checks blend_words) (get (codes "blend") value)
+    ++ where_there write_mask_checks (get (codes "write") value)))
+
+unfoldable pub state_checks : Data → Checks
+state_checks value =
+    where_there (word_checks cull_words) (get (codes "cull") value)
+    ++ (merge_checks value
+    ++ (where_there sample_mask_checks (get (codes "sample_mask") value)
+    ++ where_there scissor_checks (get (codes "scissor") value)))
+
+unfoldable pub vertices_checks : Option Data → Checks
+vertices_checks value = array_checks 65536 value ++ each vertex_checks (elements value)
+
+-- so many triangles are too many where the draws before have so many
+abbrev pub sum_check : ℕ → ℕ → Check ReadKind
+sum_check earlier triangles = check (nat_lt 65536 (earlier + triangles)) TooMany
+
+-- the triangle list of a draw of n vertices, before which the draws have so many triangles
+unfoldable pub triangles_checks : ℕ → ℕ → Option Data → Checks
+triangles_checks earlier n value = array_checks 65536 value ++ sum_check earlier (count value) ∷ each (triangle_checks n) (elements value)
+
+-- the triangle strip of such a draw
+unfoldable pub strip_checks : ℕ → ℕ → Option Data → Checks
+strip_checks earlier n value = array_checks 65538 value ++ sum_check earlier (strip_count (count value)) ∷ each (strip_index_checks n) (elements value)
+
+-- the quads of such a draw, whose vertices lie at these positions
+unfoldable pub quads_checks : ℕ → ℕ → List Position → Option Data → Checks
+quads_checks earlier n positions value =
+    array_checks 32768 value ++ sum_check earlier (quads_count (count value)) ∷ each (quad_checks n positions) (elements value)
+
+-- the primitives of such a draw, of which one list is there
+abbrev pub primitive_checks : ℕ → ℕ → List Position → Option Data → Option Data → Option Data → Checks
+primitive_checks earlier n positions triangles strip quads =
+    where_there (triangles_checks earlier n) triangles
+    ++ (where_there (strip_checks earlier n) strip ++ where_there (quads_checks earlier n positions) quads)
+
+abbrev pub part_checks : ℕ → Option Data → Option Data → Option Data → Option Data → Checks
+part_checks earlier vertices triangles strip quads =
+    where_there vertices_checks vertices
+    ++ primitive_checks earlier (count vertices) (positions_written (elements vertices)) triangles strip quads
+
+-- how many triangles the values of `triangles`, `strip` and `quads` are, of which one is there
+abbrev pub triangles_given : Option Data → Option Data → Option Data → ℕ
+triangles_given triangles strip quads = count triangles + strip_count (count strip) + quads_count (count quads)
+
+-- how many triangles a draw counts
+abbrev pub triangles_counted : Data → ℕ
+triangles_counted value = triangles_given (get (codes "triangles") value) (get (codes "strip") value) (get (codes "quads") value)
+
+-- whether none of the three values is there
+abbrev pub is_none_there : Option Data → Option Data → Option Data → Bool
+is_none_there triangles strip quads = is_none triangles && (is_none strip && is_none quads)
+
+-- whether more than one of the three is
+abbrev pub are_two_there : Option Data → Option Data → Option Data → Bool
+are_two_there triangles strip quads =
+    (is_some triangles && is_some strip) || ((is_some triangles && is_some quads) || (is_some strip && is_some quads))
+
+-- a draw without a list of primitives
+abbrev pub has_no_list : Data → Bool
+has_no_list value = is_none_there (get (codes "triangles") value) (get (codes "strip") value) (get (codes "quads") value)
+
+-- a draw with more than one
+abbrev pub has_two_lists : Data → Bool
+has_two_lists value = are_two_there (get (codes "triangles") value) (get (codes "strip") value) (get (codes "quads") value)
+
+-- the checks of a draw that come before its vertices and primitives
+abbrev pub opening_checks : Data → Checks
+opening_checks value =
+    check (is_none (as_object value)) WrongKind
+    ∷ check (has_other_key draw_keys (as_object value)) UnknownKey
+    ∷ check (is_absent (codes "vertices") value || has_no_list value) MissingKey
+    ∷ check (has_two_lists value) TwoLists
+    ∷ state_checks value
+
+-- the checks of a draw before which the draws have so many triangles
+abbrev pub draw_checks : ℕ → Data → Checks
+draw_checks earlier value =
+    opening_checks value
+    ++ part_checks earlier (get (codes "vertices") value) (get (codes "triangles") value) (get (codes "strip") value) (get (codes "quads") value)
+
+-- the checks of a draw that come before its vertices themselves
+abbrev pub checks_before_vertices : Data → Checks
+checks_before_vertices value = opening_checks value ++ array_checks 65536 (get (codes "vertices") value)
+
+-- ---- the whole list
+
+-- the checks of the top object's keys that may be absent
+unfoldable pub clear_checks : Data → Checks
+clear_checks value =
+    where_there sample_count_checks (get (codes "samples") value)
+    ++ (where_there colour_checks (get (codes "clear") value)
+    ++ (where_there depth_checks (get (codes "clear_depth") value)
+    ++ where_there (word_checks output_words) (get (codes "output") value)))
+
+-- the checks of the top object, without those of the draws themselves
+unfoldable pub top_checks : Data → Checks
+top_checks value =
+    check (is_none (as_object value)) WrongKind
+    ∷ check (has_other_key top_keys (as_object value)) UnknownKey
+    ∷ check (is_absent (codes "width") value || is_absent (codes "height") value || is_absent (codes "draws") value) MissingKey
+    ∷ (size_checks (get (codes "width") value)
+    ++ (size_checks (get (codes "height") value)
+    ++ (clear_checks value
+    ++ array_checks 1024 (get (codes "draws") value))))
+
+abbrev pub outside : ReadKind → ReadFault
+outside kind = record { kind = kind; draw = None }
+
+abbrev pub in_draw : ℕ → ReadKind → ReadFault
+in_draw number kind = record { kind = kind; draw = Some number }
+
+-- The checks of the draws from this number on, before which the draws have so many triangles.
+abbrev pub draws_checks : ℕ → ℕ → Items → List (Check ReadFault)
+draws_checks number earlier no_items = []
+draws_checks number earlier (item value rest) =
+    told_as (in_draw number) (draw_checks earlier value)
+    ++ draws_checks (number + 1) (earlier + triangles_counted value) rest
+
+abbrev pub value_checks : Data → List (Check ReadFault)
+value_checks value = told_as outside (top_checks value) ++ draws_checks 0 0 (elements (get (codes "draws") value))
+
+-- All checks of an input, in their order: first that its bytes are no JSON.
+abbrev pub all_checks : Option Data → List (Check ReadFault)
+all_checks None = check true (outside NotJson) ∷ []
+all_checks (Some value) = check false (outside NotJson) ∷ value_checks value
+
+-- Draw n is one of these, and no check of a draw before it fails. Where want of memory is told, none of its own that come
+-- before its vertices fails either.
+pub record IsReached (draws : Items) (kind : ReadKind) (n : ℕ) : Type 0 where
+  pub draw : Data
+  pub there : get_item n draws ≡ Some draw
+  pub before : PassesBefore n (draws_checks 0 0 draws)
+  pub memory : kind ≡ OutOfMemory → AllPass (checks_before_vertices draw)
+
+-- A draw that is told was reached, and no check of the top object fails.
+abbrev pub Reaches : Option Data → ReadFault → Type 0
+Reaches None fault = fault.draw ≡ None
+Reaches (Some value) fault = IfSome fault.draw (λ n. AllPass (top_checks value) × IsReached (elements (get (codes "draws") value)) fault.kind n)

@@ -1,0 +1,43 @@
+-- Checks in a fixed order, and the first of them that fails.
+use Rattle.std.specs.Prelude.{◌≡◌, ℕ, nat_lt, List, [], ◌∷◌, ◌++◌, map, Bool, true, false, if◌then◌else◌, Option, Some, None}
+use Rattle.std.specs.List.{AllByRecursion}
+use Rattle.std.specs.Option.{option_map_or}
+use Rattle.model.specs.declared.fault.ReadFault.{ReadFault}
+
+-- A check: whether it fails, and what is told then.
+pub record Check (T : Type 0) : Type 0 where
+  pub fails : Bool
+  pub told : T
+
+abbrev pub check : {T : Type 0} → Bool → T → Check T
+check fails told = record { fails = fails; told = told }
+
+-- No check fails.
+abbrev pub AllPass : {T : Type 0} → List (Check T) → Type 0
+AllPass checks = AllByRecursion (λ p. p.fails ≡ false) checks
+
+-- The fault is told by a check that fails, and no check before it fails.
+pub record IsFirstFault {T : Type 0} (checks : List (Check T)) (fault : T) : Type 0 where
+  pub before : List (Check T)
+  pub here : Check T
+  pub after : List (Check T)
+  pub order : checks ≡ before ++ here ∷ after
+  pub passed : AllPass before
+  pub fails : here.fails ≡ true
+  pub told : here.told ≡ fault
+
+-- The fault of the first check that fails, as a function: what proofs compute with.
+abbrev pub first_fault : {T : Type 0} → List (Check T) → Option T
+first_fault [] = None
+first_fault (p ∷ ps) = if p.fails then Some p.told else first_fault ps
+
+abbrev pub told_as : {T U : Type 0} → (T → U) → List (Check T) → List (Check U)
+told_as f checks = map (λ p. check p.fails (f p.told)) checks
+
+-- told without a draw, or in a draw before this one
+abbrev pub is_before : ℕ → ReadFault → Bool
+is_before n fault = option_map_or (λ m. nat_lt m n) fault.draw true
+
+-- no check fails that is told without a draw or in a draw before this one
+abbrev pub PassesBefore : ℕ → List (Check ReadFault) → Type 0
+PassesBefore n checks = AllByRecursion (λ p. is_before n p.told ≡ true → p.fails ≡ false) checks

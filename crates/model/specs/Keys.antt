@@ -1,0 +1,54 @@
+-- The keys and the words of a draw list in JSON.
+use Rattle.std.specs.Prelude.{ℕ, List, [], ◌∷◌, Bool, true, false, codes}
+use Rattle.grid.specs.declared.cull.Cull.{Cull}
+use Rattle.grid.specs.declared.cull.Cull.TheVariants as cull
+use Rattle.shade.specs.declared.depth.DepthTest.{DepthTest}
+use Rattle.shade.specs.declared.depth.DepthTest.TheVariants as test
+use Rattle.model.specs.declared.output.Output.{Output}
+use Rattle.model.specs.declared.output.Output.TheVariants as output
+
+abbrev pub top_keys : List (List ℕ)
+top_keys = codes "width" ∷ codes "height" ∷ codes "samples" ∷ codes "clear" ∷ codes "clear_depth" ∷ codes "output" ∷ codes "draws" ∷ []
+
+abbrev pub draw_keys : List (List ℕ)
+draw_keys =
+    codes "cull" ∷ codes "depth_test" ∷ codes "depth_write" ∷ codes "blend" ∷ codes "write" ∷ codes "sample_mask" ∷ codes "scissor"
+    ∷ codes "vertices" ∷ codes "triangles" ∷ codes "strip" ∷ codes "quads" ∷ []
+
+abbrev pub output_word : Output → List ℕ
+output_word output.Color = codes "color"
+output_word output.Depth = codes "depth"
+
+abbrev pub output_words : List (List ℕ)
+output_words = output_word output.Color ∷ output_word output.Depth ∷ []
+
+abbrev pub cull_word : Cull → List ℕ
+cull_word cull.None = codes "none"
+cull_word cull.Front = codes "front"
+cull_word cull.Back = codes "back"
+
+abbrev pub cull_words : List (List ℕ)
+cull_words = cull_word cull.None ∷ cull_word cull.Front ∷ cull_word cull.Back ∷ []
+
+abbrev pub depth_test_word : DepthTest → List ℕ
+depth_test_word test.Never = codes "never"
+depth_test_word test.Less = codes "less"
+depth_test_word test.Equal = codes "equal"
+depth_test_word test.LessEqual = codes "less_equal"
+depth_test_word test.Greater = codes "greater"
+depth_test_word test.NotEqual = codes "not_equal"
+depth_test_word test.GreaterEqual = codes "greater_equal"
+depth_test_word test.Always = codes "always"
+
+abbrev pub depth_test_words : List (List ℕ)
+depth_test_words =
+    depth_test_word test.Never ∷ depth_test_word test.Less ∷ depth_test_word test.Equal ∷ depth_test_word test.LessEqual
+    ∷ depth_test_word test.Greater ∷ depth_test_word test.NotEqual ∷ depth_test_word test.GreaterEqual ∷ depth_test_word test.Always ∷ []
+
+-- the word for drawing over what is stored, or in its place
+abbrev pub blend_word : Bool → List ℕ
+blend_word false = codes "none"
+blend_word true = codes "over"
+
+abbrev pub blend_words : List (List ℕ)
+blend_words = blend_word false ∷ blend_word true ∷ []

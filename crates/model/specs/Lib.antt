@@ -1,0 +1,15 @@
+pub mod Primitives
+pub mod Listing
+pub mod Scene
+pub mod Rows
+pub mod Starts
+pub mod Picture
+pub mod View
+pub mod PixelPrefix
+pub mod Json
+pub mod Keys
+pub mod Fault
+pub mod FirstFault
+pub mod Checks
+pub mod Denotes
+pub mod Beginning

@@ -1,0 +1,27 @@
+-- The rows of pixels of a triangle.
+use Rattle.std.specs.Prelude.{◌≡◌, ℤ, pos, ◌+ℤ◌, List}
+use Rattle.std.specs.Int.{int_min, int_max, int_div_euclid}
+use Rattle.std.specs.List.{AllZip}
+use Rattle.grid.specs.declared.triangle.Tri.{Tri}
+use Rattle.shade.specs.declared.placed.Placed.{Placed}
+use Rattle.model.specs.declared.rows.RowSpan.{RowSpan}
+
+-- The row of pixels of a y is the y by 256, rounded down.
+abbrev pub row_of : ℤ → ℤ
+row_of y = int_div_euclid y (pos 256)
+
+abbrev pub least_y : Tri → ℤ
+least_y t = int_min (int_min t.a.y t.b.y) t.c.y
+
+abbrev pub greatest_y : Tri → ℤ
+greatest_y t = int_max (int_max t.a.y t.b.y) t.c.y
+
+-- The rows begin at that of the least y, but not before the screen, and end after that of the greatest, but neither before
+-- the screen nor past its 4096 rows.
+pub record IsRowSpan (t : Tri) (span : RowSpan) : Type 0 where
+  pub first : pos span.first ≡ int_max (row_of (least_y t)) (pos 0)
+  pub end : pos span.end ≡ int_max (int_min (row_of (greatest_y t) +ℤ pos 1) (pos 4096)) (pos 0)
+
+-- The rows of triangles, each at its triangle's place.
+abbrev pub AreRows : List Placed → List RowSpan → Type 0
+AreRows triangles spans = AllZip (λ t span. IsRowSpan t.tri span) triangles spans

@@ -1,0 +1,15 @@
+use Rattle.std.specs.Prelude.{ℕ, List}
+use Rattle.grid.specs.declared.sample_count.SampleCount.{SampleCount}
+use Rattle.shade.specs.declared.sample.Sample.{Sample}
+use Rattle.shade.specs.declared.placed.Placed.{Placed}
+use Rattle.model.specs.declared.output.Output.{Output}
+
+-- What a draw list has a picture drawn of: the size in pixels, the samples of a pixel, the colour and depth that each sample
+-- begins with, what the picture shows, and all triangles in draw order.
+pub record Scene : Type 0 where
+  pub width : ℕ
+  pub height : ℕ
+  pub count : SampleCount
+  pub clear : Sample
+  pub output : Output
+  pub triangles : List Placed

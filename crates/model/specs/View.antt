@@ -1,0 +1,17 @@
+use Rattle.std.specs.Prelude.{length}
+use Rattle.model.specs.declared.draw_list.DrawList.TheInside.{Inside}
+use Rattle.model.specs.Listing.{Listing, listing_of, scene_of, IsWithinLimits}
+use Rattle.model.specs.Rows.{AreRows}
+use Rattle.model.specs.Starts.{AreStarts, AreOwners}
+
+-- What a draw list in memory holds.
+abbrev pub listing : Inside → Listing
+listing l = listing_of l.width l.height l.count l.clear l.output l.draws.items
+
+-- What each draw list keeps: the limits, and for the look-ups where each draw starts, the draw of every sixteenth triangle, and the
+-- rows of each.
+pub record IsKept (l : Inside) : Type 0 where
+  pub limits : IsWithinLimits (listing l)
+  pub starts : AreStarts l.draws.items l.starts.items
+  pub owners : AreOwners l.starts.items (length (scene_of (listing l)).triangles) l.owners.items
+  pub rows : AreRows (scene_of (listing l)).triangles l.rows.items

@@ -1,0 +1,177 @@
+ghost use Rattle.std.specs.Prelude.{◌≡◌, ◌↔◌, ◌<◌, ◌≤◌, length, slice_get, Some, IfSome, IfOk};
+ghost use Rattle.model.specs.Listing.{listing_of, scene_of, IsWithinLimits};
+ghost use Rattle.model.specs.Rows.{IsRowSpan};
+
+use crate::draw::Draw;
+use crate::limits::{are_within_limits, is_side};
+use crate::output::Output;
+use crate::rows::{RowSpan, rows_of};
+use crate::starts::{owner, owners_of, starts_of};
+use grid::{OutOfMemory, SampleCount};
+use shade::{Placed, Sample};
+use std::alloc::Global;
+use std::marker::Model;
+
+/// Draws in their order, and the picture's size, samples, clear values and output. It is within the limits of a draw list: a
+/// picture of 1 to 4096 pixels a side, at most 1,024 draws, at most 65,536 vertices a draw, at most 65,536 triangles together,
+/// primitives that name vertices of their draw alone, and strictly convex quads.
+#[derive(Debug, Drop)]
+pub struct DrawList {
+    width: u32,
+    height: u32,
+    count: SampleCount,
+    clear: Sample,
+    output: Output,
+    draws: Vec<Draw>,
+    /// The number of each draw's first triangle.
+    starts: Vec<u32>,
+    /// The draw of every sixteenth triangle.
+    owners: Vec<u16>,
+    /// The rows of pixels of each triangle.
+    rows: Vec<RowSpan>,
+}
+
+/// Why no draw list was made.
+#[derive(Clone, Copy, Debug, PartialEq, Eq)]
+pub enum ListFault {
+    /// It would be past a limit of a draw list.
+    PastLimit,
+    /// A growth of memory was refused.
+    OutOfMemory,
+}
+
+impl Model for DrawList {
+    ghost use Rattle.model.specs.Scene.{Scene};
+
+    ghost Value = { Scene };
+
+    ghost use Rattle.model.specs.Listing.{scene_of};
+    ghost use Rattle.model.specs.View.{listing, IsKept};
+
+    ghost view = { λ l. scene_of (listing l) };
+
+    ghost invariant = { IsKept };
+}
+
+impl DrawList {
+    /// The draw list of these draws. Past a limit is told before want of memory.
+    ///
+    /// The state of a draw has no limits. Of its sample mask the bits of the picture's samples count, and of its scissor the
+    /// pixels of the picture, so a mask over 15 and a scissor with sides outside of 0 to 4096, which the reader refuses, may
+    /// stand here.
+    pub fn new(
+        alloc: Global,
+        width: u32,
+        height: u32,
+        count: SampleCount,
+        clear: Sample,
+        output: Output,
+        draws: Vec<Draw>,
+    ) -> Result<DrawList, ListFault>
+        ensures scene { IfOk result (λ list. list ≡ scene_of (listing_of width height count clear output draws.items)) }
+        ensures limits { IfOk result (λ _. IsWithinLimits (listing_of width height count clear output draws.items)) }
+        ensures past_limit { (result ≡ Err ListFault.PastLimit) ↔ ¬ IsWithinLimits (listing_of width height count clear output draws.items) }
+    {
+        if !is_side(width) || !is_side(height) || !are_within_limits(&draws) {
+            return Err(ListFault::PastLimit);
+        }
+        match DrawList::within_limits(alloc, width, height, count, clear, output, draws) {
+            Ok(list) => Ok(list),
+            Err(OutOfMemory) => Err(ListFault::OutOfMemory),
+        }
+    }
+
+    /// The draw list of these draws, which are within the limits.
+    pub fn within_limits(
+        alloc: Global,
+        width: u32,
+        height: u32,
+        count: SampleCount,
+        clear: Sample,
+        output: Output,
+        draws: Vec<Draw>,
+    ) -> Result<DrawList, OutOfMemory>
+        requires { IsWithinLimits (listing_of width height count clear output draws.items) }
+        ensures { IfOk result (λ list. list ≡ scene_of (listing_of width height count clear output draws.items)) }
+    {
+        let starts = starts_of(alloc, &draws)?;
+        let rows = rows_of(alloc, &draws)?;
+        let owners = owners_of(alloc, &starts, rows.len())?;
+        Ok(DrawList {
+            width,
+            height,
+            count,
+            clear,
+            output,
+            draws,
+            starts,
+            owners,
+            rows,
+        })
+    }
+
+    /// The width of the picture, in pixels.
+    pub fn width(&self) -> u32
+        ensures value { result ≡ self.now.width }
+        ensures least { 1 ≤ result }
+        ensures greatest { result ≤ 4096 }
+    {
+        self.width
+    }
+
+    /// The height of the picture, in pixels.
+    pub fn height(&self) -> u32
+        ensures value { result ≡ self.now.height }
+        ensures least { 1 ≤ result }
+        ensures greatest { result ≤ 4096 }
+    {
+        self.height
+    }
+
+    /// How many samples a pixel has.
+    pub fn count(&self) -> SampleCount
+        ensures { result ≡ self.now.count }
+    {
+        self.count
+    }
+
+    /// The colour and depth that each sample begins with.
+    pub fn clear(&self) -> Sample
+        ensures { result ≡ self.now.clear }
+    {
+        self.clear
+    }
+
+    /// What the picture shows.
+    pub fn output(&self) -> Output
+        ensures { result ≡ self.now.output }
+    {
+        self.output
+    }
+
+    /// How many triangles all draws have together.
+    pub fn triangles(&self) -> usize
+        ensures value { result ≡ length self.now.triangles }
+        ensures greatest { result ≤ 65536 }
+    {
+        self.rows.len()
+    }
+
+    /// The triangle of this number in draw order: draw by draw, and in a draw as its primitives are listed.
+    pub fn triangle(&self, number: usize) -> Placed
+        requires { number < length self.now.triangles }
+        ensures { slice_get self.now.triangles number ≡ Some result }
+    {
+        let draw = owner(&self.starts, &self.owners, number);
+        self.draws[draw].triangle(number - self.starts[draw] as usize)
+    }
+
+    /// The rows of pixels of the screen from that of the least y of this triangle's vertices to that of the greatest, where a y
+    /// by 256, rounded down, is its row. They may begin and end below the picture, whose height does not cut them.
+    pub fn rows(&self, number: usize) -> RowSpan
+        requires { number < length self.now.triangles }
+        ensures { IfSome (slice_get self.now.triangles number) (λ triangle. IsRowSpan triangle.tri result) }
+    {
+        self.rows[number]
+    }
+}
