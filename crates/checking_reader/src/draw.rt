@@ -9,12 +9,12 @@ ghost use Rattle.checking_reader.specs.Given.{given_triangles, given_strip, give
 ghost use Rattle.model.specs.Checks.{array_checks, part_checks, draw_checks, checks_before_vertices};
 ghost use Rattle.model.specs.Denotes.{IsVertex, IsPrimitives, IsArrayOf, IsDraw};
 
-use model::{Draw, Primitives, ReadKind, Vertex, MOST_TRIANGLES, MOST_VERTICES};
 use crate::keys::has_other;
 use crate::primitives::{PrimitiveArray, primitive_array, read_primitives};
 use crate::state::read_state;
 use crate::vertices::read_vertices;
 use grid::PixelBox;
+use model::{Draw, MOST_TRIANGLES, MOST_VERTICES, Primitives, ReadKind, Vertex};
 use serde_json::Value;
 use std::alloc::Global;
 

@@ -6,12 +6,12 @@ ghost use Rattle.checking_reader.specs.Answer.{Tells};
 ghost use Rattle.model.specs.Checks.{where_there, size_checks, sample_count_checks, colour_checks, depth_checks, clear_checks, top_checks};
 ghost use Rattle.model.specs.Denotes.{OrDefault, IsSize, IsSampleCount, IsClearColour, IsDepthNumber};
 
-use model::{Output, ReadKind, MOST_DRAWS};
 use crate::array::{array_of, has_length};
 use crate::keys::has_other;
 use crate::number::{channel, depth, whole_number};
 use crate::word::output;
 use grid::SampleCount;
+use model::{MOST_DRAWS, Output, ReadKind};
 use serde_json::Value;
 use shade::Sample;
 

@@ -4,8 +4,8 @@ ghost use Rattle.checking_reader.specs.Answer.{Tells};
 ghost use Rattle.model.specs.Checks.{index_checks};
 ghost use Rattle.model.specs.Denotes.{IsIndex};
 
-use model::{ReadKind, MOST_VERTICES};
 use crate::number::whole_number;
+use model::{MOST_VERTICES, ReadKind};
 use serde_json::Value;
 
 /// The number of one of `count` vertices.

@@ -4,8 +4,8 @@ ghost use Rattle.checking_reader.specs.Answer.{Tells};
 ghost use Rattle.model.specs.Checks.{number_checks, coordinate_checks, depth_checks, channel_checks, is_from_to};
 ghost use Rattle.model.specs.Denotes.{IsWhole, IsCoordinate, IsDepthNumber, IsChannel};
 
-use model::ReadKind;
 use grid::Point;
+use model::ReadKind;
 use serde_json::Value;
 
 /// A whole number from `low` to `high`; `outside` is told of another whole number.

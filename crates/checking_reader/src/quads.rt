@@ -5,9 +5,9 @@ ghost use Rattle.model.specs.Primitives.{quads_count as count_of_quads};
 ghost use Rattle.model.specs.Checks.{quad_checks_over, quads_checks, each};
 ghost use Rattle.model.specs.Denotes.{IsQuad, IsArrayOf, Each};
 
-use model::{ReadKind, Vertex, MOST_QUADS, MOST_TRIANGLES, MOST_VERTICES, is_convex, quads_count};
 use crate::array::{array_of, has_length};
 use crate::index::index;
+use model::{MOST_QUADS, MOST_TRIANGLES, MOST_VERTICES, ReadKind, Vertex, is_convex, quads_count};
 use serde_json::Value;
 use std::alloc::Global;
 

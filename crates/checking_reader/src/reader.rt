@@ -11,10 +11,10 @@ ghost use Rattle.model.specs.Scene.{Scene};
 ghost use Rattle.model.specs.Checks.{outside, draw_checks, checks_before_vertices, draws_checks, value_checks, all_checks, IsReached, Reaches};
 ghost use Rattle.model.specs.Denotes.{Each, picture_box, IsDraw, IsDrawList, Denotes};
 
-use model::{Draw, DrawList, ReadFault, ReadKind, MOST_BYTES, MOST_TRIANGLES};
 use crate::draw::read_draw;
-use grid::PixelBox;
 use crate::header::Header;
+use grid::PixelBox;
+use model::{Draw, DrawList, MOST_BYTES, MOST_TRIANGLES, ReadFault, ReadKind};
 use serde_json::{Error, Value};
 use std::alloc::Global;
 

@@ -4,11 +4,11 @@ ghost use Rattle.checking_reader.specs.Answer.{Tells};
 ghost use Rattle.model.specs.Checks.{where_there, truth_checks, write_mask_checks, sample_mask_checks, scissor_side_checks, scissor_checks, merge_checks, state_checks};
 ghost use Rattle.model.specs.Denotes.{OrDefault, IsTruth, IsWriteMask, IsSampleMask, IsScissorSide, IsScissor, IsMerge, IsState};
 
-use model::ReadKind;
 use crate::array::has_length;
 use crate::number::whole_number;
 use crate::word::{blends_over, cull, depth_test};
 use grid::PixelBox;
+use model::ReadKind;
 use serde_json::Value;
 use shade::{Merge, State};
 

@@ -5,9 +5,9 @@ ghost use Rattle.model.specs.Primitives.{strip_count as count_of_strip};
 ghost use Rattle.model.specs.Checks.{strip_index_checks, strip_checks, each};
 ghost use Rattle.model.specs.Denotes.{IsStripIndex, IsArrayOf, Each};
 
-use model::{ReadKind, MOST_STRIP_INDICES, MOST_TRIANGLES, MOST_VERTICES, strip_count};
 use crate::array::array_of;
 use crate::index::index;
+use model::{MOST_STRIP_INDICES, MOST_TRIANGLES, MOST_VERTICES, ReadKind, strip_count};
 use serde_json::Value;
 use std::alloc::Global;
 

@@ -4,9 +4,9 @@ ghost use Rattle.checking_reader.specs.Answer.{Tells, Reads};
 ghost use Rattle.model.specs.Checks.{triangle_checks, triangles_checks, each};
 ghost use Rattle.model.specs.Denotes.{IsTriangle, IsArrayOf, Each};
 
-use model::{ReadKind, MOST_TRIANGLES, MOST_VERTICES};
 use crate::array::{array_of, has_length};
 use crate::index::index;
+use model::{MOST_TRIANGLES, MOST_VERTICES, ReadKind};
 use serde_json::Value;
 use std::alloc::Global;
 

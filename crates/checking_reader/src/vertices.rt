@@ -7,10 +7,10 @@ ghost use Rattle.model.specs.FirstFault.{first_fault};
 ghost use Rattle.model.specs.Checks.{array_checks, rgba_checks, vertex_checks, vertices_checks, each};
 ghost use Rattle.model.specs.Denotes.{IsChannel, IsVertex, IsArrayOf, Each};
 
-use model::{ReadKind, Vertex, MOST_VERTICES};
 use crate::array::{array_of, has_length};
 use crate::number::{channel, coordinate, depth};
 use grid::Point;
+use model::{MOST_VERTICES, ReadKind, Vertex};
 use serde_json::Value;
 use std::alloc::Global;
 

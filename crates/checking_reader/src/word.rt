@@ -8,8 +8,8 @@ ghost use Rattle.checking_reader.specs.Answer.{Tells};
 ghost use Rattle.model.specs.Checks.{where_there, word_checks};
 ghost use Rattle.model.specs.Denotes.{OrDefault, IsOutput, IsCull, IsDepthTest, IsBlend};
 
-use model::{Output, ReadKind};
 use grid::Cull;
+use model::{Output, ReadKind};
 use serde_json::Value;
 use shade::DepthTest;
 

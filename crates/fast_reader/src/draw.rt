@@ -6,7 +6,6 @@ ghost use Rattle.model.specs.Denotes.{IsDraw};
 ghost use Rattle.fast_reader.specs.Took.{Took, IsObjectOf};
 ghost use Rattle.fast_reader.specs.Drafted.{HasDraw, IsOnlyList};
 
-use model::{Draw, Primitives, Vertex};
 use crate::array::{take_begin_object, take_key};
 use crate::quads::take_quads;
 use crate::state::take_state_value;
@@ -15,6 +14,7 @@ use crate::triangles::take_triangles;
 use crate::vertices::take_vertices;
 use grid::{Cull, PixelBox};
 use json::Reader;
+use model::{Draw, Primitives, Vertex};
 use shade::{DepthTest, Merge, State};
 use std::alloc::Global;
 

@@ -3,11 +3,11 @@ ghost use Rattle.json.specs.Token.{begin_array};
 ghost use Rattle.fast_reader.specs.Took.{Took};
 ghost use Rattle.fast_reader.specs.Drafted.{AreDraws};
 
-use model::{Draw, MOST_DRAWS, MOST_TRIANGLES};
 use crate::array::take_begin_array;
 use crate::draw::take_draw;
 use grid::PixelBox;
 use json::Reader;
+use model::{Draw, MOST_DRAWS, MOST_TRIANGLES};
 use std::alloc::Global;
 
 /// Takes the draws of an array whose bracket was taken, and the bracket that closes it.

@@ -3,10 +3,10 @@ ghost use Rattle.json.specs.Token.{begin_array};
 ghost use Rattle.model.specs.Denotes.{IsQuad, IsArrayOf};
 ghost use Rattle.fast_reader.specs.Took.{Took};
 
-use model::{Vertex, MOST_QUADS, is_convex};
 use crate::array::take_begin_array;
 use crate::number::take_index;
 use json::Reader;
+use model::{MOST_QUADS, Vertex, is_convex};
 use std::alloc::Global;
 
 /// Takes a strictly convex quad, by the numbers of four of the vertices.

@@ -6,10 +6,10 @@ ghost use Rattle.model.specs.Denotes.{Denotes};
 ghost use Rattle.fast_reader.specs.Took.{IsObjectOf};
 ghost use Rattle.fast_reader.specs.Drafted.{HasList};
 
-use model::{DrawList, MOST_BYTES};
-use json::{Reader, Scratch};
-use std::alloc::Global;
 use crate::top::{ListDraft, take_list};
+use json::{Reader, Scratch};
+use model::{DrawList, MOST_BYTES};
+use std::alloc::Global;
 
 /// What a JSON text says of a draw list. Nothing of the reader's memory is kept.
 fn read_draft(alloc: Global, bytes: &[u8]) -> Option<ListDraft>

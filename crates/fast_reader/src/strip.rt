@@ -3,10 +3,10 @@ ghost use Rattle.json.specs.Token.{begin_array};
 ghost use Rattle.model.specs.Denotes.{IsStripIndex, IsArrayOf};
 ghost use Rattle.fast_reader.specs.Took.{Took};
 
-use model::MOST_STRIP_INDICES;
 use crate::array::take_begin_array;
 use crate::number::take_index;
 use json::Reader;
+use model::MOST_STRIP_INDICES;
 use std::alloc::Global;
 
 /// Takes the indices of an array whose bracket was taken, and the bracket that closes it.

@@ -4,13 +4,13 @@ ghost use Rattle.model.specs.Keys.{top_keys};
 ghost use Rattle.fast_reader.specs.Took.{Took, IsObjectOf};
 ghost use Rattle.fast_reader.specs.Drafted.{HasList};
 
-use model::{Draw, Output};
 use crate::array::{take_begin_object, take_colour, take_key};
 use crate::draws::take_draws;
 use crate::number::{take_depth, take_sample_count, take_size};
 use crate::word::take_output;
 use grid::{PixelBox, SampleCount};
 use json::Reader;
+use model::{Draw, Output};
 use shade::Sample;
 use std::alloc::Global;
 

@@ -3,10 +3,10 @@ ghost use Rattle.json.specs.Token.{begin_array};
 ghost use Rattle.model.specs.Denotes.{IsTriangle, IsArrayOf};
 ghost use Rattle.fast_reader.specs.Took.{Took};
 
-use model::MOST_TRIANGLES;
 use crate::array::take_begin_array;
 use crate::number::take_index;
 use json::Reader;
+use model::MOST_TRIANGLES;
 use std::alloc::Global;
 
 /// Takes a triangle, by the numbers of three of `count` vertices.

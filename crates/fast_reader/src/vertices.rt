@@ -3,11 +3,11 @@ ghost use Rattle.json.specs.Token.{begin_array};
 ghost use Rattle.model.specs.Denotes.{IsVertex, IsArrayOf};
 ghost use Rattle.fast_reader.specs.Took.{Took};
 
-use model::{Vertex, MOST_VERTICES};
 use crate::array::take_begin_array;
 use crate::number::{take_channel, take_depth, take_i32};
 use grid::Point;
 use json::Reader;
+use model::{MOST_VERTICES, Vertex};
 use std::alloc::Global;
 
 /// Takes a vertex, written as [x, y, z, red, green, blue, alpha].

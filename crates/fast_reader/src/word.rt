@@ -3,9 +3,9 @@ ghost use Rattle.model.specs.Json.{text as text_of};
 ghost use Rattle.model.specs.Denotes.{IsCull, IsDepthTest, IsBlend, IsTruth, IsOutput};
 ghost use Rattle.fast_reader.specs.Took.{Took};
 
-use model::Output;
 use grid::Cull;
 use json::{Reader, Token};
+use model::Output;
 use shade::DepthTest;
 
 /// Takes a text.

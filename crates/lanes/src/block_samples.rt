@@ -1,7 +1,7 @@
-use shade::Sample;
 ghost use Rattle.std.specs.Prelude.{◌≡◌, ℕ, ◌<◌};
 ghost use Rattle.lanes.specs.Block.{stored_at};
 
+use shade::Sample;
 
 /// One sample of each pixel of a block of 8 by 8 pixels, row by row: those of one sample index. Depths and the three channels
 /// are each kept apart, so that many are read at once.

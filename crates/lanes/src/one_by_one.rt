@@ -22,13 +22,7 @@ pub(crate) fn sample_position(p: Point, k: u32) -> Point
 }
 
 /// Draws the triangle at the samples of two rows of a block that are in the mask, one after another.
-fn draw_rows_each(
-    triangle: &Placed,
-    p: Point,
-    mask: u64,
-    group: u64,
-    samples: &mut BlockSamples,
-)
+fn draw_rows_each(triangle: &Placed, p: Point, mask: u64, group: u64, samples: &mut BlockSamples)
     requires group { group < 4 }
     requires on_screen { IsOnScreen p }
     requires covered { CoversMask triangle.now p mask }
