@@ -97,7 +97,7 @@ Libs: -L$${libdir} -ltrirast
 endef
 
 check-library: $(PROGRAM) library
-	$(PYTHON) scripts/check_library.py
+	$(PYTHON) -m tools.check_library
 
 install: $(PROGRAM) library
 	install -D -m 755 $(PROGRAM) "$(DESTDIR)$(PREFIX)/bin/trirast"
@@ -124,39 +124,39 @@ demo: $(PICTURES)
 	else echo "pnmtopng is not installed, so there are PPM and PGM pictures only"; fi
 
 test:
-	@$(PYTHON) scripts/gate.py --rt $(RT)
+	@$(PYTHON) -m tools.gate --rt $(RT)
 
 checks: $(PROGRAM) $(TILES) $(READER) $(if $(shell command -v gcc),library)
-	@$(PYTHON) scripts/gate.py --without-proofs
+	@$(PYTHON) -m tools.gate --without-proofs
 
 compare: $(PROGRAM)
-	$(PYTHON) scripts/test_reference.py
-	$(PYTHON) scripts/compare.py
+	$(PYTHON) -m tools.test_reference
+	$(PYTHON) -m tools.compare
 
 check-compare: $(PROGRAM)
-	$(PYTHON) scripts/test_compare.py
-	$(PYTHON) scripts/plant_faults.py
+	$(PYTHON) -m tools.test_compare
+	$(PYTHON) -m tools.mutants
 
 golden: $(PROGRAM)
-	$(PYTHON) scripts/test_golden.py
-	$(PYTHON) scripts/golden.py
+	$(PYTHON) -m tools.test_golden
+	$(PYTHON) -m tools.golden
 
 schema:
-	$(PYTHON) scripts/check_schema.py
+	$(PYTHON) -m tools.check_schema
 
 $(READER): $(SOURCES)
 	cd crates/list_bench && $(RT) run < "$(CURDIR)/examples/triangle.json" > /dev/null
 	install -D -m 755 crates/list_bench/out/list_bench $@
 
 memory: $(PROGRAM) $(TILES) $(READER)
-	$(PYTHON) scripts/test_refusals.py
-	$(PYTHON) scripts/refuse_memory.py
+	$(PYTHON) -m tools.test_injection
+	$(PYTHON) -m tools.allocation_failures
 
 hostile: $(PROGRAM)
-	$(PYTHON) scripts/hostile.py
+	$(PYTHON) -m tools.fault_injection
 
 races: $(PROGRAM)
-	$(PYTHON) scripts/races.py
+	$(PYTHON) -m tools.races
 
 frames: $(PROGRAM)
 	cd crates/frames && $(RT) run < "$(CURDIR)/examples/triangle.json" > /dev/null
@@ -168,14 +168,14 @@ $(MODEL): bench/draw_list.hpp $(wildcard bench/model/*)
 	$(CXX) -std=c++17 -O3 -march=x86-64-v2 -Wall -Wextra -pthread -o $@ bench/model/main.cpp
 
 bench: $(PROGRAM)
-	$(PYTHON) bench/run.py
+	$(PYTHON) -m bench.run
 
 conformance: $(PROGRAM)
 	@mkdir -p out
-	$(PYTHON) conformance/run.py --html out/conformance.html
+	$(PYTHON) -m conformance.run --html out/conformance.html
 
 check-conformance:
-	$(PYTHON) conformance/test_conformance.py
+	$(PYTHON) -m conformance.test_conformance
 
 clean:
 	rm -rf bin lib out bench/out conformance/out

@@ -16,7 +16,7 @@ import subprocess
 import sys
 import time
 
-import run
+from bench import run
 
 sys.path.insert(0, os.path.join(run.TOP, "python"))
 

@@ -1,7 +1,7 @@
 #!/usr/bin/env python3
 """Times the program beside llvmpipe, Mesa's software driver: frames beside frames, and whole processes beside each other.
 
-    bench/llvmpipe.py [--runs 5] [--workers 1 4] [--scenes smooth mesh ..] [--lists some.json ..] [--model PROGRAM]
+    python3 -m bench.llvmpipe [--runs 5] [--workers 1 4] [--scenes smooth mesh ..] [--lists some.json ..] [--model PROGRAM]
 
 A frame of llvmpipe goes from its clear to the pixels read back, warm, with each sample shaded as the program does it; a
 frame of the program goes from a list that was read to its picture's last byte, thrown away (`crates/frames`). The two

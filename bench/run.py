@@ -1,7 +1,7 @@
 #!/usr/bin/env python3
 """Times the program on the scenes of bench/scenes.py and prints one table.
 
-    bench/run.py [--program bin/trirast] [--runs 3] [--scenes tiny mesh ..] [--tiles 32 ..]
+    python3 -m bench.run [--program bin/trirast] [--runs 3] [--scenes tiny mesh ..] [--tiles 32 ..]
 
 For each scene and tile side it gives the wall time with 1, 2 and 4 workers, the ratio to the time with one worker, the
 processor time, and the peak memory, all from this one call; times are the best of a few runs with the output thrown

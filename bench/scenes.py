@@ -1,7 +1,7 @@
 #!/usr/bin/env python3
 """Writes the draw lists of the benchmark into bench/out/.
 
-    bench/scenes.py [NAME ..]
+    python3 -m bench.scenes [NAME ..]
 
 Without names it writes all of them. The same names give the same bytes each time. Standard library alone.
 """

@@ -8,7 +8,7 @@ quarter of that sample's colour. The suites' exact lists have colours of which a
 from collections import Counter
 from dataclasses import dataclass, field
 
-from suites.shapes import each_draw
+from conformance.suites.shapes import each_draw
 
 
 class CannotAsk(Exception):

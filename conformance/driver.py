@@ -10,8 +10,8 @@ import os
 from array import array
 from dataclasses import dataclass
 
-import gl
-from comparison import CannotAsk
+from conformance import gl
+from conformance.comparison import CannotAsk
 
 # What Mesa reads when its library is loaded, for each of its drivers that can be asked for by name.
 MESA = {

@@ -5,9 +5,9 @@ Each is read in the same way from the driver's pictures and from the program's, 
 
 from math import log2
 
-from comparison import CannotAsk, colour_at, planes
-from suites.coverage import LEVER, POSITION_CELL, POSITION_SIDE, lever_list, position_list
-from suites.shapes import PIXEL, PLACES, draw, flat, halves, scene
+from conformance.comparison import CannotAsk, colour_at, planes
+from conformance.suites.coverage import LEVER, POSITION_CELL, POSITION_SIDE, lever_list, position_list
+from conformance.suites.shapes import PIXEL, PLACES, draw, flat, halves, scene
 
 
 def owned_edges(renderer):

@@ -1,4 +1,4 @@
-"""The rules as a renderer without a driver: scripts/reference.py, with at most one fault planted in it.
+"""The rules as a renderer without a driver: tools/reference.py, with at most one fault planted in it.
 
 The faults are what a driver may do otherwise. They show that the comparison tells each of them under its own subject.
 """
@@ -9,9 +9,8 @@ import os
 import sys
 from unittest import mock
 
-sys.path.insert(0, os.path.join(os.path.dirname(os.path.abspath(__file__)), "..", "scripts"))
-import reference  # noqa: E402
-from suites.shapes import coarser, each_draw  # noqa: E402
+from tools import reference
+from conformance.suites.shapes import coarser, each_draw
 
 
 class BottomRightEdge(reference.Edge):

@@ -1,7 +1,7 @@
 """The pixels around the one where a driver departs from the rules, as a drawing (SVG) and as characters."""
 
-from comparison import colour_at, samples_of
-from suites.shapes import PIXEL, PLACES
+from conformance.comparison import colour_at, samples_of
+from conformance.suites.shapes import PIXEL, PLACES
 
 REACH = 4  # pixels on each side of the worst one
 SCALE = 34  # of a pixel in the drawing

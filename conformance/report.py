@@ -4,8 +4,8 @@ import html
 from dataclasses import dataclass
 from typing import Callable
 
-from neighbourhood import as_characters, coverage_panels, value_panels
-from suites import LEFT_OUT
+from conformance.neighbourhood import as_characters, coverage_panels, value_panels
+from conformance.suites import LEFT_OUT
 
 STYLE = """
 body { font: 15px/1.45 system-ui, sans-serif; margin: 2em auto; max-width: 72em; padding: 0 1em; color: #222; }

@@ -1,7 +1,7 @@
 #!/usr/bin/env python3
 """Draws suites of draw lists through the machine's OpenGL driver and through the program, and tells where they differ.
 
-    conformance/run.py [--driver llvmpipe|zink|default] [--suite NAME ..] [--bits N] [--html report.html]
+    python3 -m conformance.run [--driver llvmpipe|zink|default] [--suite NAME ..] [--bits N] [--html report.html]
 
 The report goes to standard output, and the first list of each subject that differs to conformance/out.
 docs/conformance.md says what is asked and what equal means. Python 3.8 or later, standard library alone; EGL and OpenGL
@@ -15,13 +15,13 @@ import argparse
 import os
 import sys
 
-import suites
-from comparison import compare_suite, only_sample
-from driver import MESA, Driver
-from findings import findings
-from gl import Unavailable
-from program import Program, Refused, as_bytes
-from report import Report, page, text
+from conformance import suites
+from conformance.comparison import compare_suite, only_sample
+from conformance.driver import MESA, Driver
+from conformance.findings import findings
+from conformance.gl import Unavailable
+from conformance.program import Program, Refused, as_bytes
+from conformance.report import Report, page, text
 
 HERE = os.path.dirname(os.path.abspath(__file__))
 TOP = os.path.dirname(HERE)

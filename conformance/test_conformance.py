@@ -1,8 +1,8 @@
 #!/usr/bin/env python3
-"""Tests of the comparison with a driver, without a driver: scripts/reference.py stands on both sides, and on the
+"""Tests of the comparison with a driver, without a driver: tools/reference.py stands on both sides, and on the
 driver's side with a fault planted in it. Each fault must be told under its own subject, and only where it can be seen.
 
-    conformance/test_conformance.py
+    python3 -m conformance.test_conformance
 """
 
 import hashlib
@@ -13,20 +13,20 @@ import sys
 import tempfile
 import unittest
 
-import suites
-from comparison import CannotAsk, Tally, compare_suite, compare_values, only_sample, pixels_that_differ, planes
-from findings import QUESTIONS, findings
-from model import FAULTS, Model
-from neighbourhood import as_characters
-from program import as_bytes
-from report import page, text
-from run import measure
-from suites.shapes import coarser, draw, rectangle, scene
+from conformance import suites
+from conformance.comparison import CannotAsk, Tally, compare_suite, compare_values, only_sample, pixels_that_differ, planes
+from conformance.findings import QUESTIONS, findings
+from conformance.model import FAULTS, Model
+from conformance.neighbourhood import as_characters
+from conformance.program import as_bytes
+from conformance.report import page, text
+from conformance.run import measure
+from conformance.suites.shapes import coarser, draw, rectangle, scene
 
-import counts  # this one and the next are found by way of model
-import reference
+from tools import counts
+from tools import reference
 
-HERE = os.path.dirname(os.path.abspath(__file__))
+TOP = os.path.dirname(os.path.dirname(os.path.abspath(__file__)))
 
 # Their first lists are small enough for the reference renderer. The last four have whole-pixel rectangles alone.
 ABOUT_EDGES = ("top-left", "shared-edges", "slivers", "sample-positions", "subpixel-bits")
@@ -262,8 +262,8 @@ class Reports(unittest.TestCase):
             self.assertIn("one-scissor-4 (1)", text(report))
 
     def test_no_program(self):
-        words = [sys.executable, os.path.join(HERE, "run.py"), "--program", os.path.join(HERE, "no-program")]
-        run = subprocess.run(words, stdout=subprocess.PIPE, stderr=subprocess.PIPE)
+        words = [sys.executable, "-m", "conformance.run", "--program", "no-program"]
+        run = subprocess.run(words, cwd=TOP, stdout=subprocess.PIPE, stderr=subprocess.PIPE)
         self.assertEqual((run.returncode, run.stdout), (2, b""))
         self.assertIn(b"no program", run.stderr)
 

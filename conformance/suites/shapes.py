@@ -3,8 +3,7 @@
 import os
 import sys
 
-sys.path.insert(0, os.path.join(os.path.dirname(os.path.abspath(__file__)), "..", "..", "scripts"))
-from reference import BAND, SAMPLES  # noqa: E402
+from tools.reference import BAND, SAMPLES
 
 # Where the samples of a pixel lie by the rules. A copy: a model with another pattern is asked the same lists.
 PLACES = {count: tuple(places) for count, places in SAMPLES.items()}

@@ -1,7 +1,7 @@
 #!/usr/bin/env python3
 """Runs bin/trirast where things go wrong: devices that fail, limits of the system, lists at the ends of their limits.
 
-    scripts/hostile.py [NAME ..]
+    python3 -m tools.fault_injection [NAME ..]
 
 Each run ends by itself, with the picture or with one line and its status. What the system here does not give is named and
 skipped, as is gcc, by which single threads are refused. The last line is 'N passed, M failed', or 'N passed, M failed, K
@@ -17,12 +17,10 @@ import sys
 import tempfile
 import unittest
 
-sys.path.insert(0, os.path.dirname(os.path.abspath(__file__)))
-
-import counts
-import reference
-import refusals
-import tall_picture as tall
+from tools import counts
+from tools import reference
+from tools import injection
+from tools import tall_picture as tall
 
 TOP = os.path.dirname(os.path.dirname(os.path.abspath(__file__)))
 PROGRAM = os.path.join(TOP, "bin", "trirast")
@@ -265,7 +263,7 @@ class Threads(unittest.TestCase):
         self.assertEqual((status, line), (0, b""))
 
 
-class RefusedThreads(refusals.Refusals):
+class RefusedThreads(injection.Refusals):
     """A picture of eight batches comes whole where one thread is not started, whichever it is, and where no later one is either."""
 
     program = PROGRAM
@@ -299,8 +297,8 @@ class RefusedThreads(refusals.Refusals):
         self.assertLess(0, drawn_without)
 
     def test_all_threads_from_each_one_on(self):
-        self.check_threads(2, later=refusals.EACH)
-        self.check_threads(4, later=refusals.EACH)
+        self.check_threads(2, later=injection.EACH)
+        self.check_threads(4, later=injection.EACH)
 
 
 class Lists(unittest.TestCase):
@@ -402,5 +400,5 @@ class Lists(unittest.TestCase):
 
 if __name__ == "__main__":
     if not os.access(PROGRAM, os.X_OK):
-        sys.exit("hostile.py: bin/trirast is not there; run make first")
+        sys.exit("fault_injection.py: bin/trirast is not there; run make first")
     counts.run_tests()

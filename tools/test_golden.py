@@ -1,7 +1,7 @@
 #!/usr/bin/env python3
-"""Tests of scripts/golden.py and scripts/png.py, over lists and programs of their own.
+"""Tests of tools/golden.py and tools/png.py, over lists and programs of their own.
 
-    python3 scripts/test_golden.py
+    python3 -m tools.test_golden
 """
 
 from __future__ import annotations
@@ -16,12 +16,10 @@ import tempfile
 import unittest
 import zlib
 
-sys.path.insert(0, os.path.dirname(os.path.abspath(__file__)))
-
-import counts
-import golden
-import png
-from counts import Counts
+from tools import counts
+from tools import golden
+from tools import png
+from tools.counts import Counts
 
 # Two lists without triangles and their files, by the rules: each pixel has the clear colour, or the clear depth in two bytes.
 COLOURS = b'{"width":2,"height":1,"clear":[1,2,255],"draws":[]}'

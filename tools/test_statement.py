@@ -1,7 +1,7 @@
 #!/usr/bin/env python3
 """Tests that docs/statement.md is what the sources have, that it is whole, and that statement.py sees what is left out.
 
-    python3 scripts/test_statement.py
+    python3 -m tools.test_statement
 """
 
 import contextlib
@@ -14,13 +14,11 @@ import unittest
 from typing import Dict, Iterator, List, Set, Tuple
 from unittest import mock
 
-sys.path.insert(0, os.path.dirname(os.path.abspath(__file__)))
-
-import counts
-import statement
-import statement_sources as sources
-from statement_sources import Name, Unclear
-from statement_text import GLOSSARY, GROUPS
+from tools import counts
+from tools import statement
+from tools import statement_sources as sources
+from tools.statement_sources import Name, Unclear
+from tools.statement_text import GLOSSARY, GROUPS
 
 TOP = os.path.dirname(os.path.dirname(os.path.abspath(__file__)))
 

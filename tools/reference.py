@@ -5,8 +5,8 @@ It reads a draw list on standard input and writes the binary PPM picture, or the
 output, straight from the rules of docs/rules.md and docs/draw-list.md: exact integers, every sample by itself, all
 triangles in draw order. It shares no code with the program, and is there to compare the program with.
 
-    scripts/reference.py < list.json > picture.ppm
-    scripts/reference.py --compare one.ppm other.ppm
+    python3 -m tools.reference < list.json > picture.ppm
+    python3 -m tools.reference --compare one.ppm other.ppm
 
 A list that is refused gives the program's line on standard error and status 1. Python 3.8 or later, standard library
 alone.

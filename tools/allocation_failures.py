@@ -15,11 +15,9 @@ import os
 import subprocess
 import sys
 
-sys.path.insert(0, os.path.dirname(os.path.abspath(__file__)))
-
-import counts
-import refusals
-import tall_picture as tall
+from tools import counts
+from tools import injection
+from tools import tall_picture as tall
 
 TOP = os.path.dirname(os.path.dirname(os.path.abspath(__file__)))
 PROGRAM = os.path.join(TOP, "bin", "trirast")
@@ -53,7 +51,7 @@ ENDS = [0, 13, 13 + 32 * 65 * 3, 13 + 64 * 65 * 3]
 OUT_OF_MEMORY = b"trirast: out of memory\n"
 
 
-class Refusals(refusals.Refusals):
+class Refusals(injection.Refusals):
     program = PROGRAM
 
     def runs(self, words, text):
@@ -134,7 +132,7 @@ class TileRows(Refusals):
 
     def test_one_worker_each_later_allocation(self):
         """Catches the same where nothing can be allocated any more."""
-        self.check_one_worker(later=refusals.EACH)
+        self.check_one_worker(later=injection.EACH)
 
     def check_one_refusal(self, workers):
         runs = self.each_tall(workers)
@@ -166,7 +164,7 @@ class TileRows(Refusals):
         return first.started // workers
 
     def check_each_later_allocation(self, workers):
-        runs = self.each_tall(workers, later=refusals.EACH)
+        runs = self.each_tall(workers, later=injection.EACH)
         gathering = self.gathering(workers)
 
         def row_of(first, last):
@@ -364,5 +362,5 @@ class Tiles(Refusals):
 if __name__ == "__main__":
     for path in (PROGRAM, TILES, READER):
         if not os.access(path, os.X_OK):
-            sys.exit(f"refuse_memory.py: {os.path.relpath(path, TOP)} is not there; run make memory")
+            sys.exit(f"allocation_failures.py: {os.path.relpath(path, TOP)} is not there; run make memory")
     counts.run_tests()

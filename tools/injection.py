@@ -1,4 +1,4 @@
-"""Runs a program with allocations that fail and threads that do not start, by the shim of scripts/refusals.c. Needs gcc."""
+"""Runs a program with allocations that fail and threads that do not start, by the shim of tools/injection.c. Needs gcc."""
 
 import os
 import shutil
@@ -57,7 +57,7 @@ class Refusals(unittest.TestCase):
     def setUpClass(cls):
         folder = tempfile.TemporaryDirectory()
         cls.addClassCleanup(folder.cleanup)
-        cls.shim = os.path.join(folder.name, "refusals.so")
+        cls.shim = os.path.join(folder.name, "injection.so")
         subprocess.run(["gcc", "-O2", "-Wall", "-shared", "-fPIC", "-o", cls.shim, SOURCE, "-ldl"], check=True)
 
     def run_once(self, words, text, allocation=0, thread=0, later=0, **more):

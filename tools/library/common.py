@@ -11,8 +11,8 @@ SCRIPTS = os.path.dirname(HERE)
 TOP = os.path.dirname(SCRIPTS)
 sys.path[:0] = [SCRIPTS, os.path.join(TOP, "python")]
 
-import reference
-from counts import Counts
+from tools import reference
+from tools.counts import Counts
 
 OUT = os.path.join(TOP, "out", "check-library")
 PROGRAM = os.path.join(TOP, "bin", "trirast")

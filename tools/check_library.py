@@ -1,7 +1,7 @@
 #!/usr/bin/env python3
 """Runs the library, its header, python/trirast.py and the examples of both, and compares every byte with the program's.
 
-    scripts/check_library.py [--only WORD ..] [--seed 1]
+    tools/check_library.py [--only WORD ..] [--seed 1]
 
 `make check-library` builds the program and the library first. It prints a line for each check, names what is not installed
 and so was skipped, and ends in `N passed, M failed`, or `N passed, M failed, K skipped`; exit status 0 only where nothing
@@ -13,13 +13,13 @@ import os
 import shutil
 import sys
 
-from library.common import LIB, OUT, PROGRAM, STATIC, Tally
+from tools.library.common import LIB, OUT, PROGRAM, STATIC, Tally
 
 
 def check_all(tally, seed):
     # Brought in here, since they load the library.
-    from library import examples, from_python, in_c, install
-    from library.lists import Lists
+    from tools.library import examples, from_python, in_c, install
+    from tools.library.lists import Lists
 
     lists = Lists(seed)
     in_c.check_libraries(tally)

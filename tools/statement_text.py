@@ -20,7 +20,7 @@ BEGINNING = """\
 # What is proved
 
 This page has the theorem about `trirast::run` and every definition of this repository that it rests on, in reading order. Who
-reads it knows what is proved, without the code and without the proofs. `python3 scripts/statement.py` makes it of the sources,
+reads it knows what is proved, without the code and without the proofs. `python3 -m tools.statement` makes it of the sources,
 and the gate compares the two.
 """
 

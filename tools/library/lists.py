@@ -8,8 +8,8 @@ import struct
 
 from .common import OUT, TOP, drawn_by_program
 
-import compare
-from check_schema import REFUSED
+from tools import compare
+from tools.check_schema import REFUSED
 
 SMALL_LIST = 20000
 

@@ -1,11 +1,11 @@
 #!/usr/bin/env python3
 """Tries docs/draw-list.schema.json on the examples, on refused lists, and on what a schema cannot refuse.
 
-    scripts/check_schema.py
+    python3 -m tools.check_schema
 
 It needs python's package jsonschema with draft 2020-12 (4.0 or later). Exit status 0 where everything is as said, 1
 where something is not, 77 where the package is missing. What the reader tells of each list is checked against
-scripts/reference.py, so that the tables below stay true of the rules.
+tools/reference.py, so that the tables below stay true of the rules.
 """
 
 import glob
@@ -13,10 +13,8 @@ import json
 import os
 import sys
 
-sys.path.insert(0, os.path.dirname(os.path.abspath(__file__)))
-
-import reference
-from counts import MISSING
+from tools import reference
+from tools.counts import MISSING
 
 TOP = os.path.dirname(os.path.dirname(os.path.abspath(__file__)))
 

@@ -1,7 +1,7 @@
 #!/usr/bin/env python3
 """Worked values of the reference renderer, reckoned by hand from the rules.
 
-    python3 scripts/test_reference.py
+    python3 -m tools.test_reference
 """
 
 import json
@@ -10,10 +10,8 @@ import re
 import sys
 import unittest
 
-sys.path.insert(0, os.path.dirname(os.path.abspath(__file__)))
-
-import counts
-import reference
+from tools import counts
+from tools import reference
 
 WHITE = "ff ff ff"
 BLACK = "00 00 00"

@@ -1,12 +1,12 @@
 #!/usr/bin/env python3
 """Compares the program with the slow reference renderer on generated draw lists.
 
-    scripts/compare.py [--lists 1000] [--refused 1000] [--seed 1] [--program bin/trirast]
+    python3 -m tools.compare [--lists 1000] [--refused 1000] [--seed 1] [--program bin/trirast]
 
 Each list is drawn with every tile side and several numbers of workers, and every byte is compared with the reference.
 The lists are small and look for trouble: triangles without area, slivers, edges and corners on sample positions, shared
 edges, ends of the guard band, every state, both sample counts, scissors past the picture. A few lists at the ends of their
-ranges come first. scripts/test_compare.py shows what the lists cover. Lists that are broken in one or more places follow: there the line on standard error, the status and the empty output are compared. The same seed gives the
+ranges come first. tools/test_compare.py shows what the lists cover. Lists that are broken in one or more places follow: there the line on standard error, the status and the empty output are compared. The same seed gives the
 same lists. Exit status 1 on any difference; the list is then left in out/compare/. Python 3.8 or later, standard
 library alone.
 """
@@ -19,9 +19,7 @@ import random
 import subprocess
 import sys
 
-sys.path.insert(0, os.path.dirname(os.path.abspath(__file__)))
-
-import reference
+from tools import reference
 
 TOP = os.path.dirname(os.path.dirname(os.path.abspath(__file__)))
 TILES = (8, 16, 32, 64)

@@ -1,7 +1,7 @@
 #!/usr/bin/env python3
 """The merge gate: `rt ci`, and then the checks that it cannot hold, each for a bounded time.
 
-    scripts/gate.py [--rt rt] [--without-proofs]
+    python3 -m tools.gate [--rt rt] [--without-proofs]
 
 `rt ci` proves every crate from nothing and leaves the programs that it built, which the checks then run. It proves the
 library for C too and leaves no archive of it, which `archive.py` builds over what it proved. The last line is
@@ -21,10 +21,8 @@ import threading
 import time
 from dataclasses import dataclass
 
-sys.path.insert(0, os.path.dirname(os.path.abspath(__file__)))
-
-import archive
-from counts import MISSING, Counts
+from tools import archive
+from tools.counts import MISSING, Counts
 
 TOP = os.path.dirname(os.path.dirname(os.path.abspath(__file__)))
 # The crates whose programs the checks run, and the names under which they stand in bin/.
@@ -47,27 +45,28 @@ class Check:
     needs: tuple = ()
 
 
-def script(name, folder="scripts"):
-    return (sys.executable, os.path.join(folder, name))
+def module(name, package="tools"):
+    """The words that run a module of this repository at its top."""
+    return (sys.executable, "-m", f"{package}.{name}")
 
 
 CHECKS = (
-    Check("the gate's counts", script("test_gate.py"), 2 * MINUTE, runs_program=False),
-    Check("worked values of the reference", script("test_reference.py"), 5 * MINUTE, runs_program=False),
-    Check("what documents name", script("test_documents.py"), 2 * MINUTE, runs_program=False),
-    Check("the statement", script("test_statement.py"), 2 * MINUTE, runs_program=False),
-    Check("must-fail edits by name", script("test_edits.py"), 2 * MINUTE, runs_program=False),
-    Check("the schema", script("check_schema.py"), 10 * MINUTE, runs_program=False),
-    Check("what generated lists cover", script("test_compare.py"), 5 * MINUTE, runs_program=False),
-    Check("generated lists", script("compare.py"), 20 * MINUTE),
-    Check("checks of golden pictures", script("test_golden.py"), 5 * MINUTE, runs_program=False),
-    Check("golden pictures", script("golden.py"), 15 * MINUTE),
-    Check("faults planted in the rules", script("plant_faults.py"), 20 * MINUTE),
-    Check("the comparison with drivers", script("test_conformance.py", "conformance"), 15 * MINUTE, runs_program=False),
-    Check("mistakes where memory is refused", script("test_refusals.py"), 5 * MINUTE, runs_program=False),
-    Check("refused memory", script("refuse_memory.py"), 10 * MINUTE),
-    Check("hostile use", script("hostile.py"), 20 * MINUTE),
-    Check("the library", script("check_library.py"), 10 * MINUTE, runs_library=True, needs=("cc", "gcc")),
+    Check("the gate's counts", module("test_gate"), 2 * MINUTE, runs_program=False),
+    Check("worked values of the reference", module("test_reference"), 5 * MINUTE, runs_program=False),
+    Check("what documents name", module("test_documents"), 2 * MINUTE, runs_program=False),
+    Check("the statement", module("test_statement"), 2 * MINUTE, runs_program=False),
+    Check("must-fail edits by name", module("test_edits"), 2 * MINUTE, runs_program=False),
+    Check("the schema", module("check_schema"), 10 * MINUTE, runs_program=False),
+    Check("what generated lists cover", module("test_compare"), 5 * MINUTE, runs_program=False),
+    Check("generated lists", module("compare"), 20 * MINUTE),
+    Check("checks of golden pictures", module("test_golden"), 5 * MINUTE, runs_program=False),
+    Check("golden pictures", module("golden"), 15 * MINUTE),
+    Check("faults planted in the rules", module("mutants"), 20 * MINUTE),
+    Check("the comparison with drivers", module("test_conformance", "conformance"), 15 * MINUTE, runs_program=False),
+    Check("mistakes where memory is refused", module("test_injection"), 5 * MINUTE, runs_program=False),
+    Check("refused memory", module("allocation_failures"), 10 * MINUTE),
+    Check("hostile use", module("fault_injection"), 20 * MINUTE),
+    Check("the library", module("check_library"), 10 * MINUTE, runs_library=True, needs=("cc", "gcc")),
 )
 
 

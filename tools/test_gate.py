@@ -1,10 +1,11 @@
 #!/usr/bin/env python3
-"""Tests of scripts/gate.py with commands of their own in place of rt ci and of the checks.
+"""Tests of tools/gate.py with commands of their own in place of rt ci and of the checks.
 
-    python3 scripts/test_gate.py
+    python3 -m tools.test_gate
 """
 
 import contextlib
+import importlib.util
 import io
 import os
 import sys
@@ -12,11 +13,9 @@ import tempfile
 import textwrap
 import unittest
 
-sys.path.insert(0, os.path.dirname(os.path.abspath(__file__)))
-
-import counts
-import gate
-from counts import Counts
+from tools import counts
+from tools import gate
+from tools.counts import Counts
 
 
 def check(text, seconds=60, runs_program=False, **more):
@@ -180,9 +179,10 @@ class Gate(unittest.TestCase):
         self.library("a library")
         self.assertEqual(self.total("no such rt", needs, with_proofs=False), Counts(1, 0, 0))
 
-    def test_the_checks_are_files_of_their_own(self):
+    def test_the_checks_are_modules_of_their_own(self):
         for one in gate.CHECKS:
-            self.assertTrue(os.path.isfile(os.path.join(gate.TOP, one.words[1])), one.name)
+            self.assertEqual(one.words[:2], (sys.executable, "-m"), one.name)
+            self.assertIsNotNone(importlib.util.find_spec(one.words[2]), one.name)
             self.assertGreater(one.seconds, 0, one.name)
         names = [one.name for one in gate.CHECKS]
         self.assertEqual(len(set(names)), len(names))

@@ -1,8 +1,8 @@
 #!/usr/bin/env python3
 """Shows that the comparison with the reference finds what it should: wrong rules are planted in the reference renderer,
-one at a time, and each has to be told by some list of scripts/compare.py.
+one at a time, and each has to be told by some list of tools/compare.py.
 
-    scripts/plant_faults.py [--lists 300] [--refused 600] [--seed 1] [--program bin/trirast]
+    python3 -m tools.mutants [--lists 300] [--refused 600] [--seed 1] [--program bin/trirast]
 
 The program's answers are taken once for each list, with one tile side and one number of workers, since the rule is what
 is tried here. Exit status 1 where a planted fault is told by no list, or where the true reference differs. Python 3.8 or
@@ -17,11 +17,10 @@ import sys
 import types
 
 HERE = os.path.dirname(os.path.abspath(__file__))
-sys.path.insert(0, HERE)
 
-import compare
+from tools import compare
 
-# What is planted: the name of the mistake, the text of the rule in scripts/reference.py, and what stands in its place.
+# What is planted: the name of the mistake, the text of the rule in tools/reference.py, and what stands in its place.
 FAULTS = [
     ("a sample pattern mirrored", "(96, 32), (224, 96), (32, 160), (160, 224)", "(160, 32), (32, 96), (224, 160), (96, 224)"),
     ("two samples in each other's place", "(96, 32), (224, 96)", "(224, 96), (96, 32)"),
@@ -133,7 +132,7 @@ def main():
     parser.add_argument("--program", default=program, help="default bin/trirast")
     words = parser.parse_args()
     if not os.access(words.program, os.X_OK):
-        print(f"plant_faults.py: no program at {words.program}; run make first", file=sys.stderr)
+        print(f"mutants.py: no program at {words.program}; run make first", file=sys.stderr)
         return 2
     with open(os.path.join(HERE, "reference.py"), encoding="utf-8") as file:
         source = file.read()

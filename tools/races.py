@@ -1,7 +1,7 @@
 #!/usr/bin/env python3
 """Runs bin/trirast under valgrind's memcheck and drd with several workers, and wants no error and the same picture.
 
-    scripts/races.py
+    python3 -m tools.races
 
 A race and a use of freed memory planted in small C programs have to be told first, so that silence means something. Needs
 valgrind, and gcc for the planted ones. The last line is 'N passed, M failed', or 'N passed, M failed, K skipped'. What it
@@ -15,9 +15,7 @@ import sys
 import tempfile
 import unittest
 
-sys.path.insert(0, os.path.dirname(os.path.abspath(__file__)))
-
-import counts
+from tools import counts
 
 TOP = os.path.dirname(os.path.dirname(os.path.abspath(__file__)))
 PROGRAM = os.path.join(TOP, "bin", "trirast")

@@ -1,4 +1,4 @@
-// Makes allocations fail and threads not start, in the program that it is loaded into by LD_PRELOAD. scripts/refusals.py builds
+// Makes allocations fail and threads not start, in the program that it is loaded into by LD_PRELOAD. tools/injection.py builds
 // it, and asks in the environment:
 //
 //     REFUSE_ALLOCATION   the number of the allocation that fails, counted from 1

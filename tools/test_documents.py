@@ -1,7 +1,7 @@
 #!/usr/bin/env python3
 """Tests that what the documents name is there: files, definitions, commands, and the calls and clauses of proofs.md.
 
-    python3 scripts/test_documents.py
+    python3 -m tools.test_documents
 """
 
 import glob
@@ -10,12 +10,10 @@ import re
 import sys
 import unittest
 
-sys.path.insert(0, os.path.dirname(os.path.abspath(__file__)))
-
-import counts
-import plant_faults
-import reference
-from public_calls import CRATES, calls_in, given_out, named_calls, public_calls
+from tools import counts
+from tools import mutants
+from tools import reference
+from tools.public_calls import CRATES, calls_in, given_out, named_calls, public_calls
 
 TOP = os.path.dirname(os.path.dirname(os.path.abspath(__file__)))
 PATH = re.compile(r"`((?:[a-z_.]+/)+[\w.-]+\.(?:antt|rt|md|py|json|png|1|c|cpp|txt))`")
@@ -131,7 +129,7 @@ class Names(unittest.TestCase):
         self.assertLessEqual(of_toolchain, set(re.findall(r"`(\w+)`", trusted)))
 
     def test_number_of_planted_faults(self):
-        self.assertIn(f"that {len(plant_faults.FAULTS)} wrong rules", text_of("docs/proofs.md"))
+        self.assertIn(f"that {len(mutants.FAULTS)} wrong rules", text_of("docs/proofs.md"))
 
 
 class Proofs(unittest.TestCase):

@@ -1,12 +1,12 @@
 #!/usr/bin/env python3
 """Compares the pictures of examples/ and tests/regressions/ with their recorded checksums and with the reference renderer.
 
-    python3 scripts/golden.py [--program bin/trirast]
-    python3 scripts/golden.py --record
+    python3 -m tools.golden [--program bin/trirast]
+    python3 -m tools.golden --record
 
 Beside the lists stands SHA256SUMS, with the sum of the picture file of each. NAME.json has its sum as NAME.pnm, the name under
 which `make demo` leaves the picture in out/. Three checks are made of each list. Its recorded sum must be that of the picture
-that scripts/reference.py draws; and bin/trirast must draw those bytes, by default and with tiles of 8 pixels and one worker.
+that tools/reference.py draws; and bin/trirast must draw those bytes, by default and with tiles of 8 pixels and one worker.
 Each list must also have a line in the README.md beside it, and each sum a list. Where a picture differs, the list is left
 in out/golden/ with NAME.got.png, NAME.expected.png and NAME.difference.png: equal channels are black there, and
 all others at least half bright. --record writes the sums anew, by the reference alone. Exit status 1 if a check failed.
@@ -26,12 +26,10 @@ import sys
 from concurrent.futures import ProcessPoolExecutor
 from dataclasses import dataclass
 
-sys.path.insert(0, os.path.dirname(os.path.abspath(__file__)))
-
-import compare
-import png
-import reference
-from counts import Counts
+from tools import compare
+from tools import png
+from tools import reference
+from tools.counts import Counts
 
 TOP = os.path.dirname(os.path.dirname(os.path.abspath(__file__)))
 FOLDERS = ("examples", os.path.join("tests", "regressions"))

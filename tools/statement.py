@@ -1,7 +1,7 @@
 #!/usr/bin/env python3
 """Writes docs/statement.md: the theorem about `trirast::run`, and every definition of this repository that it rests on.
 
-    python3 scripts/statement.py [--check]
+    python3 -m tools.statement [--check]
 
 With --check it writes nothing, compares the page with the sources, and exits with status 1 if they differ. statement_sources.py
 reads the sources; statement_text.py has the words by hand. It fails if a definition stands in no group or before one that it
@@ -17,12 +17,10 @@ import sys
 import textwrap
 from typing import Dict, Iterable, Iterator, List, Optional, Set, Tuple
 
-sys.path.insert(0, os.path.dirname(os.path.abspath(__file__)))
-
-import statement_text
-from counts import Counts
-from statement_sources import TOP, Definition, Name, Unclear, contract_of, definition_of, rests_on
-from statement_text import GLOSSARY, GROUPS, Group
+from tools import statement_text
+from tools.counts import Counts
+from tools.statement_sources import TOP, Definition, Name, Unclear, contract_of, definition_of, rests_on
+from tools.statement_text import GLOSSARY, GROUPS, Group
 
 PAGE = os.path.join("docs", "statement.md")
 
@@ -191,7 +189,7 @@ def main(arguments: Optional[List[str]] = None) -> int:
     lines = difference(written(), made)
     if lines:
         print("\n".join(lines))
-        print(f"{PAGE} differs from the sources: run python3 scripts/statement.py")
+        print(f"{PAGE} differs from the sources: run python3 -m tools.statement")
     print(Counts(failed=1) if lines else Counts(passed=1))
     return 1 if lines else 0
 

@@ -1,7 +1,7 @@
 #!/usr/bin/env python3
-"""Tests of what the generated lists of scripts/compare.py cover, as `make compare` draws them.
+"""Tests of what the generated lists of tools/compare.py cover, as `make compare` draws them.
 
-    python3 scripts/test_compare.py
+    python3 -m tools.test_compare
 """
 
 import itertools
@@ -14,12 +14,10 @@ import sys
 import unittest
 from unittest import mock
 
-sys.path.insert(0, os.path.dirname(os.path.abspath(__file__)))
-
-import compare
-import counts
-import reference
-from reference import side
+from tools import compare
+from tools import counts
+from tools import reference
+from tools.reference import side
 
 LISTS = [compare.a_list(random.Random(f"list 1 {k}")) for k in range(compare.LISTS)]
 ENDS = list(compare.at_the_ends())
@@ -141,7 +139,7 @@ class Ranges(unittest.TestCase):
 
 
 class Broken(unittest.TestCase):
-    """What is told of the broken lists. A list with too many of anything is none of them: scripts/hostile.py has those."""
+    """What is told of the broken lists. A list with too many of anything is none of them: tools/fault_injection.py has those."""
 
     def test_every_other_fault(self):
         told = set()

@@ -10,7 +10,7 @@ from .common import (
     INCLUDE, OUT, SECONDS, SHARED, STATIC, STRICT, TOP, drawn_by_program, must, must_be_the_programs, need, run,
 )
 
-import reference
+from tools import reference
 
 
 def check_frames(threads):

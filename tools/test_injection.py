@@ -1,7 +1,7 @@
 #!/usr/bin/env python3
-"""Tests of scripts/refuse_memory.py and of the threads in scripts/hostile.py: mistakes in scripts/stand_in.c are caught.
+"""Tests of tools/allocation_failures.py and of the threads in tools/fault_injection.py: mistakes in tools/stand_in.c are caught.
 
-    python3 scripts/test_refusals.py
+    python3 -m tools.test_injection
 
 The stand-in writes one picture with the program's ways out where memory or a thread is refused, or with a mistake in them. Needs gcc.
 """
@@ -14,21 +14,19 @@ import tempfile
 import unittest
 from unittest import mock
 
-sys.path.insert(0, os.path.dirname(os.path.abspath(__file__)))
-
-import counts
-import hostile
-import refuse_memory
+from tools import counts
+from tools import fault_injection
+from tools import allocation_failures
 
 SOURCE = os.path.join(os.path.dirname(os.path.abspath(__file__)), "stand_in.c")
 
-ONE_WORKER = (refuse_memory.TileRows, "test_one_worker")
-ONE_REFUSAL = (refuse_memory.TileRows, "test_one_refusal_of_two_workers")
-EACH_LATER = (refuse_memory.TileRows, "test_each_later_allocation_of_two_workers")
-DRAWING_AGAIN = (refuse_memory.TileRows, "test_drawing_again_for_two_workers")
-TWO_REFUSALS = (refuse_memory.TileRows, "test_two_refusals_of_two_workers")
-EACH_THREAD = (hostile.RefusedThreads, "test_each_thread_of_two_workers")
-ALL_THREADS = (hostile.RefusedThreads, "test_all_threads_from_each_one_on")
+ONE_WORKER = (allocation_failures.TileRows, "test_one_worker")
+ONE_REFUSAL = (allocation_failures.TileRows, "test_one_refusal_of_two_workers")
+EACH_LATER = (allocation_failures.TileRows, "test_each_later_allocation_of_two_workers")
+DRAWING_AGAIN = (allocation_failures.TileRows, "test_drawing_again_for_two_workers")
+TWO_REFUSALS = (allocation_failures.TileRows, "test_two_refusals_of_two_workers")
+EACH_THREAD = (fault_injection.RefusedThreads, "test_each_thread_of_two_workers")
+ALL_THREADS = (fault_injection.RefusedThreads, "test_all_threads_from_each_one_on")
 
 CAUGHT_BY = {
     "begin with the second row": (ONE_REFUSAL, DRAWING_AGAIN, EACH_THREAD, ALL_THREADS),

@@ -2,7 +2,7 @@
 """Tests of the must-fail edits: that each can be applied to the sources, is named for a function that it changes, and that the
 table of wrong bodies in docs/proofs.md names edits and tests that are there.
 
-    python3 scripts/test_edits.py
+    python3 -m tools.test_edits
 """
 
 import glob
@@ -11,9 +11,7 @@ import re
 import sys
 import unittest
 
-sys.path.insert(0, os.path.dirname(os.path.abspath(__file__)))
-
-import counts
+from tools import counts
 
 TOP = os.path.dirname(os.path.dirname(os.path.abspath(__file__)))
 # As many rows as the table of wrong bodies has at least: a wrong body that was named once stays named.
