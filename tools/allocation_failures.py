@@ -1,64 +1,42 @@
-#!/usr/bin/env python3
 """Runs bin/trirast with allocations that fail: each in turn, each and all behind it, and two of them.
 
-Where an allocation fails, a run ends as it would have without (a list that could grow ahead of need grows by less, and a
-batch of tile rows whose workers lack memory is drawn again by the calling thread), or with status 1, the line `trirast: out of
-memory` and exactly the tile rows before the one for which the calling thread lacked memory. bin/refused_tiles, which draws the
-tiles of a list in one store, goes on after a refusal: the tiles that follow are right. The program's line names no draw, so
-the draw in which memory ran out is seen by crates/list_bench, which prints it. Needs gcc. The last line is 'N passed, M failed'.
+    python3 -m tools.allocation_failures [NAME ..]
+
+Where an allocation fails, a run ends as it would have without (a vector that could grow ahead of need grows by less, and a
+batch of tile rows whose workers are out of memory is drawn again by the calling thread), or with status 1, the line `trirast:
+out of memory` and exactly the tile rows before the one for which the calling thread had no memory. bin/refused_tiles, which draws
+the tiles of a list in one tile buffer, goes on after a refusal: the tiles that follow are right. The program's line names no
+draw, so the draw in which memory ran out is seen by crates/list_bench, which prints it. Needs gcc. The last line is `N passed,
+M failed`, or `N passed, M failed, K skipped`.
 """
+
+from __future__ import annotations
 
 import collections
 import itertools
-import json
-import os
-import subprocess
 import sys
+from typing import Any, Callable, ClassVar, Sequence
 
-from tools import counts
-from tools import injection
+from tools import counts, injection
 from tools import tall_picture as tall
-
-TOP = os.path.dirname(os.path.dirname(os.path.abspath(__file__)))
-PROGRAM = os.path.join(TOP, "bin", "trirast")
-TILES = os.path.join(TOP, "bin", "refused_tiles")
-READER = os.path.join(TOP, "bin", "list_bench")
-
-WHITE = [255, 255, 255, 255]
-
-
-def vertex(x, y):
-    return [x, y, 0, *WHITE]
-
-
-def scene(width, height, *draws):
-    return {"width": width, "height": height, "draws": list(draws)}
-
-
-FIRST = [vertex(128, 128), vertex(640, 128), vertex(128, 640)]
-SQUARE = [*FIRST[:2], vertex(640, 640), FIRST[2]]
-FIRST_PICTURE = b"P6\n3 3\n255\n" + b"".join(b"\xff\xff\xff" if k in (0, 1, 3) else b"\0\0\0" for k in range(9))
-SQUARE_PICTURE = b"P6\n3 3\n255\n" + b"".join(b"\xff\xff\xff" if k in (0, 1, 3, 4) else b"\0\0\0" for k in range(9))
-
-# Three rows of tiles of 32 pixels: the pixels of the upper left half are white.
-LARGE = scene(65, 65, {"vertices": [vertex(0, 0), vertex(16640, 0), vertex(0, 16640)], "triangles": [[0, 1, 2]]})
-HEADER = b"P6\n65 65\n255\n"
-LARGE_PICTURE = HEADER + b"".join(
-    b"\xff\xff\xff" if column + row <= 63 else b"\0\0\0" for row in range(65) for column in range(65)
+from tools.answers import Answer, drawn
+from tools.draw_list import Draw, DrawList, draw, draw_list, encode, vertex
+from tools.injection import Refusal, Run
+from tools.places import PROGRAM, READER_PROGRAM, TILES_PROGRAM, bytes_of, is_built
+from tools.small_pictures import (
+    FIRST, FIRST_DRAW, FIRST_PICTURE, FIRST_VERTICES, LARGE, LARGE_BEGINNINGS, LARGE_HEADER, LARGE_PICTURE, OUT_OF_MEMORY,
+    SQUARE_PICTURE, SQUARE_VERTICES,
 )
-# Where a run may stop: before the header, after it, and after whole tile rows of 32 rows of pixels.
-ENDS = [0, 13, 13 + 32 * 65 * 3, 13 + 64 * 65 * 3]
-OUT_OF_MEMORY = b"trirast: out of memory\n"
 
 
-class Refusals(injection.Refusals):
+class AllocationTest(injection.InjectionTest):
     program = PROGRAM
 
-    def runs(self, words, text):
+    def runs(self, words: Sequence[str], text: bytes) -> list[Run]:
         """A run for each allocation that fails, from the first on."""
         return self.each_run(lambda number: self.run_once(words, text, allocation=number))
 
-    def cut_runs(self, words, text, status, output, line=b""):
+    def cut_runs(self, words: Sequence[str], text: bytes, status: int, output: bytes, line: bytes = b"") -> list[Run]:
         """The runs that were cut short; all others ended as they would have without a refusal."""
         whole = (output, line, status)
         cut = [run for run in self.runs(words, text) if (run.output, run.line, run.status) != whole]
@@ -69,7 +47,7 @@ class Refusals(injection.Refusals):
         return cut
 
 
-class TileRows(Refusals):
+class TileRows(AllocationTest):
     """A picture of 24 tile rows, which several workers draw in batches of three.
 
     Which tile row was refused is known without the picture: one worker is the calling thread, and the tiles that it allocated
@@ -78,14 +56,15 @@ class TileRows(Refusals):
     """
 
     tile_bytes = tall.TILE_BYTES
+    found: ClassVar[dict[int, collections.Counter[str]]]
 
     @classmethod
-    def setUpClass(cls):
+    def setUpClass(cls) -> None:
         super().setUpClass()
         cls.found = collections.defaultdict(collections.Counter)
 
     @classmethod
-    def tearDownClass(cls):
+    def tearDownClass(cls) -> None:
         for workers, found in sorted(cls.found.items()):
             print(
                 f"{tall.ROWS} tile rows, workers {workers}: {found['runs']} runs with refusals, {found['faults']} of them out of "
@@ -93,13 +72,13 @@ class TileRows(Refusals):
                 flush=True,
             )
 
-    def run_tall(self, workers, **refused):
-        return self.run_once(tall.words(workers), tall.LIST, **refused)
+    def run_tall(self, workers: int, **refused: Any) -> Run:
+        return self.run_once(tall.arguments(workers), tall.LIST, **refused)
 
-    def each_tall(self, workers, **refused):
+    def each_tall(self, workers: int, **refused: Any) -> list[Run]:
         return self.each_run(lambda number: self.run_tall(workers, allocation=number, **refused))
 
-    def check_runs(self, workers, runs, row_of):
+    def check_runs(self, workers: int, runs: list[Run], row_of: Callable[[Refusal, Refusal], int]) -> set[int]:
         """Checks that each run wrote the picture, or exactly the tile rows before the refused one. These rows, without repeats."""
         rows = set()
         for run in runs:
@@ -118,23 +97,23 @@ class TileRows(Refusals):
         self.found[workers]["faults"] += sum(run.status != 0 for run in runs)
         return rows
 
-    def check_one_worker(self, later):
+    def check_one_worker(self, later: int) -> None:
         runs = self.each_tall(1, later=later)
         rows = self.check_runs(1, runs, lambda _first, last: last.tiles // tall.COLUMNS)
         self.assertEqual(rows, set(range(tall.ROWS)))
-        # The calling thread is refused each of its tiles once, so tiles are told apart by their size.
+        # The calling thread is refused each of its tiles once, so tiles are recognized by their size.
         counted = {run.refusals[-1].tiles for run in runs if run.status != 0}
         self.assertEqual(counted, set(range(tall.ROWS * tall.COLUMNS)))
 
-    def test_one_worker(self):
+    def test_one_worker(self) -> None:
         """Catches a body that fails before it has written a tile row that is whole, or that writes one twice."""
         self.check_one_worker(later=0)
 
-    def test_one_worker_each_later_allocation(self):
+    def test_one_worker_each_later_allocation(self) -> None:
         """Catches the same where nothing can be allocated any more."""
         self.check_one_worker(later=injection.EACH)
 
-    def check_one_refusal(self, workers):
+    def check_one_refusal(self, workers: int) -> None:
         runs = self.each_tall(workers)
         drawing = [run for run in runs if run.refusals[0].written > 0]
         self.assertLess(tall.ROWS * tall.COLUMNS, len(drawing))
@@ -142,46 +121,46 @@ class TileRows(Refusals):
             self.assertEqual((run.status, run.line), (0, b""), run.refusals)
         self.check_runs(workers, runs, lambda _first, _last: 0)
 
-    def test_one_refusal_of_two_workers(self):
+    def test_one_refusal_of_two_workers(self) -> None:
         """Catches a body that draws a batch again from its second tile row on, that writes a tile row or a batch twice, that
         loses the batch above, or that draws nothing again."""
         self.check_one_refusal(2)
 
-    def test_one_refusal_of_four_workers(self):
+    def test_one_refusal_of_four_workers(self) -> None:
         """Catches the same bodies."""
         self.check_one_refusal(4)
 
-    def gathering(self, workers):
+    def gathering(self, workers: int) -> int:
         """How many allocations the calling thread makes after it joined the workers of a batch until the batch is done, which is
         when the one above is written: as many as before the first batch was written."""
         third_batch = 2 * workers + 1
         return self.run_tall(workers, thread=third_batch).refusals[0].at_write
 
-    def batch_of(self, workers, gathering, first):
+    def batch_of(self, workers: int, gathering: int, first: Refusal) -> int:
         """The batch that was being drawn at a run's first refusal."""
         if first.started > first.joined or (first.started > 0 and first.since_join < gathering):
             return (first.started - 1) // workers
         return first.started // workers
 
-    def check_each_later_allocation(self, workers):
+    def check_each_later_allocation(self, workers: int) -> None:
         runs = self.each_tall(workers, later=injection.EACH)
         gathering = self.gathering(workers)
 
-        def row_of(first, last):
+        def row_of(first: Refusal, last: Refusal) -> int:
             self.assertEqual(last.tiles, 0, "the calling thread allocated a tile after memory ran out")
             return tall.TOGETHER * self.batch_of(workers, gathering, first)
 
         self.assertEqual(self.check_runs(workers, runs, row_of), set(range(0, tall.ROWS, tall.TOGETHER)))
 
-    def test_each_later_allocation_of_two_workers(self):
+    def test_each_later_allocation_of_two_workers(self) -> None:
         """Catches a body that loses the batch above where the one below fails."""
         self.check_each_later_allocation(2)
 
-    def test_each_later_allocation_of_four_workers(self):
+    def test_each_later_allocation_of_four_workers(self) -> None:
         """Catches the same body."""
         self.check_each_later_allocation(4)
 
-    def check_drawing_again(self, workers):
+    def check_drawing_again(self, workers: int) -> None:
         """The first or the last thread of a batch is not started, and then an allocation of the calling thread fails, each in
         turn. So the batch that is drawn again is known by the number of the thread."""
         for batch in (0, 4, 7):
@@ -191,21 +170,21 @@ class TileRows(Refusals):
                 first = tall.TOGETHER * batch
                 self.assertEqual(rows, set(range(first, first + tall.TOGETHER)))
 
-    def test_drawing_again_for_two_workers(self):
+    def test_drawing_again_for_two_workers(self) -> None:
         """Catches a body that fails before it has written the whole tile rows of a batch that is drawn again, that writes one of
         them twice, that begins with the second, or that loses the batch above."""
         self.check_drawing_again(2)
 
-    def test_drawing_again_for_four_workers(self):
+    def test_drawing_again_for_four_workers(self) -> None:
         """Catches the same bodies."""
         self.check_drawing_again(4)
 
-    def check_two_refusals(self, workers):
+    def check_two_refusals(self, workers: int) -> None:
         alone = self.each_tall(workers)
         gathering = self.gathering(workers)
         begun = sum(run.refusals[0].written == 0 for run in alone)
 
-        def row_of(first, last):
+        def row_of(first: Refusal, last: Refusal) -> int:
             return tall.TOGETHER * self.batch_of(workers, gathering, first) + last.tiles // tall.COLUMNS
 
         rows = set()
@@ -215,152 +194,146 @@ class TileRows(Refusals):
             rows |= self.check_runs(workers, runs, row_of)
         self.assertEqual({row % tall.TOGETHER for row in rows}, set(range(tall.TOGETHER)))
 
-    def test_two_refusals_of_two_workers(self):
+    def test_two_refusals_of_two_workers(self) -> None:
         """Catches the bodies of drawing again where memory for the workers and not a thread was refused."""
         self.check_two_refusals(2)
 
-    def test_two_refusals_of_four_workers(self):
+    def test_two_refusals_of_four_workers(self) -> None:
         """Catches the same bodies."""
         self.check_two_refusals(4)
 
 
-class Pictures(Refusals):
+class Pictures(AllocationTest):
     """A picture of three tile rows, the last of them not as high as its tiles."""
 
-    def cut_pictures(self, workers):
-        return self.cut_runs(["--tile", "32", "--workers", str(workers)], json.dumps(LARGE).encode(), 0, LARGE_PICTURE)
+    def cut_pictures(self, workers: int) -> list[Run]:
+        return self.cut_runs(["--tile", "32", "--workers", str(workers)], encode(LARGE), 0, LARGE_PICTURE)
 
-    def test_one_worker(self):
+    def test_one_worker(self) -> None:
         lengths = [len(run.output) for run in self.cut_pictures(1)]
         self.assertEqual(lengths, sorted(lengths))
         # A program that holds the whole picture would not stop at each of them.
-        self.assertEqual(sorted(set(lengths)), ENDS)
+        self.assertEqual(sorted(set(lengths)), list(LARGE_BEGINNINGS))
 
-    def test_the_second_tile_row_of_one_worker(self):
-        second = next(run for run in self.cut_pictures(1) if len(run.output) > len(HEADER))
+    def test_the_second_tile_row_of_one_worker(self) -> None:
+        second = next(run for run in self.cut_pictures(1) if len(run.output) > len(LARGE_HEADER))
         self.assertEqual((second.line, len(second.output)), (OUT_OF_MEMORY, 6253))
 
-    def test_three_workers(self):
+    def test_three_workers(self) -> None:
         """Once the header is written, no single refusal costs the picture."""
         for run in self.cut_pictures(3):
             self.assertEqual(run.output, b"", run.refusals)
 
 
-class Lists(Refusals):
-    """A list is read, or the run is out of memory; a refusal is never reported as a fault of the list."""
+class Lists(AllocationTest):
+    """A list is read, or the run is out of memory; a failed allocation is never reported as an error of the list."""
 
-    def check_picture(self, value, picture):
-        self.cut_runs(["--workers", "1"], json.dumps(value).encode(), 0, picture)
+    def check_picture(self, value: DrawList, picture: bytes) -> None:
+        self.cut_runs(["--workers", "1"], encode(value), 0, picture)
 
-    def check_fault(self, text, line):
+    def check_error(self, text: bytes, line: bytes) -> None:
         for run in self.cut_runs(["--workers", "1"], text, 1, b"", line):
             self.assertEqual((run.output, run.line), (b"", OUT_OF_MEMORY))
 
-    def test_first_triangle(self):
-        self.check_picture(scene(3, 3, {"vertices": FIRST, "triangles": [[0, 1, 2]]}), FIRST_PICTURE)
+    def test_first_triangle(self) -> None:
+        self.check_picture(FIRST, FIRST_PICTURE)
 
-    def test_keys_in_another_order(self):
-        draw = {"triangles": [[0, 1, 2]], "vertices": FIRST}
-        self.check_picture({"draws": [draw], "height": 3, "width": 3}, FIRST_PICTURE)
+    def test_keys_in_another_order(self) -> None:
+        triangles_first = {"triangles": [[0, 1, 2]], "vertices": FIRST_VERTICES}
+        self.check_picture({"draws": [triangles_first], "height": 3, "width": 3}, FIRST_PICTURE)
 
-    def test_two_draws(self):
-        draw = {"vertices": FIRST, "triangles": [[0, 1, 2]]}
-        self.check_picture(scene(3, 3, draw, draw), FIRST_PICTURE)
+    def test_two_draws(self) -> None:
+        self.check_picture(draw_list(3, 3, FIRST_DRAW, FIRST_DRAW), FIRST_PICTURE)
 
-    def test_strip(self):
-        self.check_picture(scene(3, 3, {"vertices": FIRST, "strip": [0, 1, 2]}), FIRST_PICTURE)
+    def test_strip(self) -> None:
+        self.check_picture(draw_list(3, 3, {"vertices": FIRST_VERTICES, "strip": [0, 1, 2]}), FIRST_PICTURE)
 
-    def test_quad(self):
-        self.check_picture(scene(3, 3, {"vertices": SQUARE, "quads": [[0, 1, 2, 3]]}), SQUARE_PICTURE)
+    def test_quad(self) -> None:
+        self.check_picture(draw_list(3, 3, {"vertices": SQUARE_VERTICES, "quads": [[0, 1, 2, 3]]}), SQUARE_PICTURE)
 
-    def test_no_json(self):
-        self.check_fault(b'{"width":1', b"trirast: list fault 1 NotJson\n")
+    def test_no_json(self) -> None:
+        self.check_error(b'{"width":1', b"trirast: list fault 1 NotJson\n")
 
-    def test_fault_of_the_second_draw(self):
-        draws = ({"vertices": [], "triangles": []}, {"vertices": [], "triangles": [[0, 0, 0]]})
-        self.check_fault(json.dumps(scene(1, 1, *draws)).encode(), b"trirast: list fault 6 BadIndex in draw 1\n")
+    def test_fault_of_the_second_draw(self) -> None:
+        self.check_error(encode(draw_list(1, 1, draw([], []), draw([], [(0, 0, 0)]))), b"trirast: list fault 6 BadIndex in draw 1\n")
 
-    def test_too_many_draws(self):
-        draws = [{"vertices": [], "triangles": []}] * 1025
-        self.check_fault(json.dumps(scene(1, 1, *draws)).encode(), b"trirast: list fault 7 TooMany\n")
+    def test_too_many_draws(self) -> None:
+        self.check_error(encode(draw_list(1, 1, *[draw([], [])] * 1025)), b"trirast: list fault 7 TooMany\n")
 
 
-class Draws(Refusals):
+class Draws(AllocationTest):
     """`OutOfMemory` is reported with the draw that was being read, and without one before the first draw and after the last."""
 
-    program = READER
-    FIRST_DRAW = {"vertices": FIRST, "triangles": [[0, 1, 2]]}
+    program = READER_PROGRAM
 
-    def reported(self, second, line):
+    def reported(self, second: Draw, line: bytes) -> list[bytes]:
         """What is printed in place of this line as each allocation fails in turn, without repeats."""
-        # The draws stand first, so that the list is read by its JSON value: the one pass tells no fault.
-        text = json.dumps({"draws": [self.FIRST_DRAW, second], "height": 3, "width": 3}).encode()
+        # The draws stand first, so that the list is read by its JSON value: the fast reader reports no error.
+        text = encode({"draws": [FIRST_DRAW, second], "height": 3, "width": 3})
         answers = [run.output.splitlines()[0] for run in self.runs([], text) if run.output]
         return [answer for answer, _ in itertools.groupby(answer for answer in answers if answer != line)]
 
-    def test_two_draws(self):
+    def test_two_draws(self) -> None:
         no_memory = b"no list: fault 8 OutOfMemory"
-        reported = self.reported(self.FIRST_DRAW, b"a list of 2 triangles")
+        reported = self.reported(FIRST_DRAW, b"a list of 2 triangles")
         self.assertEqual(reported, [no_memory, no_memory + b" in draw 0", no_memory + b" in draw 1", no_memory])
 
-    def test_checks_before_the_vertices_of_the_second_draw(self):
+    def test_checks_before_the_vertices_of_the_second_draw(self) -> None:
         no_memory = b"no list: fault 8 OutOfMemory"
-        fault = b"no list: fault 2 UnknownKey in draw 1"
-        self.assertEqual(self.reported({**self.FIRST_DRAW, "fog": 1}, fault), [no_memory, no_memory + b" in draw 0"])
+        error = b"no list: fault 2 UnknownKey in draw 1"
+        self.assertEqual(self.reported({**FIRST_DRAW, "fog": 1}, error), [no_memory, no_memory + b" in draw 0"])
 
-    def test_vertices_of_the_second_draw(self):
+    def test_vertices_of_the_second_draw(self) -> None:
         no_memory = b"no list: fault 8 OutOfMemory"
-        fault = b"no list: fault 4 WrongKind in draw 1"
-        reported = self.reported({"vertices": [[0]], "triangles": []}, fault)
+        error = b"no list: fault 4 WrongKind in draw 1"
+        reported = self.reported({"vertices": [[0]], "triangles": []}, error)
         self.assertEqual(reported, [no_memory, no_memory + b" in draw 0", no_memory + b" in draw 1"])
 
 
-class Words(Refusals):
-    def check_words(self, words, status, output, line):
-        for run in self.cut_runs(words, b"", status, output, line):
+class Arguments(AllocationTest):
+    def check_arguments(self, arguments: Sequence[str], status: int, output: bytes, line: bytes) -> None:
+        for run in self.cut_runs(arguments, b"", status, output, line):
             self.assertEqual((run.output, run.line), (b"", OUT_OF_MEMORY))
 
-    def test_help(self):
+    def test_help(self) -> None:
         usage = b"usage: trirast [--tile 8|16|32|64] [--workers 1..16] < list.json > picture.ppm\n"
-        self.check_words(["--help"], 0, usage, b"")
+        self.check_arguments(["--help"], 0, usage, b"")
 
-    def test_refused_words(self):
-        self.check_words(["--tile", "7"], 2, b"", b"trirast: command line refused\n")
+    def test_refused_arguments(self) -> None:
+        self.check_arguments(["--tile", "7"], 2, b"", b"trirast: command line refused\n")
 
 
-class Tiles(Refusals):
-    """A store in which a tile was refused memory draws the next tiles as the plain program does."""
+class Tiles(AllocationTest):
+    """A tile buffer in which the allocation for a tile failed draws the next tiles as the reference crate does."""
 
-    program = TILES
+    program = TILES_PROGRAM
 
-    def check_tiles(self, text, tiles):
-        def line(right, refused):
+    def check_tiles(self, text: bytes, tiles: int) -> None:
+        def line(right: int, refused: int) -> bytes:
             return f"{right} tiles right, 0 wrong, {refused} refused\n".encode()
 
         none_refused, one_refused = (line(tiles, 0), 0), (line(tiles - 1, 1), 0)
-        done = subprocess.run([TILES], input=text, capture_output=True, timeout=60)
-        self.assertEqual((done.stdout, done.returncode), none_refused)
+        whole = drawn(self.program, text)
+        self.assertEqual((whole.output, whole.status), none_refused)
         ends = [(run.output, run.status) for run in self.runs([], text)]
-        # Elsewhere than in a tile a refusal is status 1, or a list that could grow ahead of need grew by less.
+        # Elsewhere than in a tile a refusal is status 1, or a vector that could grow ahead of need grew by less.
         self.assertLessEqual(set(ends), {none_refused, one_refused, (b"", 1)})
         self.assertEqual(ends.count(one_refused), tiles)
 
-    def test_six_tiles_of_four_samples(self):
-        with open(os.path.join(TOP, "crates", "refused_tiles", "stdin"), "rb") as file:
-            self.check_tiles(file.read(), 6)
+    def test_six_tiles_of_four_samples(self) -> None:
+        self.check_tiles(bytes_of("crates", "refused_tiles", "stdin"), 6)
 
-    def test_nine_tiles_of_one_sample(self):
+    def test_nine_tiles_of_one_sample(self) -> None:
         corners = [vertex(0, 0), vertex(6144, 0), vertex(0, 6144)]
-        self.check_tiles(json.dumps(scene(24, 24, {"vertices": corners, "triangles": [[0, 1, 2]]})).encode(), 9)
+        self.check_tiles(encode(draw_list(24, 24, draw(corners))), 9)
 
-    def test_four_tiles_of_depths(self):
-        corners = [[0, 0, 0, *WHITE], [2560, 0, 65535, *WHITE], [0, 2560, 300, *WHITE]]
-        draw = {"depth_test": "less", "depth_write": True, "vertices": corners, "triangles": [[0, 1, 2]]}
-        self.check_tiles(json.dumps({**scene(10, 10, draw), "output": "depth"}).encode(), 4)
+    def test_four_tiles_of_depths(self) -> None:
+        corners = [vertex(0, 0), vertex(2560, 0, 65535), vertex(0, 2560, 300)]
+        nearest = draw(corners, depth_test="less", depth_write=True)
+        self.check_tiles(encode(draw_list(10, 10, nearest, output="depth")), 4)
 
 
 if __name__ == "__main__":
-    for path in (PROGRAM, TILES, READER):
-        if not os.access(path, os.X_OK):
-            sys.exit(f"allocation_failures.py: {os.path.relpath(path, TOP)} is not there; run make memory")
+    if not is_built(PROGRAM, TILES_PROGRAM, READER_PROGRAM, made_by="make memory"):
+        sys.exit(1)
     counts.run_tests()

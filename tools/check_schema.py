@@ -1,55 +1,53 @@
-#!/usr/bin/env python3
 """Tries docs/draw-list.schema.json on the examples, on refused lists, and on what a schema cannot refuse.
 
     python3 -m tools.check_schema
 
-It needs python's package jsonschema with draft 2020-12 (4.0 or later). Exit status 0 where everything is as said, 1
-where something is not, 77 where the package is missing. What the reader tells of each list is checked against
-tools/reference.py, so that the tables below stay true of the rules.
+It needs python's package jsonschema with draft 2020-12 (4.0 or later). Exit status 0 if all is as the tables below say, 1 if
+something is not, 77 if the package is missing. The reader is tools/reference.py, so that the tables stay true of the rules.
 """
 
-import glob
+from __future__ import annotations
+
 import json
-import os
 import sys
+from typing import Any, Callable, Optional
 
-from tools import reference
+from tools import places, reference
 from tools.counts import MISSING
-
-TOP = os.path.dirname(os.path.dirname(os.path.abspath(__file__)))
+from tools.draw_list import DrawList
 
 VERTEX = [0, 0, 0, 255, 255, 255, 255]
 
 
-def scene(**changes):
+def scene(**changes: Any) -> DrawList:
     """A list that is accepted, with changes. A change to None takes the key away."""
     return without({"width": 2, "height": 2, "draws": [], **changes})
 
 
-def draw(**changes):
+def draw(**changes: Any) -> DrawList:
     """A list with one draw that is accepted, with changes in the draw."""
     return scene(draws=[without({"vertices": [VERTEX] * 3, "triangles": [[0, 1, 2]], **changes})])
 
 
-def without(value):
+def without(value: dict[str, Any]) -> dict[str, Any]:
     return {key: element for key, element in value.items() if element is not None}
 
 
-def vertex(place, number):
+def vertex(index: int, number: float) -> DrawList:
     """A list with one vertex in which one number is changed."""
-    changed = list(VERTEX)
-    changed[place] = number
+    changed: list[float] = [*VERTEX]
+    changed[index] = number
     return draw(vertices=[changed, VERTEX, VERTEX])
 
 
-def square(**faces):
+def square(**faces: Any) -> DrawList:
     """A list with one draw over the corners of a square."""
     corners = [[x, y, *VERTEX[2:]] for x, y in ((0, 0), (256, 0), (256, 256), (0, 256))]
     return draw(vertices=corners, triangles=None, **faces)
 
 
 # Lists that are accepted at the ends of their ranges.
-ACCEPTED = [
+ACCEPTED: list[tuple[str, DrawList]] = [
     ("no draws", scene()),
     ("the largest picture", scene(width=4096, height=4096)),
     ("four samples", scene(samples=4)),
@@ -71,8 +69,8 @@ ACCEPTED = [
     ("an empty scissor", draw(scissor=[3, 0, 0, 3])),
 ]
 
-# Lists that reader and schema refuse: why, the list, and what the reader tells.
-REFUSED = [
+# Lists that reader and schema refuse: why, the list, and the error of the reader.
+REFUSED: list[tuple[str, Any, str]] = [
     ("no object", [], "4 WrongKind"),
     ("no object", None, "4 WrongKind"),
     ("an unknown key", scene(fog=1), "2 UnknownKey"),
@@ -156,7 +154,7 @@ REFUSED += [
     for key in reference.FACE_KEYS
 ]
 
-# Lists that the reader refuses and a schema accepts: why a schema cannot refuse them, the text, what the reader tells.
+# Lists that the reader refuses and a schema accepts: why a schema cannot refuse them, the text, and the error of the reader.
 BEYOND_A_SCHEMA = [
     ("1.0 is an integer of JSON Schema", '{"width":1.0,"height":1,"draws":[]}', "4 WrongKind"),
     ("1e0 is an integer of JSON Schema", '{"width":1e0,"height":1,"draws":[]}', "4 WrongKind"),
@@ -177,55 +175,59 @@ BEYOND_A_SCHEMA = [
 ]
 
 
-def told(text):
-    """What the reader tells of a text, or None where it accepts it."""
+def error_of(text: str) -> Optional[str]:
+    """The reader's error at a text, or `None` if it accepts it."""
     try:
         reference.read(text.encode())
-    except reference.ListFault as fault:
-        return str(fault).replace("trirast: list fault ", "")
+    except reference.ListFault as error:
+        return str(error).replace("trirast: list fault ", "")
     return None
 
 
-def main():
+class Check:
+    """The lists on which schema and reader do not answer as the tables say."""
+
+    def __init__(self, is_valid: Callable[[object], bool]) -> None:
+        self.is_valid = is_valid
+        self.wrong: list[str] = []
+
+    def expect(self, name: str, holds: bool, why: str) -> None:
+        if not holds:
+            self.wrong.append(f"{name}: {why}")
+
+    def answers(self, name: str, text: str, accepted_by_schema: bool, error: Optional[str]) -> None:
+        """Checks one list: whether the schema accepts it, and the error that the reader reports, or `None`."""
+        accepts = self.is_valid(json.loads(text))
+        self.expect(name, accepts == accepted_by_schema, f"the schema {'accepts' if accepts else 'refuses'} it")
+        self.expect(name, error_of(text) == error, f"the reader reports {error_of(text)}, not {error}")
+
+
+def main() -> int:
     try:
         from jsonschema import Draft202012Validator
     except ImportError:
         print("python's package jsonschema, 4.0 or later, is not there", file=sys.stderr)
         return MISSING
-    with open(os.path.join(TOP, "docs", "draw-list.schema.json"), encoding="utf-8") as file:
-        schema = json.load(file)
+    schema = json.loads(places.text_of("docs", "draw-list.schema.json"))
     Draft202012Validator.check_schema(schema)
-    validator = Draft202012Validator(schema)
-    wrong = []
-
-    def expect(name, holds, why):
-        if not holds:
-            wrong.append(f"{name}: {why}")
-
-    examples = sorted(glob.glob(os.path.join(TOP, "examples", "*.json")))
-    expect("examples", examples, "there are none")
+    check = Check(Draft202012Validator(schema).is_valid)
+    examples = places.files("examples", "*.json")
+    check.expect("examples", bool(examples), "there are none")
     for path in examples:
-        with open(path, encoding="utf-8") as file:
-            text = file.read()
-        name = os.path.relpath(path, TOP)
-        expect(name, validator.is_valid(json.loads(text)), "the schema refuses it")
-        expect(name, told(text) is None, f"the reader tells {told(text)}")
+        check.answers(path, places.text_of(path), True, None)
     for name, value in ACCEPTED:
-        expect(name, validator.is_valid(value), "the schema refuses it")
-        expect(name, told(json.dumps(value)) is None, f"the reader tells {told(json.dumps(value))}")
-    for name, value, fault in REFUSED:
-        expect(name, not validator.is_valid(value), "the schema accepts it")
-        expect(name, told(json.dumps(value)) == fault, f"the reader tells {told(json.dumps(value))}, not {fault}")
-    for name, text, fault in BEYOND_A_SCHEMA:
-        expect(name, validator.is_valid(json.loads(text)), "the schema refuses it, so it is none of these")
-        expect(name, told(text) == fault, f"the reader tells {told(text)}, not {fault}")
-    for line in wrong:
+        check.answers(name, json.dumps(value), True, None)
+    for name, value, error in REFUSED:
+        check.answers(name, json.dumps(value), False, error)
+    for name, text, error in BEYOND_A_SCHEMA:
+        check.answers(name, text, True, error)
+    for line in check.wrong:
         print(line)
     print(
         f"{len(examples)} examples and {len(ACCEPTED)} lists accepted, {len(REFUSED)} refused, "
-        f"{len(BEYOND_A_SCHEMA)} that a schema cannot refuse; {len(wrong)} wrong"
+        f"{len(BEYOND_A_SCHEMA)} that a schema cannot refuse; {len(check.wrong)} wrong"
     )
-    return 1 if wrong else 0
+    return 1 if check.wrong else 0
 
 
 if __name__ == "__main__":

@@ -1,431 +1,104 @@
-#!/usr/bin/env python3
 """Compares the program with the slow reference renderer on generated draw lists.
 
     python3 -m tools.compare [--lists 1000] [--refused 1000] [--seed 1] [--program bin/trirast]
 
-Each list is drawn with every tile side and several numbers of workers, and every byte is compared with the reference.
-The lists are small and look for trouble: triangles without area, slivers, edges and corners on sample positions, shared
-edges, ends of the guard band, every state, both sample counts, scissors past the picture. A few lists at the ends of their
-ranges come first. tools/test_compare.py shows what the lists cover. Lists that are broken in one or more places follow: there the line on standard error, the status and the empty output are compared. The same seed gives the
-same lists. Exit status 1 on any difference; the list is then left in out/compare/. Python 3.8 or later, standard
-library alone.
+Each list of tools/generated_lists.py is drawn with every tile size and several numbers of workers, and every byte is compared
+with the reference. A few lists at the ends of their ranges come first. Broken lists follow, with one mistake or more: of these
+the line on standard error, the status and the empty output are compared. Exit status 1 on any difference; the list is then
+left in out/compare/.
 """
 
+from __future__ import annotations
+
 import argparse
-import copy
 import json
 import os
 import random
-import subprocess
 import sys
+from typing import Iterable
 
-from tools import reference
+from tools import answers, generated_lists, picture_file
+from tools.answers import Answer
+from tools.places import OUT, PROGRAM, TOP, is_built
 
-TOP = os.path.dirname(os.path.dirname(os.path.abspath(__file__)))
 TILES = (8, 16, 32, 64)
 WORKERS = (1, 2, 7, 16)
-LOW, HIGH = reference.BAND
-MOST_PIXELS = 4500
 LISTS = 1000
-MOST_SECONDS = 60
-
-
-# ---- Lists that are accepted ---------------------------------------------------------------------------------------
-
-
-def a_size(pick):
-    """A width and a height: often a few pixels, sometimes past a tile's side or at the end, never many pixels together."""
-    if pick.random() < 0.03:
-        return pick.choice(((4096, 1), (1, 4096)))
-    while True:
-        width, height = (pick.choice((pick.randint(1, 12), pick.randint(13, 34), pick.randint(62, 131))) for _ in "wh")
-        if width * height <= MOST_PIXELS:
-            return width, height
-
-
-def a_sample_place(pick, pixels, samples, axis):
-    """A column or a row in which samples lie."""
-    return 256 * pick.randint(-1, pixels) + pick.choice(reference.SAMPLES[samples])[axis]
-
-
-def a_coordinate(pick, pixels, samples, axis):
-    kind = pick.random()
-    if kind < 0.40:
-        return a_sample_place(pick, pixels, samples, axis)
-    if kind < 0.55:  # on the border of a pixel
-        return 256 * pick.randint(-1, pixels + 1)
-    if kind < 0.85:
-        return pick.randint(-300, 256 * pixels + 300)
-    if kind < 0.94:
-        return pick.choice((LOW, LOW + 1, HIGH - 1, HIGH))
-    return pick.randint(LOW, HIGH)
-
-
-def some_values(pick, depths):
-    """Depth, colour and alpha of a vertex."""
-    return [pick.choice(depths)] + [pick.choice((0, 1, 127, 128, 254, 255, pick.randint(0, 255))) for _ in range(4)]
-
-
-def some_depths(pick):
-    """The depths of a list's vertices: often few, so that the tests for equal depths have something to find."""
-    if pick.random() < 0.5:
-        return [pick.choice((0, 1, 40000, 65535)) for _ in range(pick.randint(1, 2))]
-    return [0, 1, 2, 3, 65534, 65535] + [pick.randint(0, 65535) for _ in range(3)]
-
-
-def corners_of_the_band(pick, depths):
-    """Vertices at or near the corners of the guard band, whose triangles reach over the whole picture."""
-    vertices = []
-    for x in (LOW, HIGH):
-        for y in (LOW, HIGH):
-            inwards = pick.choice((0, 0, pick.randint(0, 5000)))
-            place = [x + inwards if x == LOW else x - inwards, y]
-            vertices.append(place + some_values(pick, depths))
-    pick.shuffle(vertices)
-    return vertices
-
-
-def a_sliver(pick, width, height, samples, depths):
-    """Three or more vertices along a line through two places of samples, at most a pixel beside it."""
-    ends = [(a_sample_place(pick, width, samples, 0), a_sample_place(pick, height, samples, 1)) for _ in "ab"]
-    beside = pick.choice((0, 1, 1, 2, pick.randint(3, 256)))
-    vertices = [list(end) + some_values(pick, depths) for end in ends]
-    for _ in range(pick.randint(1, 3)):
-        x, y = pick.choice(ends)
-        near = (x + beside, y) if pick.random() < 0.5 else (x, y + beside)
-        vertices.append([*near] + some_values(pick, depths))
-    return vertices
-
-
-def some_vertices(pick, width, height, samples, depths):
-    kind = pick.random()
-    if kind < 0.12:
-        return corners_of_the_band(pick, depths)
-    if kind < 0.22:
-        return a_sliver(pick, width, height, samples, depths)
-    if kind < 0.23:
-        return []
-    vertices = []
-    for _ in range(pick.randint(3, 8)):
-        x = a_coordinate(pick, width, samples, 0)
-        y = a_coordinate(pick, height, samples, 1)
-        kind = pick.random()
-        if vertices and kind < 0.10:  # the same place again
-            x, y = vertices[-1][:2]
-        elif vertices and kind < 0.30:  # a horizontal or an upright edge
-            x, y = (x, vertices[-1][1]) if kind < 0.20 else (vertices[-1][0], y)
-        elif len(vertices) > 1 and kind < 0.40:  # on one line with two others
-            (ax, ay), (bx, by) = vertices[-2][:2], vertices[-1][:2]
-            line = (2 * bx - ax, 2 * by - ay)
-            x, y = line if all(LOW <= z <= HIGH for z in line) else (x, y)
-        vertices.append([x, y] + some_values(pick, depths))
-    return vertices
-
-
-def some_triangles(pick, vertices):
-    last = len(vertices) - 1
-    if last < 0:
-        return []
-    triangles = [[pick.randint(0, last) for _ in range(3)] for _ in range(pick.randint(0, 3))]
-    if pick.random() < 0.7:  # neighbours that share an edge
-        triangles += [[k, k + 1, k + 2] for k in range(len(vertices) - 2)]
-    if triangles and pick.random() < 0.5:  # one of them again, at once or later
-        again = pick.randrange(len(triangles))
-        triangles.insert(pick.choice((again, len(triangles))), list(triangles[again]))
-    return triangles
-
-
-def some_places(pick, vertices):
-    """The places of a strip: often the vertices in their order, sometimes any, and some of them twice."""
-    places = list(range(len(vertices)))
-    if places and pick.random() < 0.3:
-        places = [pick.randrange(len(vertices)) for _ in range(pick.randint(0, 9))]
-    if places and pick.random() < 0.4:
-        again = pick.randrange(len(places))
-        places.insert(again, places[again])
-    return places
-
-
-def add_a_quad(pick, vertices):
-    """Appends the corners of a parallelogram, whose sides begin and end where the vertices do, if it is a quad in the band."""
-    (ax, ay), (bx, by), (dx, dy) = (pick.choice(vertices)[:2] for _ in range(3))
-    corners = [(ax, ay), (bx, by), (bx + dx - ax, by + dy - ay), (dx, dy)]
-    if all(LOW <= z <= HIGH for corner in corners for z in corner) and reference.is_strictly_convex(corners):
-        vertices += [list(corner) + pick.choice(vertices)[2:] for corner in corners]
-
-
-def some_quads(pick, vertices):
-    """Strictly convex quads over the vertices, in either direction and from any corner, to which some may be added."""
-    if not vertices:
-        return []
-    for _ in range(pick.randint(0, 3)):
-        add_a_quad(pick, vertices)
-    last = len(vertices) - 1
-    quads = [[k, k + 1, k + 2, k + 3] for k in range(last - 2)]
-    quads += [[pick.randint(0, last) for _ in range(4)] for _ in range(30)]
-    quads = [quad for quad in quads if reference.is_strictly_convex([vertices[corner] for corner in quad])]
-    turned = []
-    for quad in quads[:5]:
-        first = pick.randrange(4)
-        quad = quad[first:] + quad[:first]
-        turned.append(quad[::-1] if pick.random() < 0.5 else quad)
-    return turned
-
-
-def some_faces(pick, vertices):
-    """What a draw draws of its vertices, by the one key of three."""
-    kind = pick.random()
-    if kind < 0.6:
-        return {"triangles": some_triangles(pick, vertices)}
-    if kind < 0.8:
-        return {"strip": some_places(pick, vertices)}
-    return {"quads": some_quads(pick, vertices)}
-
-
-def a_state(pick, width, height):
-    state = {}
-    if pick.random() < 0.4:
-        state["cull"] = pick.choice(("none", "front", "back"))
-    if pick.random() < 0.7:
-        state["depth_test"] = pick.choice(list(reference.DEPTH_TESTS))
-    if pick.random() < 0.6:
-        state["depth_write"] = pick.random() < 0.8
-    if pick.random() < 0.6:
-        state["blend"] = pick.choice(("none", "over", "over"))
-    if pick.random() < 0.3:
-        state["write"] = [pick.random() < 0.6 for _ in range(3)]
-    if pick.random() < 0.4:
-        state["sample_mask"] = pick.randint(0, 15)
-    if pick.random() < 0.4:
-        columns = [pick.choice((0, width, 4096) + (pick.randint(0, width),) * 4) for _ in range(2)]
-        rows = [pick.choice((0, height, 4096) + (pick.randint(0, height),) * 4) for _ in range(2)]
-        if pick.random() < 0.85:
-            columns.sort()
-            rows.sort()
-        state["scissor"] = [columns[0], rows[0], columns[1], rows[1]]
-    return state
-
-
-def a_list(pick):
-    width, height = a_size(pick)
-    samples = pick.choice((1, 4))
-    depths = some_depths(pick)
-    scene = {"width": width, "height": height}
-    if samples == 4 or pick.random() < 0.5:
-        scene["samples"] = samples
-    if pick.random() < 0.6:
-        scene["clear"] = [pick.randint(0, 255) for _ in range(3)]
-    if pick.random() < 0.4:
-        scene["clear_depth"] = pick.choice((0, 1, 2, 65535, pick.randint(0, 65535), *depths))
-    if pick.random() < 0.3:
-        scene["output"] = pick.choice(("color", "depth", "depth"))
-    scene["draws"] = []
-    for _ in range(pick.randint(1, 5) if pick.random() < 0.97 else 0):
-        vertices = some_vertices(pick, width, height, samples, depths)
-        faces = some_faces(pick, vertices)
-        scene["draws"].append({**a_state(pick, width, height), "vertices": vertices, **faces})
-    return scene
-
-
-def at_the_ends():
-    """Lists with as many draws, vertices, triangles, places of a strip and quads as there may be."""
-    pick = random.Random("ends")
-    corners = [[0, 0], [700, 0], [700, 700], [0, 700]]
-    square = [corner + some_values(pick, [0, 65535]) for corner in corners]
-    many = [pick.choice(square) for _ in range(65536)]
-    first = {"blend": "over", "vertices": square}
-    for number in (1023, 1024):
-        yield {"width": 3, "height": 2, "draws": [{**first, "triangles": [[0, 1, 2]]}] * number}
-    for number in (65535, 65536):
-        named = [[number - 1 - pick.randrange(9) for _ in range(3)] for _ in range(40)]
-        yield {"width": 3, "height": 2, "draws": [{**first, "vertices": many[:number], "triangles": named}]}
-        yield {"width": 3, "height": 2, "draws": [{**first, "triangles": [[0, 1, 2], [2, 3, 0]] * (number // 2)}]}
-    yield {"width": 3, "height": 2, "draws": [{**first, "strip": [0, 1, 3, 2] * 16384 + [0, 1]}]}
-    yield {"width": 3, "height": 2, "samples": 4, "draws": [{**first, "quads": [[0, 1, 2, 3]] * 32768}]}
-
-
-# ---- Lists that are broken -----------------------------------------------------------------------------------------
-
-WRONG = (None, True, 1.0, 0.5, "x", "none", [], {}, -1, 3, 17, 256, 4097, 65536)
-WRONG += (LOW - 1, HIGH + 1, 2**63, -(2**63), 1e300)
-
-
-def places(value, path=()):
-    """All places of a list's value, as paths of keys and numbers."""
-    yield path
-    inside = value.items() if isinstance(value, dict) else enumerate(value) if isinstance(value, list) else ()
-    for key, element in inside:
-        yield from places(element, path + (key,))
-
-
-def broken(pick, scene):
-    """The value with one place changed."""
-    scene = copy.deepcopy(scene)
-    path = pick.choice(list(places(scene)))
-    if not path:
-        return pick.choice(WRONG)
-    holder = scene
-    for key in path[:-1]:
-        holder = holder[key]
-    kind = pick.random()
-    if kind < 0.15:
-        del holder[path[-1]]
-    elif kind < 0.25 and isinstance(holder, dict):
-        other = ("fog", "Width", "strips", "", "draws ", "clear_depht", "output", "strip", "quads", "triangles")
-        holder[pick.choice(other)] = pick.choice((1, "depth", [], [0, 1, 2], [[0, 1, 2]], [[0, 1, 2, 3]]))
-    elif kind < 0.35 and isinstance(holder, list):
-        holder.append(pick.choice(WRONG))
-    else:
-        holder[path[-1]] = pick.choice(WRONG)
-    return scene
-
-
-def a_dented_quad(pick):
-    """The corners of a square, one of which lies on the diagonal of its neighbours, beyond it, or just before it."""
-    (x, y), side = (pick.randint(-300, 900) for _ in "xy"), 2 * pick.randint(1, 300)
-    corners = [[x, y], [x + side, y], [x + side, y + side], [x, y + side]]
-    moved, inwards = pick.randrange(4), pick.choice((side // 2 - 1, side // 2, side // 2 + 1, side - 1, side))
-    corners[moved] = [z - inwards if z > low else z + inwards for z, low in zip(corners[moved], (x, y))]
-    return [corner + some_values(pick, [0]) for corner in corners]
-
-
-def with_wrong_faces(pick, draw):
-    """A draw with quads of any four vertices, convex or not, or with more than one list of faces, or without vertices."""
-    vertices = draw["vertices"]
-    changed = {key: element for key, element in draw.items() if key not in reference.FACE_KEYS}
-    kind = pick.random()
-    if kind < 0.3:
-        first, turn = len(vertices), pick.randrange(4)
-        quad = [first + (k + turn) % 4 for k in range(4)]
-        changed["vertices"] = vertices + a_dented_quad(pick)
-        changed["quads"] = [quad[::-1] if pick.random() < 0.5 else quad]
-    elif kind < 0.6 and vertices:
-        changed["quads"] = [[pick.randrange(len(vertices)) for _ in range(4)] for _ in range(pick.randint(1, 2))]
-    else:
-        for key in pick.sample(reference.FACE_KEYS, pick.randint(0, 3)):
-            changed[key] = draw.get(key, [])
-        if pick.random() < 0.4:
-            del changed["vertices"]
-    return changed
-
-
-def with_wrong_index(pick, draw):
-    """A draw with an index near the number of its vertices, or under zero."""
-    changed = copy.deepcopy(draw)
-    count = len(draw["vertices"])
-    wrong = pick.choice((-1, count - 1, count, count, count + 1, 65535))
-    key = next(key for key in reference.FACE_KEYS if key in draw)
-    if not changed[key]:
-        return changed
-    indices = changed[key] if key == "strip" else pick.choice(changed[key])
-    indices[pick.randrange(len(indices))] = wrong
-    return changed
-
-
-def a_broken_text(pick):
-    value = a_list(pick)
-    kind = pick.random()
-    if value["draws"] and kind < 0.4:
-        place = pick.randrange(len(value["draws"]))
-        change = with_wrong_faces if kind < 0.3 else with_wrong_index
-        value["draws"][place] = change(pick, value["draws"][place])
-        return json.dumps(value).encode()
-    for _ in range(pick.choice((1, 1, 2, 3))):
-        value = broken(pick, value) if isinstance(value, (dict, list)) else value
-    text = json.dumps(value).encode()
-    kind = pick.random()
-    if kind < 0.05:
-        return text[: pick.randint(0, len(text) - 1)]
-    if kind < 0.10:
-        place = pick.randint(0, len(text) - 1)
-        return text[:place] + bytes([pick.choice((0, 0x2C, 0x5B, 0x7D, 0x80, 0xFF))]) + text[place + 1 :]
-    return text
-
-
-# ---- Runs ----------------------------------------------------------------------------------------------------------
-
-
-def wanted(text):
-    """Output, line on standard error and status that the rules name."""
-    try:
-        return reference.render(reference.read(text)), b"", 0
-    except reference.ListFault as fault:
-        return b"", str(fault).encode() + b"\n", 1
 
 
 class Comparison:
-    def __init__(self, program):
+    """Compares the program's answers with the reference's, and counts them."""
+
+    def __init__(self, program: str) -> None:
         self.program = program
-        self.runs = 0
-        self.pixels = 0
-        self.drawn = 0
-        self.refused = 0
-        self.differences = 0
+        self.runs = self.pixels = self.drawn = self.refused = self.differences = 0
 
-    def run(self, text, tile, workers):
-        words = [self.program, "--tile", str(tile), "--workers", str(workers)]
+    def run(self, text: bytes, tile: int, workers: int) -> Answer:
         self.runs += 1
-        try:
-            done = subprocess.run(words, input=text, capture_output=True, timeout=MOST_SECONDS)
-        except subprocess.TimeoutExpired:
-            return b"", b"no answer in time", None
-        return done.stdout, done.stderr, done.returncode
+        return answers.drawn(self.program, text, ["--tile", str(tile), "--workers", str(workers)])
 
-    def compare(self, text, name, choices):
-        expected = wanted(text)
+    def compare(self, text: bytes, name: str, choices: Iterable[tuple[int, int]]) -> None:
+        """Compares the answers to a list with each of these tile sizes and numbers of workers, up to the first that differs."""
+        expected = answers.expected(text)
         for tile, workers in choices:
             found = self.run(text, tile, workers)
             if found != expected:
-                self.tell(text, name, tile, workers, expected, found)
+                self.report(text, name, f"--tile {tile} --workers {workers}", expected, found)
                 return
-        if expected[2] == 0:
-            pixels = reference.split_file(expected[0]).pixels()
+        if expected.status == 0:
+            pixels = picture_file.decode(expected.output).pixels()
             self.pixels += len(pixels)
             self.drawn += sum(pixel != pixels[-1] for pixel in pixels)
         else:
             self.refused += 1
 
-    def tell(self, text, name, tile, workers, expected, found):
+    def report(self, text: bytes, name: str, arguments: str, expected: Answer, found: Answer) -> None:
+        """Prints how two answers differ, and leaves the list in out/compare/."""
         self.differences += 1
-        folder = os.path.join(TOP, "out", "compare")
+        folder = os.path.join(OUT, "compare")
         os.makedirs(folder, exist_ok=True)
         path = os.path.join(folder, f"{name}.json")
         with open(path, "wb") as file:
             file.write(text)
-        print(f"{os.path.relpath(path, TOP)}: --tile {tile} --workers {workers}")
-        print(f"    wanted status {expected[2]} {expected[1].decode().strip()}")
-        print(f"    found  status {found[2]} {found[1].decode(errors='replace').strip()}")
-        if expected[2] == 0 and found[2] == 0:
-            print(f"    {reference.difference(expected[0], found[0])}")
+        print(f"{os.path.relpath(path, TOP)}: {arguments}")
+        print(f"    expected {expected}")
+        print(f"    found    {found}")
+        if expected.status == 0 and found.status == 0:
+            print(f"    {picture_file.difference(expected.output, found.output)}")
+
+    def summary(self, lists: int, broken: int) -> str:
+        return (
+            f"{lists} lists and {broken} broken ones, {self.runs} runs; {self.pixels} pixels, {self.drawn} of them unlike the "
+            f"last pixel; {self.refused} refused with the right line; {self.differences} differences"
+        )
 
 
-def main():
+def add_options(parser: argparse.ArgumentParser, lists: int, refused: int) -> None:
+    """Adds the options that say which lists are drawn, and by which program."""
+    parser.add_argument("--lists", type=int, default=lists, help=f"number of accepted lists (default {lists})")
+    parser.add_argument("--refused", type=int, default=refused, help=f"number of broken lists (default {refused})")
+    parser.add_argument("--seed", type=int, default=1, help="of the lists (default 1)")
+    parser.add_argument("--program", default=PROGRAM, help="default bin/trirast")
+
+
+def main() -> int:
     parser = argparse.ArgumentParser(description="Compares the program with the reference renderer.")
-    parser.add_argument("--lists", type=int, default=LISTS, help=f"how many accepted lists (default {LISTS})")
-    parser.add_argument("--refused", type=int, default=LISTS, help=f"how many broken lists (default {LISTS})")
-    parser.add_argument("--seed", type=int, default=1, help="where the lists begin (default 1)")
-    parser.add_argument("--program", default=os.path.join(TOP, "bin", "trirast"), help="default bin/trirast")
-    words = parser.parse_args()
-    if not os.access(words.program, os.X_OK):
-        print(f"compare.py: no program at {words.program}; run make first", file=sys.stderr)
+    add_options(parser, LISTS, LISTS)
+    options = parser.parse_args()
+    if not is_built(options.program):
         return 2
-    comparison = Comparison(os.path.abspath(words.program))
+    comparison = Comparison(os.path.abspath(options.program))
     every = [(tile, workers) for tile in TILES for workers in WORKERS]
-    ends = list(at_the_ends())
+    ends = list(generated_lists.at_the_ends())
     for k, scene in enumerate(ends):
         comparison.compare(json.dumps(scene).encode(), f"end-{k}", every)
-    for k in range(words.lists):
-        text = json.dumps(a_list(random.Random(f"list {words.seed} {k}"))).encode()
-        comparison.compare(text, f"list-{words.seed}-{k}", every)
-    for k in range(words.refused):
-        pick = random.Random(f"broken {words.seed} {k}")
-        text, one = a_broken_text(pick), (pick.choice(TILES), pick.choice(WORKERS))
-        comparison.compare(text, f"broken-{words.seed}-{k}", [one])
-    print(
-        f"{len(ends) + words.lists} lists and {words.refused} broken ones, {comparison.runs} runs; {comparison.pixels} pixels, "
-        f"{comparison.drawn} of them unlike the last pixel; {comparison.refused} refused with the right line; "
-        f"{comparison.differences} differences"
-    )
+    for k in range(options.lists):
+        comparison.compare(generated_lists.accepted_text(options.seed, k), f"list-{options.seed}-{k}", every)
+    for k in range(options.refused):
+        pick = random.Random(f"broken {options.seed} {k}")
+        text, one = generated_lists.a_broken_text(pick), (pick.choice(TILES), pick.choice(WORKERS))
+        comparison.compare(text, f"broken-{options.seed}-{k}", [one])
+    print(comparison.summary(len(ends) + options.lists, options.refused))
     return 1 if comparison.differences else 0
 
 

@@ -1,4 +1,6 @@
-"""How many checks passed, failed and were skipped: the line in which the gate and its scripts end."""
+"""How many checks passed, failed and were skipped: the line in which the gate and its checks end."""
+
+from __future__ import annotations
 
 import re
 import sys
@@ -17,20 +19,20 @@ class Counts:
     failed: int = 0
     skipped: int = 0
 
-    def __add__(self, other):
+    def __add__(self, other: Counts) -> Counts:
         return Counts(self.passed + other.passed, self.failed + other.failed, self.skipped + other.skipped)
 
-    def __str__(self):
+    def __str__(self) -> str:
         return f"{self.passed} passed, {self.failed} failed" + (f", {self.skipped} skipped" if self.skipped else "")
 
     @staticmethod
-    def in_line(line):
-        """The counts that a line tells, or None where it is no such line."""
+    def in_line(line: str) -> Counts | None:
+        """The counts of a line, or `None` if it has another form."""
         found = LINE.fullmatch(line.strip())
         return Counts(*(int(number or 0) for number in found.groups())) if found else None
 
 
-def run_tests():
+def run_tests() -> None:
     """Runs the tests of the script that was started, and ends in the line of their counts; status 1 where one failed."""
     result = unittest.main(exit=False, verbosity=2).result
     failed, skipped = len(result.failures) + len(result.errors), len(result.skipped)

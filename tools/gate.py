@@ -1,4 +1,3 @@
-#!/usr/bin/env python3
 """The merge gate: `rt ci`, and then the checks that it cannot hold, each for a bounded time.
 
     python3 -m tools.gate [--rt rt] [--without-proofs]
@@ -8,8 +7,9 @@ library for C too and leaves no archive of it, which `archive.py` builds over wh
 `N passed, M failed`, or `N passed, M failed, K skipped`, over all of them: what rt ci counts, and for each check the counts
 of its own last line, or one. A check is skipped where something of the system is missing, which is named;
 nothing is installed. Exit status 0 where nothing failed. With --without-proofs the checks run what stands in bin/ and lib/.
-Python 3.8 or later, standard library alone.
 """
+
+from __future__ import annotations
 
 import argparse
 import os
@@ -20,11 +20,12 @@ import sys
 import threading
 import time
 from dataclasses import dataclass
+from typing import Any, Sequence
 
 from tools import archive
 from tools.counts import MISSING, Counts
+from tools.places import TOP
 
-TOP = os.path.dirname(os.path.dirname(os.path.abspath(__file__)))
 # The crates whose programs the checks run, and the names under which they stand in bin/.
 PROGRAMS = {"trirast_cli": "trirast", "refused_tiles": "refused_tiles", "list_bench": "list_bench"}
 # The library that `make library` builds for the checks.
@@ -37,21 +38,22 @@ LIBRARY_SECONDS = 90 * MINUTE
 @dataclass(frozen=True)
 class Check:
     name: str
-    words: tuple
-    seconds: int
+    words: tuple[str, ...]
+    seconds: float
     runs_program: bool = True
     runs_library: bool = False
     # Commands of the system; where one is missing, the check is skipped.
-    needs: tuple = ()
+    needs: tuple[str, ...] = ()
 
 
-def module(name, package="tools"):
+def module(name: str, package: str = "tools") -> tuple[str, ...]:
     """The words that run a module of this repository at its top."""
     return (sys.executable, "-m", f"{package}.{name}")
 
 
 CHECKS = (
     Check("the gate's counts", module("test_gate"), 2 * MINUTE, runs_program=False),
+    Check("types of the tools", ("mypy",), 10 * MINUTE, runs_program=False, needs=("mypy",)),
     Check("worked values of the reference", module("test_reference"), 5 * MINUTE, runs_program=False),
     Check("what documents name", module("test_documents"), 2 * MINUTE, runs_program=False),
     Check("the statement", module("test_statement"), 2 * MINUTE, runs_program=False),
@@ -61,16 +63,16 @@ CHECKS = (
     Check("generated lists", module("compare"), 20 * MINUTE),
     Check("checks of golden pictures", module("test_golden"), 5 * MINUTE, runs_program=False),
     Check("golden pictures", module("golden"), 15 * MINUTE),
-    Check("faults planted in the rules", module("mutants"), 20 * MINUTE),
+    Check("mutants of the rules", module("mutants"), 20 * MINUTE),
     Check("the comparison with drivers", module("test_conformance", "conformance"), 15 * MINUTE, runs_program=False),
-    Check("mistakes where memory is refused", module("test_injection"), 5 * MINUTE, runs_program=False),
-    Check("refused memory", module("allocation_failures"), 10 * MINUTE),
-    Check("hostile use", module("fault_injection"), 20 * MINUTE),
+    Check("mistakes after failed allocations", module("test_injection"), 5 * MINUTE, runs_program=False),
+    Check("allocation failures", module("allocation_failures"), 10 * MINUTE),
+    Check("fault injection", module("fault_injection"), 20 * MINUTE),
     Check("the library", module("check_library"), 10 * MINUTE, runs_library=True, needs=("cc", "gcc")),
 )
 
 
-def say(text):
+def say(text: str) -> None:
     print(f"gate: {text}", flush=True)
 
 
@@ -78,26 +80,26 @@ def say(text):
 class Ended:
     """How a command ended: its status, None where its time was over, and its last line that is not blank."""
 
-    status: object
+    status: int | None
     last_line: str
 
 
-def stop(child):
+def stop(child: subprocess.Popen[bytes]) -> None:
     try:
         os.killpg(child.pid, signal.SIGKILL)
     except ProcessLookupError:
         pass
 
 
-def run(words, top, seconds=None):
+def run(words: Sequence[str], top: str, seconds: float | None = None) -> Ended:
     """Runs a command, and passes its output on line by line."""
     environment = dict(os.environ, PYTHONUNBUFFERED="1")
-    how = {"stdin": subprocess.DEVNULL, "stdout": subprocess.PIPE, "stderr": subprocess.STDOUT}
+    how: Any = {"stdin": subprocess.DEVNULL, "stdout": subprocess.PIPE, "stderr": subprocess.STDOUT}
     late = threading.Event()
     last_line = ""
     with subprocess.Popen(words, cwd=top, env=environment, start_new_session=True, **how) as child:
 
-        def end():
+        def end() -> None:
             late.set()
             stop(child)
 
@@ -105,6 +107,7 @@ def run(words, top, seconds=None):
         try:
             if timer:
                 timer.start()
+            assert child.stdout
             for line in child.stdout:
                 sys.stdout.buffer.write(line)
                 sys.stdout.flush()
@@ -122,12 +125,12 @@ def run(words, top, seconds=None):
     return Ended(None if late.is_set() else status, last_line)
 
 
-def prove(rt, top):
-    """Runs rt ci. Its counts; a run that tells none, or a status against them, is a failure."""
+def prove(rt: str, top: str) -> Counts:
+    """Runs rt ci, and returns its counts. No counts, or a status against them, are a failure."""
     ended = run((rt, "ci"), top)
     counts = Counts.in_line(ended.last_line)
     if counts is None:
-        say("rt ci told no counts")
+        say("rt ci printed no counts")
         return Counts(failed=1)
     if ended.status != 0 and counts.failed == 0:
         say(f"rt ci ended with status {ended.status}")
@@ -135,17 +138,17 @@ def prove(rt, top):
     return counts
 
 
-def built(top, crate):
+def built(top: str, crate: str) -> str:
     """Where rt ci leaves the program of a crate."""
     return os.path.join(top, "crates", crate, "out", crate)
 
 
-def program(top, name):
+def program(top: str, name: str) -> str:
     """Where the checks look for a program."""
     return os.path.join(top, "bin", name)
 
 
-def take_programs(top, since):
+def take_programs(top: str, since: int) -> bool:
     """Puts the programs that rt ci built where the checks look for them; whether it has built each since that time."""
     for crate in PROGRAMS:
         if not os.path.isfile(built(top, crate)) or os.path.getmtime(built(top, crate)) < since:
@@ -156,11 +159,11 @@ def take_programs(top, since):
     return True
 
 
-def has_library(top):
+def has_library(top: str) -> bool:
     return all(os.path.isfile(os.path.join(top, path)) for path in LIBRARY)
 
 
-def build_library(top, rt):
+def build_library(top: str, rt: str) -> bool:
     """Builds the library of the crate that rt ci has proved; whether it is there then."""
     if archive.build(top, rt, LIBRARY_SECONDS):
         words = ("make", "-W", archive.ARCHIVE, "library", f"RT={rt}")
@@ -171,12 +174,12 @@ def build_library(top, rt):
     return ended.status == 0 and has_library(top)
 
 
-def missing(check):
+def missing(check: Check) -> list[str]:
     """The commands of the system that a check needs and that are not there."""
     return [name for name in check.needs if shutil.which(name) is None]
 
 
-def try_check(check, top, are_programs_built, is_library_built):
+def try_check(check: Check, top: str, are_programs_built: bool, is_library_built: bool) -> Counts:
     """Runs a check. Its counts: those of its last line, or one."""
     say(f"{check.name}: {' '.join(check.words)}")
     if missing(check):
@@ -202,7 +205,7 @@ def try_check(check, top, are_programs_built, is_library_built):
     return Counts(passed=1) if counts is None else counts
 
 
-def pass_gate(top, rt, checks, with_proofs=True):
+def pass_gate(top: str, rt: str, checks: Sequence[Check], with_proofs: bool = True) -> Counts:
     """The counts of the whole gate."""
     total = Counts()
     # Some file systems keep whole seconds.
@@ -222,7 +225,7 @@ def pass_gate(top, rt, checks, with_proofs=True):
     return total
 
 
-def main():
+def main() -> int:
     parser = argparse.ArgumentParser(description="The merge gate: every proof, and the checks that rt ci cannot hold.")
     parser.add_argument("--rt", default="rt", help="the toolchain's command (default rt)")
     parser.add_argument("--without-proofs", action="store_true", help="the checks alone, over what stands in bin/")

@@ -1,4 +1,3 @@
-#!/usr/bin/env python3
 """Compares the pictures of examples/ and tests/regressions/ with their recorded checksums and with the reference renderer.
 
     python3 -m tools.golden [--program bin/trirast]
@@ -10,7 +9,6 @@ that tools/reference.py draws; and bin/trirast must draw those bytes, by default
 Each list must also have a line in the README.md beside it, and each sum a list. Where a picture differs, the list is left
 in out/golden/ with NAME.got.png, NAME.expected.png and NAME.difference.png: equal channels are black there, and
 all others at least half bright. --record writes the sums anew, by the reference alone. Exit status 1 if a check failed.
-Python 3.8 or later, standard library alone.
 """
 
 from __future__ import annotations
@@ -21,37 +19,26 @@ import hashlib
 import os
 import re
 import shutil
-import subprocess
 import sys
 from concurrent.futures import ProcessPoolExecutor
 from dataclasses import dataclass
 
-from tools import compare
-from tools import png
-from tools import reference
+from tools import answers, picture_file, png
+from tools.answers import Answer
 from tools.counts import Counts
+from tools.picture_file import NotAPicture, PictureFile
+from tools.places import PROGRAM, TOP, is_built
 
-TOP = os.path.dirname(os.path.dirname(os.path.abspath(__file__)))
 FOLDERS = ("examples", os.path.join("tests", "regressions"))
 OUT = os.path.join("out", "golden")
 SUMS = "SHA256SUMS"
 LINE = re.compile(r"([0-9a-f]{64})  ([\w-]+)\.pnm")
 # The arguments of the two runs of each list.
-RUNS = ((), ("--tile", "8", "--workers", "1"))
-MAX_SECONDS = 60
+RUNS: tuple[tuple[str, ...], ...] = ((), ("--tile", "8", "--workers", "1"))
 
 
 class BadSums(Exception):
     """A SHA256SUMS file is missing, or one of its lines has another form or repeats a name."""
-
-
-@dataclass(frozen=True)
-class Answer:
-    """What a run wrote to its output and to its errors, and its exit status; None if it did not end in time."""
-
-    output: bytes
-    errors: bytes
-    status: int | None
 
 
 @dataclass(frozen=True)
@@ -95,38 +82,25 @@ def read_lists(top: str, folder: str) -> list[Entry]:
     return entries
 
 
-def expected(text: bytes) -> Answer:
-    """The answer to a list by the reference renderer."""
-    return Answer(*compare.wanted(text))
-
-
 def expected_answers(entries: list[Entry]) -> dict[Entry, Answer]:
     """The reference's answers to these lists, computed side by side, the longest list first."""
     entries = sorted(entries, key=lambda entry: len(entry.text), reverse=True)
     with ProcessPoolExecutor() as workers:
-        return dict(zip(entries, workers.map(expected, [entry.text for entry in entries])))
+        return dict(zip(entries, workers.map(answers.expected, [entry.text for entry in entries])))
 
 
-def draw(program: str, arguments: tuple, text: bytes) -> Answer:
-    try:
-        done = subprocess.run([program, *arguments], input=text, capture_output=True, timeout=MAX_SECONDS)
-    except subprocess.TimeoutExpired:
-        return Answer(b"", b"no answer in time", None)
-    return Answer(done.stdout, done.stderr, done.returncode)
-
-
-def difference_pixels(got: reference.PictureFile, wanted: reference.PictureFile) -> bytes:
+def difference_pixels(got: PictureFile, wanted: PictureFile) -> bytes:
     """A picture's worth of differences of channels: 0 where two are equal, else half of the range and half of the difference."""
     size = 2 if wanted.pixel_bytes == 2 else 1
     half = 1 << (8 * size - 1)
     pixels = bytearray()
-    for first in range(0, len(wanted.bytes), size):
-        one, other = (int.from_bytes(file.bytes[first : first + size], "big") for file in (got, wanted))
+    for first in range(0, len(wanted.pixel_data), size):
+        one, other = (int.from_bytes(file.pixel_data[first : first + size], "big") for file in (got, wanted))
         pixels += (half + abs(one - other) // 2 if one != other else 0).to_bytes(size, "big")
     return bytes(pixels)
 
 
-def as_png(file: reference.PictureFile, pixels: bytes) -> bytes:
+def as_png(file: PictureFile, pixels: bytes) -> bytes:
     return png.encode(file.width, file.height, file.pixel_bytes, pixels)
 
 
@@ -135,11 +109,11 @@ def pictures(got: bytes, wanted: bytes) -> dict[str, bytes]:
     files = {}
     for name, data in (("got", got), ("expected", wanted)):
         try:
-            files[name] = reference.split_file(data)
-        except ValueError:
+            files[name] = picture_file.decode(data)
+        except NotAPicture:
             continue
-    made = {name: as_png(file, file.bytes) for name, file in files.items()}
-    if len(files) == 2 and reference.shape(files["got"]) == reference.shape(files["expected"]):
+    made = {name: as_png(file, file.pixel_data) for name, file in files.items()}
+    if len(files) == 2 and files["got"].shape == files["expected"].shape:
         made["difference"] = as_png(files["expected"], difference_pixels(files["got"], files["expected"]))
     return made
 
@@ -168,18 +142,17 @@ class Golden:
                 file.write(data)
         return f"{stem}.*"
 
-    def check_run(self, entry: Entry, arguments: tuple, wanted: Answer) -> bool:
+    def check_run(self, entry: Entry, arguments: tuple[str, ...], wanted: Answer) -> bool:
         """Draws a list once; whether the program's answer is the reference's."""
-        got = draw(self.program, arguments, entry.text)
+        got = answers.drawn(self.program, entry.text, arguments)
         if got == wanted:
             self.passed()
             return True
         run = " ".join((os.path.relpath(self.program, self.top), *arguments, "<", entry.path))
-        if (got.status, got.errors) != (wanted.status, wanted.errors):
-            lines = [f"status {answer.status} {answer.errors.decode(errors='replace').strip()!r}" for answer in (got, wanted)]
-            what = f"got {lines[0]}, expected {lines[1]}"
+        if (got.status, got.line) != (wanted.status, wanted.line):
+            what = f"got {got}, expected {wanted}"
         else:
-            what = f"got and expected: {reference.difference(got.output, wanted.output)}"
+            what = f"got and expected: {picture_file.difference(got.output, wanted.output)}"
         self.failed(f"{run}: {what}; see {self.leave(entry, got, wanted)}")
         return False
 
@@ -222,9 +195,9 @@ class Golden:
                 continue
             self.check_names(folder, entries, sums)
             recorded.update({entry: sums[entry.name] for entry in entries if entry.name in sums})
-        answers = expected_answers(list(recorded))
+        wanted = expected_answers(list(recorded))
         for entry, recorded_sum in recorded.items():
-            self.check_list(entry, recorded_sum, answers[entry])
+            self.check_list(entry, recorded_sum, wanted[entry])
         return self.counts
 
 
@@ -232,21 +205,20 @@ def record(top: str) -> None:
     """Writes the sums of all lists, of the reference's pictures."""
     for folder in FOLDERS:
         entries = read_lists(top, folder)
-        answers = expected_answers(entries)
+        wanted = expected_answers(entries)
         with open(os.path.join(top, folder, SUMS), "w", encoding="utf-8") as file:
-            file.writelines(f"{checksum(answers[entry].output)}  {entry.name}.pnm\n" for entry in entries)
+            file.writelines(f"{checksum(wanted[entry].output)}  {entry.name}.pnm\n" for entry in entries)
 
 
 def main() -> int:
     parser = argparse.ArgumentParser(description="Compares the pictures of recorded lists with their checksums.")
-    parser.add_argument("--program", default=os.path.join(TOP, "bin", "trirast"), help="default bin/trirast")
+    parser.add_argument("--program", default=PROGRAM, help="default bin/trirast")
     parser.add_argument("--record", action="store_true", help="write the sums of the reference's pictures, and check nothing")
     options = parser.parse_args()
     if options.record:
         record(TOP)
         return 0
-    if not os.access(options.program, os.X_OK):
-        print(f"golden.py: no program at {options.program}; run make first", file=sys.stderr)
+    if not is_built(options.program):
         return 2
     counts = Golden(TOP, os.path.abspath(options.program)).check()
     print(counts, flush=True)

@@ -1,5 +1,7 @@
 """Pictures of the program's two kinds as PNG files."""
 
+from __future__ import annotations
+
 import struct
 import zlib
 

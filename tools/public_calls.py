@@ -3,23 +3,21 @@
 A call is written `Owner::name`: the owner is a type or a trait that the crate's root gives out, or the crate of a free function.
 """
 
-import glob
+from __future__ import annotations
+
 import os
 import re
+from typing import Iterator
 
-TOP = os.path.dirname(os.path.dirname(os.path.abspath(__file__)))
+from tools import places
+
 # The crates that the program and the library are made of.
 CRATES = ("grid", "shade", "cover", "list", "scene", "plain", "bins", "pool", "tile", "trirast", "trirast_c")
 HEAD = re.compile(r"(?:pub )?(impl|trait)\b(?:<(?:[^<>]|<[^<>]*>)*>)? (?!.* for )(\w+)")
 CALL = re.compile(r'( {4})?(pub )?(?:extern "C" )?fn (\w+)')
 
 
-def text_of(path):
-    with open(path, encoding="utf-8") as file:
-        return file.read()
-
-
-def given_out(root):
+def given_out(root: str) -> set[str]:
     """The names that the text of a crate's root makes public."""
     names = set(re.findall(r'^pub (?:extern "C" )?(?:fn|struct|enum|trait) (\w+)', root, re.MULTILINE))
     for path in re.findall(r"^pub use ([^;]*);", root, re.MULTILINE):
@@ -27,7 +25,7 @@ def given_out(root):
     return names
 
 
-def calls_in(text, crate, public):
+def calls_in(text: str, crate: str, public: set[str]) -> Iterator[str]:
     """The public calls in the text of a file."""
     kind = owner = None
     for line in text.split("\n"):
@@ -44,21 +42,22 @@ def calls_in(text, crate, public):
                 yield f"{owner}::{name}"
 
 
-def public_calls():
+def public_calls() -> set[str]:
     """All public calls of the crates."""
-    found = set()
+    found: set[str] = set()
     for crate in CRATES:
-        folder = os.path.join(TOP, "crates", crate, "src")
-        public = given_out(text_of(os.path.join(folder, "lib.rt")))
-        for path in glob.glob(os.path.join(folder, "**", "*.rt"), recursive=True):
-            found.update(calls_in(text_of(path), crate, public))
+        folder = os.path.join("crates", crate, "src")
+        public = given_out(places.text_of(folder, "lib.rt"))
+        for path in places.files(folder, "**", "*.rt"):
+            found.update(calls_in(places.text_of(path), crate, public))
     return found
 
 
-def named_calls(cell, public):
+def named_calls(cell: str, public: set[str]) -> set[str]:
     """Of the public calls those that a cell names: before the colon of each part, behind which its clauses stand. The owner may be
     left out where it is that of the call before, or where no other crate has a free function of the name."""
-    found, owner = set(), None
+    found: set[str] = set()
+    owner = ""
     for part in re.sub(r"\(.*?\)", "", cell).split(";"):
         calls, colon, clauses = part.rpartition(": ")
         for word in re.findall(r"`([\w:]+)`", calls if colon else clauses):

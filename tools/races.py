@@ -1,12 +1,13 @@
-#!/usr/bin/env python3
-"""Runs bin/trirast under valgrind's memcheck and drd with several workers, and wants no error and the same picture.
+"""Runs bin/trirast under valgrind's memcheck and drd with several workers, and expects no error and the same picture.
 
     python3 -m tools.races
 
-A race and a use of freed memory planted in small C programs have to be told first, so that silence means something. Needs
-valgrind, and gcc for the planted ones. The last line is 'N passed, M failed', or 'N passed, M failed, K skipped'. What it
+A race and a use of freed memory planted in small C programs must be found too, so that silence means something. Needs
+valgrind, and gcc for the planted ones. The last line is `N passed, M failed`, or `N passed, M failed, K skipped`. What it
 shows is of these runs alone: another schedule could have a race that none of them had.
 """
+
+from __future__ import annotations
 
 import os
 import shutil
@@ -14,14 +15,15 @@ import subprocess
 import sys
 import tempfile
 import unittest
+from typing import Sequence
 
 from tools import counts
+from tools.answers import drawn
+from tools.places import PROGRAM, bytes_of, is_built
 
-TOP = os.path.dirname(os.path.dirname(os.path.abspath(__file__)))
-PROGRAM = os.path.join(TOP, "bin", "trirast")
 EXAMPLES = ("top_left", "scissor_and_masks", "gradient")
 WORKERS = 4
-MOST_SECONDS = 600
+MAX_SECONDS = 600
 FOUND = 99
 
 RACE = """
@@ -48,49 +50,48 @@ int main(void) {
 """
 
 
-def watched(tool, words, text=b""):
-    """Status, output and what the tool said of a run."""
+def watched(tool: str, command: Sequence[str], text: bytes = b"") -> tuple[int, bytes, str]:
+    """Status, output and the tool's messages of a run."""
     options = [f"--tool={tool}", f"--error-exitcode={FOUND}", "--quiet"]
     options += ["--leak-check=full"] if tool == "memcheck" else []
-    done = subprocess.run(["valgrind", *options, *words], input=text, capture_output=True, timeout=MOST_SECONDS)
+    done = subprocess.run(["valgrind", *options, *command], input=text, capture_output=True, timeout=MAX_SECONDS)
     return done.returncode, done.stdout, done.stderr.decode(errors="replace")
 
 
 @unittest.skipUnless(shutil.which("valgrind"), "valgrind is not there")
 class Runs(unittest.TestCase):
-    def check_examples(self, tool):
+    def check_examples(self, tool: str) -> None:
         for example in EXAMPLES:
-            with open(os.path.join(TOP, "examples", f"{example}.json"), "rb") as file:
-                text = file.read()
-            plain = subprocess.run([PROGRAM], input=text, capture_output=True, timeout=MOST_SECONDS, check=True)
-            words = [PROGRAM, "--tile", "8", "--workers", str(WORKERS)]
-            self.assertEqual(watched(tool, words, text), (0, plain.stdout, ""), example)
+            text = bytes_of("examples", f"{example}.json")
+            picture = drawn(PROGRAM, text).output
+            command = [PROGRAM, "--tile", "8", "--workers", str(WORKERS)]
+            self.assertEqual(watched(tool, command, text), (0, picture, ""), example)
 
-    def test_memory(self):
+    def test_memory(self) -> None:
         self.check_examples("memcheck")
 
-    def test_threads(self):
+    def test_threads(self) -> None:
         self.check_examples("drd")
 
-    def check_planted(self, tool, text, told):
+    def check_planted(self, tool: str, source: str, message: str) -> None:
         if not shutil.which("gcc"):
             self.skipTest("gcc is not there")
         with tempfile.TemporaryDirectory() as folder:
             program = os.path.join(folder, "planted")
-            words = ["gcc", "-g", "-O0", "-pthread", "-x", "c", "-o", program, "-"]
-            subprocess.run(words, input=text.encode(), check=True)
-            status, _output, said = watched(tool, [program])
-        self.assertEqual(status, FOUND, said)
-        self.assertIn(told, said)
+            command = ["gcc", "-g", "-O0", "-pthread", "-x", "c", "-o", program, "-"]
+            subprocess.run(command, input=source.encode(), check=True)
+            status, _output, messages = watched(tool, [program])
+        self.assertEqual(status, FOUND, messages)
+        self.assertIn(message, messages)
 
-    def test_a_planted_use_of_freed_memory_is_told(self):
+    def test_a_planted_use_of_freed_memory_is_found(self) -> None:
         self.check_planted("memcheck", FREED, "Invalid read of size 1")
 
-    def test_a_planted_race_is_told(self):
+    def test_a_planted_race_is_found(self) -> None:
         self.check_planted("drd", RACE, "Conflicting")
 
 
 if __name__ == "__main__":
-    if not os.access(PROGRAM, os.X_OK):
-        sys.exit("races.py: bin/trirast is not there; run make first")
+    if not is_built(PROGRAM):
+        sys.exit(1)
     counts.run_tests()

@@ -1,4 +1,3 @@
-#!/usr/bin/env python3
 """A small, slow reference renderer for trirast draw lists.
 
 It reads a draw list on standard input and writes the binary PPM picture, or the PGM picture of the depths, on standard
@@ -6,16 +5,29 @@ output, straight from the rules of docs/rules.md and docs/draw-list.md: exact in
 triangles in draw order. It shares no code with the program, and is there to compare the program with.
 
     python3 -m tools.reference < list.json > picture.ppm
-    python3 -m tools.reference --compare one.ppm other.ppm
 
-A list that is refused gives the program's line on standard error and status 1. Python 3.8 or later, standard library
-alone.
+A refused list gives the program's line on standard error and status 1.
 """
 
-import argparse
+from __future__ import annotations
+
 import json
 import sys
 from dataclasses import dataclass
+from typing import Any, Callable, Container, Optional, Sequence
+
+from tools.picture_file import PictureFile
+
+# The number and the name of a kind of error.
+Kind = tuple[int, str]
+# x and y, and what may follow them.
+Point = tuple[int, ...]
+# x, y, z, red, green, blue and alpha.
+Vertex = tuple[int, ...]
+# Red, green, blue and depth.
+Sample = tuple[int, ...]
+# Triangles by the indices of their vertices.
+Faces = list[list[int]]
 
 INPUT_LIMIT = 67_108_864
 BAND = (-8_388_608, 8_388_607)
@@ -34,9 +46,9 @@ TOP_KEYS = ("width", "height", "samples", "clear", "clear_depth", "output", "dra
 STATE_KEYS = ("cull", "depth_test", "depth_write", "blend", "write", "sample_mask", "scissor")
 FACE_KEYS = ("triangles", "strip", "quads")
 DRAW_KEYS = STATE_KEYS + ("vertices",) + FACE_KEYS
-MOST_TRIANGLES = 65536
+MAX_TRIANGLES = 65536
 
-DEPTH_TESTS = {
+DEPTH_TESTS: dict[str, Callable[[int, int], bool]] = {
     "never": lambda new, old: False,
     "less": lambda new, old: new < old,
     "equal": lambda new, old: new == old,
@@ -48,13 +60,13 @@ DEPTH_TESTS = {
 }
 
 # Offsets of the samples from a pixel's upper left corner in 1/256 pixel.
-SAMPLES = {1: ((128, 128),), 4: ((96, 32), (224, 96), (32, 160), (160, 224))}
+SAMPLES: dict[int, tuple[Point, ...]] = {1: ((128, 128),), 4: ((96, 32), (224, 96), (32, 160), (160, 224))}
 
 
 class ListFault(Exception):
     """The first check that fails, with the draw in which it stands, if it stands in one."""
 
-    def __init__(self, kind, draw=None):
+    def __init__(self, kind: Kind, draw: Optional[int] = None) -> None:
         number, name = kind
         place = "" if draw is None else f" in draw {draw}"
         super().__init__(f"trirast: list fault {number} {name}{place}")
@@ -63,7 +75,7 @@ class ListFault(Exception):
 class InputTooLong(Exception):
     """The input has more bytes than a draw list may have."""
 
-    def __init__(self):
+    def __init__(self) -> None:
         super().__init__("trirast: input too long")
 
 
@@ -73,16 +85,16 @@ class State:
     depth_test: str
     depth_write: bool
     blend: str
-    write: tuple
+    write: tuple[bool, ...]
     sample_mask: int
-    scissor: tuple
+    scissor: tuple[int, ...]
 
 
 @dataclass(frozen=True)
 class Triangle:
     """A triangle with its three vertices (x, y, z, r, g, b, a) and the state of its draw."""
 
-    vertices: tuple
+    vertices: tuple[Vertex, ...]
     state: State
 
 
@@ -91,24 +103,24 @@ class Scene:
     width: int
     height: int
     samples: int
-    clear: tuple
+    clear: Sample
     output: str
-    triangles: tuple
+    triangles: tuple[Triangle, ...]
 
 
 # ---- Reading -------------------------------------------------------------------------------------------------------
 
 
-def parse(data):
+def parse(data: bytes) -> Any:
     """The JSON value of the bytes. A number is an int only where it is whole and fits 64 bits."""
 
-    def whole(text):
+    def whole(text: str) -> float:
         if text == "-0" or len(text) > 20:
             return float(text)
         number = int(text)
         return number if -(2**63) <= number < 2**64 else float(text)
 
-    def refuse(_constant):
+    def refuse(_constant: str) -> None:
         raise ValueError("no JSON number")
 
     try:
@@ -117,7 +129,7 @@ def parse(data):
         raise ListFault(NOT_JSON) from None
 
 
-def check_whole(value, low, high, draw, outside=OUT_OF_RANGE):
+def check_whole(value: Any, low: int, high: int, draw: Optional[int], outside: Kind = OUT_OF_RANGE) -> int:
     if type(value) is not int:
         raise ListFault(WRONG_KIND, draw)
     if not low <= value <= high:
@@ -125,23 +137,23 @@ def check_whole(value, low, high, draw, outside=OUT_OF_RANGE):
     return value
 
 
-def check_array(value, length, draw):
+def check_array(value: Any, length: int, draw: Optional[int]) -> list[Any]:
     if type(value) is not list or len(value) != length:
         raise ListFault(WRONG_KIND, draw)
     return value
 
 
-def check_wholes(value, length, low, high, draw):
+def check_wholes(value: Any, length: int, low: int, high: int, draw: Optional[int]) -> tuple[int, ...]:
     return tuple(check_whole(element, low, high, draw) for element in check_array(value, length, draw))
 
 
-def check_truth(value, draw):
+def check_truth(value: Any, draw: Optional[int]) -> bool:
     if type(value) is not bool:
         raise ListFault(WRONG_KIND, draw)
     return value
 
 
-def check_word(value, words, draw):
+def check_word(value: Any, words: Container[str], draw: Optional[int]) -> str:
     if type(value) is not str:
         raise ListFault(WRONG_KIND, draw)
     if value not in words:
@@ -149,7 +161,7 @@ def check_word(value, words, draw):
     return value
 
 
-def check_list(value, most, draw):
+def check_list(value: Any, most: int, draw: Optional[int]) -> list[Any]:
     if type(value) is not list:
         raise ListFault(WRONG_KIND, draw)
     if len(value) > most:
@@ -157,7 +169,7 @@ def check_list(value, most, draw):
     return value
 
 
-def check_keys(value, known, required, draw):
+def check_keys(value: Any, known: Sequence[str], required: Sequence[str], draw: Optional[int]) -> None:
     if type(value) is not dict:
         raise ListFault(WRONG_KIND, draw)
     if any(key not in known for key in value):
@@ -166,61 +178,67 @@ def check_keys(value, known, required, draw):
         raise ListFault(MISSING_KEY, draw)
 
 
-def read_vertex(value, draw):
+def read_vertex(value: Any, draw: int) -> Vertex:
     x, y, z, r, g, b, a = check_array(value, 7, draw)
     position = (check_whole(x, *BAND, draw), check_whole(y, *BAND, draw))
     depth = check_whole(z, 0, 65535, draw)
     return position + (depth,) + tuple(check_whole(channel, 0, 255, draw) for channel in (r, g, b, a))
 
 
-def read_indices(value, vertices, draw):
+def read_indices(value: Any, vertices: Sequence[Vertex], draw: int) -> list[int]:
     return [check_whole(index, 0, len(vertices) - 1, draw, BAD_INDEX) for index in value]
 
 
-def check_count(count, before, draw):
+def check_count(count: int, before: int, draw: int) -> None:
     """The triangles of all draws so far are not too many."""
-    if before + count > MOST_TRIANGLES:
+    if before + count > MAX_TRIANGLES:
         raise ListFault(TOO_MANY, draw)
 
 
-def read_triangles(value, vertices, before, draw):
-    listed = check_list(value, MOST_TRIANGLES, draw)
+def read_triangles(value: Any, vertices: Sequence[Vertex], before: int, draw: int) -> Faces:
+    listed = check_list(value, MAX_TRIANGLES, draw)
     check_count(len(listed), before, draw)
     return [read_indices(check_array(triangle, 3, draw), vertices, draw) for triangle in listed]
 
 
-def read_strip(value, vertices, before, draw):
-    """Each place of a strip with the two after it; every second triangle is turned, so that all run the same way."""
-    listed = check_list(value, MOST_TRIANGLES + 2, draw)
-    check_count(max(0, len(listed) - 2), before, draw)
-    places = read_indices(listed, vertices, draw)
-    triples = zip(places, places[1:], places[2:])
+def triangles_of_strip(indices: Sequence[int]) -> Faces:
+    """Each index of a strip with the two after it; every second triangle is turned, so that all run the same way."""
+    triples = zip(indices, indices[1:], indices[2:])
     return [[a, c, b] if number % 2 else [a, b, c] for number, (a, b, c) in enumerate(triples)]
 
 
-def is_strictly_convex(corners):
+def read_strip(value: Any, vertices: Sequence[Vertex], before: int, draw: int) -> Faces:
+    listed = check_list(value, MAX_TRIANGLES + 2, draw)
+    check_count(max(0, len(listed) - 2), before, draw)
+    return triangles_of_strip(read_indices(listed, vertices, draw))
+
+
+def triangles_of_quad(a: int, b: int, c: int, d: int) -> Faces:
+    return [[a, b, c], [c, d, a]]
+
+
+def is_strictly_convex(corners: Sequence[Sequence[int]]) -> bool:
     a, b, c, d = corners
     areas = [side(a, b, c), side(b, c, d), side(c, d, a), side(d, a, b)]
     return all(area > 0 for area in areas) or all(area < 0 for area in areas)
 
 
-def read_quads(value, vertices, before, draw):
-    """A quad a, b, c, d is the triangles a, b, c and c, d, a."""
-    listed = check_list(value, MOST_TRIANGLES // 2, draw)
+def read_quads(value: Any, vertices: Sequence[Vertex], before: int, draw: int) -> Faces:
+    listed = check_list(value, MAX_TRIANGLES // 2, draw)
     check_count(2 * len(listed), before, draw)
-    triangles = []
+    triangles: Faces = []
     for quad in listed:
-        a, b, c, d = read_indices(check_array(quad, 4, draw), vertices, draw)
-        if not is_strictly_convex([vertices[corner] for corner in (a, b, c, d)]):
+        corners = read_indices(check_array(quad, 4, draw), vertices, draw)
+        if not is_strictly_convex([vertices[corner] for corner in corners]):
             raise ListFault(NOT_CONVEX, draw)
-        triangles += [[a, b, c], [c, d, a]]
+        triangles += triangles_of_quad(*corners)
     return triangles
 
 
-FACES = {"triangles": read_triangles, "strip": read_strip, "quads": read_quads}
+FACES: dict[str, Callable[[Any, Sequence[Vertex], int, int], Faces]] = {"triangles": read_triangles, "strip": read_strip, "quads": read_quads}
 
 
-def check_draw_keys(value, draw):
+def check_draw_keys(value: Any, draw: int) -> str:
     """The one key of a draw that says what is drawn of its vertices."""
     check_keys(value, DRAW_KEYS, ("vertices",), draw)
     named = [key for key in FACE_KEYS if key in value]
@@ -231,7 +249,7 @@ def check_draw_keys(value, draw):
     return named[0]
 
 
-def read_state(value, draw, width, height):
+def read_state(value: Any, draw: int, width: int, height: int) -> State:
     return State(
         cull=check_word(value.get("cull", "none"), ("none", "front", "back"), draw),
         depth_test=check_word(value.get("depth_test", "always"), DEPTH_TESTS, draw),
@@ -243,7 +261,7 @@ def read_state(value, draw, width, height):
     )
 
 
-def read_draw(value, draw, width, height, triangles_before):
+def read_draw(value: Any, draw: int, width: int, height: int, triangles_before: int) -> list[Triangle]:
     key = check_draw_keys(value, draw)
     state = read_state(value, draw, width, height)
     vertices = [read_vertex(vertex, draw) for vertex in check_list(value["vertices"], 65536, draw)]
@@ -251,7 +269,7 @@ def read_draw(value, draw, width, height, triangles_before):
     return [Triangle(tuple(vertices[index] for index in triangle), state) for triangle in triangles]
 
 
-def read(data):
+def read(data: bytes) -> Scene:
     """The scene that the bytes denote; ListFault at the first check that fails."""
     if len(data) > INPUT_LIMIT:
         raise InputTooLong
@@ -265,7 +283,7 @@ def read(data):
     clear = check_wholes(value.get("clear", [0, 0, 0]), 3, 0, 255, None)
     clear += (check_whole(value.get("clear_depth", 65535), 0, 65535, None),)
     output = check_word(value.get("output", "color"), ("color", "depth"), None)
-    triangles = []
+    triangles: list[Triangle] = []
     for draw, description in enumerate(check_list(value["draws"], 1024, None)):
         triangles += read_draw(description, draw, width, height, len(triangles))
     return Scene(width, height, samples, clear, output, tuple(triangles))
@@ -274,7 +292,7 @@ def read(data):
 # ---- Drawing -------------------------------------------------------------------------------------------------------
 
 
-def side(a, b, p):
+def side(a: Sequence[int], b: Sequence[int], p: Sequence[int]) -> int:
     """The edge function of the line ab at p."""
     return (b[0] - a[0]) * (p[1] - a[1]) - (b[1] - a[1]) * (p[0] - a[0])
 
@@ -282,7 +300,7 @@ def side(a, b, p):
 class Edge:
     """The edge ab of a triangle with third vertex c."""
 
-    def __init__(self, a, b, c):
+    def __init__(self, a: Point, b: Point, c: Point) -> None:
         self.a, self.b = a, b
         self.third = side(a, b, c)
         top = a[1] == b[1] and c[1] > a[1]
@@ -290,27 +308,27 @@ class Edge:
         left = rise != 0 and rise * (rise * (c[0] - a[0]) - (b[0] - a[0]) * (c[1] - a[1])) > 0
         self.owns_its_points = top or left
 
-    def at(self, p):
+    def at(self, p: Point) -> int:
         return side(self.a, self.b, p)
 
-    def passes(self, value):
+    def passes(self, value: int) -> bool:
         """The top-left rule at one edge, for a point at which the edge function has this value."""
         return value * self.third > 0 or (value == 0 and self.owns_its_points)
 
 
-def is_culled(cull, area):
+def is_culled(cull: str, area: int) -> bool:
     return (cull == "front" and area > 0) or (cull == "back" and area < 0)
 
 
-def over(source, alpha, stored):
+def over(source: int, alpha: int, stored: int) -> int:
     return (source * alpha + stored * (255 - alpha) + 127) // 255
 
 
-def shade(triangle, weights, size, old):
+def shade(triangle: Triangle, weights: tuple[int, int, int], size: int, old: Sample) -> Sample:
     """What a covered sample, not masked away, takes from a triangle."""
     state = triangle.state
 
-    def value(place):
+    def value(place: int) -> int:
         return sum(weight * vertex[place] for weight, vertex in zip(weights, triangle.vertices)) // size
 
     depth = value(2)
@@ -326,7 +344,7 @@ def shade(triangle, weights, size, old):
     return tuple(new)
 
 
-def pixels_of(triangle, scene):
+def pixels_of(triangle: Triangle, scene: Scene) -> tuple[range, range]:
     """The columns and rows in which the triangle can cover a sample: its bounding box in scissor and picture."""
     left, top, right, bottom = triangle.state.scissor
     xs = [vertex[0] // 256 for vertex in triangle.vertices]
@@ -336,7 +354,7 @@ def pixels_of(triangle, scene):
     return columns, rows
 
 
-def draw(triangle, scene, samples):
+def draw(triangle: Triangle, scene: Scene, samples: list[Sample]) -> None:
     a, b, c = triangle.vertices
     area = side(a, b, c)
     if area == 0 or is_culled(triangle.state.cull, area):
@@ -362,7 +380,7 @@ def draw(triangle, scene, samples):
                 samples[place] = shade(triangle, weights, abs(area), samples[place])
 
 
-def resolve(samples, count):
+def resolve(samples: list[Sample], count: int) -> bytes:
     """The bytes of the picture from its samples."""
     if count == 1:
         return bytes(channel for sample in samples for channel in sample[:3])
@@ -374,76 +392,18 @@ def resolve(samples, count):
     return bytes(out)
 
 
-def render(scene):
+def render(scene: Scene) -> bytes:
     """The picture's file."""
     samples = [scene.clear] * (scene.width * scene.height * scene.samples)
     for triangle in scene.triangles:
         draw(triangle, scene, samples)
     if scene.output == "depth":
         depths = b"".join(sample[3].to_bytes(2, "big") for sample in samples[:: scene.samples])
-        return b"P5\n%d %d\n65535\n" % (scene.width, scene.height) + depths
-    return b"P6\n%d %d\n255\n" % (scene.width, scene.height) + resolve(samples, scene.samples)
+        return PictureFile(scene.width, scene.height, 2, depths).encode()
+    return PictureFile(scene.width, scene.height, 3, resolve(samples, scene.samples)).encode()
 
 
-# ---- Comparing -----------------------------------------------------------------------------------------------------
-
-
-# Magic number and greatest value of the two files, with the bytes of a pixel.
-SPELLINGS = {(b"P6", b"255"): 3, (b"P5", b"65535"): 2}
-
-
-@dataclass(frozen=True)
-class PictureFile:
-    width: int
-    height: int
-    pixel_bytes: int
-    bytes: bytes
-
-    def pixels(self):
-        return [self.bytes[k : k + self.pixel_bytes] for k in range(0, len(self.bytes), self.pixel_bytes)]
-
-
-def split_file(data):
-    """The picture of a file in one of the two spellings that the program writes."""
-    magic, size, greatest, pixels = data.split(b"\n", 3)
-    width, height = (int(number) for number in size.split(b" "))
-    pixel_bytes = SPELLINGS.get((magic, greatest))
-    if pixel_bytes is None or len(pixels) != pixel_bytes * width * height:
-        raise ValueError("no file of these spellings")
-    return PictureFile(width, height, pixel_bytes, pixels)
-
-
-def shape(picture):
-    return f"{picture.width} by {picture.height} with {picture.pixel_bytes} bytes a pixel"
-
-
-def difference(one, other):
-    """None where two files have the same bytes, else a line that says where they first differ."""
-    if one == other:
-        return None
-    try:
-        ours, theirs = split_file(one), split_file(other)
-    except ValueError:
-        place = next((k for k, pair in enumerate(zip(one, other)) if pair[0] != pair[1]), min(len(one), len(other)))
-        return f"the files have {len(one)} and {len(other)} bytes and differ from byte {place}"
-    if shape(ours) != shape(theirs):
-        return f"the pictures are {shape(ours)} and {shape(theirs)}"
-    pairs = enumerate(zip(ours.pixels(), theirs.pixels()))
-    unlike = [(place, pair) for place, pair in pairs if pair[0] != pair[1]]
-    place, (mine, yours) = unlike[0]
-    j, i = divmod(place, ours.width)
-    return f"{len(unlike)} pixels differ, first ({i}, {j}): {mine.hex(' ')} and {yours.hex(' ')}"
-
-
-def main():
-    parser = argparse.ArgumentParser(description="Renders a draw list by the rules, slowly; or compares two pictures.")
-    parser.add_argument("--compare", nargs=2, metavar="FILE", help="compare two picture files in place of rendering")
-    words = parser.parse_args()
-    if words.compare:
-        with open(words.compare[0], "rb") as one, open(words.compare[1], "rb") as other:
-            told = difference(one.read(), other.read())
-        print("the same bytes" if told is None else told)
-        return 0 if told is None else 1
+def main() -> int:
     try:
         picture = render(read(sys.stdin.buffer.read(INPUT_LIMIT + 1)))
     except (ListFault, InputTooLong) as fault:

@@ -1,4 +1,3 @@
-#!/usr/bin/env python3
 """Writes docs/statement.md: the theorem about `trirast::run`, and every definition of this repository that it rests on.
 
     python3 -m tools.statement [--check]
@@ -6,7 +5,6 @@
 With --check it writes nothing, compares the page with the sources, and exits with status 1 if they differ. statement_sources.py
 reads the sources; statement_text.py has the words by hand. It fails if a definition stands in no group or before one that it
 uses, if a name is explained nowhere, or if a group or a line of the glossary has lost its use.
-Python 3.8 or later, standard library alone.
 """
 
 import argparse
@@ -19,7 +17,8 @@ from typing import Dict, Iterable, Iterator, List, Optional, Set, Tuple
 
 from tools import statement_text
 from tools.counts import Counts
-from tools.statement_sources import TOP, Definition, Name, Unclear, contract_of, definition_of, rests_on
+from tools.places import TOP
+from tools.statement_sources import Definition, Name, Unclear, contract_of, definition_of, rests_on
 from tools.statement_text import GLOSSARY, GROUPS, Group
 
 PAGE = os.path.join("docs", "statement.md")
@@ -137,8 +136,8 @@ def glossary() -> Iterator[str]:
 
 def index(groups: List[Tuple[Group, List[Definition]]]) -> str:
     """Each name with the group that defines it."""
-    names = {(one.name.word, group.title) for group, members in groups for one in members}
-    names = sorted(names, key=lambda one: (one[0].lower(), one))
+    unsorted = {(one.name.word, group.title) for group, members in groups for one in members}
+    names = sorted(unsorted, key=lambda one: (one[0].lower(), one))
     return ",\n".join(link(title, f"`{word}`") for word, title in names) + "\n"
 
 

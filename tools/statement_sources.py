@@ -13,7 +13,8 @@ from dataclasses import dataclass, field
 from functools import lru_cache
 from typing import Dict, FrozenSet, Iterable, Iterator, List, NamedTuple, Optional, Set, Tuple
 
-TOP = os.path.dirname(os.path.dirname(os.path.abspath(__file__)))
+from tools.places import TOP
+
 HEAD = re.compile(r"(?:abbrev |unfoldable )?pub (record |data |)(\S+)")
 USE = re.compile(r"^\s*(?:ghost )?use (Rattle\.[^;\n]*?);?$", re.MULTILINE)
 RUST_USE = re.compile(r"^\s*(?:pub )?use ([a-z]\w*)::([^;]*);", re.MULTILINE)
@@ -24,7 +25,7 @@ WORD = re.compile(r"[^\W\d]\w*")
 BUILT_IN = set("→ × ⊥ ¬ λ : = _ Type Unit record data let in where pub abbrev unfoldable ( ) { } ; ,".split())
 # What Rust has without a `use` line.
 RUST = set("bool u8 u16 u32 u64 usize i32 i64 str Option Result Vec Sync".split())
-# What a clause has beside the parameters.
+# What a clause has besides the parameters.
 OF_CLAUSES = {"result", "self"}
 
 
@@ -164,8 +165,9 @@ def names_in(words: List[str], scope: Scope, variables: Set[str]) -> Iterator[Na
         head, *path = word.rstrip(".").split(".")
         if head in variables:
             continue
-        if name or scope.find(head):
-            yield name or scope.find(head)
+        name = name or scope.find(head)
+        if name:
+            yield name
         elif path and head in scope.modules:
             yield imported(*scope.modules[head], path[0])
         elif head in RUST:
@@ -199,6 +201,14 @@ def definition_lines(path: str) -> Iterator[Tuple[int, List[str], int]]:
         if heads != code[:1]:
             raise Unclear(f"{path}:{number}: no definition, or more than one: {code[0]}")
         yield number, lines, comment
+
+
+def defined_word(line: str) -> str:
+    """The name that the first line of a definition defines."""
+    found = HEAD.match(line)
+    if not found:
+        raise Unclear(f"no definition: {line}")
+    return found[2]
 
 
 def constructors_of(code: List[str]) -> List[str]:
@@ -249,7 +259,7 @@ def definitions_of(path: str) -> Dict[str, Definition]:
     found = list(definition_lines(path))
     owners: Dict[str, str] = {}
     for _number, lines, comment in found:
-        word = HEAD.match(lines[comment])[2]
+        word = defined_word(lines[comment])
         owners[word] = word
         for case in constructors_of(lines[comment:]):
             owners[case] = word
@@ -259,7 +269,7 @@ def definitions_of(path: str) -> Dict[str, Definition]:
     defined = {}
     for number, lines, comment in found:
         code = lines[comment:]
-        word = HEAD.match(code[0])[2]
+        word = defined_word(code[0])
         try:
             uses = uses_of(code, word, scope) - {Name(path, word)}
         except (Unclear, ValueError) as error:
@@ -357,7 +367,8 @@ def contract_of(path: str, word: str) -> Definition:
     signature = re.split(r"^\s*(?:requires|ensures)\b", text, flags=re.MULTILINE)[0]
     generics = set(re.findall(r"(\w+)(?::[^,>]*)?[,>]", (re.search(r"fn \w+(<.*?>)\(", signature) or [" ", ""])[1]))
     generics |= set(re.findall(r"(\w+)(?::[^,>]*)?[,>]", (re.match(r"impl(<.*?>) ", owner) or [" ", ""])[1]))
-    scope, uses = rust_scope(path), set()
+    scope = rust_scope(path)
+    uses: Set[Name] = set()
     parameters = set(re.findall(r"(\w+): ", signature)) | OF_CLAUSES
     uses.update(rust_names(owner + signature, scope, generics))
     for clause in clauses_in(text):

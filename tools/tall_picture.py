@@ -3,7 +3,9 @@
 Its triangle has the upper left half of the picture, and no two tile rows have the same bytes.
 """
 
-import json
+from __future__ import annotations
+
+from tools import draw_list
 
 WIDTH, HEIGHT, TILE = 64, 192, 8
 COLUMNS, ROWS = WIDTH // TILE, HEIGHT // TILE
@@ -12,10 +14,9 @@ TOGETHER = ROWS // 8
 TILE_BYTES = 3 * TILE * TILE
 ROW_BYTES = COLUMNS * TILE_BYTES
 
-WHITE = [255, 255, 255, 255]
 CORNERS = ((0, 0), (256 * WIDTH, 0), (0, 256 * HEIGHT))
-DRAW = {"vertices": [[x, y, 0, *WHITE] for x, y in CORNERS], "triangles": [[0, 1, 2]]}
-LIST = json.dumps({"width": WIDTH, "height": HEIGHT, "draws": [DRAW]}).encode()
+DRAW = draw_list.draw([draw_list.vertex(x, y) for x, y in CORNERS])
+LIST = draw_list.encode(draw_list.draw_list(WIDTH, HEIGHT, DRAW))
 
 HEADER = b"P6\n64 192\n255\n"
 # The slanted edge is 3 * x + y = 192. A pixel's centre is half a pixel to the right of and below its corner, and one that lies
@@ -26,10 +27,11 @@ PIXELS = b"".join(
 PICTURE = HEADER + PIXELS
 
 
-def with_rows(count):
+def with_rows(count: int) -> bytes:
     """The file up to the end of this many tile rows."""
     return PICTURE[: len(HEADER) + ROW_BYTES * count]
 
 
-def words(workers):
+def arguments(workers: int) -> list[str]:
+    """The program's arguments for this picture."""
     return ["--tile", str(TILE), "--workers", str(workers)]

@@ -1,4 +1,3 @@
-#!/usr/bin/env python3
 """Tests of tools/golden.py and tools/png.py, over lists and programs of their own.
 
     python3 -m tools.test_golden
@@ -30,6 +29,10 @@ REFUSED = b'{"width":0,"height":1,"draws":[]}'
 REFUSED_LINE = b"trirast: list fault 5 OutOfRange\n"
 
 
+# Width, height, bits of a channel, colour type, and rows.
+Decoded = tuple[int, int, int, int, list[bytes]]
+
+
 def chunks(data: bytes) -> list[tuple[bytes, bytes]]:
     """The chunks of a PNG file, each by its kind and data, with their checksums tested."""
     assert data[:8] == b"\x89PNG\r\n\x1a\n"
@@ -43,7 +46,7 @@ def chunks(data: bytes) -> list[tuple[bytes, bytes]]:
     return found
 
 
-def decode(data: bytes) -> tuple:
+def decode(data: bytes) -> Decoded:
     """Width, height, bits of a channel, colour type and rows of a PNG file without filters."""
     (_, header), (_, rows), _end = chunks(data)
     width, height, bits, colour_type, *_rest = struct.unpack(">IIBBBBB", header)
@@ -53,19 +56,19 @@ def decode(data: bytes) -> tuple:
 
 
 class Png(unittest.TestCase):
-    def test_colours(self):
+    def test_colours(self) -> None:
         data = png.encode(2, 2, 3, bytes(range(12)))
         self.assertEqual([kind for kind, _ in chunks(data)], [b"IHDR", b"IDAT", b"IEND"])
         self.assertEqual(decode(data), (2, 2, 8, 2, [b"\0" + bytes(range(6)), b"\0" + bytes(range(6, 12))]))
 
-    def test_depths_of_16_bits(self):
+    def test_depths_of_16_bits(self) -> None:
         self.assertEqual(decode(png.encode(1, 2, 2, b"\1\2\3\4")), (1, 2, 16, 0, [b"\0\1\2", b"\0\3\4"]))
 
 
 class Lists(unittest.TestCase):
     """Runs over a folder that has the lists and the sums of a test, and a program that gives recorded answers."""
 
-    def setUp(self):
+    def setUp(self) -> None:
         folder = tempfile.TemporaryDirectory()
         self.addCleanup(folder.cleanup)
         self.top = folder.name
@@ -86,7 +89,7 @@ class Lists(unittest.TestCase):
         lines = "".join(f"{hashlib.sha256(data).hexdigest()}  {name}.pnm\n" for name, data in files.items())
         self.write(os.path.join(folder, golden.SUMS), lines.encode())
 
-    def program(self, colours=COLOUR_FILE, depths=DEPTH_FILE, tiles_of_8=None) -> str:
+    def program(self, colours: bytes = COLOUR_FILE, depths: bytes = DEPTH_FILE, tiles_of_8: bytes | None = None) -> str:
         """A program that answers the two lists by these files, and with --tile 8 by another where one is given."""
         path = os.path.join(self.top, "program")
         text = f"""#!{sys.executable}
@@ -113,15 +116,15 @@ sys.stdout.buffer.write({tiles_of_8!r} if {tiles_of_8!r} and "8" in sys.argv els
         folder = os.path.join(self.top, golden.OUT)
         return sorted(os.listdir(folder)) if os.path.isdir(folder) else []
 
-    def png(self, name: str) -> tuple:
+    def png(self, name: str) -> Decoded:
         with open(os.path.join(self.top, golden.OUT, name), "rb") as file:
             return decode(file.read())
 
-    def test_right_pictures(self):
+    def test_right_pictures(self) -> None:
         self.assertEqual(self.check(self.program()), Counts(passed=6))
         self.assertEqual((self.printed, self.left()), ("", []))
 
-    def test_a_wrong_picture(self):
+    def test_a_wrong_picture(self) -> None:
         wrong = COLOUR_FILE[:-3] + b"\x05\x02\x00"
         self.assertEqual(self.check(self.program(colours=wrong)), Counts(passed=4, failed=1))
         self.assertIn("program < examples/colours.json", self.printed)
@@ -134,78 +137,78 @@ sys.stdout.buffer.write({tiles_of_8!r} if {tiles_of_8!r} and "8" in sys.argv els
         # Differences of 4 and 255, halved, over 128.
         self.assertEqual(self.png("colours.difference.png"), (2, 1, 8, 2, [b"\0\0\0\0\x82\0\xff"]))
 
-    def test_wrong_depths(self):
+    def test_wrong_depths(self) -> None:
         self.assertEqual(self.check(self.program(depths=DEPTH_FILE[:-1] + b"\2")), Counts(passed=4, failed=1))
         self.assertIn("first (1, 0): 02 02 and 02 01", self.printed)
         self.assertEqual(self.png("depths.got.png"), (2, 1, 16, 0, [b"\0\2\1\2\2"]))
         self.assertEqual(self.png("depths.difference.png"), (2, 1, 16, 0, [b"\0\0\0\x80\0"]))
 
-    def test_a_wrong_picture_with_tiles_of_8_alone(self):
+    def test_a_wrong_picture_with_tiles_of_8_alone(self) -> None:
         wrong = COLOUR_FILE[:-1] + b"\xfe"
         self.assertEqual(self.check(self.program(tiles_of_8=wrong)), Counts(passed=4, failed=2))
         self.assertIn("--tile 8 --workers 1 < examples/colours.json: got and expected: 1 pixels differ", self.printed)
 
-    def test_a_picture_of_another_size(self):
+    def test_a_picture_of_another_size(self) -> None:
         self.assertEqual(self.check(self.program(colours=b"P6\n1 1\n255\n\1\2\3")), Counts(passed=4, failed=1))
         self.assertIn("the pictures are 1 by 1 with 3 bytes a pixel and 2 by 1 with 3 bytes a pixel", self.printed)
         self.assertEqual(self.left(), ["colours.expected.png", "colours.got.png", "colours.json"])
 
-    def test_a_file_that_is_no_picture(self):
+    def test_a_file_that_is_no_picture(self) -> None:
         self.assertEqual(self.check(self.program(colours=COLOUR_FILE[:-1])), Counts(passed=4, failed=1))
         self.assertEqual(self.left(), ["colours.expected.png", "colours.json"])
 
-    def test_a_refused_list(self):
+    def test_a_refused_list(self) -> None:
         self.write("tests/regressions/refused.json", REFUSED)
         self.write_sums("tests/regressions", depths=DEPTH_FILE, refused=b"")
         self.assertEqual(self.check(self.program()), Counts(passed=9))
 
-    def test_a_list_that_should_not_be_refused(self):
+    def test_a_list_that_should_not_be_refused(self) -> None:
         changed = COLOURS + b" "
         self.write("examples/colours.json", changed)
         self.assertEqual(self.check(self.program()), Counts(passed=4, failed=1))
         self.assertIn("got status 1 'trirast: list fault 5 OutOfRange', expected status 0 ''", self.printed)
 
-    def test_a_sum_that_is_not_the_references(self):
+    def test_a_sum_that_is_not_the_references(self) -> None:
         self.write_sums("examples", colours=COLOUR_FILE + b"\0")
         self.assertEqual(self.check(self.program()), Counts(passed=5, failed=1))
         self.assertIn("examples/colours.json: the sum in SHA256SUMS is not that", self.printed)
         self.assertIn(hashlib.sha256(COLOUR_FILE).hexdigest(), self.printed)
 
-    def test_a_list_without_a_sum(self):
+    def test_a_list_without_a_sum(self) -> None:
         self.write("examples/more.json", COLOURS)
         self.write("examples/README.md", b"| `colours.json` | | `more.json` |")
         self.assertEqual(self.check(self.program()), Counts(passed=6, failed=1))
         self.assertIn("examples/more.json has no sum", self.printed)
 
-    def test_a_sum_without_a_list(self):
+    def test_a_sum_without_a_list(self) -> None:
         self.write_sums("examples", colours=COLOUR_FILE, gone=COLOUR_FILE)
         self.assertEqual(self.check(self.program()), Counts(passed=6, failed=1))
         self.assertIn("there is no gone.json", self.printed)
 
-    def test_a_folder_without_lists(self):
+    def test_a_folder_without_lists(self) -> None:
         os.remove(os.path.join(self.top, "examples", "colours.json"))
         self.write_sums("examples")
         self.assertEqual(self.check(self.program()), Counts(passed=3, failed=1))
         self.assertIn("there is no list in examples", self.printed)
 
-    def test_a_list_without_a_line(self):
+    def test_a_list_without_a_line(self) -> None:
         self.write("examples/README.md", b"`colours.json`")
         self.assertEqual(self.check(self.program()), Counts(passed=6, failed=1))
         self.assertIn("examples/colours.json has no line", self.printed)
 
-    def test_sums_that_cannot_be_read(self):
+    def test_sums_that_cannot_be_read(self) -> None:
         line = f"{'0' * 64}  colours.pnm\n"
-        for text, told in ((line * 2, "line 2"), (line.replace("  ", " "), "line 1"), (line.replace("pnm", "ppm"), "line 1")):
+        for text, reason in ((line * 2, "line 2"), (line.replace("  ", " "), "line 1"), (line.replace("pnm", "ppm"), "line 1")):
             self.write(os.path.join("examples", golden.SUMS), text.encode())
             self.assertEqual(self.check(self.program()), Counts(passed=3, failed=1), text)
-            self.assertIn(told, self.printed)
+            self.assertIn(reason, self.printed)
 
-    def test_no_file_of_sums(self):
+    def test_no_file_of_sums(self) -> None:
         os.remove(os.path.join(self.top, "examples", golden.SUMS))
         self.assertEqual(self.check(self.program()), Counts(passed=3, failed=1))
         self.assertIn("No such file", self.printed)
 
-    def test_sums_are_recorded(self):
+    def test_sums_are_recorded(self) -> None:
         self.write("examples/more.json", DEPTHS)
         golden.record(self.top)
         recorded = golden.read_sums(os.path.join(self.top, "examples", golden.SUMS))

@@ -1,24 +1,26 @@
-#!/usr/bin/env python3
-"""Tests of tools/allocation_failures.py and of the threads in tools/fault_injection.py: mistakes in tools/stand_in.c are caught.
+"""Tests of tools/allocation_failures.py and of the threads in tools/fault_injection.py: they catch mistakes in tools/stand_in.c.
 
     python3 -m tools.test_injection
 
-The stand-in writes one picture with the program's ways out where memory or a thread is refused, or with a mistake in them. Needs gcc.
+The stand-in writes one picture as the program does if an allocation fails or a thread does not start, or with a mistake in that.
+Needs gcc.
 """
+
+from __future__ import annotations
 
 import os
 import shutil
 import subprocess
-import sys
 import tempfile
 import unittest
+from typing import ClassVar, Type
 from unittest import mock
 
-from tools import counts
-from tools import fault_injection
-from tools import allocation_failures
+# The test classes are named by their modules, so that they are no tests of this one.
+from tools import allocation_failures, counts, fault_injection, injection
+from tools.places import TOP
 
-SOURCE = os.path.join(os.path.dirname(os.path.abspath(__file__)), "stand_in.c")
+SOURCE = os.path.join(TOP, "tools", "stand_in.c")
 
 ONE_WORKER = (allocation_failures.TileRows, "test_one_worker")
 ONE_REFUSAL = (allocation_failures.TileRows, "test_one_refusal_of_two_workers")
@@ -28,7 +30,7 @@ TWO_REFUSALS = (allocation_failures.TileRows, "test_two_refusals_of_two_workers"
 EACH_THREAD = (fault_injection.RefusedThreads, "test_each_thread_of_two_workers")
 ALL_THREADS = (fault_injection.RefusedThreads, "test_all_threads_from_each_one_on")
 
-CAUGHT_BY = {
+CAUGHT_BY: dict[str, tuple[tuple[Type[injection.InjectionTest], str], ...]] = {
     "begin with the second row": (ONE_REFUSAL, DRAWING_AGAIN, EACH_THREAD, ALL_THREADS),
     "draw all rows again before one is written": (DRAWING_AGAIN, TWO_REFUSALS),
     "ask for the next row before this one is written": (ONE_WORKER, DRAWING_AGAIN, TWO_REFUSALS),
@@ -42,15 +44,17 @@ CAUGHT_BY = {
 
 @unittest.skipUnless(shutil.which("gcc"), "gcc is not there")
 class Mistakes(unittest.TestCase):
+    program: ClassVar[str]
+
     @classmethod
-    def setUpClass(cls):
+    def setUpClass(cls) -> None:
         folder = tempfile.TemporaryDirectory()
         cls.addClassCleanup(folder.cleanup)
         cls.program = os.path.join(folder.name, "stand_in")
         # Without -fno-builtin gcc leaves out an allocation that nothing uses.
         subprocess.run(["gcc", "-O1", "-Wall", "-fno-builtin", "-pthread", "-o", cls.program, SOURCE], check=True)
 
-    def result(self, test_class, name, mistake=""):
+    def result(self, test_class: type[injection.InjectionTest], name: str, mistake: str = "") -> unittest.TestResult:
         """What a test finds in the stand-in with this mistake."""
         test = type(test_class.__name__, (test_class,), {"program": self.program, "tearDownClass": lambda: None})(name)
         result = unittest.TestResult()
@@ -59,12 +63,12 @@ class Mistakes(unittest.TestCase):
         self.assertEqual((result.testsRun, result.errors), (1, []), f"{name} with {mistake or 'no mistake'}")
         return result
 
-    def test_no_mistake(self):
+    def test_no_mistake(self) -> None:
         tests = {test for tests in CAUGHT_BY.values() for test in tests}
         for test_class, name in tests:
             self.assertEqual(self.result(test_class, name).failures, [], name)
 
-    def test_each_mistake(self):
+    def test_each_mistake(self) -> None:
         for mistake, tests in CAUGHT_BY.items():
             for test_class, name in tests:
                 with self.subTest(mistake=mistake, test=name):

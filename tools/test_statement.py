@@ -1,8 +1,9 @@
-#!/usr/bin/env python3
 """Tests that docs/statement.md is what the sources have, that it is whole, and that statement.py sees what is left out.
 
     python3 -m tools.test_statement
 """
+
+from __future__ import annotations
 
 import contextlib
 import io
@@ -14,19 +15,11 @@ import unittest
 from typing import Dict, Iterator, List, Set, Tuple
 from unittest import mock
 
-from tools import counts
-from tools import statement
+from tools import counts, statement
 from tools import statement_sources as sources
+from tools.places import TOP, text_of
 from tools.statement_sources import Name, Unclear
 from tools.statement_text import GLOSSARY, GROUPS
-
-TOP = os.path.dirname(os.path.dirname(os.path.abspath(__file__)))
-
-
-def text_of(path: str) -> str:
-    with open(os.path.join(TOP, path), encoding="utf-8") as file:
-        return file.read()
-
 
 def clear_caches() -> None:
     for one in vars(sources).values():
@@ -73,7 +66,7 @@ class Page(unittest.TestCase):
         self.blocks: List[Tuple[str, str]] = re.findall(block, self.page, re.MULTILINE | re.DOTALL)
 
     def defined(self) -> Set[Tuple[str, str]]:
-        found = set()
+        found: Set[Tuple[str, str]] = set()
         for path, block in self.blocks:
             heads = re.findall(r"^(?:abbrev |unfoldable )?pub (?:record |data |struct |enum |)(\w+)", block, re.MULTILINE)
             cases = re.findall(r"^  (\w+) :", block, re.MULTILINE)
@@ -188,7 +181,7 @@ class Reading(unittest.TestCase):
         upper = "use Rattle.b.specs.B.{far}\n\nabbrev pub near : far\nnear = far\n"
         middle = "use Rattle.b.specs.C.{farthest}\nabbrev pub far : farthest\nfar = farthest\n"
         lower = "abbrev pub farthest : Type 0\nfarthest = ⊥\n"
-        # A use line and a definition in one paragraph are not told apart.
+        # A use line and a definition in one paragraph are not separated.
         with repository({"a/specs/A.antt": upper, "b/specs/B.antt": middle}):
             self.assertRaises(Unclear, sources.definitions_of, "crates/b/specs/B.antt")
         middle = middle.replace("\nabbrev", "\n\nabbrev")

@@ -11,7 +11,7 @@ SCRIPTS = os.path.dirname(HERE)
 TOP = os.path.dirname(SCRIPTS)
 sys.path[:0] = [SCRIPTS, os.path.join(TOP, "python")]
 
-from tools import reference
+from tools import picture_file
 from tools.counts import Counts
 
 OUT = os.path.join(TOP, "out", "check-library")
@@ -88,7 +88,7 @@ def must_be_the_programs(path, picture):
     with open(path, "rb") as file:
         wanted = drawn_by_program(file.read())[0]
     with open(picture, "rb") as file:
-        difference = reference.difference(wanted, file.read())
+        difference = picture_file.difference(wanted, file.read())
     must(difference is None, f"{picture}: {difference}")
 
 

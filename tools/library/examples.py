@@ -10,7 +10,7 @@ from .common import (
     INCLUDE, OUT, SECONDS, SHARED, STATIC, STRICT, TOP, drawn_by_program, must, must_be_the_programs, need, run,
 )
 
-from tools import reference
+from tools import picture_file, reference
 
 
 def check_frames(threads):
@@ -40,7 +40,7 @@ def check_cpp(lists):
 def covered(scene):
     """The masks of covered samples by the reference renderer, as coverage.py prints them."""
     read = reference.read(json.dumps(scene).encode())
-    pixels = reference.split_file(reference.render(read)).pixels()
+    pixels = picture_file.decode(reference.render(read)).pixels()
     rows = [pixels[row * read.width : (row + 1) * read.width] for row in range(read.height)]
     return [" ".join(f"{pixel[0]:x}" if pixel[0] else "." for pixel in row) for row in rows]
 

@@ -8,7 +8,7 @@ import struct
 
 from .common import OUT, TOP, drawn_by_program
 
-from tools import compare
+from tools import generated_lists
 from tools.check_schema import REFUSED
 
 SMALL_LIST = 20000
@@ -47,9 +47,9 @@ class Lists:
         self.folder = os.path.join(OUT, "lists")
         os.makedirs(self.folder)
         texts = [b'{"width":1,"height":1,"draws":[]}']
-        texts += [json.dumps(compare.a_list(pick)).encode() for _ in range(24)]
+        texts += [json.dumps(generated_lists.a_list(pick)).encode() for _ in range(24)]
         texts += [json.dumps(value).encode() for _, value, _ in REFUSED]
-        texts += [compare.a_broken_text(pick) for _ in range(40)] + [b"{", b"\xff"] + self.deep()
+        texts += [generated_lists.a_broken_text(pick) for _ in range(40)] + [b"{", b"\xff"] + self.deep()
         texts += self.backwards(texts)
         self.small = self.manifest("small", [text for text in texts if len(text) < SMALL_LIST])
         examples = sorted(glob.glob(os.path.join(TOP, "examples", "*.json")))

@@ -1,9 +1,13 @@
 """OpenGL without a window: Mesa's or another vendor's EGL and OpenGL, called by ctypes.
 
-The names are those of the OpenGL and EGL headers without their prefix.
+The names are those of the OpenGL and EGL headers without their prefix. `open_driver` gives OpenGL's functions.
 """
 
+from __future__ import annotations
+
 import ctypes
+import os
+from typing import Any, Callable
 
 # EGL
 PLATFORM_SURFACELESS_MESA = 0x31DD
@@ -17,7 +21,7 @@ SUBPIXEL_BITS, MAX_SAMPLES, MAX_VIEWPORT_DIMS, SAMPLES, SAMPLE_POSITION = 0x0D50
 # OpenGL: frames
 FRAMEBUFFER, READ_FRAMEBUFFER, DRAW_FRAMEBUFFER, RENDERBUFFER = 0x8D40, 0x8CA8, 0x8CA9, 0x8D41
 COLOR_ATTACHMENT0, DEPTH_ATTACHMENT, FRAMEBUFFER_COMPLETE = 0x8CE0, 0x8D00, 0x8CD5
-RGBA8, DEPTH_COMPONENT16, RGBA = 0x8058, 0x81A5, 0x1908
+RGBA8, DEPTH_COMPONENT16, DEPTH_COMPONENT24, RGBA = 0x8058, 0x81A5, 0x81A6, 0x1908
 COLOR_BUFFER_BIT, DEPTH_BUFFER_BIT, NEAREST, PACK_ALIGNMENT = 0x4000, 0x100, 0x2600, 0x0D05
 
 # OpenGL: drawing
@@ -39,11 +43,19 @@ DEPTH_FUNCTIONS = {
 SCISSOR_TEST, MULTISAMPLE, SAMPLE_MASK, SAMPLE_SHADING = 0x0C11, 0x809D, 0x8E51, 0x8C36
 
 
+# What Mesa reads when its library is loaded, for each of its drivers that can be asked for by name.
+MESA = {
+    "llvmpipe": {"LIBGL_ALWAYS_SOFTWARE": "1", "GALLIUM_DRIVER": "llvmpipe"},
+    "zink": {"LIBGL_ALWAYS_SOFTWARE": "1", "GALLIUM_DRIVER": "zink", "MESA_LOADER_DRIVER_OVERRIDE": "zink"},
+}
+
+
 class Unavailable(Exception):
     """There is no OpenGL of the kind that was asked for."""
 
 
-def load(names):
+def load(names: list[str]) -> ctypes.CDLL:
+    """The first of these libraries that is there."""
     for name in names:
         try:
             return ctypes.CDLL(name)
@@ -52,10 +64,10 @@ def load(names):
     raise Unavailable(f"none of these libraries is here: {', '.join(names)}")
 
 
-def open_display(egl):
-    """Mesa's display without a window, or the default one, which other vendors give where there is no window system."""
+def open_display(egl: ctypes.CDLL) -> ctypes.c_void_p:
+    """Mesa's display without a window, or the default one, which other vendors give if there is no window system."""
     egl.eglGetPlatformDisplay.restype = egl.eglGetDisplay.restype = ctypes.c_void_p
-    asked = (
+    asked: tuple[Callable[[], Any], ...] = (
         lambda: egl.eglGetPlatformDisplay(PLATFORM_SURFACELESS_MESA, None, None),
         lambda: egl.eglGetDisplay(None),
     )
@@ -66,8 +78,8 @@ def open_display(egl):
     raise Unavailable("EGL has no display without a window")
 
 
-def make_current(egl):
-    """A context of OpenGL with no surface, made current on this thread."""
+def make_current(egl: ctypes.CDLL) -> None:
+    """Makes a context of OpenGL without a surface current on this thread."""
     display = open_display(egl)
     if not egl.eglBindAPI(OPENGL_API):
         raise Unavailable("EGL has no OpenGL")
@@ -80,7 +92,7 @@ def make_current(egl):
         raise Unavailable("EGL gives no context of OpenGL")
 
 
-def open_library():
+def open_library() -> ctypes.CDLL:
     """OpenGL's functions, with a context current."""
     make_current(load(["libEGL.so.1"]))
     library = load(["libOpenGL.so.0", "libGL.so.1"])
@@ -91,7 +103,29 @@ def open_library():
     return library
 
 
-def integers(library, name, count=1):
+def open_driver(kind: str) -> ctypes.CDLL:
+    """OpenGL's functions by a driver of Mesa, or for any other name by the machine's own choice.
+
+    Raises `Unavailable` if there is no OpenGL, or if Mesa takes another driver.
+    """
+    os.environ.update(MESA.get(kind, {}))
+    library = open_library()
+    renderer = text(library, RENDERER)
+    if kind in MESA and not renderer.startswith(kind):
+        raise Unavailable(f"the renderer is {renderer}")
+    return library
+
+
+def text(library: ctypes.CDLL, name: int) -> str:
+    found: bytes = library.glGetString(name)
+    return found.decode()
+
+
+def integers(library: ctypes.CDLL, name: int, count: int = 1) -> list[int]:
     values = (ctypes.c_int * count)()
     library.glGetIntegerv(name, values)
     return list(values)
+
+
+def switch(library: ctypes.CDLL, capability: int, wanted: bool) -> None:
+    (library.glEnable if wanted else library.glDisable)(capability)
