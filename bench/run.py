@@ -4,8 +4,8 @@
 
 For each scene and tile side it gives the wall time with 1, 2 and 4 workers, the ratio to the time with one worker, the
 processor time, and the peak memory, all from this one call; times are the best of a few runs with the output thrown
-away. Where g++ is there, bench/plain.cpp is built and its time stands next to it, and each picture of the program is
-compared with its picture, byte for byte. Exit status 1 where a run fails or a picture differs.
+away. If g++ is there, bench/plain.cpp is built and its time stands next to it, and each picture of the program is
+compared with its picture, byte for byte. Exit status 1 if a run fails or a picture differs.
 
 Linux alone.
 """
@@ -38,12 +38,12 @@ ENOUGH_SECONDS = 6.0
 class Run:
     """One run of a command: wall and processor time in seconds, peak memory in bytes, exit status."""
 
-    def __init__(self, words: list[str], source: str, target: str) -> None:
+    def __init__(self, command: list[str], source: str, target: str) -> None:
         reading = os.open(source, os.O_RDONLY)
         writing = os.open(target, os.O_WRONLY | os.O_CREAT | os.O_TRUNC, 0o644)
         begin = time.perf_counter()
         child = os.posix_spawn(
-            words[0], words, os.environ,
+            command[0], command, os.environ,
             file_actions=[(os.POSIX_SPAWN_DUP2, reading, 0), (os.POSIX_SPAWN_DUP2, writing, 1)],
         )
         _, status, usage = os.wait4(child, 0)
@@ -55,22 +55,22 @@ class Run:
         self.status = status
 
 
-def best(words: list[str], source: str, runs: int) -> Run:
+def best(command: list[str], source: str, runs: int) -> Run:
     """The run of the least wall time, of as many as asked for or as fit into some seconds."""
     found: list[Run] = []
     spent = 0.0
     while len(found) < runs and (not found or spent < ENOUGH_SECONDS):
-        found.append(Run(words, source, os.devnull))
+        found.append(Run(command, source, os.devnull))
         spent += found[-1].wall
     return min(found, key=lambda run: run.wall)
 
 
-def peak_memory(words: list[str], source: str, target: str) -> Run:
-    """A run under GNU time where it is there, which sees smaller peaks than a python process can of its children."""
+def peak_memory(command: list[str], source: str, target: str) -> Run:
+    """A run under GNU time, if it is there, which sees smaller peaks than a python process can of its children."""
     timer, report = shutil.which("time"), os.path.join(BENCH_OUT, "memory.txt")
     if timer is None:
-        return Run(words, source, target)
-    run = Run([timer, "-q", "-f", "%M", "-o", report, *words], source, target)
+        return Run(command, source, target)
+    run = Run([timer, "-q", "-f", "%M", "-o", report, *command], source, target)
     with open(report, encoding="ascii") as file:
         run.memory = 1024 * int(file.read())
     os.remove(report)
@@ -78,7 +78,7 @@ def peak_memory(words: list[str], source: str, target: str) -> Run:
 
 
 def build_plain() -> Optional[str]:
-    """The plain program, or None where there is no compiler."""
+    """Builds the plain program. Returns `None` if there is no compiler."""
     compiler = shutil.which("g++")
     if compiler is None:
         return None
@@ -142,14 +142,14 @@ class Table:
         found: list[Run] = []
         peaks = []
         for workers in WORKERS:
-            words = [self.program, "--tile", str(tile), "--workers", str(workers)]
+            command = [self.program, "--tile", str(tile), "--workers", str(workers)]
             title = f"{name}, tile {tile}, {workers} workers"
-            first = peak_memory(words, source, picture)
+            first = peak_memory(command, source, picture)
             self.must_end(first, title)
             peaks.append(megabytes(first.memory))
             if wanted and not filecmp.cmp(wanted, picture, shallow=False):
                 self.wrong.append(f"{title}: other bytes than the plain program's")
-            found.append(best(words, source, self.runs))
+            found.append(best(command, source, self.runs))
             self.must_end(found[-1], title)
         times = [milliseconds(found[0].wall)]
         times += [f"{milliseconds(run.wall)} ({found[0].wall / run.wall:.2f}x)" for run in found[1:]]

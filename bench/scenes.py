@@ -77,7 +77,7 @@ def smooth() -> DrawList:
 
 
 def depths_first() -> DrawList:
-    """Such triangles drawn twice: their depths alone, and then their colours where the depth is the stored one."""
+    """Such triangles drawn twice: their depths alone, and then their colours at equal depths."""
     triangles = large_triangles("depths first")
     depths = draws_of(triangles, depth_test="less", depth_write=True, write=[False, False, False])
     draws = depths + draws_of(triangles, depth_test="equal")
@@ -96,25 +96,28 @@ def small() -> DrawList:
     return {"width": 1920, "height": 1080, "samples": 4, "draws": draws}
 
 
-def mesh() -> DrawList:
-    """A bent sheet of 65,000 triangles that share their vertices and fill 1920 by 1080 pixels, four samples."""
-    columns, rows = 240, 135
+def bent_sheet(width: int, height: int, cells: tuple[int, int], bend: int, waves: tuple[int, int, int]) -> Draw:
+    """Triangles that share their vertices and fill the picture: columns and rows of cells, bent by this many pixels."""
+    columns, rows = cells
     vertices = []
     for j in range(rows + 1):
         for i in range(columns + 1):
-            x, y = 1920 * i / columns, 1080 * j / rows
-            wave = math.sin(x / 97) * math.cos(y / 71)
-            bent_x, bent_y = x + 3 * wave, y + 3 * math.sin(x / 53)
+            x, y = width * i / columns, height * j / rows
+            wave = math.sin(x / waves[0]) * math.cos(y / waves[1])
             colour = [round(128 + 120 * wave), round(255 * j / rows), round(255 * i / columns)]
+            bent_x, bent_y = x + bend * wave, y + bend * math.sin(x / waves[2])
             vertices.append(vertex(bent_x, bent_y, round(32768 + 30000 * wave), colour))
     triangles = []
-    for j in range(rows):
-        for i in range(columns):
-            here = j * (columns + 1) + i
-            below = here + columns + 1
-            triangles += [[here, here + 1, below], [below, here + 1, below + 1]]
-    draw = {"cull": "back", "depth_test": "less", "depth_write": True, "vertices": vertices, "triangles": triangles}
-    return {"width": 1920, "height": 1080, "samples": 4, "draws": [draw]}
+    for here in [j * (columns + 1) + i for j in range(rows) for i in range(columns)]:
+        below = here + columns + 1
+        triangles += [[here, here + 1, below], [below, here + 1, below + 1]]
+    return draw(vertices, triangles, depth_test="less", depth_write=True)
+
+
+def mesh() -> DrawList:
+    """A bent sheet of 65,000 triangles that share their vertices and fill 1920 by 1080 pixels, four samples."""
+    sheet = bent_sheet(1920, 1080, (240, 135), 3, (97, 71, 53))
+    return {"width": 1920, "height": 1080, "samples": 4, "draws": [{"cull": "back", **sheet}]}
 
 
 def slivers() -> DrawList:
@@ -172,21 +175,7 @@ def flat_blended() -> DrawList:
 
 def large_mesh() -> DrawList:
     """A bent sheet of 65,000 triangles that fills 4096 by 4096 pixels, one sample, depth test: the largest picture."""
-    columns, rows = 180, 180
-    vertices = []
-    for j in range(rows + 1):
-        for i in range(columns + 1):
-            x, y = 4096 * i / columns, 4096 * j / rows
-            wave = math.sin(x / 207) * math.cos(y / 171)
-            colour = [round(128 + 120 * wave), round(255 * j / rows), round(255 * i / columns)]
-            vertices.append(vertex(x + 7 * wave, y + 7 * math.sin(x / 153), round(32768 + 30000 * wave), colour))
-    corners = [j * (columns + 1) + i for j in range(rows) for i in range(columns)]
-    triangles = []
-    for here in corners:
-        below = here + columns + 1
-        triangles += [[here, here + 1, below], [below, here + 1, below + 1]]
-    draw = {"depth_test": "less", "depth_write": True, "vertices": vertices, "triangles": triangles}
-    return {"width": 4096, "height": 4096, "draws": [draw]}
+    return {"width": 4096, "height": 4096, "draws": [bent_sheet(4096, 4096, (180, 180), 7, (207, 171, 153))]}
 
 
 def whole_values() -> DrawList:

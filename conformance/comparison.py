@@ -129,7 +129,9 @@ def compare_values(tally: Tally, title: str, scene: DrawList, program: Renderer,
     tally.errors += errors
 
 
-def compare_suite(suite: Suite, samples: int, program: Renderer, driver: Candidate, bits: int = 8, limit: int | None = None) -> Tally:
+def compare_suite(
+    suite: Suite, samples: int, program: Renderer, driver: Candidate, bits: int = 8, limit: int | None = None
+) -> Tally:
     """The tally of one subject, or of its first lists, with positions of this number of subpixel bits. A list that the
     driver cannot be asked is left out."""
     tally, driver = Tally(suite, samples), driver.through(suite.viewport)

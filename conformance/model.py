@@ -16,7 +16,7 @@ from tools.draw_list import Draw, DrawList, encode
 
 
 class BottomRightEdge(reference.Edge):
-    """An edge that owns its points where the rules' edge does not."""
+    """An edge that owns its points if the rules' edge does not, and the reverse."""
 
     def __init__(self, a: reference.Point, b: reference.Point, c: reference.Point) -> None:
         super().__init__(a, b, c)

@@ -29,7 +29,7 @@ class Window:
         return [(column, row) for row in self.rows for column in self.columns]
 
     def name(self, colour: bytes) -> str:
-        """A colour of the palette for a triangle's colour; none where nothing is drawn."""
+        """A colour of the palette for a triangle's colour; `none` if nothing is drawn."""
         if not any(colour):
             return "none"
         return self.names.setdefault(colour, PALETTE[len(self.names) % len(PALETTE)])

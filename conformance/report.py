@@ -136,7 +136,7 @@ SECTIONS = (
 
 
 def text_table(section: Section, rows: Sequence[Row]) -> list[str]:
-    """The lines of a table. A star stands before a row where the driver does otherwise."""
+    """The lines of a table. A star stands before a row in which the driver does otherwise."""
     marks = [*([" "] if section.head else []), *("*" if section.departs(row) else " " for row in rows)]
     rows = [*([section.head] if section.head else []), *rows]
     widths = [max(map(len, column)) for column in zip(*rows)]

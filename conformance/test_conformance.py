@@ -269,8 +269,8 @@ class Reports(unittest.TestCase):
             self.assertIn("one-scissor-4 (1)", text(report))
 
     def test_no_program(self) -> None:
-        words = [sys.executable, "-m", "conformance.run", "--program", "no-program"]
-        run = subprocess.run(words, cwd=TOP, stdout=subprocess.PIPE, stderr=subprocess.PIPE)
+        command = [sys.executable, "-m", "conformance.run", "--program", "no-program"]
+        run = subprocess.run(command, cwd=TOP, stdout=subprocess.PIPE, stderr=subprocess.PIPE)
         self.assertEqual((run.returncode, run.stdout), (2, b""))
         self.assertIn(b"no program", run.stderr)
 

@@ -2,7 +2,7 @@
 
     python3 -m tools.allocation_failures [NAME ..]
 
-Where an allocation fails, a run ends as it would have without (a vector that could grow ahead of need grows by less, and a
+If an allocation fails, a run ends as it would have without (a vector that could grow ahead of need grows by less, and a
 batch of tile rows whose workers are out of memory is drawn again by the calling thread), or with status 1, the line `trirast:
 out of memory` and exactly the tile rows before the one for which the calling thread had no memory. bin/refused_tiles, which draws
 the tiles of a list in one tile buffer, goes on after a refusal: the tiles that follow are right. The program's line names no
@@ -32,14 +32,14 @@ from tools.small_pictures import (
 class AllocationTest(injection.InjectionTest):
     program = PROGRAM
 
-    def runs(self, words: Sequence[str], text: bytes) -> list[Run]:
+    def runs(self, arguments: Sequence[str], text: bytes) -> list[Run]:
         """A run for each allocation that fails, from the first on."""
-        return self.each_run(lambda number: self.run_once(words, text, allocation=number))
+        return self.each_run(lambda number: self.run_once(arguments, text, allocation=number))
 
-    def cut_runs(self, words: Sequence[str], text: bytes, status: int, output: bytes, line: bytes = b"") -> list[Run]:
+    def cut_runs(self, arguments: Sequence[str], text: bytes, status: int, output: bytes, line: bytes = b"") -> list[Run]:
         """The runs that were cut short; all others ended as they would have without a refusal."""
         whole = (output, line, status)
-        cut = [run for run in self.runs(words, text) if (run.output, run.line, run.status) != whole]
+        cut = [run for run in self.runs(arguments, text) if (run.output, run.line, run.status) != whole]
         for run in cut:
             self.assertEqual((run.status, run.line), (1, OUT_OF_MEMORY), run)
             self.assertTrue(output.startswith(run.output), run)
@@ -110,7 +110,7 @@ class TileRows(AllocationTest):
         self.check_one_worker(later=0)
 
     def test_one_worker_each_later_allocation(self) -> None:
-        """Catches the same where nothing can be allocated any more."""
+        """Catches the same if nothing can be allocated any more."""
         self.check_one_worker(later=injection.EACH)
 
     def check_one_refusal(self, workers: int) -> None:
@@ -153,7 +153,7 @@ class TileRows(AllocationTest):
         self.assertEqual(self.check_runs(workers, runs, row_of), set(range(0, tall.ROWS, tall.TOGETHER)))
 
     def test_each_later_allocation_of_two_workers(self) -> None:
-        """Catches a body that loses the batch above where the one below fails."""
+        """Catches a body that loses the batch above if the one below fails."""
         self.check_each_later_allocation(2)
 
     def test_each_later_allocation_of_four_workers(self) -> None:
@@ -195,7 +195,7 @@ class TileRows(AllocationTest):
         self.assertEqual({row % tall.TOGETHER for row in rows}, set(range(tall.TOGETHER)))
 
     def test_two_refusals_of_two_workers(self) -> None:
-        """Catches the bodies of drawing again where memory for the workers and not a thread was refused."""
+        """Catches the bodies of drawing again if an allocation for the workers fails, and not a thread."""
         self.check_two_refusals(2)
 
     def test_two_refusals_of_four_workers(self) -> None:
@@ -255,7 +255,8 @@ class Lists(AllocationTest):
         self.check_error(b'{"width":1', b"trirast: list fault 1 NotJson\n")
 
     def test_fault_of_the_second_draw(self) -> None:
-        self.check_error(encode(draw_list(1, 1, draw([], []), draw([], [(0, 0, 0)]))), b"trirast: list fault 6 BadIndex in draw 1\n")
+        draws = (draw([], []), draw([], [(0, 0, 0)]))
+        self.check_error(encode(draw_list(1, 1, *draws)), b"trirast: list fault 6 BadIndex in draw 1\n")
 
     def test_too_many_draws(self) -> None:
         self.check_error(encode(draw_list(1, 1, *[draw([], [])] * 1025)), b"trirast: list fault 7 TooMany\n")

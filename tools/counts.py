@@ -7,7 +7,7 @@ import sys
 import unittest
 from dataclasses import dataclass
 
-# The exit status of a script that could try nothing, since something of the system that it needs is missing.
+# The exit status of a check that tried nothing, since something of the system that it needs is missing.
 MISSING = 77
 
 LINE = re.compile(r"(\d+) passed, (\d+) failed(?:, (\d+) skipped)?")
@@ -33,7 +33,7 @@ class Counts:
 
 
 def run_tests() -> None:
-    """Runs the tests of the script that was started, and ends in the line of their counts; status 1 where one failed."""
+    """Runs the tests of the module that was started, prints their counts as the last line, and exits. Status 1 if one failed."""
     result = unittest.main(exit=False, verbosity=2).result
     failed, skipped = len(result.failures) + len(result.errors), len(result.skipped)
     counts = Counts(max(0, result.testsRun - failed - skipped), failed, skipped)

@@ -156,7 +156,7 @@ class Outputs(unittest.TestCase):
 
 
 class Errors(unittest.TestCase):
-    """Where the line cannot be written, status and output are what they are with it."""
+    """If the line cannot be written, status and output are the same."""
 
     def test_picture_with_closed_standard_error(self) -> None:
         self.assertEqual(run_by_shell("2>&-", FIRST), (0, FIRST_PICTURE, b""))
@@ -246,7 +246,7 @@ class Threads(unittest.TestCase):
 
 
 class RefusedThreads(injection.InjectionTest):
-    """A picture of eight batches comes whole where one thread is not started, whichever it is, and where no later one is either."""
+    """A picture of eight batches is whole if one thread is not started, whichever it is, and if no later one is either."""
 
     def check_threads(self, workers: int, later: int = 0) -> None:
         runs = self.each_run(lambda number: self.run_once(tall.arguments(workers), tall.LIST, thread=number, later=later))

@@ -5,8 +5,8 @@
 `rt ci` proves every crate from nothing and leaves the programs that it built, which the checks then run. It proves the
 library for C too and leaves no archive of it, which `archive.py` builds over what it proved. The last line is
 `N passed, M failed`, or `N passed, M failed, K skipped`, over all of them: what rt ci counts, and for each check the counts
-of its own last line, or one. A check is skipped where something of the system is missing, which is named;
-nothing is installed. Exit status 0 where nothing failed. With --without-proofs the checks run what stands in bin/ and lib/.
+of its own last line, or one. A check is skipped if something of the system is missing, which is named;
+nothing is installed. Exit status 0 if nothing failed. With --without-proofs the checks run what stands in bin/ and lib/.
 """
 
 from __future__ import annotations
@@ -38,16 +38,16 @@ LIBRARY_SECONDS = 90 * MINUTE
 @dataclass(frozen=True)
 class Check:
     name: str
-    words: tuple[str, ...]
+    command: tuple[str, ...]
     seconds: float
     runs_program: bool = True
     runs_library: bool = False
-    # Commands of the system; where one is missing, the check is skipped.
+    # Commands of the system. If one is missing, the check is skipped.
     needs: tuple[str, ...] = ()
 
 
 def module(name: str, package: str = "tools") -> tuple[str, ...]:
-    """The words that run a module of this repository at its top."""
+    """The command that runs a module of this repository at its top."""
     return (sys.executable, "-m", f"{package}.{name}")
 
 
@@ -78,7 +78,7 @@ def say(text: str) -> None:
 
 @dataclass
 class Ended:
-    """How a command ended: its status, None where its time was over, and its last line that is not blank."""
+    """How a command ended: its status, `None` if its time was over, and its last line that is not blank."""
 
     status: int | None
     last_line: str
@@ -91,13 +91,13 @@ def stop(child: subprocess.Popen[bytes]) -> None:
         pass
 
 
-def run(words: Sequence[str], top: str, seconds: float | None = None) -> Ended:
+def run(command: Sequence[str], top: str, seconds: float | None = None) -> Ended:
     """Runs a command, and passes its output on line by line."""
     environment = dict(os.environ, PYTHONUNBUFFERED="1")
     how: Any = {"stdin": subprocess.DEVNULL, "stdout": subprocess.PIPE, "stderr": subprocess.STDOUT}
     late = threading.Event()
     last_line = ""
-    with subprocess.Popen(words, cwd=top, env=environment, start_new_session=True, **how) as child:
+    with subprocess.Popen(command, cwd=top, env=environment, start_new_session=True, **how) as child:
 
         def end() -> None:
             late.set()
@@ -149,7 +149,7 @@ def program(top: str, name: str) -> str:
 
 
 def take_programs(top: str, since: int) -> bool:
-    """Puts the programs that rt ci built where the checks look for them; whether it has built each since that time."""
+    """Copies the programs that rt ci built to bin/. Returns whether it has built each since that time."""
     for crate in PROGRAMS:
         if not os.path.isfile(built(top, crate)) or os.path.getmtime(built(top, crate)) < since:
             return False
@@ -166,11 +166,11 @@ def has_library(top: str) -> bool:
 def build_library(top: str, rt: str) -> bool:
     """Builds the library of the crate that rt ci has proved; whether it is there then."""
     if archive.build(top, rt, LIBRARY_SECONDS):
-        words = ("make", "-W", archive.ARCHIVE, "library", f"RT={rt}")
+        command = ("make", "-W", archive.ARCHIVE, "library", f"RT={rt}")
     else:
         # As if a source were new, so that a library of another run is not taken.
-        words = ("make", "-W", "crates.txt", "library", f"RT={rt}")
-    ended = run(words, top, LIBRARY_SECONDS)
+        command = ("make", "-W", "crates.txt", "library", f"RT={rt}")
+    ended = run(command, top, LIBRARY_SECONDS)
     return ended.status == 0 and has_library(top)
 
 
@@ -181,7 +181,7 @@ def missing(check: Check) -> list[str]:
 
 def try_check(check: Check, top: str, are_programs_built: bool, is_library_built: bool) -> Counts:
     """Runs a check. Its counts: those of its last line, or one."""
-    say(f"{check.name}: {' '.join(check.words)}")
+    say(f"{check.name}: {' '.join(check.command)}")
     if missing(check):
         say(f"{check.name} SKIPPED: needs {' and '.join(missing(check))}")
         return Counts(skipped=1)
@@ -191,7 +191,7 @@ def try_check(check: Check, top: str, are_programs_built: bool, is_library_built
     if check.runs_library and not is_library_built:
         say(f"{check.name} FAILED: there is no library to run")
         return Counts(failed=1)
-    ended = run(check.words, top, check.seconds)
+    ended = run(check.command, top, check.seconds)
     if ended.status is None:
         say(f"{check.name} FAILED: it had not ended after {check.seconds} seconds")
         return Counts(failed=1)
@@ -229,10 +229,10 @@ def main() -> int:
     parser = argparse.ArgumentParser(description="The merge gate: every proof, and the checks that rt ci cannot hold.")
     parser.add_argument("--rt", default="rt", help="the toolchain's command (default rt)")
     parser.add_argument("--without-proofs", action="store_true", help="the checks alone, over what stands in bin/")
-    words = parser.parse_args()
+    options = parser.parse_args()
     # An asked end is one like Ctrl-C, so that what runs is ended too.
     signal.signal(signal.SIGTERM, lambda *_: sys.exit(143))
-    total = pass_gate(TOP, words.rt, CHECKS, with_proofs=not words.without_proofs)
+    total = pass_gate(TOP, options.rt, CHECKS, with_proofs=not options.without_proofs)
     print(total, flush=True)
     return 1 if total.failed else 0
 

@@ -6,7 +6,7 @@
 Beside the lists stands SHA256SUMS, with the sum of the picture file of each. NAME.json has its sum as NAME.pnm, the name under
 which `make demo` leaves the picture in out/. Three checks are made of each list. Its recorded sum must be that of the picture
 that tools/reference.py draws; and bin/trirast must draw those bytes, by default and with tiles of 8 pixels and one worker.
-Each list must also have a line in the README.md beside it, and each sum a list. Where a picture differs, the list is left
+Each list must also have a line in the README.md beside it, and each sum a list. If a picture differs, the list is left
 in out/golden/ with NAME.got.png, NAME.expected.png and NAME.difference.png: equal channels are black there, and
 all others at least half bright. --record writes the sums anew, by the reference alone. Exit status 1 if a check failed.
 """
@@ -90,7 +90,7 @@ def expected_answers(entries: list[Entry]) -> dict[Entry, Answer]:
 
 
 def difference_pixels(got: PictureFile, wanted: PictureFile) -> bytes:
-    """A picture's worth of differences of channels: 0 where two are equal, else half of the range and half of the difference."""
+    """The pixels of a picture of differences: 0 for equal channels, else half of the range and half of the difference."""
     size = 2 if wanted.pixel_bytes == 2 else 1
     half = 1 << (8 * size - 1)
     pixels = bytearray()

@@ -52,7 +52,20 @@ def read_refusals(report: bytes) -> tuple[Refusal, ...]:
 
 
 @unittest.skipUnless(shutil.which("gcc"), "gcc is not there")
-class InjectionTest(unittest.TestCase):
+class CompilingTest(unittest.TestCase):
+    """Tests that run what gcc makes of a source."""
+
+    @classmethod
+    def compiled(cls, *arguments: str) -> str:
+        """The file that gcc makes with these arguments."""
+        folder = tempfile.TemporaryDirectory()
+        cls.addClassCleanup(folder.cleanup)
+        target = os.path.join(folder.name, "compiled")
+        subprocess.run(["gcc", "-Wall", "-o", target, *arguments], check=True)
+        return target
+
+
+class InjectionTest(CompilingTest):
     """Tests that run a program with the shim."""
 
     program: ClassVar[str] = PROGRAM
@@ -61,10 +74,7 @@ class InjectionTest(unittest.TestCase):
 
     @classmethod
     def setUpClass(cls) -> None:
-        folder = tempfile.TemporaryDirectory()
-        cls.addClassCleanup(folder.cleanup)
-        cls.shim = os.path.join(folder.name, "injection.so")
-        subprocess.run(["gcc", "-O2", "-Wall", "-shared", "-fPIC", "-o", cls.shim, SOURCE, "-ldl"], check=True)
+        cls.shim = cls.compiled("-O2", "-shared", "-fPIC", SOURCE, "-ldl")
 
     def run_once(
         self, arguments: Sequence[str], text: bytes, allocation: int = 0, thread: int = 0, later: int = 0, **more: Any

@@ -55,7 +55,7 @@ def public_calls() -> set[str]:
 
 def named_calls(cell: str, public: set[str]) -> set[str]:
     """Of the public calls those that a cell names: before the colon of each part, behind which its clauses stand. The owner may be
-    left out where it is that of the call before, or where no other crate has a free function of the name."""
+    left out if it is that of the call before, or if no other crate has a free function of the name."""
     found: set[str] = set()
     owner = ""
     for part in re.sub(r"\(.*?\)", "", cell).split(";"):

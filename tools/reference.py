@@ -112,7 +112,7 @@ class Scene:
 
 
 def parse(data: bytes) -> Any:
-    """The JSON value of the bytes. A number is an int only where it is whole and fits 64 bits."""
+    """The JSON value of the bytes. A number is an int only if it is an integer of 64 bits."""
 
     def whole(text: str) -> float:
         if text == "-0" or len(text) > 20:
@@ -235,7 +235,11 @@ def read_quads(value: Any, vertices: Sequence[Vertex], before: int, draw: int) -
     return triangles
 
 
-FACES: dict[str, Callable[[Any, Sequence[Vertex], int, int], Faces]] = {"triangles": read_triangles, "strip": read_strip, "quads": read_quads}
+FACES: dict[str, Callable[[Any, Sequence[Vertex], int, int], Faces]] = {
+    "triangles": read_triangles,
+    "strip": read_strip,
+    "quads": read_quads,
+}
 
 
 def check_draw_keys(value: Any, draw: int) -> str:

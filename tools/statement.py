@@ -174,14 +174,14 @@ def written() -> str:
 def main(arguments: Optional[List[str]] = None) -> int:
     parser = argparse.ArgumentParser(description="docs/statement.md of the sources.")
     parser.add_argument("--check", action="store_true", help="compare the page with the sources, and write nothing")
-    words = parser.parse_args(arguments)
+    options = parser.parse_args(arguments)
     try:
         made = page()
     except Unclear as error:
         print(f"{PAGE} cannot be made: {error}")
         print(Counts(failed=1))
         return 1
-    if not words.check:
+    if not options.check:
         with open(os.path.join(TOP, PAGE), "w", encoding="utf-8") as file:
             file.write(made)
         return 0

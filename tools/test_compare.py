@@ -15,7 +15,7 @@ from unittest import mock
 
 from tools import compare, counts, generated_lists, reference
 from tools.draw_list import Draw, Vertex
-from tools.reference import Point, side
+from tools.reference import Point, Sample, side
 
 Corners = list[Point]
 
@@ -57,7 +57,7 @@ def has_sample_inside(a: Point, b: Point, count: int) -> bool:
 
 
 def on_opposite_sides(one: Corners, other: Corners) -> Optional[tuple[Point, Point]]:
-    """The edge that two triangles share, where they lie on opposite sides of it."""
+    """The edge that two triangles share, if they lie on opposite sides of it."""
     shared = set(one) & set(other)
     if len(shared) == 2 and len(set(one)) == len(set(other)) == 3:
         a, b = shared
@@ -196,7 +196,7 @@ class Overdraw(unittest.TestCase):
         cls.met = set()
         shade = reference.shade
 
-        def noting(triangle: reference.Triangle, weights: tuple[int, int, int], size: int, old: reference.Sample) -> reference.Sample:
+        def noting(triangle: reference.Triangle, weights: tuple[int, int, int], size: int, old: Sample) -> Sample:
             new = shade(triangle, weights, size, old)
             if old != cls.clear:
                 state = triangle.state

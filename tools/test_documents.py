@@ -94,7 +94,8 @@ class Names(unittest.TestCase):
                 self.assertTrue(any(stands.search(text) for text in files), f"{name}: {paragraph}")
 
     def test_faults_of_lists(self) -> None:
-        kinds = [kind for kind in vars(reference).values() if isinstance(kind, tuple) and isinstance(kind[-1], str) and len(kind) == 2]
+        pairs = [pair for pair in vars(reference).values() if isinstance(pair, tuple) and len(pair) == 2]
+        kinds = [pair for pair in pairs if isinstance(pair[-1], str)]
         self.assertEqual([number for number, _name in kinds], [1, 2, 3, 4, 5, 6, 7, 9, 10])
         for number, name in kinds:
             self.assertIn(f"| {number} | `{name}` |", text_of("docs/draw-list.md"))
@@ -109,7 +110,8 @@ class Names(unittest.TestCase):
             self.assertIn(line, page)
 
     def test_what_crates_stand_on(self) -> None:
-        named = {crate: set(below.split()) for crate, below in re.findall(r"^(\w+)(?: staticlib)?:(.*)$", text_of("crates.txt"), re.MULTILINE)}
+        lines = re.findall(r"^(\w+)(?: staticlib)?:(.*)$", text_of("crates.txt"), re.MULTILINE)
+        named = {crate: set(below.split()) for crate, below in lines}
         table = text_of("docs/architecture.md").split("## The crates")[1].split("\n\n")[1]
         for crates, _does, below in list(rows(table))[1:]:
             names = re.findall(r"`(\w+)`", crates)
@@ -180,7 +182,8 @@ impl Hidden {
 }
 pub extern "C" fn version() {}
 """
-        self.assertEqual(set(calls_in(text, "plain", given_out(root))), {"plain::draw", "Shape::side", "Job::work", "plain::version"})
+        calls = set(calls_in(text, "plain", given_out(root)))
+        self.assertEqual(calls, {"plain::draw", "Shape::side", "Job::work", "plain::version"})
         self.assertLessEqual({call.split("::")[0] for call in public_calls() if call[0].islower()}, set(CRATES))
 
     def test_calls_are_read_of_cells(self) -> None:

@@ -43,7 +43,7 @@ def pairs_of(edit: str) -> list[tuple[str, str, str]]:
 
 
 def fault_of(edit: str) -> Optional[str]:
-    """Why an edit cannot be applied, or None where it can: each old text stands once in what the pairs before it made."""
+    """Why an edit cannot be applied, or `None` if it can: each old text stands once in what the pairs before it made."""
     crate = edit.split("/")[0]
     texts: dict[str, str] = {}
     for file, old, new in pairs_of(edit):

@@ -136,7 +136,8 @@ class Gate(unittest.TestCase):
     def make(self, line: str) -> None:
         """A Makefile of which the target `library` runs this line."""
         with open(os.path.join(self.top, "Makefile"), "w", encoding="utf-8") as file:
-            file.write(f".PHONY: library\nlibrary: lib/libtrirast.a lib/libtrirast.so\nlib/%: crates.txt\n\tmkdir -p lib\n\t{line}\n")
+            file.write(".PHONY: library\nlibrary: lib/libtrirast.a lib/libtrirast.so\n")
+            file.write(f"lib/%: crates.txt\n\tmkdir -p lib\n\t{line}\n")
         with open(os.path.join(self.top, "crates.txt"), "w", encoding="utf-8"):
             pass
 
@@ -182,9 +183,9 @@ class Gate(unittest.TestCase):
 
     def test_the_checks_are_modules_or_commands_that_they_need(self) -> None:
         for one in gate.CHECKS:
-            if one.words[0] not in one.needs:
-                self.assertEqual(one.words[:2], (sys.executable, "-m"), one.name)
-                self.assertIsNotNone(importlib.util.find_spec(one.words[2]), one.name)
+            if one.command[0] not in one.needs:
+                self.assertEqual(one.command[:2], (sys.executable, "-m"), one.name)
+                self.assertIsNotNone(importlib.util.find_spec(one.command[2]), one.name)
             self.assertGreater(one.seconds, 0, one.name)
         names = [one.name for one in gate.CHECKS]
         self.assertEqual(len(set(names)), len(names))

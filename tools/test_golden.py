@@ -90,7 +90,7 @@ class Lists(unittest.TestCase):
         self.write(os.path.join(folder, golden.SUMS), lines.encode())
 
     def program(self, colours: bytes = COLOUR_FILE, depths: bytes = DEPTH_FILE, tiles_of_8: bytes | None = None) -> str:
-        """A program that answers the two lists by these files, and with --tile 8 by another where one is given."""
+        """A program that answers the two lists by these files, and with --tile 8 by another if one is given."""
         path = os.path.join(self.top, "program")
         text = f"""#!{sys.executable}
 import sys

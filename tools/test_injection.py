@@ -9,9 +9,6 @@ Needs gcc.
 from __future__ import annotations
 
 import os
-import shutil
-import subprocess
-import tempfile
 import unittest
 from typing import ClassVar, Type
 from unittest import mock
@@ -42,17 +39,13 @@ CAUGHT_BY: dict[str, tuple[tuple[Type[injection.InjectionTest], str], ...]] = {
 }
 
 
-@unittest.skipUnless(shutil.which("gcc"), "gcc is not there")
-class Mistakes(unittest.TestCase):
+class Mistakes(injection.CompilingTest):
     program: ClassVar[str]
 
     @classmethod
     def setUpClass(cls) -> None:
-        folder = tempfile.TemporaryDirectory()
-        cls.addClassCleanup(folder.cleanup)
-        cls.program = os.path.join(folder.name, "stand_in")
         # Without -fno-builtin gcc leaves out an allocation that nothing uses.
-        subprocess.run(["gcc", "-O1", "-Wall", "-fno-builtin", "-pthread", "-o", cls.program, SOURCE], check=True)
+        cls.program = cls.compiled("-O1", "-fno-builtin", "-pthread", SOURCE)
 
     def result(self, test_class: type[injection.InjectionTest], name: str, mistake: str = "") -> unittest.TestResult:
         """What a test finds in the stand-in with this mistake."""

@@ -137,7 +137,7 @@ class Page(unittest.TestCase):
 
 
 class Check(unittest.TestCase):
-    """That statement.py fails where the page is not whole."""
+    """That statement.py fails if the page is not whole."""
 
     def status(self, *words: str) -> Tuple[int, str]:
         with contextlib.redirect_stdout(io.StringIO()) as said:
