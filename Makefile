@@ -1,6 +1,7 @@
 # The front door. rt proves and builds; this file says where things lie.
 #
-#   make           prove what the program needs, and leave it at bin/trirast
+#   make           prove what the program needs, and leave it at bin/trirast; a line for each crate, the rest in out/trirast_cli.log
+#   make look      draw examples/mesh.json to out/look.ppm within two minutes, by a program that is not proved
 #   make demo      draw every list of examples/ to out/*.pnm, and to out/*.png where pnmtopng is installed
 #   make test      the merge gate: every proof from nothing, the must-fail edits, all tests, and the checks of make checks
 #   make library   prove and build the core for other programs: lib/libtrirast.a, lib/libtrirast.so and lib/trirast.pc
@@ -42,15 +43,24 @@ SHARED := libtrirast.so.1
 INSTALLED := bin/trirast share/man/man1/trirast.1 share/trirast/draw-list.schema.json include/trirast.h \
     lib/libtrirast.a lib/$(SHARED) lib/libtrirast.so lib/pkgconfig/trirast.pc
 
-.PHONY: all library check-library install uninstall demo test checks compare check-compare golden schema types memory hostile \
-    allocation-failures fault-injection races bench frames model conformance check-conformance clean
+.PHONY: all look library check-library install uninstall demo test checks compare check-compare golden schema types memory \
+    hostile allocation-failures fault-injection races bench frames model conformance check-conformance clean
 .DELETE_ON_ERROR:
 
 all: $(PROGRAM)
 
 $(PROGRAM): $(SOURCES)
+	@$(PYTHON) -m tools.prove trirast_cli
 	cd crates/trirast_cli && $(RT) run < "$(CURDIR)/examples/triangle.json" > /dev/null
 	install -D -m 755 crates/trirast_cli/out/trirast_cli $@
+
+look:
+	@mkdir -p out
+	@echo "Compiling without any proof. What it draws is not proved; make proves it."
+	@cd crates/trirast_cli && $(RT) try < "$(CURDIR)/examples/mesh.json" > "$(CURDIR)/out/look.ppm" 2> "$(CURDIR)/out/look.log" \
+	    || { echo "failed: see out/look.log"; exit 1; }
+	@if command -v pnmtopng > /dev/null; then pnmtopng out/look.ppm > out/look.png 2> /dev/null && echo "out/look.png"; \
+	else echo "out/look.ppm"; fi
 
 $(TILES): $(SOURCES)
 	cd crates/refused_tiles && $(RT) run < stdin > /dev/null

@@ -1,4 +1,3 @@
-#!/usr/bin/env python3
 """Proves a crate and the crates that it uses, several at once, and prints a line for each.
 
     python3 -m tools.prove [--jobs N] CRATE
