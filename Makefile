@@ -196,4 +196,4 @@ check-conformance:
 	$(PYTHON) -m conformance.test_conformance
 
 clean:
-	rm -rf bin lib out bench/out conformance/out
+	rm -rf bin lib out bench/out conformance/out .mypy_cache

@@ -22,7 +22,6 @@ import os
 import re
 import subprocess
 import sys
-from typing import Optional
 
 from bench import scenes
 from bench.run import Run, load
@@ -142,7 +141,7 @@ def far_pixels(program: str, source: str, target: str) -> str:
 class Table:
     """The rows of lists that all programs draw, for these options."""
 
-    def __init__(self, options: argparse.Namespace, model: Optional[str]) -> None:
+    def __init__(self, options: argparse.Namespace, model: str | None) -> None:
         self.program, self.frames, self.model = options.program, options.frames, model
         self.runs, self.workers = options.runs, options.workers
         self.renderer = ""
@@ -194,7 +193,7 @@ def parsed() -> argparse.Namespace:
     return parser.parse_args()
 
 
-def chosen_model(chosen: Optional[str]) -> Optional[str]:
+def chosen_model(chosen: str | None) -> str | None:
     """The model to time: the one that was asked for, else the one that is built, else `None`."""
     program = chosen or MODEL_PROGRAM
     if os.access(program, os.X_OK):

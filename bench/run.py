@@ -19,7 +19,7 @@ import shutil
 import subprocess
 import sys
 import time
-from typing import Optional, Sequence
+from typing import Sequence
 
 from bench import scenes
 from tools.places import BENCH_OUT, PROGRAM, TOP, is_built
@@ -77,7 +77,7 @@ def peak_memory(command: list[str], source: str, target: str) -> Run:
     return run
 
 
-def build_plain() -> Optional[str]:
+def build_plain() -> str | None:
     """Builds the plain program. Returns `None` if there is no compiler."""
     compiler = shutil.which("g++")
     if compiler is None:
@@ -113,7 +113,7 @@ def megabytes(number: int) -> str:
 class Table:
     """The rows of one scene, and what went wrong in any."""
 
-    def __init__(self, program: str, plain: Optional[str], runs: int, tiles: Sequence[int]) -> None:
+    def __init__(self, program: str, plain: str | None, runs: int, tiles: Sequence[int]) -> None:
         self.program, self.plain, self.runs, self.tiles = program, plain, runs, tiles
         self.wrong: list[str] = []
 
@@ -137,7 +137,7 @@ class Table:
             if path and os.path.exists(path):
                 os.remove(path)
 
-    def row(self, name: str, tile: int, source: str, wanted: Optional[str], plain_time: str) -> None:
+    def row(self, name: str, tile: int, source: str, wanted: str | None, plain_time: str) -> None:
         picture = os.path.join(BENCH_OUT, "picture.ppm")
         found: list[Run] = []
         peaks = []
@@ -163,7 +163,7 @@ class Table:
             self.wrong.append(f"{title}: ended with wait status {run.status}")
 
 
-def print_beginning(runs: int, plain: Optional[str]) -> None:
+def print_beginning(runs: int, plain: str | None) -> None:
     """Prints what the table's numbers are of, and what a process costs here that does nothing."""
     nothing = [shutil.which("true") or "/bin/true"]
     floor, least = Run(nothing, os.devnull, os.devnull), peak_memory(nothing, os.devnull, os.devnull)

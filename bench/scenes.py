@@ -14,7 +14,7 @@ import random
 import sys
 from typing import Any, Iterable, Sequence
 
-from tools.draw_list import Draw, DrawList, Vertex, draw, draw_list
+from tools.draw_list import Draw, DrawList, Vertex, draw
 from tools.places import BENCH_OUT
 from tools.small_pictures import FIRST
 

@@ -6,7 +6,7 @@ import html
 from dataclasses import dataclass
 from typing import Callable, Iterable, Iterator, Sequence
 
-from conformance.comparison import Example, Tally
+from conformance.comparison import Tally
 from conformance.neighbourhood import as_characters, coverage_panels, value_panels
 from conformance.suites import LEFT_OUT
 

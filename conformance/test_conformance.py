@@ -17,7 +17,7 @@ import unittest
 from typing import Callable
 
 from conformance import suites
-from conformance.comparison import Example, Tally, compare_suite, compare_values, only_sample, pixels_that_differ, planes
+from conformance.comparison import Tally, compare_suite, compare_values, only_sample, pixels_that_differ, planes
 from conformance.findings import QUESTIONS, findings
 from conformance.model import MUTANTS, Model
 from conformance.neighbourhood import as_characters
@@ -28,6 +28,7 @@ from conformance.run import measure
 from conformance.suites.shapes import Lists, coarser, draw, rectangle, scene
 from tools import counts, reference
 from tools.draw_list import DrawList
+from tools.opengl.frames import DrawState, Mesh, Viewport
 from tools.places import TOP
 
 # Their first lists are small enough for the reference renderer. The last four have whole-pixel rectangles alone.
@@ -179,6 +180,38 @@ class PlantedFaults(unittest.TestCase):
     def test_each_mutant_is_tried(self) -> None:
         tried = {name[5:].replace("_", " ") for name in dir(self) if name.startswith("test_")}
         self.assertLessEqual({mutant.replace("-", " ") for mutant in MUTANTS}, tried)
+
+
+class OpenGl(unittest.TestCase):
+    """What is handed to OpenGL, which needs no driver."""
+
+    CORNERS = [[0, 0, 0, 1, 2, 3, 4], [512, 0, 65535, 5, 6, 7, 8], [512, 512, 0, 0, 0, 0, 0], [0, 512, 0, 0, 0, 0, 0]]
+
+    def test_the_picture_as_viewport(self) -> None:
+        mesh = Mesh({"vertices": self.CORNERS, "triangles": [[0, 1, 2]]}, Viewport.around(2, 2))
+        self.assertEqual(list(mesh.positions), [-1, -1, -1, 1, -1, 1, 1, 1, -1, -1, 1, -1])
+        self.assertEqual(list(mesh.colours)[:8], [1, 2, 3, 4, 5, 6, 7, 8])
+
+    def test_a_viewport_around_the_picture(self) -> None:
+        viewport = Viewport.around(2, 4, 8)
+        self.assertEqual((viewport.left, viewport.top, viewport.width, viewport.height), (-3, -2, 8, 8))
+        self.assertEqual(viewport.clip_coordinates(256, 512), (0, 0))
+        self.assertEqual(viewport.clip_coordinates(-768, 1536), (-1, 1))
+
+    def test_triangles_of_each_kind_of_draw(self) -> None:
+        drawn: dict[str, tuple[list[object], list[int]]] = {
+            "triangles": ([[0, 1, 2]], [0, 1, 2]),
+            "strip": ([0, 1, 3, 2], [0, 1, 3, 1, 2, 3]),
+            "quads": ([[0, 1, 2, 3]], [0, 1, 2, 2, 3, 0]),
+        }
+        for key, (faces, indices) in drawn.items():
+            mesh = Mesh({"vertices": self.CORNERS, key: faces}, Viewport.around(2, 2))
+            self.assertEqual(list(mesh.indices), indices, key)
+
+    def test_states(self) -> None:
+        self.assertEqual(DrawState.of({}), DrawState("none", "always", False, False, (True, True, True), 15, None))
+        state = DrawState.of({"cull": "back", "blend": "over", "depth_test": "less", "depth_write": True, "scissor": [0, 1, 2, 3]})
+        self.assertEqual(state, DrawState("back", "less", True, True, (True, True, True), 15, [0, 1, 2, 3]))
 
 
 class Counting(unittest.TestCase):

@@ -19,7 +19,7 @@ from typing import Any, Callable, ClassVar, Sequence
 
 from tools import counts, injection
 from tools import tall_picture as tall
-from tools.answers import Answer, drawn
+from tools.answers import drawn
 from tools.draw_list import Draw, DrawList, draw, draw_list, encode, vertex
 from tools.injection import Refusal, Run
 from tools.places import PROGRAM, READER_PROGRAM, TILES_PROGRAM, bytes_of, is_built

@@ -3,7 +3,7 @@
 from __future__ import annotations
 
 import subprocess
-from typing import NamedTuple, Optional, Sequence
+from typing import NamedTuple, Sequence
 
 from tools import reference
 
@@ -16,7 +16,7 @@ class Answer(NamedTuple):
     The status is `None` if the run did not end in time.
     """
 
-    status: Optional[int]
+    status: int | None
     output: bytes
     line: bytes
 

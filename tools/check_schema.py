@@ -10,7 +10,7 @@ from __future__ import annotations
 
 import json
 import sys
-from typing import Any, Callable, Optional
+from typing import Any, Callable
 
 from tools import places, reference
 from tools.counts import MISSING
@@ -175,7 +175,7 @@ BEYOND_A_SCHEMA = [
 ]
 
 
-def error_of(text: str) -> Optional[str]:
+def error_of(text: str) -> str | None:
     """The reader's error at a text, or `None` if it accepts it."""
     try:
         reference.read(text.encode())
@@ -195,7 +195,7 @@ class Check:
         if not holds:
             self.wrong.append(f"{name}: {why}")
 
-    def answers(self, name: str, text: str, accepted_by_schema: bool, error: Optional[str]) -> None:
+    def answers(self, name: str, text: str, accepted_by_schema: bool, error: str | None) -> None:
         """Checks one list: whether the schema accepts it, and the error that the reader reports, or `None`."""
         accepts = self.is_valid(json.loads(text))
         self.expect(name, accepts == accepted_by_schema, f"the schema {'accepts' if accepts else 'refuses'} it")

@@ -14,7 +14,7 @@ from __future__ import annotations
 import json
 import sys
 from dataclasses import dataclass
-from typing import Any, Callable, Container, Optional, Sequence
+from typing import Any, Callable, Container, Sequence
 
 from tools.picture_file import PictureFile
 
@@ -66,7 +66,7 @@ SAMPLES: dict[int, tuple[Point, ...]] = {1: ((128, 128),), 4: ((96, 32), (224, 9
 class ListFault(Exception):
     """The first check that fails, with the draw in which it stands, if it stands in one."""
 
-    def __init__(self, kind: Kind, draw: Optional[int] = None) -> None:
+    def __init__(self, kind: Kind, draw: int | None = None) -> None:
         number, name = kind
         place = "" if draw is None else f" in draw {draw}"
         super().__init__(f"trirast: list fault {number} {name}{place}")
@@ -129,7 +129,7 @@ def parse(data: bytes) -> Any:
         raise ListFault(NOT_JSON) from None
 
 
-def check_whole(value: Any, low: int, high: int, draw: Optional[int], outside: Kind = OUT_OF_RANGE) -> int:
+def check_whole(value: Any, low: int, high: int, draw: int | None, outside: Kind = OUT_OF_RANGE) -> int:
     if type(value) is not int:
         raise ListFault(WRONG_KIND, draw)
     if not low <= value <= high:
@@ -137,23 +137,23 @@ def check_whole(value: Any, low: int, high: int, draw: Optional[int], outside: K
     return value
 
 
-def check_array(value: Any, length: int, draw: Optional[int]) -> list[Any]:
+def check_array(value: Any, length: int, draw: int | None) -> list[Any]:
     if type(value) is not list or len(value) != length:
         raise ListFault(WRONG_KIND, draw)
     return value
 
 
-def check_wholes(value: Any, length: int, low: int, high: int, draw: Optional[int]) -> tuple[int, ...]:
+def check_wholes(value: Any, length: int, low: int, high: int, draw: int | None) -> tuple[int, ...]:
     return tuple(check_whole(element, low, high, draw) for element in check_array(value, length, draw))
 
 
-def check_truth(value: Any, draw: Optional[int]) -> bool:
+def check_truth(value: Any, draw: int | None) -> bool:
     if type(value) is not bool:
         raise ListFault(WRONG_KIND, draw)
     return value
 
 
-def check_word(value: Any, words: Container[str], draw: Optional[int]) -> str:
+def check_word(value: Any, words: Container[str], draw: int | None) -> str:
     if type(value) is not str:
         raise ListFault(WRONG_KIND, draw)
     if value not in words:
@@ -161,7 +161,7 @@ def check_word(value: Any, words: Container[str], draw: Optional[int]) -> str:
     return value
 
 
-def check_list(value: Any, most: int, draw: Optional[int]) -> list[Any]:
+def check_list(value: Any, most: int, draw: int | None) -> list[Any]:
     if type(value) is not list:
         raise ListFault(WRONG_KIND, draw)
     if len(value) > most:
@@ -169,7 +169,7 @@ def check_list(value: Any, most: int, draw: Optional[int]) -> list[Any]:
     return value
 
 
-def check_keys(value: Any, known: Sequence[str], required: Sequence[str], draw: Optional[int]) -> None:
+def check_keys(value: Any, known: Sequence[str], required: Sequence[str], draw: int | None) -> None:
     if type(value) is not dict:
         raise ListFault(WRONG_KIND, draw)
     if any(key not in known for key in value):

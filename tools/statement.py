@@ -7,13 +7,15 @@ reads the sources; statement_text.py has the words by hand. It fails if a defini
 uses, if a name is explained nowhere, or if a group or a line of the glossary has lost its use.
 """
 
+from __future__ import annotations
+
 import argparse
 import difflib
 import os
 import re
 import sys
 import textwrap
-from typing import Dict, Iterable, Iterator, List, Optional, Set, Tuple
+from typing import Iterable, Iterator
 
 from tools import statement_text
 from tools.counts import Counts
@@ -36,17 +38,17 @@ def group_of(name: Name) -> Group:
     return found[0]
 
 
-def used_by(one: Definition) -> Set[Name]:
+def used_by(one: Definition) -> set[Name]:
     """The definitions of this repository that this one uses: a case of a `data` is its `data`."""
     return {definition_of(name).name for name in one.uses if name.is_ours}
 
 
-def in_reading_order(group: Group, members: Iterable[Definition]) -> List[Definition]:
+def in_reading_order(group: Group, members: Iterable[Definition]) -> list[Definition]:
     """As the group names the files, and as these go on, but each behind those that it uses."""
     files = [place.split("#")[0] for place in group.places]
     waiting = sorted(members, key=lambda one: (files.index(one.name.place), one.line))
     names = {one.name for one in waiting}
-    placed: List[Definition] = []
+    placed: list[Definition] = []
     while waiting:
         done = {one.name for one in placed}
         ready = [one for one in waiting if not (used_by(one) & names) - done - {one.name}]
@@ -57,26 +59,26 @@ def in_reading_order(group: Group, members: Iterable[Definition]) -> List[Defini
     return placed
 
 
-def contracts() -> Tuple[Definition, List[Definition]]:
+def contracts() -> tuple[Definition, list[Definition]]:
     """That of the theorem, and those of the calls that count failures."""
     return contract_of(*statement_text.THEOREM), [contract_of(*call) for call in statement_text.COUNTING]
 
 
-def pages_definitions() -> Tuple[List[Tuple[Group, List[Definition]]], Set[Name]]:
+def pages_definitions() -> tuple[list[tuple[Group, list[Definition]]], set[Name]]:
     """The groups with their definitions in reading order, and the names of the toolchain that all of them use."""
     theorem, counting = contracts()
     ours, others = rests_on([theorem, *counting])
     others.update(name for one in (theorem, *counting) for name in one.uses if not name.is_ours)
-    members: Dict[str, List[Definition]] = {group.title: [] for group in GROUPS}
+    members: dict[str, list[Definition]] = {group.title: [] for group in GROUPS}
     for one in ours.values():
         members[group_of(one.name).title].append(one)
     groups = [(group, in_reading_order(group, members[group.title])) for group in GROUPS]
     return [(group, found + [one for one in counting if one.name.place in group.places]) for group, found in groups], others
 
 
-def check_order(groups: List[Tuple[Group, List[Definition]]]) -> None:
+def check_order(groups: list[tuple[Group, list[Definition]]]) -> None:
     """Each definition uses only what stands before it, and each place of a group has something to show."""
-    before: Set[Name] = set()
+    before: set[Name] = set()
     for group, members in groups:
         for one in members:
             missing = used_by(one) - before - {one.name}
@@ -89,7 +91,7 @@ def check_order(groups: List[Tuple[Group, List[Definition]]]) -> None:
                 raise Unclear(f"the theorem rests on nothing in {place}")
 
 
-def check_glossary(others: Set[Name]) -> None:
+def check_glossary(others: set[Name]) -> None:
     """The glossary has each name of the toolchain that the page uses, and no other."""
     known = {Name(crate, word) for crate, lines in GLOSSARY.items() for word, _form, _meaning in lines}
     if known != others:
@@ -113,7 +115,7 @@ def fenced(text: str, language: str = "") -> str:
     return f"```{language}\n{text}\n```\n"
 
 
-def shown(members: List[Definition]) -> Iterator[str]:
+def shown(members: list[Definition]) -> Iterator[str]:
     """Definitions as blocks of code, those of one file that follow one another in one block below the file's name."""
     at = 0
     while at < len(members):
@@ -134,7 +136,7 @@ def glossary() -> Iterator[str]:
         yield "\n".join(["| Name | Meaning |", "|---|---|", *rows]) + "\n"
 
 
-def index(groups: List[Tuple[Group, List[Definition]]]) -> str:
+def index(groups: list[tuple[Group, list[Definition]]]) -> str:
     """Each name with the group that defines it."""
     unsorted = {(one.name.word, group.title) for group, members in groups for one in members}
     names = sorted(unsorted, key=lambda one: (one[0].lower(), one))
@@ -158,7 +160,7 @@ def page() -> str:
     return "\n".join(parts)
 
 
-def difference(old: str, new: str) -> List[str]:
+def difference(old: str, new: str) -> list[str]:
     return list(difflib.unified_diff(old.splitlines(), new.splitlines(), PAGE, "the sources", lineterm=""))
 
 
@@ -171,7 +173,7 @@ def written() -> str:
         return file.read()
 
 
-def main(arguments: Optional[List[str]] = None) -> int:
+def main(arguments: list[str] | None = None) -> int:
     parser = argparse.ArgumentParser(description="docs/statement.md of the sources.")
     parser.add_argument("--check", action="store_true", help="compare the page with the sources, and write nothing")
     options = parser.parse_args(arguments)

@@ -6,12 +6,14 @@ without attributes, and its `impl Model` where it has one. Every word of each mu
 a variable, or a word of the language. Any other word is `Unclear`, so nothing is left out in silence.
 """
 
+from __future__ import annotations
+
 import glob
 import os
 import re
 from dataclasses import dataclass, field
 from functools import lru_cache
-from typing import Dict, FrozenSet, Iterable, Iterator, List, NamedTuple, Optional, Set, Tuple
+from typing import Iterable, Iterator, NamedTuple
 
 from tools.places import TOP
 
@@ -49,29 +51,29 @@ class Definition:
     name: Name
     line: int
     text: str
-    uses: FrozenSet[Name]
+    uses: frozenset[Name]
     # The words that its file has for names under which they are declared elsewhere: what each is.
-    renamed: Tuple[Tuple[str, str], ...] = ()
+    renamed: tuple[tuple[str, str], ...] = ()
 
 
 @dataclass
 class Scope:
     """What the words of a file mean: names of definitions and types, and modules by their own names."""
 
-    names: Dict[str, Name] = field(default_factory=dict)
-    modules: Dict[str, Tuple[str, str]] = field(default_factory=dict)
+    names: dict[str, Name] = field(default_factory=dict)
+    modules: dict[str, tuple[str, str]] = field(default_factory=dict)
     # Of a .rt file, the crates from which it has its types.
-    crates: Dict[str, str] = field(default_factory=dict)
+    crates: dict[str, str] = field(default_factory=dict)
     # What a name is that the file has under another word.
-    renamed: Dict[str, str] = field(default_factory=dict)
+    renamed: dict[str, str] = field(default_factory=dict)
     # Those that may stand in a pattern and are no variables there.
-    constructors: Set[str] = field(default_factory=set)
+    constructors: set[str] = field(default_factory=set)
 
     def add(self, word: str, name: Name) -> None:
         if self.names.setdefault(word, name) != name:
             raise Unclear(f"{word} is {name} and {self.names[word]}")
 
-    def find(self, word: str) -> Optional[Name]:
+    def find(self, word: str) -> Name | None:
         return self.names.get(word) or next((name for known, name in self.names.items() if word in known.split("◌")), None)
 
 
@@ -134,11 +136,11 @@ def scope_of_uses(text: str) -> Scope:
     return scope
 
 
-def tokens(code: str) -> List[str]:
+def tokens(code: str) -> list[str]:
     return [word for word in TOKEN.findall(code) if not word.startswith("--")]
 
 
-def binders(words: List[str]) -> Iterator[str]:
+def binders(words: list[str]) -> Iterator[str]:
     """The variables that a term binds: by `λ`, by `let`, as `(x y : T)` or `{x : T}`, and as the fields of a record."""
     for at, word in enumerate(words):
         if word in "({":
@@ -156,7 +158,7 @@ def binders(words: List[str]) -> Iterator[str]:
             yield words[at + 1]
 
 
-def names_in(words: List[str], scope: Scope, variables: Set[str]) -> Iterator[Name]:
+def names_in(words: list[str], scope: Scope, variables: set[str]) -> Iterator[Name]:
     """What the words mean. Those of `variables` mean nothing else. A variable that the words bind themselves and that is a name
     here too is taken for the name: rather a definition too many than one too few."""
     bound = set(binders(words))
@@ -183,9 +185,9 @@ def names_in(words: List[str], scope: Scope, variables: Set[str]) -> Iterator[Na
 # ---- files of definitions
 
 
-def paragraphs(text: str) -> Iterator[Tuple[int, List[str]]]:
+def paragraphs(text: str) -> Iterator[tuple[int, list[str]]]:
     """The runs of lines that are not blank, each with the number of its first line."""
-    lines: List[str] = []
+    lines: list[str] = []
     for number, line in enumerate(text.split("\n") + [""], 1):
         if line.strip():
             lines.append(line)
@@ -194,7 +196,7 @@ def paragraphs(text: str) -> Iterator[Tuple[int, List[str]]]:
             lines = []
 
 
-def definition_lines(path: str) -> Iterator[Tuple[int, List[str], int]]:
+def definition_lines(path: str) -> Iterator[tuple[int, list[str], int]]:
     """The paragraphs of a .antt file that define something, and how many lines of comment each begins with."""
     for number, lines in paragraphs(text_of(path)):
         comment = next((at for at, line in enumerate(lines) if not line.startswith("--")), len(lines))
@@ -215,12 +217,12 @@ def defined_word(line: str) -> str:
     return found[2]
 
 
-def constructors_of(code: List[str]) -> List[str]:
+def constructors_of(code: list[str]) -> list[str]:
     """The names of the cases of a `data`."""
     return [line.split()[0] for line in code[1:]] if "pub data " in code[0] else []
 
 
-def parts_of(code: List[str], word: str) -> Iterator[Tuple[List[str], List[str]]]:
+def parts_of(code: list[str], word: str) -> Iterator[tuple[list[str], list[str]]]:
     """A definition as its signature and equations, or as its one part: of each the tokens of a head, whose variables hold in all of
     the part, and those of the rest."""
     starts = [0] + [at for at, line in enumerate(code) if at and line[0] not in " }"] + [len(code)]
@@ -235,8 +237,8 @@ def parts_of(code: List[str], word: str) -> Iterator[Tuple[List[str], List[str]]
         yield words[:stop], words[stop:]
 
 
-def uses_of(code: List[str], word: str, scope: Scope) -> Set[Name]:
-    found: Set[Name] = set()
+def uses_of(code: list[str], word: str, scope: Scope) -> set[Name]:
+    found: set[Name] = set()
     for head, rest in parts_of(code, word):
         if "where" in rest:
             # A record's or a family's parameters.
@@ -250,18 +252,18 @@ def uses_of(code: List[str], word: str, scope: Scope) -> Set[Name]:
     return found
 
 
-def renamed_in(code: List[str], scope: Scope) -> Tuple[Tuple[str, str], ...]:
+def renamed_in(code: list[str], scope: Scope) -> tuple[tuple[str, str], ...]:
     words = tokens("\n".join(code))
     heads = {word.split(".")[0] for word in words if "." in word or word not in scope.modules}
     return tuple((head, scope.renamed[head]) for head in sorted(heads & scope.renamed.keys()))
 
 
 @lru_cache(maxsize=None)
-def definitions_of(path: str) -> Dict[str, Definition]:
+def definitions_of(path: str) -> dict[str, Definition]:
     """The definitions of a .antt file by their names; that of a `data` under the names of its cases too."""
     scope = scope_of_uses(text_of(path))
     found = list(definition_lines(path))
-    owners: Dict[str, str] = {}
+    owners: dict[str, str] = {}
     for _number, lines, comment in found:
         word = defined_word(lines[comment])
         owners[word] = word
@@ -298,7 +300,7 @@ def rust_scope(path: str) -> Scope:
     return scope
 
 
-def rust_names(code: str, scope: Scope, variables: Set[str]) -> Iterator[Name]:
+def rust_names(code: str, scope: Scope, variables: set[str]) -> Iterator[Name]:
     """What the types in a text of Rust are, without its comments."""
     code = re.sub(r"//.*", "", code)
     for path, word in re.findall(r"\b((?:\w+::)*)([A-Z]\w*|[iu](?:8|16|32|64)|usize|bool|str)\b", code):
@@ -317,7 +319,7 @@ def rust_names(code: str, scope: Scope, variables: Set[str]) -> Iterator[Name]:
             raise Unclear(f"nothing says what {word} is")
 
 
-def block(lines: List[str], start: int, end: str) -> List[str]:
+def block(lines: list[str], start: int, end: str) -> list[str]:
     """From this line to the first that is `end`, and before it the comment; without attributes."""
     stop = next((at for at in range(start, len(lines)) if lines[at].rstrip() == end), None)
     begin = start
@@ -328,7 +330,7 @@ def block(lines: List[str], start: int, end: str) -> List[str]:
     return [line for line in lines[begin : stop + 1] if not re.match(r"\s*(#\[|ghost use )", line)]
 
 
-def model_of(lines: List[str], word: str) -> List[str]:
+def model_of(lines: list[str], word: str) -> list[str]:
     """The `impl Model` of a type: what a contract sees of it."""
     starts = [at for at, line in enumerate(lines) if re.match(rf"impl(?:<.*>)? Model for {word}\b", line)]
     if not starts:
@@ -372,7 +374,7 @@ def contract_of(path: str, word: str) -> Definition:
     generics = set(re.findall(r"(\w+)(?::[^,>]*)?[,>]", (re.search(r"fn \w+(<.*?>)\(", signature) or [" ", ""])[1]))
     generics |= set(re.findall(r"(\w+)(?::[^,>]*)?[,>]", (re.match(r"impl(<.*?>) ", owner) or [" ", ""])[1]))
     scope = rust_scope(path)
-    uses: Set[Name] = set()
+    uses: set[Name] = set()
     parameters = set(re.findall(r"(\w+): ", signature)) | OF_CLAUSES
     uses.update(rust_names(owner + signature, scope, generics))
     for clause in clauses_in(text):
@@ -399,10 +401,10 @@ def definition_of(name: Name) -> Definition:
     return found
 
 
-def rests_on(roots: Iterable[Definition]) -> Tuple[Dict[Name, Definition], Set[Name]]:
+def rests_on(roots: Iterable[Definition]) -> tuple[dict[Name, Definition], set[Name]]:
     """Every definition of this repository that the roots use, at any depth, and every name of the toolchain."""
-    ours: Dict[Name, Definition] = {}
-    others: Set[Name] = set()
+    ours: dict[Name, Definition] = {}
+    others: set[Name] = set()
     open_names = [name for root in roots for name in root.uses]
     while open_names:
         name = open_names.pop()

@@ -1,6 +1,8 @@
 """What docs/statement.md says by hand: its beginning, what stands before each group of definitions, and the glossary."""
 
-from typing import Dict, NamedTuple, Tuple
+from __future__ import annotations
+
+from typing import NamedTuple
 
 
 class Group(NamedTuple):
@@ -9,7 +11,7 @@ class Group(NamedTuple):
     title: str
     text: str
     source: str
-    places: Tuple[str, ...]
+    places: tuple[str, ...]
 
 
 # The contract that the page is of, and those of the calls that alone change what it counts.
@@ -209,7 +211,7 @@ GROUPS = (
 )
 
 # Names of the toolchain that the page uses: how each is written, and what it means.
-GLOSSARY: Dict[str, Tuple[Tuple[str, str, str], ...]] = {
+GLOSSARY: dict[str, tuple[tuple[str, str, str], ...]] = {
     "std": (
         ("◌≡◌", "a ≡ b", "a equals b"),
         ("◌≢◌", "a ≢ b", "a does not equal b"),

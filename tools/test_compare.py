@@ -10,7 +10,7 @@ import json
 import math
 import re
 import unittest
-from typing import ClassVar, Iterable, Iterator, Optional, Sequence
+from typing import ClassVar, Iterable, Iterator, Sequence
 from unittest import mock
 
 from tools import compare, counts, generated_lists, reference
@@ -56,7 +56,7 @@ def has_sample_inside(a: Point, b: Point, count: int) -> bool:
     return False
 
 
-def on_opposite_sides(one: Corners, other: Corners) -> Optional[tuple[Point, Point]]:
+def on_opposite_sides(one: Corners, other: Corners) -> tuple[Point, Point] | None:
     """The edge that two triangles share, if they lie on opposite sides of it."""
     shared = set(one) & set(other)
     if len(shared) == 2 and len(set(one)) == len(set(other)) == 3:

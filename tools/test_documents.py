@@ -9,7 +9,7 @@ import glob
 import os
 import re
 import unittest
-from typing import Iterator, Optional
+from typing import Iterator
 
 from tools import counts, mutants, places, reference
 from tools.places import TOP, text_of
@@ -29,9 +29,9 @@ def sources(pattern: str) -> dict[str, str]:
     return {path: text_of(path) for path in places.files("crates", "*", pattern)}
 
 
-def contracts() -> dict[str, set[Optional[str]]]:
+def contracts() -> dict[str, set[str | None]]:
     """The clauses that stand under each name of a call, in any crate: names of `ensures` and of `requires`."""
-    found: dict[str, set[Optional[str]]] = {}
+    found: dict[str, set[str | None]] = {}
     for text in sources("src/**/*.rt").values():
         name = ""
         for line in text.split("\n"):
@@ -51,9 +51,9 @@ def definitions() -> set[str]:
     return set(re.findall(r"^(?:[a-z]+ )*(\w+) .*:", "".join(sources("specs/**/*.antt").values()), re.MULTILINE))
 
 
-def parts() -> dict[str, set[Optional[str]]]:
+def parts() -> dict[str, set[str | None]]:
     """The names of the fields of each record in the specs of any crate."""
-    found: dict[str, set[Optional[str]]] = {}
+    found: dict[str, set[str | None]] = {}
     for text in sources("specs/**/*.antt").values():
         for record, fields in re.findall(r"^(?:pub )?record (\w+) .*\n((?:  .*\n)*)", text, re.MULTILINE):
             found.setdefault(record, set()).update(re.findall(r"^  pub (\w+) :", fields, re.MULTILINE))
@@ -134,7 +134,7 @@ class Proofs(unittest.TestCase):
         known = {**parts(), **contracts()}
         types = set(re.findall(r"\b(?:struct|enum|trait) (\w+)", "".join(sources("src/**/*.rt").values())))
         types |= definitions()
-        clauses: set[Optional[str]] = set()
+        clauses: set[str | None] = set()
         for *_promise, carriers in rows(text_of("docs/proofs.md").split("## What is only tested")[0]):
             carriers = re.sub(r"\(.*?\)", "", carriers)
             words = [word.split("::")[-1] for word in re.findall(r"`([\w:]+)`", carriers)]

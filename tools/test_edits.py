@@ -10,7 +10,6 @@ from __future__ import annotations
 import os
 import re
 import unittest
-from typing import Optional
 
 from tools import counts, places
 from tools.places import TOP, text_of
@@ -42,7 +41,7 @@ def pairs_of(edit: str) -> list[tuple[str, str, str]]:
     return pairs
 
 
-def fault_of(edit: str) -> Optional[str]:
+def fault_of(edit: str) -> str | None:
     """Why an edit cannot be applied, or `None` if it can: each old text stands once in what the pairs before it made."""
     crate = edit.split("/")[0]
     texts: dict[str, str] = {}

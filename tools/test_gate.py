@@ -13,7 +13,7 @@ import sys
 import tempfile
 import textwrap
 import unittest
-from typing import Any, Optional, Sequence
+from typing import Any, Sequence
 
 from tools import counts, gate
 from tools.counts import Counts
@@ -53,7 +53,7 @@ class Gate(unittest.TestCase):
         for crate in gate.PROGRAMS:
             os.makedirs(os.path.dirname(gate.built(self.top, crate)))
 
-    def rt(self, *lines: str, status: int = 0, builds: Optional[Sequence[str]] = None) -> str:
+    def rt(self, *lines: str, status: int = 0, builds: Sequence[str] | None = None) -> str:
         """A command that prints these lines and, as rt ci does, leaves the programs of these crates, by default of all."""
         path = os.path.join(self.top, "rt")
         left = [gate.built(self.top, crate) for crate in (gate.PROGRAMS if builds is None else builds)]

@@ -15,9 +15,7 @@ import tempfile
 import unittest
 import zlib
 
-from tools import counts
-from tools import golden
-from tools import png
+from tools import counts, golden, png
 from tools.counts import Counts
 
 # Two lists without triangles and their files, by the rules: each pixel has the clear colour, or the clear depth in two bytes.

@@ -10,7 +10,7 @@ from __future__ import annotations
 
 import os
 import unittest
-from typing import ClassVar, Type
+from typing import ClassVar
 from unittest import mock
 
 # The test classes are named by their modules, so that they are no tests of this one.
@@ -27,7 +27,7 @@ TWO_REFUSALS = (allocation_failures.TileRows, "test_two_refusals_of_two_workers"
 EACH_THREAD = (fault_injection.RefusedThreads, "test_each_thread_of_two_workers")
 ALL_THREADS = (fault_injection.RefusedThreads, "test_all_threads_from_each_one_on")
 
-CAUGHT_BY: dict[str, tuple[tuple[Type[injection.InjectionTest], str], ...]] = {
+CAUGHT_BY: dict[str, tuple[tuple[type[injection.InjectionTest], str], ...]] = {
     "begin with the second row": (ONE_REFUSAL, DRAWING_AGAIN, EACH_THREAD, ALL_THREADS),
     "draw all rows again before one is written": (DRAWING_AGAIN, TWO_REFUSALS),
     "ask for the next row before this one is written": (ONE_WORKER, DRAWING_AGAIN, TWO_REFUSALS),

@@ -8,7 +8,7 @@ from __future__ import annotations
 import json
 import re
 import unittest
-from typing import Any, Optional, Sequence
+from typing import Any, Sequence
 
 from tools import counts, picture_file, reference
 from tools.draw_list import Draw, DrawList, Vertex, draw, draw_list as scene, vertex
@@ -46,7 +46,7 @@ def colour_of_one(*draws: Draw, **top: Any) -> str:
     return file_of(scene(1, 1, *draws, samples=4, **top))[-3:].hex(" ")
 
 
-def error_of(text: object) -> Optional[str]:
+def error_of(text: object) -> str | None:
     data = text if isinstance(text, bytes) else (text if isinstance(text, str) else json.dumps(text)).encode()
     try:
         reference.read(data)
@@ -246,7 +246,7 @@ class Primitives(unittest.TestCase):
             self.assertIsNone(error_of(scene(1, 1, {"vertices": [], key: []})))
 
     def test_counts(self) -> None:
-        def error(*draws: Draw) -> Optional[str]:
+        def error(*draws: Draw) -> str | None:
             return error_of(scene(1, 1, *({"vertices": self.SQUARE, **faces} for faces in draws)))
 
         self.assertIsNone(error({"strip": [0] * 65538}))

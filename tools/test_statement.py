@@ -9,10 +9,9 @@ import contextlib
 import io
 import os
 import re
-import sys
 import tempfile
 import unittest
-from typing import Dict, Iterator, List, Set, Tuple
+from typing import Iterator
 from unittest import mock
 
 from tools import counts, statement
@@ -28,7 +27,7 @@ def clear_caches() -> None:
 
 
 @contextlib.contextmanager
-def repository(files: Dict[str, str]) -> Iterator[None]:
+def repository(files: dict[str, str]) -> Iterator[None]:
     """Has the sources be these, below crates/."""
     with tempfile.TemporaryDirectory() as top, mock.patch.object(sources, "TOP", top):
         for path, text in files.items():
@@ -49,7 +48,7 @@ def stands_in(word: str, code: str) -> bool:
     return any(re.search(rf"(?<![^\s(){{}};,]){mark}(?![^\s(){{}};,.])", code) for mark in marks)
 
 
-def words_used(definition: str, more: str = "") -> Set[str]:
+def words_used(definition: str, more: str = "") -> set[str]:
     """The names that a definition of the file a/specs/A.antt uses."""
     head = "use Rattle.std.specs.Prelude.{◌+◌, ℕ, List, [], ◌∷◌}\n" + more + "\n"
     with repository({"a/specs/A.antt": head + definition}):
@@ -63,10 +62,10 @@ class Page(unittest.TestCase):
     def setUp(self) -> None:
         self.page = text_of("docs/statement.md")
         block = r"^`(crates/[^`]*)`[^`]*(?:`[^`\n]*`[^`]*)*?\n\n```\w*\n(.*?)\n```$"
-        self.blocks: List[Tuple[str, str]] = re.findall(block, self.page, re.MULTILINE | re.DOTALL)
+        self.blocks: list[tuple[str, str]] = re.findall(block, self.page, re.MULTILINE | re.DOTALL)
 
-    def defined(self) -> Set[Tuple[str, str]]:
-        found: Set[Tuple[str, str]] = set()
+    def defined(self) -> set[tuple[str, str]]:
+        found: set[tuple[str, str]] = set()
         for path, block in self.blocks:
             heads = re.findall(r"^(?:abbrev |unfoldable )?pub (?:record |data |struct |enum |)(\w+)", block, re.MULTILINE)
             cases = re.findall(r"^  (\w+) :", block, re.MULTILINE)
@@ -139,7 +138,7 @@ class Page(unittest.TestCase):
 class Check(unittest.TestCase):
     """That statement.py fails if the page is not whole."""
 
-    def status(self, *words: str) -> Tuple[int, str]:
+    def status(self, *words: str) -> tuple[int, str]:
         with contextlib.redirect_stdout(io.StringIO()) as said:
             status = statement.main(list(words))
         return status, said.getvalue()
