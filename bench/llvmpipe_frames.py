@@ -14,7 +14,7 @@ import sys
 import time
 
 from tools.draw_list import DrawList
-from tools.opengl import library as gl
+from tools.opengl import gl
 from tools.opengl.frames import DrawState, Frames, Mesh, Viewport, set_up
 
 

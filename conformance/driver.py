@@ -9,7 +9,7 @@ import ctypes
 
 from conformance.renderer import Candidate, CannotAsk
 from tools.draw_list import Draw, DrawList, triangles_of
-from tools.opengl import library as gl
+from tools.opengl import gl
 from tools.opengl.frames import DrawState, Frames, Mesh, NoFrame, Viewport, set_up
 
 

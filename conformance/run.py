@@ -23,7 +23,7 @@ from conformance.findings import findings
 from conformance.program import Program, Refused, as_bytes
 from conformance.renderer import Candidate, Renderer
 from conformance.report import Report, page, text
-from tools.opengl.library import MESA, Unavailable
+from tools.opengl.gl import MESA, Unavailable
 from tools.places import PROGRAM, TOP, is_built
 
 LISTS = os.path.join(TOP, "conformance", "out")

@@ -12,7 +12,7 @@ from dataclasses import dataclass
 from typing import Any, Sequence
 
 from tools.draw_list import Draw, triangles_of
-from tools.opengl import library as gl
+from tools.opengl import gl
 
 
 class NoFrame(Exception):
