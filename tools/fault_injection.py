@@ -338,7 +338,7 @@ class Lists(unittest.TestCase):
         self.assertEqual(run(encode(draw_list(3, 3, *[FIRST_DRAW] * 1023, RED_DRAW))), (0, RED_PICTURE, b""))
         self.check_error(encode(draw_list(3, 3, *[FIRST_DRAW] * 1024, RED_DRAW)), "7 TooMany")
 
-    def test_most_places_of_a_strip_and_most_quads(self) -> None:
+    def test_most_indices_of_a_strip_and_most_quads(self) -> None:
         def drawn(**faces: list[Any]) -> bytes:
             return encode(draw_list(3, 3, {"vertices": SQUARE_VERTICES, **faces}))
 

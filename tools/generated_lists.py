@@ -32,7 +32,7 @@ def a_size(pick: random.Random) -> tuple[int, int]:
             return width, height
 
 
-def a_sample_place(pick: random.Random, pixels: int, samples: int, axis: int) -> int:
+def a_sample_coordinate(pick: random.Random, pixels: int, samples: int, axis: int) -> int:
     """A column or a row in which samples lie."""
     return 256 * pick.randint(-1, pixels) + pick.choice(reference.SAMPLES[samples])[axis]
 
@@ -40,7 +40,7 @@ def a_sample_place(pick: random.Random, pixels: int, samples: int, axis: int) ->
 def a_coordinate(pick: random.Random, pixels: int, samples: int, axis: int) -> int:
     kind = pick.random()
     if kind < 0.40:
-        return a_sample_place(pick, pixels, samples, axis)
+        return a_sample_coordinate(pick, pixels, samples, axis)
     if kind < 0.55:  # on the border of a pixel
         return 256 * pick.randint(-1, pixels + 1)
     if kind < 0.85:
@@ -68,15 +68,15 @@ def corners_of_the_band(pick: random.Random, depths: Sequence[int]) -> list[Vert
     for x in (LOW, HIGH):
         for y in (LOW, HIGH):
             inwards = pick.choice((0, 0, pick.randint(0, 5000)))
-            place = [x + inwards if x == LOW else x - inwards, y]
-            vertices.append(place + some_values(pick, depths))
+            corner = [x + inwards if x == LOW else x - inwards, y]
+            vertices.append(corner + some_values(pick, depths))
     pick.shuffle(vertices)
     return vertices
 
 
 def a_sliver(pick: random.Random, width: int, height: int, samples: int, depths: Sequence[int]) -> list[Vertex]:
     """Three or more vertices along a line through two samples, at most a pixel away from it."""
-    ends = [(a_sample_place(pick, width, samples, 0), a_sample_place(pick, height, samples, 1)) for _ in "ab"]
+    ends = [(a_sample_coordinate(pick, width, samples, 0), a_sample_coordinate(pick, height, samples, 1)) for _ in "ab"]
     away = pick.choice((0, 1, 1, 2, pick.randint(3, 256)))
     vertices = [list(end) + some_values(pick, depths) for end in ends]
     for _ in range(pick.randint(1, 3)):
@@ -124,15 +124,15 @@ def some_triangles(pick: random.Random, vertices: list[Vertex]) -> list[list[int
     return triangles
 
 
-def some_places(pick: random.Random, vertices: list[Vertex]) -> list[int]:
-    """The places of a strip: often the vertices in their order, sometimes any, and some of them twice."""
-    places = list(range(len(vertices)))
-    if places and pick.random() < 0.3:
-        places = [pick.randrange(len(vertices)) for _ in range(pick.randint(0, 9))]
-    if places and pick.random() < 0.4:
-        again = pick.randrange(len(places))
-        places.insert(again, places[again])
-    return places
+def some_indices(pick: random.Random, vertices: list[Vertex]) -> list[int]:
+    """The indices of a strip: often the vertices in their order, sometimes any, and some of them twice."""
+    indices = list(range(len(vertices)))
+    if indices and pick.random() < 0.3:
+        indices = [pick.randrange(len(vertices)) for _ in range(pick.randint(0, 9))]
+    if indices and pick.random() < 0.4:
+        again = pick.randrange(len(indices))
+        indices.insert(again, indices[again])
+    return indices
 
 
 def add_a_quad(pick: random.Random, vertices: list[Vertex]) -> None:
@@ -167,7 +167,7 @@ def some_faces(pick: random.Random, vertices: list[Vertex]) -> Draw:
     if kind < 0.6:
         return {"triangles": some_triangles(pick, vertices)}
     if kind < 0.8:
-        return {"strip": some_places(pick, vertices)}
+        return {"strip": some_indices(pick, vertices)}
     return {"quads": some_quads(pick, vertices)}
 
 
@@ -217,7 +217,7 @@ def a_list(pick: random.Random) -> DrawList:
 
 
 def at_the_ends() -> Iterator[DrawList]:
-    """Lists with as many draws, vertices, triangles, places of a strip and quads as there may be."""
+    """Lists with as many draws, vertices, triangles, indices of a strip and quads as there may be."""
     pick = random.Random("ends")
     corners = [[0, 0], [700, 0], [700, 700], [0, 700]]
     square = [corner + some_values(pick, [0, 65535]) for corner in corners]
@@ -242,20 +242,20 @@ WRONG: tuple[Any, ...] = (None, True, 1.0, 0.5, "x", "none", [], {}, -1, 3, 17, 
 WRONG += (LOW - 1, HIGH + 1, 2**63, -(2**63), 1e300)
 
 
-def places(value: object, path: Path = ()) -> Iterator[Path]:
-    """All places of a list's value, as paths of keys and numbers."""
+def paths(value: object, path: Path = ()) -> Iterator[Path]:
+    """The paths of all values in a list, which lead there by keys and indices."""
     yield path
     inside: Iterable[tuple[Any, object]] = ()
     if isinstance(value, (dict, list)):
         inside = value.items() if isinstance(value, dict) else enumerate(value)
     for key, element in inside:
-        yield from places(element, path + (key,))
+        yield from paths(element, path + (key,))
 
 
 def broken(pick: random.Random, scene: Any) -> Any:
-    """The value with one place changed."""
+    """The value with one of its parts changed."""
     scene = copy.deepcopy(scene)
-    path = pick.choice(list(places(scene)))
+    path = pick.choice(list(paths(scene)))
     if not path:
         return pick.choice(WRONG)
     holder = scene
@@ -320,9 +320,9 @@ def a_broken_text(pick: random.Random) -> bytes:
     value = a_list(pick)
     kind = pick.random()
     if value["draws"] and kind < 0.4:
-        place = pick.randrange(len(value["draws"]))
+        index = pick.randrange(len(value["draws"]))
         change = with_wrong_faces if kind < 0.3 else with_wrong_index
-        value["draws"][place] = change(pick, value["draws"][place])
+        value["draws"][index] = change(pick, value["draws"][index])
         return json.dumps(value).encode()
     for _ in range(pick.choice((1, 1, 2, 3))):
         value = broken(pick, value) if isinstance(value, (dict, list)) else value
@@ -331,8 +331,8 @@ def a_broken_text(pick: random.Random) -> bytes:
     if kind < 0.05:
         return text[: pick.randint(0, len(text) - 1)]
     if kind < 0.10:
-        place = pick.randint(0, len(text) - 1)
-        return text[:place] + bytes([pick.choice((0, 0x2C, 0x5B, 0x7D, 0x80, 0xFF))]) + text[place + 1 :]
+        at = pick.randint(0, len(text) - 1)
+        return text[:at] + bytes([pick.choice((0, 0x2C, 0x5B, 0x7D, 0x80, 0xFF))]) + text[at + 1 :]
     return text
 
 

@@ -332,8 +332,8 @@ def shade(triangle: Triangle, weights: tuple[int, int, int], size: int, old: Sam
     """What a covered sample, not masked away, takes from a triangle."""
     state = triangle.state
 
-    def value(place: int) -> int:
-        return sum(weight * vertex[place] for weight, vertex in zip(weights, triangle.vertices)) // size
+    def value(index: int) -> int:
+        return sum(weight * vertex[index] for weight, vertex in zip(weights, triangle.vertices)) // size
 
     depth = value(2)
     if not DEPTH_TESTS[state.depth_test](depth, old[3]):
@@ -379,9 +379,9 @@ def draw(triangle: Triangle, scene: Scene, samples: list[Sample]) -> None:
                 at_c = opposite_c.at(p)
                 if not opposite_c.passes(at_c):
                     continue
-                place = (j * scene.width + i) * scene.samples + s
+                index = (j * scene.width + i) * scene.samples + s
                 weights = (abs(at_a), abs(at_b), abs(at_c))
-                samples[place] = shade(triangle, weights, abs(area), samples[place])
+                samples[index] = shade(triangle, weights, abs(area), samples[index])
 
 
 def resolve(samples: list[Sample], count: int) -> bytes:

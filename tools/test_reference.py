@@ -218,7 +218,7 @@ class Primitives(unittest.TestCase):
             self.assertEqual(self.strip(places), {})
         self.assertEqual(set(self.strip([0, 1, 2])), {(0, 0), (1, 0), (0, 1)})
 
-    def test_repeated_places_of_a_strip_draw_nothing_more(self) -> None:
+    def test_repeated_indices_of_a_strip_draw_nothing_more(self) -> None:
         self.assertEqual(self.strip([0, 1, 2, 2, 3, 3, 1], cull="back"), self.strip([0, 1, 2], cull="back"))
 
     def test_quad_touches_its_diagonal_once(self) -> None:
