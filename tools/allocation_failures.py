@@ -30,7 +30,7 @@ from tools.small_pictures import (
 
 
 class AllocationTest(injection.InjectionTest):
-    program = PROGRAM
+    """Tests in which each allocation fails in turn."""
 
     def runs(self, arguments: Sequence[str], text: bytes) -> list[Run]:
         """A run for each allocation that fails, from the first on."""
