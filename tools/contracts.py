@@ -38,6 +38,8 @@ def signature(lines: list[str], first: int, indent: str) -> str:
     """A function's head and clauses, from its line on up to its body."""
     taken: list[str] = []
     for line in lines[first:]:
+        if line.lstrip().startswith("//"):
+            continue
         if line == indent + "{":
             break
         taken.append(line.strip())
