@@ -9,20 +9,21 @@
 #   make install   program, manual page, header, libraries, pkg-config file and schema below PREFIX (an absolute path,
 #                  /usr/local if not given), behind DESTDIR where that is given; make uninstall takes them away
 #   make compare   draw generated lists, and compare each byte with the reference renderer
-#   make check-compare      test that comparison: what its lists cover, and faults planted in the reference's rules
+#   make check-compare      test that comparison: what its lists cover, and mutants of the reference's rules
 #   make golden    compare the pictures of examples/ and tests/regressions/ with their checksums and the reference renderer
 #   make schema    try the JSON Schema of the draw list
-#   make memory    run the program where allocations fail, and test that mistakes are seen there
-#   make hostile   run the program where devices, threads and lists fail
-#   make checks    the gate's checks without its proofs: compare, check-compare, golden, schema, check-conformance, memory,
-#                  hostile, check-library where there is a C compiler, and the tests of the gate's counts, of the documents,
-#                  of docs/statement.md and of the must-fail edits
+#   make allocation-failures  run the program where allocations fail, and test that mistakes are seen there; also make memory
+#   make fault-injection      run the program where devices, threads and lists fail; also make hostile
+#   make types     check the types of the Python sources, by mypy
+#   make checks    the gate's checks without its proofs: compare, check-compare, golden, schema, check-conformance,
+#                  allocation-failures, fault-injection, types where there is mypy, check-library where there is a C
+#                  compiler, and the tests of the gate's counts, of the documents, of docs/statement.md and of the must-fail edits
 #   make races     run the program under valgrind; no part of the gate
 #   make bench     time the program on generated scenes
-#   make frames    build the program that times frames by themselves, for bench/llvmpipe.py
-#   make model     build the same rules in C++ to time beside, for bench/llvmpipe.py: g++ 12 or clang++ 14, or later, on x86-64
+#   make frames    build the program that times frames by themselves, for python3 -m bench.llvmpipe
+#   make model     build the same rules in C++ to time beside, for python3 -m bench.llvmpipe: g++ 12 or clang++ 14, or later, on x86-64
 #   make conformance        compare the machine's OpenGL driver with the program, sample by sample; out/conformance.html
-#   make check-conformance  test that comparison without a driver, by planted faults
+#   make check-conformance  test that comparison without a driver, by mutants
 #   make clean     remove what this file made; what rt keeps in crates/*/out/ stays
 
 RT ?= rt
@@ -42,14 +43,14 @@ SHARED := libtrirast.so.1
 INSTALLED := bin/trirast share/man/man1/trirast.1 share/trirast/draw-list.schema.json include/trirast.h \
     lib/libtrirast.a lib/$(SHARED) lib/libtrirast.so lib/pkgconfig/trirast.pc
 
-.PHONY: all look library check-library install uninstall demo test checks compare check-compare golden schema memory hostile races \
-    bench frames model conformance check-conformance clean
+.PHONY: all look library check-library install uninstall demo test checks compare check-compare golden schema types memory \
+    hostile allocation-failures fault-injection races bench frames model conformance check-conformance clean
 .DELETE_ON_ERROR:
 
 all: $(PROGRAM)
 
 $(PROGRAM): $(SOURCES)
-	@$(PYTHON) scripts/prove.py trirast_cli
+	@$(PYTHON) -m tools.prove trirast_cli
 	cd crates/trirast_cli && $(RT) run < "$(CURDIR)/examples/triangle.json" > /dev/null
 	install -D -m 755 crates/trirast_cli/out/trirast_cli $@
 
@@ -107,7 +108,7 @@ Libs: -L$${libdir} -ltrirast
 endef
 
 check-library: $(PROGRAM) library
-	$(PYTHON) scripts/check_library.py
+	$(PYTHON) -m tools.check_library
 
 install: $(PROGRAM) library
 	install -D -m 755 $(PROGRAM) "$(DESTDIR)$(PREFIX)/bin/trirast"
@@ -134,39 +135,46 @@ demo: $(PICTURES)
 	else echo "pnmtopng is not installed, so there are PPM and PGM pictures only"; fi
 
 test:
-	@$(PYTHON) scripts/gate.py --rt $(RT)
+	@$(PYTHON) -m tools.gate --rt $(RT)
 
 checks: $(PROGRAM) $(TILES) $(READER) $(if $(shell command -v gcc),library)
-	@$(PYTHON) scripts/gate.py --without-proofs
+	@$(PYTHON) -m tools.gate --without-proofs
 
 compare: $(PROGRAM)
-	$(PYTHON) scripts/test_reference.py
-	$(PYTHON) scripts/compare.py
+	$(PYTHON) -m tools.test_reference
+	$(PYTHON) -m tools.compare
 
 check-compare: $(PROGRAM)
-	$(PYTHON) scripts/test_compare.py
-	$(PYTHON) scripts/plant_faults.py
+	$(PYTHON) -m tools.test_compare
+	$(PYTHON) -m tools.mutants
 
 golden: $(PROGRAM)
-	$(PYTHON) scripts/test_golden.py
-	$(PYTHON) scripts/golden.py
+	$(PYTHON) -m tools.test_golden
+	$(PYTHON) -m tools.golden
 
 schema:
-	$(PYTHON) scripts/check_schema.py
+	$(PYTHON) -m tools.check_schema
+
+types:
+	mypy
 
 $(READER): $(SOURCES)
 	cd crates/list_bench && $(RT) run < "$(CURDIR)/examples/triangle.json" > /dev/null
 	install -D -m 755 crates/list_bench/out/list_bench $@
 
-memory: $(PROGRAM) $(TILES) $(READER)
-	$(PYTHON) scripts/test_refusals.py
-	$(PYTHON) scripts/refuse_memory.py
+memory: allocation-failures
 
-hostile: $(PROGRAM)
-	$(PYTHON) scripts/hostile.py
+allocation-failures: $(PROGRAM) $(TILES) $(READER)
+	$(PYTHON) -m tools.test_injection
+	$(PYTHON) -m tools.allocation_failures
+
+hostile: fault-injection
+
+fault-injection: $(PROGRAM)
+	$(PYTHON) -m tools.fault_injection
 
 races: $(PROGRAM)
-	$(PYTHON) scripts/races.py
+	$(PYTHON) -m tools.races
 
 frames: $(PROGRAM)
 	cd crates/frames && $(RT) run < "$(CURDIR)/examples/triangle.json" > /dev/null
@@ -178,14 +186,14 @@ $(MODEL): bench/draw_list.hpp $(wildcard bench/model/*)
 	$(CXX) -std=c++17 -O3 -march=x86-64-v2 -Wall -Wextra -pthread -o $@ bench/model/main.cpp
 
 bench: $(PROGRAM)
-	$(PYTHON) bench/run.py
+	$(PYTHON) -m bench.run
 
 conformance: $(PROGRAM)
 	@mkdir -p out
-	$(PYTHON) conformance/run.py --html out/conformance.html
+	$(PYTHON) -m conformance.run --html out/conformance.html
 
 check-conformance:
-	$(PYTHON) conformance/test_conformance.py
+	$(PYTHON) -m conformance.test_conformance
 
 clean:
-	rm -rf bin lib out bench/out conformance/out
+	rm -rf bin lib out bench/out conformance/out .mypy_cache

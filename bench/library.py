@@ -12,13 +12,13 @@ slows them all. Python 3.8 or later on Linux, standard library alone.
 
 import argparse
 import os
-import subprocess
 import sys
 import time
 
-import run
+from bench import run, scenes
+from tools.places import BENCH_OUT, PROGRAM, TOP
 
-sys.path.insert(0, os.path.join(run.TOP, "python"))
+sys.path.insert(0, os.path.join(TOP, "python"))
 
 SCENES = tuple(name for name in run.SCENES if name not in run.REFUSED)
 
@@ -59,17 +59,16 @@ def milliseconds(time_taken):
 
 def main():
     parser = argparse.ArgumentParser(description="Times the library beside the program.")
-    parser.add_argument("--program", default=os.path.join(run.TOP, "bin", "trirast"), help="default bin/trirast")
+    parser.add_argument("--program", default=PROGRAM, help="default bin/trirast")
     parser.add_argument("--runs", type=int, default=5, help="rounds of which the least counts (default 5)")
     parser.add_argument("--threads", type=int, default=4, help="threads and workers (default 4)")
     parser.add_argument("--scenes", nargs="+", choices=SCENES, default=SCENES, metavar="NAME", help=", ".join(SCENES))
     words = parser.parse_args()
-    os.makedirs(run.OUT, exist_ok=True)
-    subprocess.run([sys.executable, os.path.join(run.BENCH, "scenes.py"), *words.scenes], check=True)
+    scenes.write_all(words.scenes)
     print(f"Machine: {run.processor_name()}, {os.cpu_count()} processors; load before the run {run.load()}.")
     print(f"Least of {words.runs} rounds, tiles of 32 pixels, milliseconds.\n")
     for number, name in enumerate(words.scenes):
-        chosen = ways(os.path.abspath(words.program), words.threads, os.path.join(run.OUT, f"{name}.json"))
+        chosen = ways(os.path.abspath(words.program), words.threads, scenes.path_of(name))
         if number == 0:
             print(f"| scene | {' | '.join(chosen)} |")
             print("|---" * (len(chosen) + 1) + "|")

@@ -1,15 +1,16 @@
-#!/usr/bin/env python3
 """Times the program on the scenes of bench/scenes.py and prints one table.
 
-    bench/run.py [--program bin/trirast] [--runs 3] [--scenes tiny mesh ..] [--tiles 32 ..]
+    python3 -m bench.run [--program bin/trirast] [--runs 3] [--scenes tiny mesh ..] [--tiles 32 ..]
 
 For each scene and tile side it gives the wall time with 1, 2 and 4 workers, the ratio to the time with one worker, the
 processor time, and the peak memory, all from this one call; times are the best of a few runs with the output thrown
-away. Where g++ is there, bench/plain.cpp is built and its time stands beside, and each picture of the program is
-compared with its picture, byte for byte. Exit status 1 where a run fails or a picture differs.
+away. If g++ is there, bench/plain.cpp is built and its time stands next to it, and each picture of the program is
+compared with its picture, byte for byte. Exit status 1 if a run fails or a picture differs.
 
-Python 3.8 or later on Linux, standard library alone.
+Linux alone.
 """
+
+from __future__ import annotations
 
 import argparse
 import filecmp
@@ -18,10 +19,11 @@ import shutil
 import subprocess
 import sys
 import time
+from typing import Sequence
 
-BENCH = os.path.dirname(os.path.abspath(__file__))
-TOP = os.path.dirname(BENCH)
-OUT = os.path.join(BENCH, "out")
+from bench import scenes
+from tools.places import BENCH_OUT, PROGRAM, TOP, is_built
+
 SCENES = (
     "tiny", "empty", "smooth", "small", "mesh", "slivers", "blended", "flat", "flat_depth", "flat_blended", "large_mesh",
     "whole_values", "thin_slivers", "level_rows", "depths_first", "long_list", "refused_list",
@@ -36,12 +38,12 @@ ENOUGH_SECONDS = 6.0
 class Run:
     """One run of a command: wall and processor time in seconds, peak memory in bytes, exit status."""
 
-    def __init__(self, words, source, target):
+    def __init__(self, command: list[str], source: str, target: str) -> None:
         reading = os.open(source, os.O_RDONLY)
         writing = os.open(target, os.O_WRONLY | os.O_CREAT | os.O_TRUNC, 0o644)
         begin = time.perf_counter()
         child = os.posix_spawn(
-            words[0], words, os.environ,
+            command[0], command, os.environ,
             file_actions=[(os.POSIX_SPAWN_DUP2, reading, 0), (os.POSIX_SPAWN_DUP2, writing, 1)],
         )
         _, status, usage = os.wait4(child, 0)
@@ -53,38 +55,39 @@ class Run:
         self.status = status
 
 
-def best(words, source, runs):
+def best(command: list[str], source: str, runs: int) -> Run:
     """The run of the least wall time, of as many as asked for or as fit into some seconds."""
-    found, spent = [], 0.0
+    found: list[Run] = []
+    spent = 0.0
     while len(found) < runs and (not found or spent < ENOUGH_SECONDS):
-        found.append(Run(words, source, os.devnull))
+        found.append(Run(command, source, os.devnull))
         spent += found[-1].wall
     return min(found, key=lambda run: run.wall)
 
 
-def peak_memory(words, source, target):
-    """A run under GNU time where it is there, which sees smaller peaks than a python process can of its children."""
-    timer, told = shutil.which("time"), os.path.join(OUT, "memory.txt")
+def peak_memory(command: list[str], source: str, target: str) -> Run:
+    """A run under GNU time, if it is there, which sees smaller peaks than a python process can of its children."""
+    timer, report = shutil.which("time"), os.path.join(BENCH_OUT, "memory.txt")
     if timer is None:
-        return Run(words, source, target)
-    run = Run([timer, "-q", "-f", "%M", "-o", told, *words], source, target)
-    with open(told, encoding="ascii") as file:
+        return Run(command, source, target)
+    run = Run([timer, "-q", "-f", "%M", "-o", report, *command], source, target)
+    with open(report, encoding="ascii") as file:
         run.memory = 1024 * int(file.read())
-    os.remove(told)
+    os.remove(report)
     return run
 
 
-def build_plain():
-    """The plain program, or None where there is no compiler."""
+def build_plain() -> str | None:
+    """Builds the plain program. Returns `None` if there is no compiler."""
     compiler = shutil.which("g++")
     if compiler is None:
         return None
-    program = os.path.join(OUT, "plain")
-    subprocess.run([compiler, "-O2", "-std=c++17", "-o", program, os.path.join(BENCH, "plain.cpp")], check=True)
+    program = os.path.join(BENCH_OUT, "plain")
+    subprocess.run([compiler, "-O2", "-std=c++17", "-o", program, os.path.join(TOP, "bench", "plain.cpp")], check=True)
     return program
 
 
-def processor_name():
+def processor_name() -> str:
     try:
         with open("/proc/cpuinfo", encoding="utf-8") as file:
             for line in file:
@@ -92,60 +95,61 @@ def processor_name():
                     return line.split(":", 1)[1].strip()
     except OSError:
         pass
-    return "a processor that does not tell its name"
+    return "a processor without a name"
 
 
-def load():
+def load() -> str:
     return " ".join(f"{part:.1f}" for part in os.getloadavg())
 
 
-def milliseconds(seconds):
+def milliseconds(seconds: float) -> str:
     return f"{1000 * seconds:.1f}" if seconds < 0.1 else f"{1000 * seconds:.0f}"
 
 
-def megabytes(number):
+def megabytes(number: int) -> str:
     return f"{number / 1e6:.1f}"
 
 
 class Table:
     """The rows of one scene, and what went wrong in any."""
 
-    def __init__(self, program, plain, runs, tiles):
+    def __init__(self, program: str, plain: str | None, runs: int, tiles: Sequence[int]) -> None:
         self.program, self.plain, self.runs, self.tiles = program, plain, runs, tiles
-        self.wrong = []
+        self.wrong: list[str] = []
 
-    def head(self):
+    def head(self) -> None:
         columns = ["scene", "tile", "1 worker, ms", "2 workers, ms", "4 workers, ms"]
         columns += ["processor ms, 1 and 4", "peak MB, 1, 2 and 4", "plain, ms"]
         print(f"| {' | '.join(columns)} |")
         print("|---" * len(columns) + "|")
 
-    def scene(self, name):
-        source = os.path.join(OUT, f"{name}.json")
+    def scene(self, name: str) -> None:
+        source = os.path.join(BENCH_OUT, f"{name}.json")
         wanted, plain_time = None, "-"
         if self.plain and name not in REFUSED:
-            wanted = os.path.join(OUT, f"{name}.plain.ppm")
+            wanted = os.path.join(BENCH_OUT, f"{name}.plain.ppm")
             self.must_end(Run([self.plain], source, wanted), f"{name}, plain")
             found = best([self.plain], source, self.runs)
             plain_time = milliseconds(found.wall)
         for tile in self.tiles:
             self.row(name, tile, source, wanted, plain_time)
-        for path in (wanted, os.path.join(OUT, "picture.ppm")):
+        for path in (wanted, os.path.join(BENCH_OUT, "picture.ppm")):
             if path and os.path.exists(path):
                 os.remove(path)
 
-    def row(self, name, tile, source, wanted, plain_time):
-        picture = os.path.join(OUT, "picture.ppm")
-        found, peaks = [], []
+    def row(self, name: str, tile: int, source: str, wanted: str | None, plain_time: str) -> None:
+        picture = os.path.join(BENCH_OUT, "picture.ppm")
+        found: list[Run] = []
+        peaks = []
         for workers in WORKERS:
-            words = [self.program, "--tile", str(tile), "--workers", str(workers)]
+            command = [self.program, "--tile", str(tile), "--workers", str(workers)]
             title = f"{name}, tile {tile}, {workers} workers"
-            first = peak_memory(words, source, picture)
+            first = peak_memory(command, source, picture)
             self.must_end(first, title)
             peaks.append(megabytes(first.memory))
             if wanted and not filecmp.cmp(wanted, picture, shallow=False):
                 self.wrong.append(f"{title}: other bytes than the plain program's")
-            found.append(best(words, source, self.runs))
+            found.append(best(command, source, self.runs))
             self.must_end(found[-1], title)
         times = [milliseconds(found[0].wall)]
         times += [f"{milliseconds(run.wall)} ({found[0].wall / run.wall:.2f}x)" for run in found[1:]]
@@ -153,30 +157,18 @@ class Table:
         cells = [name, str(tile), *times, processor, ", ".join(peaks), plain_time]
         print(f"| {' | '.join(cells)} |", flush=True)
 
-    def must_end(self, run, title):
+    def must_end(self, run: Run, title: str) -> None:
         wanted = 1 << 8 if title.startswith(REFUSED) else 0
         if run.status != wanted:
             self.wrong.append(f"{title}: ended with wait status {run.status}")
 
 
-def main():
-    parser = argparse.ArgumentParser(description="Times the program on generated scenes.")
-    parser.add_argument("--program", default=os.path.join(TOP, "bin", "trirast"), help="default bin/trirast")
-    parser.add_argument("--runs", type=int, default=3, help="runs of which the best counts (default 3)")
-    parser.add_argument("--scenes", nargs="+", choices=SCENES, default=SCENES, metavar="NAME", help=", ".join(SCENES))
-    parser.add_argument("--tiles", nargs="+", type=int, choices=TILES, default=TILES, help="tile sides (default all)")
-    words = parser.parse_args()
-    if not os.access(words.program, os.X_OK):
-        print(f"run.py: no program at {words.program}; run make first", file=sys.stderr)
-        return 2
-    os.makedirs(OUT, exist_ok=True)
-    subprocess.run([sys.executable, os.path.join(BENCH, "scenes.py"), *words.scenes], check=True)
-    plain = build_plain()
-    nothing = [shutil.which("true")]
+def print_beginning(runs: int, plain: str | None) -> None:
+    """Prints what the table's numbers are of, and what a process costs here that does nothing."""
+    nothing = [shutil.which("true") or "/bin/true"]
     floor, least = Run(nothing, os.devnull, os.devnull), peak_memory(nothing, os.devnull, os.devnull)
-
     print(f"Machine: {processor_name()}, {os.cpu_count()} processors; load before the run {load()}.")
-    print(f"Best of {words.runs} runs, output thrown away. The ratio is the time with one worker by this one.")
+    print(f"Best of {runs} runs, output thrown away. The ratio is the time with one worker by this one.")
     print("Shared machines are noisy: two calls of this script can differ by a third and more, so compare only what")
     print("stands in one table.")
     costs = f"{milliseconds(floor.wall)} ms and a peak of {megabytes(least.memory)} MB"
@@ -186,12 +178,25 @@ def main():
     else:
         print("There is no g++, so the plain program was not run and no picture was compared.")
     print()
-    table = Table(os.path.abspath(words.program), plain, words.runs, words.tiles)
+
+
+def main() -> int:
+    parser = argparse.ArgumentParser(description="Times the program on generated scenes.")
+    parser.add_argument("--program", default=PROGRAM, help="default bin/trirast")
+    parser.add_argument("--runs", type=int, default=3, help="runs of which the best counts (default 3)")
+    parser.add_argument("--scenes", nargs="+", choices=SCENES, default=SCENES, metavar="NAME", help=", ".join(SCENES))
+    parser.add_argument("--tiles", nargs="+", type=int, choices=TILES, default=TILES, help="tile sizes (default all)")
+    options = parser.parse_args()
+    if not is_built(options.program):
+        return 2
+    scenes.write_all(options.scenes)
+    plain = build_plain()
+    print_beginning(options.runs, plain)
+    table = Table(os.path.abspath(options.program), plain, options.runs, options.tiles)
     table.head()
-    for name in words.scenes:
+    for name in options.scenes:
         table.scene(name)
-    print()
-    print(f"Load after the run {load()}.")
+    print(f"\nLoad after the run {load()}.")
     for line in table.wrong:
         print(line)
     if plain and not table.wrong:

@@ -1,57 +1,61 @@
-#!/usr/bin/env python3
 """Writes the draw lists of the benchmark into bench/out/.
 
-    bench/scenes.py [NAME ..]
+    python3 -m bench.scenes [NAME ..]
 
 Without names it writes all of them. The same names give the same bytes each time. Standard library alone.
 """
+
+from __future__ import annotations
 
 import json
 import math
 import os
 import random
 import sys
+from typing import Any, Iterable, Sequence
 
-FOLDER = os.path.join(os.path.dirname(os.path.abspath(__file__)), "out")
+from tools.draw_list import Draw, DrawList, Vertex, draw
+from tools.places import BENCH_OUT
+from tools.small_pictures import FIRST
 
-MOST_VERTICES = 65536
-MOST_TRIANGLES = 65536
+# Each triangle by its three vertices.
+Triangles = list[list[Vertex]]
+
+MAX_VERTICES = 65536
+MAX_TRIANGLES = 65536
 
 
-def some_colour(pick):
+def some_colour(pick: random.Random) -> list[int]:
     return [pick.randint(0, 255) for _ in range(3)]
 
 
-def vertex(x, y, z, colour, alpha=255):
+def vertex(x: float, y: float, z: int, colour: Sequence[int], alpha: int = 255) -> Vertex:
     """A vertex at x, y in pixels."""
     return [round(256 * x), round(256 * y), z, *colour, alpha]
 
 
-def draws_of(triangles, **state):
+def draws_of(triangles: Triangles, **state: Any) -> list[Draw]:
     """Draws of triangles that share no vertex, as many as the limit of vertices asks for."""
     draws = []
-    step = MOST_VERTICES // 3
+    step = MAX_VERTICES // 3
     for first in range(0, len(triangles), step):
         part = triangles[first : first + step]
         vertices = [corner for triangle in part for corner in triangle]
-        places = [[3 * k, 3 * k + 1, 3 * k + 2] for k in range(len(part))]
-        draws.append({**state, "vertices": vertices, "triangles": places})
+        draws.append(draw(vertices, [(3 * k, 3 * k + 1, 3 * k + 2) for k in range(len(part))], **state))
     return draws
 
 
-def tiny():
-    """The first triangle, on nine pixels: what a run costs beside drawing."""
-    white = (255, 255, 255)
-    triangle = [[128, 128, 0, *white, 255], [640, 128, 0, *white, 255], [128, 640, 0, *white, 255]]
-    return {"width": 3, "height": 3, "draws": [{"vertices": triangle, "triangles": [[0, 1, 2]]}]}
+def tiny() -> DrawList:
+    """The first triangle, on nine pixels: what a run costs besides drawing."""
+    return FIRST
 
 
-def empty():
+def empty() -> DrawList:
     """4096 by 4096 pixels without draws: clearing, resolving and writing 48 MiB."""
     return {"width": 4096, "height": 4096, "draws": []}
 
 
-def large_triangles(name):
+def large_triangles(name: str) -> Triangles:
     """32 triangles, most of them larger than a picture of 1024 by 1024 pixels, with smooth colours and depths."""
     pick = random.Random(name)
     triangles = []
@@ -66,25 +70,25 @@ def large_triangles(name):
     return triangles
 
 
-def smooth():
+def smooth() -> DrawList:
     """Large triangles with smooth colours and depths, four samples, depth test."""
     draws = draws_of(large_triangles("smooth"), depth_test="less", depth_write=True)
     return {"width": 1024, "height": 1024, "samples": 4, "draws": draws}
 
 
-def depths_first():
-    """Such triangles drawn twice: their depths alone, and then their colours where the depth is the stored one."""
+def depths_first() -> DrawList:
+    """Such triangles drawn twice: their depths alone, and then their colours at equal depths."""
     triangles = large_triangles("depths first")
     depths = draws_of(triangles, depth_test="less", depth_write=True, write=[False, False, False])
     draws = depths + draws_of(triangles, depth_test="equal")
     return {"width": 1024, "height": 1024, "samples": 4, "draws": draws}
 
 
-def small():
+def small() -> DrawList:
     """65,536 triangles of about eight pixels each, four samples, depth test."""
     pick = random.Random("small")
     triangles = []
-    for _ in range(MOST_TRIANGLES):
+    for _ in range(MAX_TRIANGLES):
         x, y = pick.uniform(0, 1920), pick.uniform(0, 1080)
         colour, depth = some_colour(pick), pick.randint(0, 65535)
         triangles.append([vertex(x + pick.uniform(-4, 4), y + pick.uniform(-4, 4), depth, colour) for _ in range(3)])
@@ -92,28 +96,31 @@ def small():
     return {"width": 1920, "height": 1080, "samples": 4, "draws": draws}
 
 
-def mesh():
-    """A bent sheet of 65,000 triangles that share their vertices and fill 1920 by 1080 pixels, four samples."""
-    columns, rows = 240, 135
+def bent_sheet(width: int, height: int, cells: tuple[int, int], bend: int, waves: tuple[int, int, int]) -> Draw:
+    """Triangles that share their vertices and fill the picture: columns and rows of cells, bent by this many pixels."""
+    columns, rows = cells
     vertices = []
     for j in range(rows + 1):
         for i in range(columns + 1):
-            x, y = 1920 * i / columns, 1080 * j / rows
-            wave = math.sin(x / 97) * math.cos(y / 71)
-            bent_x, bent_y = x + 3 * wave, y + 3 * math.sin(x / 53)
+            x, y = width * i / columns, height * j / rows
+            wave = math.sin(x / waves[0]) * math.cos(y / waves[1])
             colour = [round(128 + 120 * wave), round(255 * j / rows), round(255 * i / columns)]
+            bent_x, bent_y = x + bend * wave, y + bend * math.sin(x / waves[2])
             vertices.append(vertex(bent_x, bent_y, round(32768 + 30000 * wave), colour))
     triangles = []
-    for j in range(rows):
-        for i in range(columns):
-            here = j * (columns + 1) + i
-            below = here + columns + 1
-            triangles += [[here, here + 1, below], [below, here + 1, below + 1]]
-    draw = {"cull": "back", "depth_test": "less", "depth_write": True, "vertices": vertices, "triangles": triangles}
-    return {"width": 1920, "height": 1080, "samples": 4, "draws": [draw]}
+    for here in [j * (columns + 1) + i for j in range(rows) for i in range(columns)]:
+        below = here + columns + 1
+        triangles += [[here, here + 1, below], [below, here + 1, below + 1]]
+    return draw(vertices, triangles, depth_test="less", depth_write=True)
 
 
-def slivers():
+def mesh() -> DrawList:
+    """A bent sheet of 65,000 triangles that share their vertices and fill 1920 by 1080 pixels, four samples."""
+    sheet = bent_sheet(1920, 1080, (240, 135), 3, (97, 71, 53))
+    return {"width": 1920, "height": 1080, "samples": 4, "draws": [{"cull": "back", **sheet}]}
+
+
+def slivers() -> DrawList:
     """2,048 triangles across the whole picture, each under two pixels wide: large boxes, few samples."""
     pick = random.Random("slivers")
     triangles = []
@@ -125,7 +132,7 @@ def slivers():
     return {"width": 1024, "height": 1024, "samples": 4, "draws": draws_of(triangles)}
 
 
-def blended():
+def blended() -> DrawList:
     """48 half transparent layers over the whole picture, one sample."""
     pick = random.Random("blended")
     triangles = []
@@ -136,7 +143,7 @@ def blended():
     return {"width": 1024, "height": 1024, "draws": draws_of(triangles, blend="over")}
 
 
-def flat_triangles(name, alpha=255):
+def flat_triangles(name: str, alpha: int = 255) -> Triangles:
     """48 triangles larger than the picture, each of one colour and one depth."""
     pick = random.Random(name)
     triangles = []
@@ -149,45 +156,31 @@ def flat_triangles(name, alpha=255):
     return triangles
 
 
-def flat():
+def flat() -> DrawList:
     """48 large triangles of one colour each, four samples: nothing but coverage and stores."""
     return {"width": 1024, "height": 1024, "samples": 4, "draws": draws_of(flat_triangles("flat"))}
 
 
-def flat_depth():
+def flat_depth() -> DrawList:
     """The same with a depth for each triangle and the depth test."""
     draws = draws_of(flat_triangles("flat depth"), depth_test="less", depth_write=True)
     return {"width": 1024, "height": 1024, "samples": 4, "draws": draws}
 
 
-def flat_blended():
+def flat_blended() -> DrawList:
     """The same, half transparent."""
     draws = draws_of(flat_triangles("flat blended", 100), blend="over")
     return {"width": 1024, "height": 1024, "samples": 4, "draws": draws}
 
 
-def large_mesh():
+def large_mesh() -> DrawList:
     """A bent sheet of 65,000 triangles that fills 4096 by 4096 pixels, one sample, depth test: the largest picture."""
-    columns, rows = 180, 180
-    vertices = []
-    for j in range(rows + 1):
-        for i in range(columns + 1):
-            x, y = 4096 * i / columns, 4096 * j / rows
-            wave = math.sin(x / 207) * math.cos(y / 171)
-            colour = [round(128 + 120 * wave), round(255 * j / rows), round(255 * i / columns)]
-            vertices.append(vertex(x + 7 * wave, y + 7 * math.sin(x / 153), round(32768 + 30000 * wave), colour))
-    corners = [j * (columns + 1) + i for j in range(rows) for i in range(columns)]
-    triangles = []
-    for here in corners:
-        below = here + columns + 1
-        triangles += [[here, here + 1, below], [below, here + 1, below + 1]]
-    draw = {"depth_test": "less", "depth_write": True, "vertices": vertices, "triangles": triangles}
-    return {"width": 4096, "height": 4096, "draws": [draw]}
+    return {"width": 4096, "height": 4096, "draws": [bent_sheet(4096, 4096, (180, 180), 7, (207, 171, 153))]}
 
 
-def whole_values():
+def whole_values() -> DrawList:
     """Layers of triangles whose legs are 255 pixels long, with colours from 0 to 255 along them, so that every value is a
-    whole number at every sample: what fixed-point arithmetic with an error cannot tell from the number below."""
+    whole number at every sample: which fixed-point arithmetic with an error mistakes for the number below."""
     layer = []
     for row in range(4):
         for column in range(4):
@@ -197,7 +190,7 @@ def whole_values():
     return {"width": 1024, "height": 1024, "draws": draws_of(12 * layer)}
 
 
-def thin_slivers():
+def thin_slivers() -> DrawList:
     """4,096 triangles under 2/256 pixel wide, smooth and blended: values change too steeply for a plane."""
     pick = random.Random("thin slivers")
     triangles = []
@@ -209,7 +202,7 @@ def thin_slivers():
     return {"width": 1024, "height": 1024, "samples": 4, "draws": draws_of(triangles, blend="over")}
 
 
-def level_rows():
+def level_rows() -> DrawList:
     """24 large triangles whose depth is the same along each row, four samples, depth test."""
     pick = random.Random("level rows")
     triangles = []
@@ -221,14 +214,14 @@ def level_rows():
     return {"width": 1024, "height": 1024, "samples": 4, "draws": draws}
 
 
-def refused_list():
-    """The long list with its last index past the vertices: what is told only at the end."""
+def refused_list() -> DrawList:
+    """The long list with its last index past the vertices: an error that is found only at the end."""
     scene = long_list()
-    scene["draws"][-1]["triangles"][-1][-1] = MOST_VERTICES
+    scene["draws"][-1]["triangles"][-1][-1] = MAX_VERTICES
     return scene
 
 
-def long_list():
+def long_list() -> DrawList:
     """A list of about 40 MB, nearly all of it vertices: reading."""
     pick = random.Random("long")
     draws = []
@@ -236,9 +229,9 @@ def long_list():
         vertices = [
             [pick.randint(-8388608, 8388607), pick.randint(-8388608, 8388607), pick.randint(0, 65535)]
             + [pick.randint(0, 255) for _ in range(4)]
-            for _ in range(MOST_VERTICES)
+            for _ in range(MAX_VERTICES)
         ]
-        triangles = [[pick.randrange(MOST_VERTICES) for _ in range(3)] for _ in range(4)]
+        triangles = [[pick.randrange(MAX_VERTICES) for _ in range(3)] for _ in range(4)]
         draws.append({"blend": "over", "vertices": vertices, "triangles": triangles})
     return {"width": 256, "height": 256, "draws": draws}
 
@@ -264,13 +257,13 @@ SCENES = {
 }
 
 
-def path_of(name):
-    return os.path.join(FOLDER, f"{name}.json")
+def path_of(name: str) -> str:
+    return os.path.join(BENCH_OUT, f"{name}.json")
 
 
-def write(name):
+def write(name: str) -> None:
     """Writes a scene that is not there yet."""
-    os.makedirs(FOLDER, exist_ok=True)
+    os.makedirs(BENCH_OUT, exist_ok=True)
     if os.path.exists(path_of(name)):
         return
     text = json.dumps(SCENES[name](), separators=(",", ":"))
@@ -279,14 +272,20 @@ def write(name):
     os.replace(path_of(name) + ".part", path_of(name))
 
 
-def main():
+def write_all(names: Iterable[str]) -> list[str]:
+    """Writes these scenes, and returns their files."""
+    for name in names:
+        write(name)
+    return [path_of(name) for name in names]
+
+
+def main() -> int:
     names = sys.argv[1:] or list(SCENES)
     unknown = [name for name in names if name not in SCENES]
     if unknown:
         print(f"scenes.py: no scene {unknown[0]}; there are {', '.join(SCENES)}", file=sys.stderr)
         return 2
-    for name in names:
-        write(name)
+    write_all(names)
     return 0
 
 

@@ -1,57 +1,58 @@
-"""A driver's pictures beside the program's, list by list, and what is counted of them.
+"""A driver's pictures compared with the program's, list by list, and what is counted of them.
 
-A renderer is whatever has `picture(scene)`, the bytes of a list's pixels. With four samples the samples are compared
+With four samples the samples are compared
 one by one: a list is drawn with one sample index left in its masks and a black clear, so that the resolved pixel is a
 quarter of that sample's colour. The suites' exact lists have colours of which a quarter is a whole number.
 """
 
+from __future__ import annotations
+
 from collections import Counter
 from dataclasses import dataclass, field
 
-from suites.shapes import each_draw
+from conformance.renderer import Candidate, CannotAsk, Renderer
+from conformance.suites import Suite
+from conformance.suites.shapes import each_draw
+from tools.draw_list import Draw, DrawList
 
 
-class CannotAsk(Exception):
-    """A list that a renderer cannot be asked to draw."""
+def samples_of(scene: DrawList) -> int:
+    return int(scene.get("samples", 1))
 
 
-def samples_of(scene):
-    return scene.get("samples", 1)
-
-
-def only_sample(scene, sample):
+def only_sample(scene: DrawList, sample: int) -> DrawList:
     """The list of one sample index, which the program draws to that sample's colour, or a quarter of it."""
     if samples_of(scene) == 1:
         return scene
 
-    def masked(draw):
+    def masked(draw: Draw) -> Draw:
         return {**draw, "sample_mask": draw.get("sample_mask", 15) & 1 << sample}
 
     return {**each_draw(scene, masked), "clear": [0, 0, 0]}
 
 
-def planes(renderer, scene):
+def planes(renderer: Renderer, scene: DrawList) -> list[bytes]:
     """The pictures of a list's sample indices, one after another."""
     return [renderer.picture(only_sample(scene, sample)) for sample in range(samples_of(scene))]
 
 
-def colour_at(picture, width, place):
+def colour_at(picture: bytes, width: int, place: tuple[int, int]) -> bytes:
     """The colour of the pixel in this column and row of a picture."""
     start = 3 * (place[1] * width + place[0])
     return picture[start : start + 3]
 
 
-def pixels_that_differ(one, other):
+def pixels_that_differ(one: bytes, other: bytes) -> list[int]:
     """The numbers of the pixels of which two pictures have different bytes."""
     if one == other:
         return []
     row = 3 * 64
-    places = []
+    found: list[int] = []
     for first in range(0, len(one), row):
         if one[first : first + row] != other[first : first + row]:
             ends = range(first, min(first + row, len(one)), 3)
-            places += [k // 3 for k in ends if one[k : k + 3] != other[k : k + 3]]
-    return places
+            found += [k // 3 for k in ends if one[k : k + 3] != other[k : k + 3]]
+    return found
 
 
 @dataclass
@@ -59,43 +60,50 @@ class Example:
     """The list of a subject whose worst pixel is shown, the sample that differs there, and both sides' pictures."""
 
     title: str
-    scene: dict
+    scene: DrawList
     sample: int
     pixel: int
-    expected: list
-    drawn: list
+    expected: list[bytes]
+    drawn: list[bytes]
 
 
 @dataclass
 class Tally:
     """What was seen of one subject with one number of samples."""
 
-    suite: object
+    suite: Suite
     samples: int
     lists: int = 0
     compared: int = 0  # samples of exact subjects, channels of the others
     differ: int = 0
-    first: Example = None
-    errors: Counter = field(default_factory=Counter)  # of subjects that are not exact, by size
-    left_out: Counter = field(default_factory=Counter)
+    first: Example | None = None
+    errors: Counter[int] = field(default_factory=Counter)  # of subjects that are not exact, by size
+    left_out: Counter[str] = field(default_factory=Counter)
 
     @property
-    def name(self):
+    def name(self) -> str:
         return f"{self.suite.name}-{self.samples}"
 
     @property
-    def agrees(self):
+    def example(self) -> Example:
+        """The example of a subject that has one."""
+        if self.first is None:
+            raise ValueError(f"no list of {self.name} differs")
+        return self.first
+
+    @property
+    def agrees(self) -> bool:
         return not self.differ
 
 
-def worst(differing):
+def worst(differing: list[list[int]]) -> tuple[int, int]:
     """The sample index and the pixel shown of a list: the first of the pixels with most samples that differ."""
     counts = Counter(pixel for pixels in differing for pixel in pixels)
     pixel = max(counts, key=lambda pixel: (counts[pixel], -pixel))
     return next(sample for sample, pixels in enumerate(differing) if pixel in pixels), pixel
 
 
-def compare_exactly(tally, title, scene, program, driver):
+def compare_exactly(tally: Tally, title: str, scene: DrawList, program: Renderer, driver: Renderer) -> None:
     drawn = planes(driver, scene)
     expected = planes(program, scene)
     differing = [pixels_that_differ(*pair) for pair in zip(expected, drawn)]
@@ -108,7 +116,7 @@ def compare_exactly(tally, title, scene, program, driver):
         tally.first = Example(title, scene, *worst(differing), expected, drawn)
 
 
-def compare_values(tally, title, scene, program, driver):
+def compare_values(tally: Tally, title: str, scene: DrawList, program: Renderer, driver: Renderer) -> None:
     drawn = driver.picture(scene)
     expected = program.picture(scene)
     tally.compared += len(expected)
@@ -121,7 +129,9 @@ def compare_values(tally, title, scene, program, driver):
     tally.errors += errors
 
 
-def compare_suite(suite, samples, program, driver, bits=8, limit=None):
+def compare_suite(
+    suite: Suite, samples: int, program: Renderer, driver: Candidate, bits: int = 8, limit: int | None = None
+) -> Tally:
     """The tally of one subject, or of its first lists, with positions of this number of subpixel bits. A list that the
     driver cannot be asked is left out."""
     tally, driver = Tally(suite, samples), driver.through(suite.viewport)
@@ -132,6 +142,6 @@ def compare_suite(suite, samples, program, driver, bits=8, limit=None):
         try:
             compare(tally, title, scene, program, driver)
             tally.lists += 1
-        except CannotAsk as fault:
-            tally.left_out[str(fault)] += 1
+        except CannotAsk as error:
+            tally.left_out[str(error)] += 1
     return tally

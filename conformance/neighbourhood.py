@@ -1,42 +1,47 @@
 """The pixels around the one where a driver departs from the rules, as a drawing (SVG) and as characters."""
 
-from comparison import colour_at, samples_of
-from suites.shapes import PIXEL, PLACES
+from __future__ import annotations
+
+from typing import Callable
+
+from conformance.comparison import Example, colour_at, samples_of
+from conformance.suites.shapes import PIXEL, PLACES
 
 REACH = 4  # pixels on each side of the worst one
 SCALE = 34  # of a pixel in the drawing
 PALETTE = ("#4c78a8", "#f2a541", "#59a14f", "#b07aa1", "#76b7b2", "#9c755f", "#edc948", "#8c8c8c")
+Pixel = tuple[int, int]  # column and row
 DRAWN_TOO_MUCH, MISSING, OTHER = "#d62728", "#1f3fd6", "#c21fd6"
 
 
 class Window:
     """The pixels that are shown of an example: columns, rows, and the colours that its palette names."""
 
-    def __init__(self, example):
+    def __init__(self, example: Example) -> None:
         self.example, self.width, self.height = example, example.scene["width"], example.scene["height"]
         row, column = divmod(example.pixel, self.width)
         self.columns = range(max(0, column - REACH), min(self.width, column + REACH + 1))
         self.rows = range(max(0, row - REACH), min(self.height, row + REACH + 1))
         self.centre = (column, row)
-        self.names = {}
+        self.names: dict[bytes, str] = {}
 
-    def pixels(self):
+    def pixels(self) -> list[Pixel]:
         return [(column, row) for row in self.rows for column in self.columns]
 
-    def name(self, colour):
-        """A colour of the palette for a triangle's colour; none where nothing is drawn."""
+    def name(self, colour: bytes) -> str:
+        """A colour of the palette for a triangle's colour; `none` if nothing is drawn."""
         if not any(colour):
             return "none"
         return self.names.setdefault(colour, PALETTE[len(self.names) % len(PALETTE)])
 
-    def at(self, x, y):
+    def at(self, x: int, y: int) -> tuple[str, str]:
         """A position in 1/256 pixel as a place of the drawing."""
         left, top = x / PIXEL - self.columns[0], y / PIXEL - self.rows[0]
         return f"{left * SCALE:.2f}", f"{top * SCALE:.2f}"
 
 
-def verdict(expected, drawn):
-    """How a sample's two colours are told: as a character and as a colour."""
+def verdict(expected: bytes, drawn: bytes) -> tuple[str, str]:
+    """How a sample's two colours compare: as a character and as a colour."""
     if expected == drawn:
         return ("#", "#bbbbbb") if any(drawn) else (".", "none")
     if not any(expected):
@@ -44,7 +49,7 @@ def verdict(expected, drawn):
     return ("-", MISSING) if not any(drawn) else ("*", OTHER)
 
 
-def as_characters(example):
+def as_characters(example: Example) -> list[str]:
     """The neighbourhood of the sample that differs, a character for each pixel."""
     window = Window(example)
     planes = example.expected[example.sample], example.drawn[example.sample]
@@ -55,7 +60,7 @@ def as_characters(example):
     return lines
 
 
-def outlines(window):
+def outlines(window: Window) -> list[str]:
     """The triangles that pass the window, and the scissors of their draws."""
     shapes = []
     left, right = PIXEL * window.columns[0], PIXEL * (window.columns[-1] + 1)
@@ -73,7 +78,7 @@ def outlines(window):
     return shapes
 
 
-def dots(window, fill):
+def dots(window: Window, fill: Callable[[int, Pixel], str]) -> list[str]:
     """A dot at each sample of the window; `fill` gives its colour from the sample and the pixel."""
     places = PLACES[samples_of(window.example.scene)]
     shapes = []
@@ -85,7 +90,7 @@ def dots(window, fill):
     return shapes
 
 
-def squares(window, fill):
+def squares(window: Window, fill: Callable[[Pixel], str]) -> list[str]:
     """A square for each pixel of the window; `fill` gives its colour from the pixel."""
     shapes = []
     for column, row in window.pixels():
@@ -95,7 +100,7 @@ def squares(window, fill):
     return shapes
 
 
-def panel(window, title, shapes):
+def panel(window: Window, title: str, shapes: list[str]) -> str:
     width, height = SCALE * len(window.columns), SCALE * len(window.rows)
     x, y = window.at(PIXEL * window.centre[0], PIXEL * window.centre[1])
     mark = f'<rect x="{x}" y="{y}" width="{SCALE}" height="{SCALE}" fill="none" stroke="#000" stroke-width="1.5"/>'
@@ -103,15 +108,15 @@ def panel(window, title, shapes):
     return f"<figure>{drawing}<figcaption>{title}</figcaption></figure>"
 
 
-def coverage_panels(example):
+def coverage_panels(example: Example) -> str:
     """The rules' samples, the driver's, and where they differ."""
     window = Window(example)
     grid, lines = squares(window, lambda _pixel: "#fff"), outlines(window)
 
-    def of(planes):
+    def of(planes: list[bytes]) -> Callable[[int, Pixel], str]:
         return lambda sample, pixel: window.name(colour_at(planes[sample], window.width, pixel))
 
-    def difference(sample, pixel):
+    def difference(sample: int, pixel: Pixel) -> str:
         pair = (colour_at(planes[sample], window.width, pixel) for planes in (example.expected, example.drawn))
         return verdict(*pair)[1]
 
@@ -119,15 +124,15 @@ def coverage_panels(example):
     return "".join(panel(window, title, grid + lines + dots(window, fill)) for title, fill in fills)
 
 
-def value_panels(example):
+def value_panels(example: Example) -> str:
     """The program's pixels, the driver's, and the size of their difference, from white (equal) to red."""
     window = Window(example)
     planes = example.expected[0], example.drawn[0]
 
-    def of(plane):
+    def of(plane: bytes) -> Callable[[Pixel], str]:
         return lambda pixel: "#" + colour_at(plane, window.width, pixel).hex()
 
-    def difference(pixel):
+    def difference(pixel: Pixel) -> str:
         size = max(abs(a - b) for a, b in zip(*(colour_at(plane, window.width, pixel) for plane in planes)))
         light = max(0, 255 - 60 * size)
         return f"rgb(255 {light} {light})"

@@ -1,12 +1,14 @@
 """The measure: bin/trirast as a renderer of draw lists."""
 
-import json
-import subprocess
+from __future__ import annotations
+
+from tools import answers, picture_file
+from tools.draw_list import DrawList, encode
 
 
-def as_bytes(scene):
+def as_bytes(scene: DrawList) -> bytes:
     """A list as the bytes of its file, the same each time."""
-    return json.dumps(scene, separators=(",", ":")).encode() + b"\n"
+    return encode(scene) + b"\n"
 
 
 class Refused(Exception):
@@ -14,15 +16,19 @@ class Refused(Exception):
 
 
 class Program:
-    """A renderer: `picture` gives the bytes of a list's pixels."""
+    """A renderer by a program."""
 
-    def __init__(self, path):
+    def __init__(self, path: str) -> None:
         self.path = self.name = path
 
-    def picture(self, scene):
-        run = subprocess.run([self.path], input=as_bytes(scene), stdout=subprocess.PIPE, stderr=subprocess.PIPE)
-        head = b"P6\n%d %d\n255\n" % (scene["width"], scene["height"])
-        pixels = run.stdout[len(head) :]
-        if run.returncode or not run.stdout.startswith(head) or len(pixels) != 3 * scene["width"] * scene["height"]:
-            raise Refused(run.stderr.decode(errors="replace").strip() or "no picture of the list's size")
-        return pixels
+    def picture(self, scene: DrawList) -> bytes:
+        answer = answers.drawn(self.path, as_bytes(scene))
+        if answer.status != 0:
+            raise Refused(str(answer))
+        try:
+            picture = picture_file.decode(answer.output)
+        except picture_file.NotAPicture as error:
+            raise Refused(str(error)) from None
+        if (picture.width, picture.height, picture.pixel_bytes) != (scene["width"], scene["height"], 3):
+            raise Refused("no picture of the list's size")
+        return picture.pixel_data

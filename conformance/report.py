@@ -1,11 +1,16 @@
 """What was measured, as text and as one HTML file."""
 
+from __future__ import annotations
+
 import html
 from dataclasses import dataclass
-from typing import Callable
+from typing import Callable, Iterable, Iterator, Sequence
 
-from neighbourhood import as_characters, coverage_panels, value_panels
-from suites import LEFT_OUT
+from conformance.comparison import Tally
+from conformance.neighbourhood import as_characters, coverage_panels, value_panels
+from conformance.suites import LEFT_OUT
+
+Row = tuple[str, ...]
 
 STYLE = """
 body { font: 15px/1.45 system-ui, sans-serif; margin: 2em auto; max-width: 72em; padding: 0 1em; color: #222; }
@@ -29,27 +34,27 @@ pixel is the worst.</p>"""
 class Report:
     """All that was measured of a driver."""
 
-    said: list
-    findings: list
-    tallies: list
-    files: dict  # the file of the first list that differs, by a tally's name
+    said: list[tuple[str, str]]
+    findings: list[tuple[str, str, str]]
+    tallies: list[Tally]
+    files: dict[str, str]  # the file of the first list that differs, by a tally's name
 
-    def exact(self):
+    def exact(self) -> list[Tally]:
         return [tally for tally in self.tallies if tally.suite.exact]
 
-    def near(self):
+    def near(self) -> list[Tally]:
         return [tally for tally in self.tallies if not tally.suite.exact]
 
-    def differing(self):
+    def differing(self) -> list[Tally]:
         return [tally for tally in self.exact() if not tally.agrees]
 
-    def samples_compared(self):
+    def samples_compared(self) -> int:
         return sum(tally.compared for tally in self.exact())
 
-    def coverage_agrees(self):
+    def coverage_agrees(self) -> bool:
         return self.samples_compared() > 0 and not self.differing()
 
-    def summary(self):
+    def summary(self) -> str:
         differing = self.differing()
         compared = f"{self.samples_compared():,} samples compared"
         left_out = sum(sum(tally.left_out.values()) for tally in self.tallies)
@@ -60,27 +65,27 @@ class Report:
         if not differing:
             return f"Coverage agrees: {compared}, none differs."
         count = sum(tally.differ for tally in differing)
-        samples = {}
+        samples: dict[str, list[str]] = {}
         for tally in differing:
             samples.setdefault(tally.suite.title, []).append(str(tally.samples))
         names = "; ".join(f"{title} ({' and '.join(counts)})" for title, counts in samples.items())
         return f"Coverage differs: {compared}, {count:,} differ, by subject and samples a pixel: {names}."
 
-    def left_out(self):
+    def left_out(self) -> list[tuple[str, str]]:
         """What was not asked: of OpenGL at all, and of this driver."""
-        refused = {}
+        refused: dict[str, list[str]] = {}
         for tally in self.tallies:
             for why, count in tally.left_out.items():
                 refused.setdefault(why, []).append(f"{tally.name} ({count})")
         return [*LEFT_OUT, *((f"lists of {', '.join(names)}", why) for why, names in refused.items())]
 
 
-def share(tally):
+def share(tally: Tally) -> str:
     """The part that differs, in percent with two digits that count."""
     return f"{100 * tally.differ / tally.compared:.2g} %" if tally.differ else "0"
 
 
-def exact_rows(report):
+def exact_rows(report: Report) -> Iterator[Row]:
     for tally in report.exact():
         first = f"{tally.first.title} ({report.files[tally.name]})" if tally.first else "-"
         numbers = (str(tally.samples), str(tally.lists), f"{tally.compared:,}", f"{tally.differ:,}", share(tally))
@@ -90,14 +95,14 @@ def exact_rows(report):
 BINS = ((0, 0), (1, 1), (2, 2), (3, 3), (4, 15), (16, 63), (64, 255))
 
 
-def histogram(tally):
+def histogram(tally: Tally) -> str:
     """The number of channels by the size of their difference, without the bins that have none."""
     counts = ((low, high, sum(tally.errors[size] for size in range(low, high + 1))) for low, high in BINS)
     named = ((f"{low}" if low == high else f"{low} to {high}", count) for low, high, count in counts if count)
     return ", ".join(f"{size}: {count:,}" for size, count in named)
 
 
-def near_rows(report):
+def near_rows(report: Report) -> Iterator[Row]:
     for tally in report.near():
         greatest = str(max(tally.errors, default=0))
         yield tally.suite.title, str(tally.samples), str(tally.lists), f"{tally.compared:,}", greatest, histogram(tally)
@@ -113,14 +118,14 @@ class Section:
     """A table of the report. A row of which `departs` is true is marked: there the driver does otherwise."""
 
     title: str
-    head: tuple
-    rows: Callable
-    departs: Callable = lambda row: False
+    head: Row
+    rows: Callable[[Report], Iterable[Row]]
+    departs: Callable[[Row], bool] = lambda row: False
 
 
 SECTIONS = (
     Section("What the driver says of itself", (), lambda report: report.said),
-    Section("What its pictures tell", FINDINGS_HEAD, lambda report: report.findings, lambda row: row[1] != row[2]),
+    Section("What its pictures show", FINDINGS_HEAD, lambda report: report.findings, lambda row: row[1] != row[2]),
     Section("Coverage, sample by sample", EXACT_HEAD, exact_rows, lambda row: row[4] != "0"),
     Section("Colours and depths, in 1/255 of a channel", NEAR_HEAD, near_rows),
     Section("Not asked", (), Report.left_out),
@@ -130,8 +135,8 @@ SECTIONS = (
 # ---- Text ----------------------------------------------------------------------------------------------------------
 
 
-def text_table(section, rows):
-    """The lines of a table. A star stands before a row where the driver does otherwise."""
+def text_table(section: Section, rows: Sequence[Row]) -> list[str]:
+    """The lines of a table. A star stands before a row in which the driver does otherwise."""
     marks = [*([" "] if section.head else []), *("*" if section.departs(row) else " " for row in rows)]
     rows = [*([section.head] if section.head else []), *rows]
     widths = [max(map(len, column)) for column in zip(*rows)]
@@ -139,8 +144,8 @@ def text_table(section, rows):
     return [f"{mark} {line}".rstrip() for mark, line in zip(marks, lines)]
 
 
-def text_example(tally, file):
-    first = tally.first
+def text_example(tally: Tally, file: str) -> Iterator[str]:
+    first = tally.example
     row, column = divmod(first.pixel, first.scene["width"])
     yield f"{tally.name}: {first.title}, sample {first.sample}, around pixel ({column}, {row}); list {file}"
     yield "   # equal   . not drawn   + by the driver alone   - missing   * of another triangle"
@@ -149,7 +154,7 @@ def text_example(tally, file):
     yield ""
 
 
-def text(report):
+def text(report: Report) -> str:
     lines = [report.summary(), ""]
     for section in SECTIONS:
         rows = list(section.rows(report))
@@ -163,12 +168,12 @@ def text(report):
 # ---- HTML ----------------------------------------------------------------------------------------------------------
 
 
-def cell(value, tag="td"):
+def cell(value: str, tag: str = "td") -> str:
     kind = ' class="number"' if tag == "td" and value.replace(",", "").isdigit() else ""
     return f"<{tag}{kind}>{html.escape(value)}</{tag}>"
 
 
-def html_table(section, rows):
+def html_table(section: Section, rows: Sequence[Row]) -> str:
     lines = ["<table>"]
     if section.head:
         lines.append(f"<tr>{''.join(cell(name, 'th') for name in section.head)}</tr>")
@@ -178,19 +183,19 @@ def html_table(section, rows):
     return "\n".join([*lines, "</table>"])
 
 
-def html_example(tally, file, panels):
-    first = tally.first
+def html_example(tally: Tally, file: str, panels: str) -> str:
+    first = tally.example
     row, column = divmod(first.pixel, first.scene["width"])
-    told = f"{first.title}, around pixel ({column}, {row}): "
+    place = f"{first.title}, around pixel ({column}, {row}): "
     command = f"bin/trirast < {file}"
     return (
         f'<h3 id="{tally.name}">{html.escape(tally.suite.title)}, samples a pixel: {tally.samples}</h3>'
-        f"<p>{html.escape(told)}<code>{html.escape(command)}</code></p>"
+        f"<p>{html.escape(place)}<code>{html.escape(command)}</code></p>"
         f'<div class="figures">{panels}</div>'
     )
 
 
-def page(report):
+def page(report: Report) -> str:
     """The report as one HTML file that needs no other."""
     kind = "agrees" if report.coverage_agrees() else "differs"
     name = dict(report.said).get("renderer", "driver")
@@ -205,6 +210,6 @@ def page(report):
     if examples:
         parts += ["<h2>Where they differ</h2>", KEY]
     for tally, panels in examples:
-        parts.append(html_example(tally, report.files[tally.name], panels(tally.first)))
+        parts.append(html_example(tally, report.files[tally.name], panels(tally.example)))
     head = f'<meta charset="utf-8"><title>{html.escape(name)}</title><style>{STYLE}</style>'
     return "\n".join([f'<!doctype html><html lang="en"><head>{head}</head><body>', *parts, "</body></html>", ""])

@@ -1,36 +1,38 @@
-#!/usr/bin/env python3
-"""Draws suites of draw lists through the machine's OpenGL driver and through the program, and tells where they differ.
+"""Draws suites of draw lists through the machine's OpenGL driver and through the program, and reports where they differ.
 
-    conformance/run.py [--driver llvmpipe|zink|default] [--suite NAME ..] [--bits N] [--html report.html]
+    python3 -m conformance.run [--driver llvmpipe|zink|default] [--suite NAME ..] [--bits N] [--html report.html]
 
 The report goes to standard output, and the first list of each subject that differs to conformance/out.
-docs/conformance.md says what is asked and what equal means. Python 3.8 or later, standard library alone; EGL and OpenGL
-by ctypes.
+docs/conformance.md says what is asked and what equal means. EGL and OpenGL are called by ctypes.
 
-Exit status 0: coverage agreed. 1: a sample differed. 2: no sample was compared, as where there is no such driver or no
+Exit status 0: coverage agreed. 1: a sample differed. 2: no sample was compared, for example because there is no such driver or no
 program.
 """
+
+from __future__ import annotations
 
 import argparse
 import os
 import sys
+from typing import Sequence
 
-import suites
-from comparison import compare_suite, only_sample
-from driver import MESA, Driver
-from findings import findings
-from gl import Unavailable
-from program import Program, Refused, as_bytes
-from report import Report, page, text
+from conformance import suites
+from conformance.comparison import Tally, compare_suite, only_sample
+from conformance.driver import Driver
+from conformance.findings import findings
+from conformance.program import Program, Refused, as_bytes
+from conformance.renderer import Candidate, Renderer
+from conformance.report import Report, page, text
+from tools.opengl.gl import MESA, Unavailable
+from tools.places import PROGRAM, TOP, is_built
 
-HERE = os.path.dirname(os.path.abspath(__file__))
-TOP = os.path.dirname(HERE)
+LISTS = os.path.join(TOP, "conformance", "out")
 BITS_HELP = "round the lists' positions to N subpixel bits first, for a driver that keeps fewer than 8 (default 8)"
 
 
-def write_list(folder, tally):
+def write_list(folder: str, tally: Tally) -> str:
     """Writes the list of a tally's example, of the one sample index that differs, and gives the file's name."""
-    first = tally.first
+    first = tally.example
     scene = only_sample(first.scene, first.sample) if tally.suite.exact else first.scene
     os.makedirs(folder, exist_ok=True)
     path = os.path.join(folder, f"{tally.name}.json")
@@ -40,40 +42,39 @@ def write_list(folder, tally):
     return path if near.startswith(os.pardir) else near
 
 
-def measure(program, driver, chosen, folder, bits=8):
+def measure(program: Renderer, driver: Candidate, chosen: Sequence[suites.Suite], folder: str, bits: int = 8) -> Report:
     """The report of a driver over these suites."""
     tallies = [compare_suite(suite, samples, program, driver, bits) for suite in chosen for samples in suite.samples]
     files = {tally.name: write_list(folder, tally) for tally in tallies if tally.first}
     return Report(driver.said(), findings(program, driver.through(None)), tallies, files)
 
 
-def arguments():
+def arguments() -> argparse.Namespace:
     names = [suite.name for suite in suites.ALL]
     parser = argparse.ArgumentParser(description="Compares a driver's samples with the program's.")
     parser.add_argument("--driver", choices=("default", *MESA), default="default", help="default: EGL's choice")
     parser.add_argument("--suite", nargs="+", choices=names, default=names, metavar="NAME", help=", ".join(names))
     parser.add_argument("--bits", type=int, choices=range(9), default=8, metavar="N", help=BITS_HELP)
     parser.add_argument("--html", metavar="FILE", help="write the report as one HTML file too")
-    parser.add_argument("--program", default=os.path.join(TOP, "bin", "trirast"), help="default bin/trirast")
-    parser.add_argument("--lists", default=os.path.join(HERE, "out"), metavar="FOLDER", help="default conformance/out")
+    parser.add_argument("--program", default=PROGRAM, help="default bin/trirast")
+    parser.add_argument("--lists", default=LISTS, metavar="FOLDER", help="default conformance/out")
     return parser.parse_args()
 
 
-def main():
-    words = arguments()
-    if not os.access(words.program, os.X_OK):
-        print(f"run.py: no program at {words.program}; run make first", file=sys.stderr)
+def main() -> int:
+    options = arguments()
+    if not is_built(options.program):
         return 2
-    chosen = [suite for suite in suites.ALL if suite.name in words.suite]
+    chosen = [suite for suite in suites.ALL if suite.name in options.suite]
     try:
-        program, driver = Program(os.path.abspath(words.program)), Driver(words.driver)
-        report = measure(program, driver, chosen, words.lists, words.bits)
-    except (Unavailable, Refused) as fault:
-        print(f"run.py: {fault}", file=sys.stderr)
+        program, driver = Program(os.path.abspath(options.program)), Driver(options.driver)
+        report = measure(program, driver, chosen, options.lists, options.bits)
+    except (Unavailable, Refused) as error:
+        print(f"conformance: {error}", file=sys.stderr)
         return 2
     print(text(report))
-    if words.html:
-        with open(words.html, "w", encoding="utf-8") as file:
+    if options.html:
+        with open(options.html, "w", encoding="utf-8") as file:
             file.write(page(report))
     if not report.samples_compared():
         return 2

@@ -1,32 +1,35 @@
-#!/usr/bin/env python3
-"""Tests of the comparison with a driver, without a driver: scripts/reference.py stands on both sides, and on the
-driver's side with a fault planted in it. Each fault must be told under its own subject, and only where it can be seen.
+"""Tests of the comparison with a driver, without a driver: tools/reference.py stands on both sides, and on the
+driver's side one of its mutants. Each mutant must be found under its own subject, and only if it can be seen there.
 
-    conformance/test_conformance.py
+    python3 -m conformance.test_conformance
 """
+
+from __future__ import annotations
 
 import hashlib
 import json
 import os
+import random
 import subprocess
 import sys
 import tempfile
 import unittest
+from typing import Callable
 
-import suites
-from comparison import CannotAsk, Tally, compare_suite, compare_values, only_sample, pixels_that_differ, planes
-from findings import QUESTIONS, findings
-from model import FAULTS, Model
-from neighbourhood import as_characters
-from program import as_bytes
-from report import page, text
-from run import measure
-from suites.shapes import coarser, draw, rectangle, scene
-
-import counts  # this one and the next are found by way of model
-import reference
-
-HERE = os.path.dirname(os.path.abspath(__file__))
+from conformance import suites
+from conformance.comparison import Tally, compare_suite, compare_values, only_sample, pixels_that_differ, planes
+from conformance.findings import QUESTIONS, findings
+from conformance.model import MUTANTS, Model
+from conformance.neighbourhood import as_characters
+from conformance.program import as_bytes
+from conformance.renderer import Candidate, CannotAsk
+from conformance.report import Report, page, text
+from conformance.run import measure
+from conformance.suites.shapes import Lists, coarser, draw, rectangle, scene
+from tools import counts, reference
+from tools.draw_list import DrawList
+from tools.opengl.frames import DrawState, Mesh, Viewport
+from tools.places import TOP
 
 # Their first lists are small enough for the reference renderer. The last four have whole-pixel rectangles alone.
 ABOUT_EDGES = ("top-left", "shared-edges", "slivers", "sample-positions", "subpixel-bits")
@@ -38,13 +41,17 @@ EDGES, BITS, PLACE_OF_ONE, PLACES_OF_FOUR = (question for question, _ask in QUES
 class Remembering:
     """A renderer that draws each list once."""
 
-    def __init__(self, renderer):
-        self.renderer, self.name, self.said, self.drawn = renderer, renderer.name, renderer.said, {}
+    def __init__(self, renderer: Candidate) -> None:
+        self.renderer = renderer
+        self.drawn: dict[bytes, bytes] = {}
 
-    def through(self, _viewport_side):
+    def said(self) -> list[tuple[str, str]]:
+        return self.renderer.said()
+
+    def through(self, _viewport_side: int | None) -> Candidate:
         return self
 
-    def picture(self, scene):
+    def picture(self, scene: DrawList) -> bytes:
         key = as_bytes(scene)
         if key not in self.drawn:
             self.drawn[key] = self.renderer.picture(scene)
@@ -54,22 +61,22 @@ class Remembering:
 class Painted(Model):
     """The model with each byte of its pictures changed."""
 
-    def __init__(self, change):
+    def __init__(self, change: Callable[[int], int]) -> None:
         super().__init__()
         self.change = change
 
-    def picture(self, scene):
+    def picture(self, scene: DrawList) -> bytes:
         return bytes(map(self.change, super().picture(scene)))
 
 
 class Refusing(Model):
     """The model, which cannot be asked for this number of samples."""
 
-    def __init__(self, samples):
+    def __init__(self, samples: int) -> None:
         super().__init__()
         self.samples = samples
 
-    def picture(self, scene):
+    def picture(self, scene: DrawList) -> bytes:
         if scene["samples"] == self.samples:
             raise CannotAsk(f"{self.samples} samples")
         return super().picture(scene)
@@ -78,18 +85,18 @@ class Refusing(Model):
 RULES = Remembering(Model())
 
 
-def differing(renderer):
-    """The names of the tried subjects under which a renderer is told to differ from the rules."""
+def differing(renderer: Candidate) -> set[str]:
+    """The names of the tried subjects under which a renderer differs from the rules."""
     tallies = (compare_suite(suite, n, RULES, renderer, limit=1) for suite in TRIED for n in suite.samples)
     return {tally.name for tally in tallies if not tally.agrees}
 
 
-def readings(renderer):
-    """What pictures tell of a renderer where they tell something else of the rules."""
-    return {question: told for question, rules, told in findings(RULES, renderer) if rules != told}
+def readings(renderer: Candidate) -> dict[str, str]:
+    """What pictures show of a renderer, if they show something else of the rules."""
+    return {question: shown for question, rules, shown in findings(RULES, renderer) if rules != shown}
 
 
-def digest():
+def digest() -> str:
     """A digest of all lists of all suites."""
     sum_of_lists = hashlib.sha256()
     for suite in suites.ALL:
@@ -99,23 +106,23 @@ def digest():
     return sum_of_lists.hexdigest()
 
 
-class Lists(unittest.TestCase):
-    def test_the_same_bytes_in_another_process(self):
-        told = {digest()}
+class SuiteLists(unittest.TestCase):
+    def test_the_same_bytes_in_another_process(self) -> None:
+        found = {digest()}
         for seed in ("1", "2"):
-            words = [sys.executable, "-c", "import test_conformance as t; print(t.digest())"]
-            run = subprocess.run(words, cwd=HERE, env=dict(os.environ, PYTHONHASHSEED=seed), stdout=subprocess.PIPE)
-            told.add(run.stdout.decode().strip())
-        self.assertEqual(len(told), 1)
+            command = [sys.executable, "-c", "from conformance.test_conformance import digest; print(digest())"]
+            run = subprocess.run(command, cwd=TOP, env=dict(os.environ, PYTHONHASHSEED=seed), stdout=subprocess.PIPE)
+            found.add(run.stdout.decode().strip())
+        self.assertEqual(len(found), 1)
 
-    def test_no_list_is_refused(self):
+    def test_no_list_is_refused(self) -> None:
         for suite in suites.ALL:
             for samples in suite.samples:
                 for title, listed in suite.lists(samples):
                     with self.subTest(suite=suite.name, title=title):
                         self.assertEqual(reference.read(as_bytes(listed)).samples, samples)
 
-    def test_positions_of_fewer_bits(self):
+    def test_positions_of_fewer_bits(self) -> None:
         points = [(0, 7), (8, -8), (-9, 24), (8388607, -8388608)]
         listed = scene([draw([[[x, y, 0, 1, 2, 3, 4] for x, y in points[:3]], [[*points[3], 0, 1, 2, 3, 4]] * 3])], 1)
         rounded = [tuple(v[:2]) for v in coarser(listed, 4)["draws"][0]["vertices"][:4]]
@@ -123,7 +130,7 @@ class Lists(unittest.TestCase):
         self.assertEqual(rounded, [(0, 0), (16, 0), (-16, 32), (8388592, -8388608)])
         self.assertEqual(coarser(listed, 8), listed)
 
-    def test_colours_of_exact_lists_survive_the_resolve(self):
+    def test_colours_of_exact_lists_survive_the_resolve(self) -> None:
         for suite in suites.ALL:
             if suite.exact and 4 in suite.samples:
                 colours = {tuple(v[3:6]) for _, l in suite.lists(4) for d in l["draws"] for v in d["vertices"]}
@@ -132,65 +139,98 @@ class Lists(unittest.TestCase):
 
 
 class PlantedFaults(unittest.TestCase):
-    """What is told of each fault, and that nothing else is."""
+    """What is found of each mutant, and that nothing else is."""
 
-    def test_the_rules_themselves_agree(self):
+    def test_the_rules_themselves_agree(self) -> None:
         self.assertEqual(differing(Model()), set())
         self.assertEqual(readings(Model()), {})
 
-    def test_turned_pattern(self):
+    def test_turned_pattern(self) -> None:
         renderer = Remembering(Model("turned pattern"))
-        told = differing(renderer)
-        self.assertIn("sample-positions-4", told)
-        self.assertEqual({name for name in told if name.endswith("-1")}, set())
-        self.assertEqual({name for name in told if name.startswith(ABOUT_STATES)}, set())
+        names = differing(renderer)
+        self.assertIn("sample-positions-4", names)
+        self.assertEqual({name for name in names if name.endswith("-1")}, set())
+        self.assertEqual({name for name in names if name.startswith(ABOUT_STATES)}, set())
         # A quarter of a turn takes (x, y) to (256 - y, x).
         self.assertEqual(readings(renderer), {PLACES_OF_FOUR: "(224, 96), (160, 224), (96, 32), (32, 160)"})
 
-    def test_bottom_right_rule(self):
+    def test_bottom_right_rule(self) -> None:
         renderer = Remembering(Model("bottom-right rule"))
-        told = differing(renderer)
-        self.assertLessEqual({"top-left-1", "top-left-4"}, told)
-        self.assertEqual({name for name in told if name.startswith(ABOUT_STATES)}, set())
-        told = readings(renderer)
-        self.assertEqual(told[EDGES], "right, bottom")
-        self.assertNotIn(BITS, told)
+        names = differing(renderer)
+        self.assertLessEqual({"top-left-1", "top-left-4"}, names)
+        self.assertEqual({name for name in names if name.startswith(ABOUT_STATES)}, set())
+        found = readings(renderer)
+        self.assertEqual(found[EDGES], "right, bottom")
+        self.assertNotIn(BITS, found)
 
-    def test_seven_subpixel_bits(self):
+    def test_seven_subpixel_bits(self) -> None:
         renderer = Remembering(Model("seven subpixel bits"))
-        told = differing(renderer)
-        self.assertIn("subpixel-bits-1", told)
-        self.assertEqual({name for name in told if name.startswith(ABOUT_STATES)}, set())
-        told = readings(renderer)
-        self.assertTrue(told[BITS].startswith("7 "), told)
-        self.assertNotIn(EDGES, told)
+        names = differing(renderer)
+        self.assertIn("subpixel-bits-1", names)
+        self.assertEqual({name for name in names if name.startswith(ABOUT_STATES)}, set())
+        found = readings(renderer)
+        self.assertTrue(found[BITS].startswith("7 "), found)
+        self.assertNotIn(EDGES, found)
 
-    def test_moved_scissor(self):
+    def test_moved_scissor(self) -> None:
         renderer = Remembering(Model("moved scissor"))
         self.assertEqual(differing(renderer), {"scissor-1", "scissor-4"})
         self.assertEqual(readings(renderer), {})
 
-    def test_each_fault_is_tried(self):
+    def test_each_mutant_is_tried(self) -> None:
         tried = {name[5:].replace("_", " ") for name in dir(self) if name.startswith("test_")}
-        self.assertLessEqual({fault.replace("-", " ") for fault in FAULTS}, tried)
+        self.assertLessEqual({mutant.replace("-", " ") for mutant in MUTANTS}, tried)
+
+
+class OpenGl(unittest.TestCase):
+    """What is handed to OpenGL, which needs no driver."""
+
+    CORNERS = [[0, 0, 0, 1, 2, 3, 4], [512, 0, 65535, 5, 6, 7, 8], [512, 512, 0, 0, 0, 0, 0], [0, 512, 0, 0, 0, 0, 0]]
+
+    def test_the_picture_as_viewport(self) -> None:
+        mesh = Mesh({"vertices": self.CORNERS, "triangles": [[0, 1, 2]]}, Viewport.around(2, 2))
+        self.assertEqual(list(mesh.positions), [-1, -1, -1, 1, -1, 1, 1, 1, -1, -1, 1, -1])
+        self.assertEqual(list(mesh.colours)[:8], [1, 2, 3, 4, 5, 6, 7, 8])
+
+    def test_a_viewport_around_the_picture(self) -> None:
+        viewport = Viewport.around(2, 4, 8)
+        self.assertEqual((viewport.left, viewport.top, viewport.width, viewport.height), (-3, -2, 8, 8))
+        self.assertEqual(viewport.clip_coordinates(256, 512), (0, 0))
+        self.assertEqual(viewport.clip_coordinates(-768, 1536), (-1, 1))
+
+    def test_triangles_of_each_kind_of_draw(self) -> None:
+        drawn: dict[str, tuple[list[object], list[int]]] = {
+            "triangles": ([[0, 1, 2]], [0, 1, 2]),
+            "strip": ([0, 1, 3, 2], [0, 1, 3, 1, 2, 3]),
+            "quads": ([[0, 1, 2, 3]], [0, 1, 2, 2, 3, 0]),
+        }
+        for key, (faces, indices) in drawn.items():
+            mesh = Mesh({"vertices": self.CORNERS, key: faces}, Viewport.around(2, 2))
+            self.assertEqual(list(mesh.indices), indices, key)
+
+    def test_states(self) -> None:
+        self.assertEqual(DrawState.of({}), DrawState("none", "always", False, False, (True, True, True), 15, None))
+        state = DrawState.of({"cull": "back", "blend": "over", "depth_test": "less", "depth_write": True, "scissor": [0, 1, 2, 3]})
+        self.assertEqual(state, DrawState("back", "less", True, True, (True, True, True), 15, [0, 1, 2, 3]))
 
 
 class Counting(unittest.TestCase):
-    def test_pixels_that_differ(self):
+    def test_pixels_that_differ(self) -> None:
         one = bytes(3 * 200)
-        for pixels in ([], [0], [63, 64], [199], [1, 130]):
+        cases: list[list[int]] = [[], [0], [63, 64], [199], [1, 130]]
+        for pixels in cases:
             other = bytearray(one)
             for pixel in pixels:
                 other[3 * pixel + pixel % 3] = 1
             self.assertEqual(pixels_that_differ(one, bytes(other)), pixels)
 
-    def test_one_sample_of_a_list(self):
+    def test_one_sample_of_a_list(self) -> None:
         listed = scene([draw(rectangle(0, 0, 1, 1), sample_mask=6)], 4, 2, 1, clear=[9, 9, 9])
         self.assertEqual([only_sample(listed, n)["draws"][0]["sample_mask"] for n in range(4)], [0, 2, 4, 0])
         drawn = bytes((63, 63, 63, 0, 0, 0))  # a quarter of 252, then nothing
         self.assertEqual(planes(Model(), listed), [bytes(6), drawn, drawn, bytes(6)])
 
-    def test_differences_of_values_by_size(self):
+    def test_differences_of_values_by_size(self) -> None:
         listed = scene([draw(rectangle(0, 0, 1, 1, (10, 20, 255)))], 1, 2, 2)
         for change, errors in ((lambda v: v, {0: 12}), (lambda v: min(255, v + 2), {0: 1, 2: 11})):
             tally = Tally(suites.ALL[-1], 1)
@@ -198,12 +238,12 @@ class Counting(unittest.TestCase):
             self.assertEqual(tally.errors, errors)
             self.assertEqual((tally.compared, tally.differ), (12, 12 - errors[0]))
 
-    def test_lists_that_cannot_be_asked(self):
+    def test_lists_that_cannot_be_asked(self) -> None:
         tally = compare_suite(suites.ALL[0], 1, RULES, Refusing(1), limit=3)
         self.assertEqual((tally.lists, tally.compared, sum(tally.left_out.values())), (0, 0, 3))
 
 
-def one_scissor(_rng, samples):
+def one_scissor(_rng: random.Random, samples: int) -> Lists:
     yield "a scissor of 3 by 3 pixels", scene([draw(rectangle(0, 0, 8, 8), scissor=[2, 2, 5, 5])], samples, 8, 8)
 
 
@@ -211,27 +251,27 @@ class Reports(unittest.TestCase):
     SUITE = suites.Suite("one-scissor", "One <scissor>", one_scissor)
     NEAR = suites.Suite("near", "Near", one_scissor, (1,), exact=False)
 
-    def report(self, renderer, folder):
+    def report(self, renderer: Candidate, folder: str) -> Report:
         return measure(RULES, renderer, [self.SUITE, self.NEAR], folder)
 
-    def test_agreement(self):
+    def test_agreement(self) -> None:
         with tempfile.TemporaryDirectory() as folder:
             report = self.report(Model(), folder)
             self.assertTrue(report.coverage_agrees())
             self.assertEqual(os.listdir(folder), [])
             self.assertIn("Coverage agrees: 320 samples compared, none differs.", text(report))
 
-    def test_a_moved_scissor_is_shown(self):
+    def test_a_moved_scissor_is_shown(self) -> None:
         with tempfile.TemporaryDirectory() as folder:
             report = self.report(Model("moved scissor"), folder)
             self.assertFalse(report.coverage_agrees())
             # By the rules columns 2 to 4 of rows 2 to 4 are drawn, by the fault columns 3 to 5: 6 pixels differ.
             self.assertEqual([tally.differ for tally in report.tallies], [6, 24, 18])
-            shown = as_characters(report.tallies[0].first)
+            shown = as_characters(report.tallies[0].example)
             self.assertEqual(shown, ["......."] * 2 + ["..-##+."] * 3 + ["......."] * 2)
             self.assertIn("* One <scissor>", text(report))
 
-    def test_the_list_of_a_difference_shows_it(self):
+    def test_the_list_of_a_difference_shows_it(self) -> None:
         with tempfile.TemporaryDirectory() as folder:
             report = self.report(Model("moved scissor"), folder)
             for name in ("one-scissor-1", "one-scissor-4"):
@@ -240,30 +280,30 @@ class Reports(unittest.TestCase):
                 pictures = Model().picture(listed), Model("moved scissor").picture(listed)
                 self.assertEqual(len(pixels_that_differ(*pictures)), 6)
 
-    def test_the_page_needs_no_other_file(self):
+    def test_the_page_needs_no_other_file(self) -> None:
         with tempfile.TemporaryDirectory() as folder:
-            told = page(self.report(Model("moved scissor"), folder))
+            shown = page(self.report(Model("moved scissor"), folder))
         for word in ("http:", "https:", "src=", "href=", "@import", "url(", "<script"):
-            self.assertNotIn(word, told)
-        self.assertIn("One &lt;scissor&gt;", told)
-        self.assertNotIn("One <scissor>", told)
-        self.assertEqual(told.count("<svg"), 9)  # three pictures of each of three subjects that differ
+            self.assertNotIn(word, shown)
+        self.assertIn("One &lt;scissor&gt;", shown)
+        self.assertNotIn("One <scissor>", shown)
+        self.assertEqual(shown.count("<svg"), 9)  # three pictures of each of three subjects that differ
 
-    def test_no_list_compared_is_no_agreement(self):
+    def test_no_list_compared_is_no_agreement(self) -> None:
         with tempfile.TemporaryDirectory() as folder:
             report = measure(RULES, Model(), [self.NEAR], folder)
             self.assertFalse(report.coverage_agrees())
             self.assertEqual(report.summary(), "Coverage was not tried: 0 samples compared.")
 
-    def test_lists_left_out_are_told(self):
+    def test_lists_left_out_are_reported(self) -> None:
         with tempfile.TemporaryDirectory() as folder:
             report = self.report(Refusing(4), folder)
             self.assertEqual(report.summary(), "Coverage agrees: 64 samples compared, 1 lists left out, none differs.")
             self.assertIn("one-scissor-4 (1)", text(report))
 
-    def test_no_program(self):
-        words = [sys.executable, os.path.join(HERE, "run.py"), "--program", os.path.join(HERE, "no-program")]
-        run = subprocess.run(words, stdout=subprocess.PIPE, stderr=subprocess.PIPE)
+    def test_no_program(self) -> None:
+        command = [sys.executable, "-m", "conformance.run", "--program", "no-program"]
+        run = subprocess.run(command, cwd=TOP, stdout=subprocess.PIPE, stderr=subprocess.PIPE)
         self.assertEqual((run.returncode, run.stdout), (2, b""))
         self.assertIn(b"no program", run.stderr)
 

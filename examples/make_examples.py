@@ -6,31 +6,37 @@
 It gives the same bytes each time. Standard library alone.
 """
 
+from __future__ import annotations
+
 import json
 import math
 import os
+from typing import Any, Callable, Sequence
+
+# The value of a list.
+Scene = dict[str, Any]
 
 PIXEL = 256
 CENTRE = 128
 FOLDER = os.path.dirname(os.path.abspath(__file__))
 
 
-def at(pixels):
+def at(pixels: float) -> int:
     """A coordinate in pixels as one in 1/256 pixel."""
     return round(pixels * PIXEL)
 
 
-def vertex(x, y, colour, alpha=255, z=0):
+def vertex(x: float, y: float, colour: Sequence[int], alpha: int = 255, z: int = 0) -> list[int]:
     """A vertex at x, y in pixels."""
     return [at(x), at(y), z, *colour, alpha]
 
 
-def hue(turn):
+def hue(turn: float) -> list[int]:
     """A bright colour of the colour circle, by the part of a turn."""
     return [round(127.5 + 127.5 * math.cos(2 * math.pi * (turn - third / 3))) for third in range(3)]
 
 
-def rectangle(x0, y0, x1, y1, colours, alpha=255, depths=(0, 0, 0, 0)):
+def rectangle(x0: float, y0: float, x1: float, y1: float, colours: Sequence[Sequence[int]], alpha: int = 255, depths: Sequence[int] = (0, 0, 0, 0)) -> list[list[int]]:
     """Four vertices in the order left top, right top, right bottom, left bottom."""
     corners = ((x0, y0), (x1, y0), (x1, y1), (x0, y1))
     return [vertex(x, y, c, alpha, z) for (x, y), c, z in zip(corners, colours, depths)]
@@ -39,7 +45,7 @@ def rectangle(x0, y0, x1, y1, colours, alpha=255, depths=(0, 0, 0, 0)):
 RECTANGLE = [[0, 1, 2], [2, 3, 0]]
 
 
-def disc(x, y, radius, colour, alpha, spokes=48):
+def disc(x: float, y: float, radius: float, colour: Sequence[int], alpha: int, spokes: int = 48) -> dict[str, Any]:
     """A disc as a fan of triangles round its middle."""
     rim = [2 * math.pi * k / spokes for k in range(spokes)]
     vertices = [vertex(x, y, colour, alpha)]
@@ -47,13 +53,17 @@ def disc(x, y, radius, colour, alpha, spokes=48):
     return {"vertices": vertices, "triangles": [[0, 1 + k, 1 + (k + 1) % spokes] for k in range(spokes)]}
 
 
-def seam():
+def seam() -> Scene:
     """The same fan twice, each triangle half transparent: on the left in one colour, on the right in many."""
     spokes = 40
     radii = [70 + 45 * math.sin(k * 2.4) ** 2 for k in range(spokes)]
     angles = [2 * math.pi * (k + 0.3 * math.sin(5 * k)) / spokes for k in range(spokes)]
     draws = []
-    for middle, colour_of in ((128, lambda k: (255, 255, 255)), (384, lambda k: hue(k * 7 / spokes))):
+    halves: tuple[tuple[int, Callable[[int], Sequence[int]]], ...] = (
+        (128, lambda k: (255, 255, 255)),
+        (384, lambda k: hue(k * 7 / spokes)),
+    )
+    for middle, colour_of in halves:
         vertices, triangles = [], []
         for k in range(spokes):
             colour = colour_of(k)
@@ -66,10 +76,11 @@ def seam():
     return {"width": 512, "height": 256, "clear": [24, 28, 40], "draws": draws}
 
 
-def top_left():
+def top_left() -> Scene:
     """A board of half transparent squares whose corners lie on pixel centres."""
     side, squares = 8, 7
-    vertices, triangles = [], []
+    vertices: list[list[int]] = []
+    triangles: list[list[int]] = []
     for row in range(squares):
         for column in range(squares):
             x, y = 3 + side * column, 3 + side * row
@@ -82,10 +93,11 @@ def top_left():
     return {"width": 64, "height": 64, "clear": [255, 255, 255], "draws": [draw]}
 
 
-def spokes(samples):
+def spokes(samples: int) -> Scene:
     """Thin spokes from the middle outwards."""
     count, middle = 48, 128
-    vertices, triangles = [], []
+    vertices: list[list[int]] = []
+    triangles: list[list[int]] = []
     for k in range(count):
         angle = 2 * math.pi * (k + 0.25) / count
         along, across = (math.cos(angle), math.sin(angle)), (-math.sin(angle), math.cos(angle))
@@ -99,7 +111,7 @@ def spokes(samples):
     return {"width": 256, "height": 256, "samples": samples, "clear": [250, 248, 240], "draws": [draw]}
 
 
-def depth():
+def depth() -> Scene:
     """Three boards that run through one another, drawn with the depth test."""
     near, far = 8000, 56000
     boards = [
@@ -116,7 +128,7 @@ def depth():
     return {"width": 320, "height": 320, "samples": 4, "clear": [20, 22, 30], "draws": draws}
 
 
-def blending():
+def blending() -> Scene:
     """Three half transparent discs, on the left from red to blue, on the right from blue to red."""
     colours = [(230, 40, 40), (40, 180, 70), (40, 80, 230)]
     places = [(128, 95), (95, 150), (161, 150)]
@@ -128,10 +140,10 @@ def blending():
     return {"width": 512, "height": 256, "samples": 4, "clear": [255, 255, 255], "draws": draws}
 
 
-def scissor_and_masks():
+def scissor_and_masks() -> Scene:
     """One coloured board in eight windows: four write masks above, four sample masks below, and a disc in a scissor."""
     colours = [(255, 120, 120), (120, 255, 120), (120, 120, 255), (255, 255, 120)]
-    windows = [{"write": list(w)} for w in
+    windows: list[dict[str, Any]] = [{"write": list(w)} for w in
                ((True, False, False), (False, True, False), (False, False, True), (True, True, False))]
     windows += [{"sample_mask": mask} for mask in (1, 3, 7, 15)]
     draws = []
@@ -143,7 +155,7 @@ def scissor_and_masks():
     return {"width": 396, "height": 204, "samples": 4, "draws": draws}
 
 
-def gradient():
+def gradient() -> Scene:
     """A fan of twelve triangles with a white middle and the colours of the circle on its rim."""
     count = 12
     vertices = [vertex(128, 128, (255, 255, 255))]
@@ -155,10 +167,10 @@ def gradient():
     return {"width": 256, "height": 256, "samples": 4, "clear": [18, 18, 22], "draws": [draw]}
 
 
-def strip():
+def strip() -> Scene:
     """A twisted ribbon as one strip: its front is drawn warm and its back cold, as the strip keeps its orientation."""
     turns, steps = 3, 96
-    vertices = {"back": [], "front": []}
+    vertices: dict[str, list[list[int]]] = {"back": [], "front": []}
     for k in range(steps + 1):
         along = k / steps
         x = 24 + 464 * along
@@ -177,11 +189,15 @@ def strip():
     return {"width": 512, "height": 256, "samples": 4, "clear": [250, 248, 240], "draws": draws}
 
 
-def quads():
+def quads() -> Scene:
     """Two bent grids of half transparent quads, in which no inner diagonal shows."""
     columns, rows = 12, 8
     draws = []
-    for shift, colour_of in ((0, lambda u, v: (40, 90, 160)), (1, lambda u, v: hue(u + v / 3))):
+    grids: tuple[tuple[int, Callable[[float, float], Sequence[int]]], ...] = (
+        (0, lambda u, v: (40, 90, 160)),
+        (1, lambda u, v: hue(u + v / 3)),
+    )
+    for shift, colour_of in grids:
         vertices = []
         for row in range(rows + 1):
             for column in range(columns + 1):
@@ -195,15 +211,15 @@ def quads():
     return {"width": 430, "height": 264, "samples": 4, "clear": [255, 255, 255], "draws": draws}
 
 
-def depth_picture():
+def depth_picture() -> Scene:
     """The boards of depth.json as their depths: the nearer, the darker."""
     scene = depth()
     draws = scene.pop("draws")
     return {**scene, "output": "depth", "draws": draws}
 
 
-def write(name, scene):
-    def line(value):
+def write(name: str, scene: Scene) -> None:
+    def line(value: object) -> str:
         return json.dumps(value, separators=(",", ":"))
 
     top = [f"{line(key)}: {line(value)}" for key, value in scene.items() if key != "draws"]
@@ -216,7 +232,7 @@ def write(name, scene):
         file.write(text)
 
 
-def main():
+def main() -> None:
     write("seam.json", seam())
     write("top_left.json", top_left())
     write("one_sample.json", spokes(1))

@@ -7,8 +7,13 @@ The mesh is turned, projected and lit here, since a draw list holds screen posit
 bytes each time. Standard library alone.
 """
 
+from __future__ import annotations
+
 import json
 import math
+from typing import Any
+
+Vector = tuple[float, ...]
 
 WIDTH, HEIGHT = 640, 480
 ALONG, ROUND = 200, 20
@@ -19,27 +24,27 @@ NEAR, FAR = 4.5, 10.7
 LIGHT = (-0.42, -0.65, -0.63)
 
 
-def add(a, b):
+def add(a: Vector, b: Vector) -> Vector:
     return tuple(x + y for x, y in zip(a, b))
 
 
-def scale(a, factor):
+def scale(a: Vector, factor: float) -> Vector:
     return tuple(x * factor for x in a)
 
 
-def dot(a, b):
+def dot(a: Vector, b: Vector) -> float:
     return sum(x * y for x, y in zip(a, b))
 
 
-def cross(a, b):
+def cross(a: Vector, b: Vector) -> Vector:
     return (a[1] * b[2] - a[2] * b[1], a[2] * b[0] - a[0] * b[2], a[0] * b[1] - a[1] * b[0])
 
 
-def unit(a):
+def unit(a: Vector) -> Vector:
     return scale(a, 1 / math.sqrt(dot(a, a)))
 
 
-def turned(p):
+def turned(p: Vector) -> Vector:
     """Turned a little about the x axis, then about the y axis."""
     x, y, z = p
     cos, sin = math.cos(0.55), math.sin(0.55)
@@ -48,13 +53,13 @@ def turned(p):
     return (cos * x + sin * z, y, cos * z - sin * x)
 
 
-def knot(t):
+def knot(t: float) -> Vector:
     """The middle line of the tube: a trefoil on a torus, t from 0 to a whole turn."""
     distance = 1.35 + 0.62 * math.cos(3 * t)
     return (distance * math.cos(2 * t), distance * math.sin(2 * t), 0.8 * math.sin(3 * t))
 
 
-def frame(t):
+def frame(t: float) -> tuple[Vector, Vector, Vector]:
     """A point of the middle line and two directions across it."""
     here = knot(t)
     ahead = unit(add(knot(t + 1e-3), scale(knot(t - 1e-3), -1)))
@@ -62,11 +67,11 @@ def frame(t):
     return here, outwards, cross(ahead, outwards)
 
 
-def hue(turn):
+def hue(turn: float) -> list[float]:
     return [0.56 + 0.44 * math.cos(2 * math.pi * (turn - shift)) for shift in (0.02, 0.36, 0.64)]
 
 
-def lit(normal, view, turn):
+def lit(normal: Vector, view: Vector, turn: float) -> list[int]:
     """The colour of a point of the tube: ambient, diffuse, and a highlight."""
     light = scale(LIGHT, -1)
     diffuse = max(0.0, -dot(normal, light))
@@ -76,7 +81,7 @@ def lit(normal, view, turn):
     return [min(255, round(255 * (c * (0.16 + 0.84 * diffuse) + 0.75 * highlight + 0.16 * rim))) for c in hue(turn)]
 
 
-def vertex(along, around):
+def vertex(along: int, around: int) -> list[int]:
     here, first, second = frame(2 * math.pi * along / ALONG)
     angle = 2 * math.pi * around / ROUND
     normal = add(scale(first, math.cos(angle)), scale(second, math.sin(angle)))
@@ -91,7 +96,7 @@ def vertex(along, around):
     return [round(256 * x), round(256 * y), max(0, min(65535, round(depth))), *colour, 255]
 
 
-def tube():
+def tube() -> dict[str, Any]:
     vertices = [vertex(along, around) for along in range(ALONG) for around in range(ROUND)]
     triangles = []
     for along in range(ALONG):
@@ -104,14 +109,14 @@ def tube():
     return {"cull": "back", "depth_test": "less", "depth_write": True, "vertices": vertices, "triangles": triangles}
 
 
-def background():
+def background() -> dict[str, Any]:
     corners = [(0, 0, (58, 66, 92)), (WIDTH, 0, (40, 48, 72)), (WIDTH, HEIGHT, (16, 18, 28)), (0, HEIGHT, (24, 26, 38))]
     vertices = [[256 * x, 256 * y, 65535, *colour, 255] for x, y, colour in corners]
     return {"vertices": vertices, "triangles": [[0, 1, 2], [2, 3, 0]]}
 
 
-def main():
-    def line(value):
+def main() -> None:
+    def line(value: object) -> str:
         return json.dumps(value, separators=(",", ":"))
 
     print(f'{{"width":{WIDTH},"height":{HEIGHT},"samples":4,"draws":[')

@@ -1,12 +1,13 @@
 """The lists that a driver is asked, by subject. A seed gives the same lists each time."""
 
+from __future__ import annotations
+
 import random
 from dataclasses import dataclass
-from typing import Callable, Optional
+from typing import Callable
 
-from . import coverage, states, values
-from .shapes import coarser
-
+from conformance.suites import coverage, states, values
+from conformance.suites.shapes import Lists, coarser
 
 # A viewport that holds every vertex of most lists, so that nothing is clipped.
 WIDE = 2048
@@ -22,12 +23,12 @@ class Suite:
 
     name: str
     title: str
-    make: Callable
-    samples: tuple = (1, 4)
+    make: Callable[[random.Random, int], Lists]
+    samples: tuple[int, ...] = (1, 4)
     exact: bool = True
-    viewport: Optional[int] = None
+    viewport: int | None = None
 
-    def lists(self, samples, bits=8):
+    def lists(self, samples: int, bits: int = 8) -> Lists:
         """Pairs of a list's title and the list, its positions rounded to this number of subpixel bits."""
         for title, made in self.make(random.Random(f"{self.make.__name__} {samples}"), samples):
             yield title, made if bits == 8 else coarser(made, bits)
@@ -58,7 +59,7 @@ ALL = (
 LEFT_OUT = (
     ("sample mask with one sample", "OpenGL ignores the mask where a frame has one sample"),
     ("a scissor that runs backwards", "OpenGL takes a width and a height; an empty box stands in its place"),
-    ("positions finer than 1/256 pixel", "a list has none, so more than 8 subpixel bits would be told as 8"),
+    ("positions finer than 1/256 pixel", "a list has none, so more than 8 subpixel bits would be reported as 8"),
     ("a stored depth itself", "it is read through depth tests, on a ladder of flat layers"),
     ("the place of the resolve's rounding", "colours are compared after the resolve, in 1/255 of a channel"),
     ("pictures whose size is no power of two", "a driver's floats would round the positions before it sees them"),

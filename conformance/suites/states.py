@@ -1,25 +1,31 @@
 """What a draw's state makes of covered samples, in flat colours and flat depths, which a driver must hold exactly.
 
 But for one subject, the scissor across slanted edges, all shapes are rectangles of whole pixels. They come out alike
-whatever a driver does at edges, so that each subject tells of its own matter alone.
+whatever a driver does at edges, so that each subject shows its own matter alone.
 """
 
-from .shapes import PIXEL, SIDE, box_of_pixels, draw, each_its_own, own_colour, rectangle, scene
+from __future__ import annotations
+
+import random
+
+from conformance.suites.shapes import (
+    PIXEL, SIDE, Lists, Points, Triangle, box_of_pixels, draw, each_its_own, own_colour, rectangle, scene,
+)
 
 CULLS = ("none", "front", "back")
 TESTS = ("never", "less", "equal", "less_equal", "greater", "not_equal", "greater_equal", "always")
 BACKGROUND = (40, 80, 120)
 
 
-def any_triangle(rng):
+def any_triangle(rng: random.Random) -> Points:
     return [(rng.randrange(PIXEL * SIDE), rng.randrange(PIXEL * SIDE)) for _ in range(3)]
 
 
-def turned(triangle):
+def turned(triangle: Triangle) -> Triangle:
     return [triangle[0], triangle[2], triangle[1]]
 
 
-def culling(rng, samples):
+def culling(rng: random.Random, samples: int) -> Lists:
     for cull in CULLS:
         for n in range(4):
             triangles = []
@@ -29,7 +35,7 @@ def culling(rng, samples):
             yield f"{cull}, {n}", scene([draw(triangles, cull=cull)], samples)
 
 
-def scissor(rng, samples):
+def scissor(rng: random.Random, samples: int) -> Lists:
     for n in range(24):
         draws = []
         for k in range(6):
@@ -38,14 +44,14 @@ def scissor(rng, samples):
         yield f"rectangles, {n}", scene(draws, samples)
 
 
-def scissored_edges(rng, samples):
+def scissored_edges(rng: random.Random, samples: int) -> Lists:
     for n in range(24):
         triangles = each_its_own([any_triangle(rng) for _ in range(6)])
         draws = [draw([triangle], scissor=list(box_of_pixels(rng))) for triangle in triangles]
         yield f"any triangles, {n}", scene(draws, samples)
 
 
-def sample_mask(rng, samples):
+def sample_mask(rng: random.Random, samples: int) -> Lists:
     for mask in range(16):
         draws = [draw(rectangle(*box_of_pixels(rng), own_colour(k)), sample_mask=mask) for k in range(4)]
         yield f"mask {mask}", scene(draws, samples, clear=list(BACKGROUND))
@@ -57,7 +63,7 @@ def sample_mask(rng, samples):
         yield f"any masks, {n}", scene(draws, samples)
 
 
-def depth_tests(rng, samples):
+def depth_tests(rng: random.Random, samples: int) -> Lists:
     """Depths 0, 1, 2 and 65533 to 65535 and their neighbours of a stored depth, by all eight tests."""
     for test in TESTS:
         for stored in (0, 1, 2, 32767, 32768, 65534, 65535):
@@ -69,14 +75,14 @@ def depth_tests(rng, samples):
             yield f"{test}, begun at {stored}", scene(draws, samples, clear_depth=stored)
 
 
-def write_mask(rng, samples):
+def write_mask(rng: random.Random, samples: int) -> Lists:
     for bits in range(8):
         write = [bool(bits >> k & 1) for k in range(3)]
         draws = [draw(rectangle(*box_of_pixels(rng), own_colour(997 * (k + 1))), write=write) for k in range(8)]
         yield f"write {write}", scene(draws, samples, clear=list(BACKGROUND))
 
 
-def order(rng, samples):
+def order(rng: random.Random, samples: int) -> Lists:
     """Many triangles over one another, some of them twice; the last one stands."""
     for n in range(16):
         triangles = []

@@ -1,16 +1,22 @@
 """Colours, blending, depths and resolve: what drivers hold in floating point, and so near the rules and not equal."""
 
-from .shapes import PIXEL, SIDE, box_of_pixels, draw, rectangle, scene, vertex
+from __future__ import annotations
+
+import random
+
+from conformance.suites.shapes import PIXEL, SIDE, Colour, Lists, Triangle, box_of_pixels, draw, rectangle, scene, vertex
+from tools.draw_list import Draw
 
 LAYERS = 256
 LADDER_SIDE = 64
 
 
-def any_colour(rng):
-    return tuple(rng.getrandbits(8) for _ in range(3))
+def any_colour(rng: random.Random) -> Colour:
+    red, green, blue = (rng.getrandbits(8) for _ in range(3))
+    return red, green, blue
 
 
-def any_shaded(rng, alpha=None):
+def any_shaded(rng: random.Random, alpha: int | None = None) -> Triangle:
     """A triangle with another colour at each vertex, some of them far larger than the picture."""
     reach = rng.choice((0, 0, 64, 512))
     low, high = -PIXEL * reach, PIXEL * (SIDE + reach)
@@ -18,12 +24,12 @@ def any_shaded(rng, alpha=None):
     return [vertex(p, any_colour(rng), alpha=rng.getrandbits(8) if alpha is None else alpha) for p in corners]
 
 
-def colours(rng, samples):
+def colours(rng: random.Random, samples: int) -> Lists:
     for n in range(24):
         yield f"colours, {n}", scene([draw([any_shaded(rng, 255) for _ in range(8)])], samples)
 
 
-def blending(rng, samples):
+def blending(rng: random.Random, samples: int) -> Lists:
     for n in range(8):
         triangles = []
         for _ in range(16):
@@ -34,9 +40,9 @@ def blending(rng, samples):
         yield f"any alpha, {n}", scene([draw(triangles, blend="over")], samples, clear=list(any_colour(rng)))
 
 
-def ladder(first, stride):
+def ladder(first: int, stride: int) -> list[Draw]:
     """Layers over the whole picture at rising depths; the last one that is not behind a stored depth stays, so that the
-    picture tells the depth."""
+    picture shows the depth."""
     draws = []
     for layer in range(LAYERS):
         triangles = rectangle(0, 0, LADDER_SIDE, LADDER_SIDE, (layer,) * 3, first + layer * stride)
@@ -44,7 +50,7 @@ def ladder(first, stride):
     return draws
 
 
-def depths(rng, samples):
+def depths(rng: random.Random, samples: int) -> Lists:
     """A slanted plane of depths, and a ladder of flat layers that makes its depths visible as shades of grey."""
     for first, stride in ((0, 1), (32000, 1), (65280, 1), (0, 256)):
         for n in range(3):
@@ -55,7 +61,7 @@ def depths(rng, samples):
             yield name, scene(draws, samples, LADDER_SIDE, LADDER_SIDE, clear_depth=first)
 
 
-def resolve(rng, samples):
+def resolve(rng: random.Random, samples: int) -> Lists:
     """Whole pixels, each of whose samples has a colour of its own."""
     for n in range(12):
         draws = []

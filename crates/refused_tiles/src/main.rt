@@ -1,6 +1,6 @@
 //! A store that is used again after want of memory. The tiles of a draw list from standard input are drawn one after another in
 //! one store, and each is compared with the plain program's picture; where memory is refused for a tile, the next one is drawn all
-//! the same. It prints how many tiles were right, wrong and refused. `scripts/refuse_memory.py` refuses it each growth in turn.
+//! the same. It prints how many tiles were right, wrong and refused. `tools/refuse_memory.py` refuses it each growth in turn.
 #![tactic(auto)]
 
 ghost use Rattle.std.specs.Prelude.{◌≤◌, length};

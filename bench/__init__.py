@@ -1,0 +1,1 @@
+"""Benchmarks: scenes, and the programs that are timed on them."""

@@ -1,0 +1,1 @@
+"""The comparison of an OpenGL driver with the program, sample by sample."""

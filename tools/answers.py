@@ -1,0 +1,41 @@
+"""The program's answer to a draw list, and the answer that the rules name."""
+
+from __future__ import annotations
+
+import subprocess
+from typing import NamedTuple, Sequence
+
+from tools import reference
+
+MAX_SECONDS = 60
+
+
+class Answer(NamedTuple):
+    """How a run ended: its exit status, what it wrote to standard output, and what to standard error.
+
+    The status is `None` if the run did not end in time.
+    """
+
+    status: int | None
+    output: bytes
+    line: bytes
+
+    def __str__(self) -> str:
+        return f"status {self.status} {self.line.decode(errors='replace').strip()!r}"
+
+
+def drawn(program: str, text: bytes, arguments: Sequence[str] = (), seconds: int = MAX_SECONDS) -> Answer:
+    """Runs a program on a list."""
+    try:
+        done = subprocess.run([program, *arguments], input=text, capture_output=True, timeout=seconds)
+    except subprocess.TimeoutExpired:
+        return Answer(None, b"", b"no answer in time")
+    return Answer(done.returncode, done.stdout, done.stderr)
+
+
+def expected(text: bytes) -> Answer:
+    """The answer of the reference renderer."""
+    try:
+        return Answer(0, reference.render(reference.read(text)), b"")
+    except reference.ListFault as error:
+        return Answer(1, b"", str(error).encode() + b"\n")

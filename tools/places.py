@@ -1,0 +1,47 @@
+"""Where things of the repository lie, and how the tools read them."""
+
+from __future__ import annotations
+
+import glob
+import os
+import sys
+
+TOP = os.path.dirname(os.path.dirname(os.path.abspath(__file__)))
+OUT = os.path.join(TOP, "out")
+EXAMPLES = os.path.join(TOP, "examples")
+
+# What `make` and `make checks` build.
+PROGRAM = os.path.join(TOP, "bin", "trirast")
+TILES_PROGRAM = os.path.join(TOP, "bin", "refused_tiles")
+READER_PROGRAM = os.path.join(TOP, "bin", "list_bench")
+# What `make frames` and `make model` build.
+FRAMES_PROGRAM = os.path.join(TOP, "crates", "frames", "out", "frames")
+BENCH_OUT = os.path.join(TOP, "bench", "out")
+MODEL_PROGRAM = os.path.join(BENCH_OUT, "model")
+
+
+def text_of(*path: str) -> str:
+    """The text of a file, named from the top of the repository."""
+    with open(os.path.join(TOP, *path), encoding="utf-8") as file:
+        return file.read()
+
+
+def bytes_of(*path: str) -> bytes:
+    """The bytes of a file, named from the top of the repository."""
+    with open(os.path.join(TOP, *path), "rb") as file:
+        return file.read()
+
+
+def files(*pattern: str) -> list[str]:
+    """The files of a pattern, sorted, each named from the top of the repository; `**` stands for any folders."""
+    paths = glob.glob(os.path.join(TOP, *pattern), recursive=True)
+    return sorted(os.path.relpath(path, TOP) for path in paths)
+
+
+def is_built(*programs: str, made_by: str = "make") -> bool:
+    """Whether these programs are there. If one is not, names it on standard error, with the command that makes it."""
+    for program in programs:
+        if not os.access(program, os.X_OK):
+            print(f"there is no program at {program}; run {made_by} first", file=sys.stderr)
+            return False
+    return True
