@@ -15,7 +15,6 @@ use Rattle.shade.specs.Placed.{channel}
 use Rattle.shade.specs.declared.placed.Placed.{Placed}
 use Rattle.lanes.specs.declared.plane.Plane.{Plane}
 use Rattle.lanes.specs.declared.attribute_plane.AttributePlane.{AttributePlane}
-use Rattle.lanes.specs.declared.depth_plane.DepthPlane.{DepthPlane}
 use Rattle.lanes.specs.declared.colour_planes.ColourPlanes.{ColourPlanes}
 use Rattle.lanes.specs.declared.colour_planes.ColourSlopes.{ColourSlopes}
 
@@ -70,9 +69,6 @@ IsSlopeOf t values s = IsSlope t.tri.a t.tri.b t.tri.c (slice_index values 0) (s
 pub record IsChannelSlope (t : Placed) (k : ℕ) (s : Slope) : Type 0 where
   pub slope : IsSlopeOf t (channel t k) s
   pub bytes : AreBytes (channel t k)
-
-abbrev pub IsDepthPlane : Placed → DepthPlane → Type 0
-IsDepthPlane t p = IsAttributePlane 16 t.tri.a t.tri.b t.tri.c t.z p.depth
 
 -- A channel has a plane where the draw reads it: red, green and blue where they are written, and alpha where it is blended.
 pub record AreColourPlanes (t : Placed) (p : ColourPlanes) : Type 0 where

@@ -1,8 +1,7 @@
 pub mod Block
 pub mod BlockMask
 pub mod Lanes
-pub mod Sources
-pub mod Mode
+pub mod Fragments
 pub mod Candidate
 pub mod Modulo
 pub mod Reciprocal

@@ -52,15 +52,6 @@ impl AttributePlane {
         }
     }
 
-    /// A plane that nobody reads.
-    #[inline(always)]
-    pub(crate) fn none() -> AttributePlane {
-        AttributePlane {
-            plane: Plane::none(),
-            lanes: u32x16::splat(0),
-        }
-    }
-
     /// The candidates at the group of sixteen samples that starts at (x, y).
     #[inline(always)]
     pub(crate) fn candidates(&self, x: i32, y: i32) -> u32x16

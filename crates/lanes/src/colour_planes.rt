@@ -59,19 +59,19 @@ pub(crate) struct ColourSlopes {
 impl ColourSlopes {
     ghost use Rattle.lanes.specs.AttributePlane.{AreColourSlopes, AreBounded, AreLevel};
 
-    /// The slopes of a triangle's channels where they are asked for: of red, green and blue where they are written, and of alpha
-    /// where it is blended.
+    /// The slopes of a triangle's channels that its draw reads: of red, green and blue where they are written, and of alpha where it
+    /// is blended.
     #[inline(always)]
-    pub(crate) fn of_used(used: bool, placed: &Placed) -> ColourSlopes
-        ensures slopes { IsTrue used → AreColourSlopes placed.now result }
+    pub(crate) fn of(placed: &Placed) -> ColourSlopes
+        ensures slopes { AreColourSlopes placed.now result }
         ensures bounded { AreBounded result }
     {
         let merge = placed.state.merge;
         ColourSlopes {
-            red: channel_slope(used && merge.write[0], placed, 0),
-            green: channel_slope(used && merge.write[1], placed, 1),
-            blue: channel_slope(used && merge.write[2], placed, 2),
-            alpha: channel_slope(used && merge.over, placed, 3),
+            red: channel_slope(merge.write[0], placed, 0),
+            green: channel_slope(merge.write[1], placed, 1),
+            blue: channel_slope(merge.write[2], placed, 2),
+            alpha: channel_slope(merge.over, placed, 3),
         }
     }
 
@@ -127,17 +127,6 @@ impl ColourPlanes {
             green: AttributePlane::new(&slopes.green, reciprocal, 24),
             blue: AttributePlane::new(&slopes.blue, reciprocal, 24),
             alpha: AttributePlane::new(&slopes.alpha, reciprocal, 24),
-        }
-    }
-
-    /// Planes that nobody reads.
-    #[inline(always)]
-    pub(crate) fn none() -> ColourPlanes {
-        ColourPlanes {
-            red: AttributePlane::none(),
-            green: AttributePlane::none(),
-            blue: AttributePlane::none(),
-            alpha: AttributePlane::none(),
         }
     }
 

@@ -8,15 +8,16 @@ ghost use Rattle.shade.specs.declared.placed.Placed.{Placed as Triangle};
 ghost use Rattle.shade.specs.Placed.{IsInterpolated, IsDrawnAt};
 ghost use Rattle.lanes.specs.Block.{stored_at, position_in};
 ghost use Rattle.lanes.specs.Group.{IsGroupOnScreen};
-ghost use Rattle.lanes.specs.Sources.{IsDepthOf, IsColourOf};
+ghost use Rattle.lanes.specs.Fragments.{AreFragmentsOf};
 
 use crate::blend::over_lanes;
 use crate::block_samples::BlockSamples;
+use crate::depth::Depth;
+use crate::fragments::Fragments;
 use crate::lane_bytes::{narrow, widen};
 use crate::lane_mask::{both, choose, choose_bytes, is_clear};
 use crate::merging::passes_lanes;
-use crate::sources::{ColourSource, DepthSource};
-use shade::{Merge, Placed};
+use shade::Merge;
 use std::simd::prelude::*;
 
 /// A written channel, where the mask is set.
@@ -96,11 +97,10 @@ fn test_depths(merge: &Merge, mask: u16x16, z: u16x16, stored: &mut [u16], at: u
     passed
 }
 
-/// The same by where the depths come from; the first of the samples is at (x, y).
+/// The same with the depths of a triangle's fragments; the first of the samples is at (x, y).
 #[inline(always)]
 fn test_depths_of(
-    source: &DepthSource<'_>,
-    merge: &Merge,
+    fragments: &Fragments<'_>,
     mask: u16x16,
     x: i32,
     y: i32,
@@ -109,32 +109,29 @@ fn test_depths_of(
 ) -> u16x16
     requires room { at + 16 ≤ length stored.old }
     requires on_screen { IsGroupOnScreen (record { x = x; y = y }) }
-    ensures set { (t : Triangle) (i z : ℕ) → IsDepthOf t source.now → t.state.merge ≡ merge.now → i < 16 → slice_index mask i ≡ 65535 → Covers t.tri.a t.tri.b t.tri.c (position_in (record { x = x; y = y }) i)
+    ensures set { (t : Triangle) (i z : ℕ) → AreFragmentsOf t fragments.now → i < 16 → slice_index mask i ≡ 65535 → Covers t.tri.a t.tri.b t.tri.c (position_in (record { x = x; y = y }) i)
         → IsInterpolated t (position_in (record { x = x; y = y }) i) t.z z
-        → IsTested merge.now z (slice_index stored.old (at + i)) (slice_index stored.new (at + i)) (slice_index result i) }
+        → IsTested fragments.now.merge z (slice_index stored.old (at + i)) (slice_index stored.new (at + i)) (slice_index result i) }
     ensures clear { (i : ℕ) → i < 16 → slice_index mask i ≡ 0 → (slice_index result i ≡ 0) × (slice_index stored.new (at + i) ≡ slice_index stored.old (at + i)) }
     ensures elsewhere { (k : ℕ) → (k < at) ⊎ (at + 16 ≤ k) → slice_index stored.new k ≡ slice_index stored.old k }
     ensures room { length stored.new ≡ length stored.old }
 {
-    match source {
-        DepthSource::Unused => mask,
-        DepthSource::Flat(z) => test_depths(merge, mask, u16x16::splat(*z), stored, at),
-        DepthSource::Plane(placed, plane) => test_depths(
-            merge,
-            mask,
-            plane.values(placed, x, y),
-            stored,
-            at,
-        ),
+    let merge = &fragments.merge;
+    match fragments.depth {
+        Depth::Unused => mask,
+        Depth::Flat(z) => test_depths(merge, mask, u16x16::splat(z), stored, at),
+        Depth::Plane(plane) => {
+            let placed = fragments.placed;
+            let depths = plane.values(&placed.tri, placed.z, 16, x, y);
+            test_depths(merge, mask, depths, stored, at)
+        }
     }
 }
 
 /// Draws the triangle at sixteen samples of a block from a place on, where the mask is set; the first of them is at (x, y).
 #[inline(always)]
 pub(crate) fn draw_group(
-    merge: &Merge,
-    depth: &DepthSource<'_>,
-    colour: &ColourSource<'_>,
+    fragments: &Fragments<'_>,
     mask: u16x16,
     x: i32,
     y: i32,
@@ -143,17 +140,18 @@ pub(crate) fn draw_group(
 )
     requires room { at + 16 ≤ 64 }
     requires on_screen { IsGroupOnScreen (record { x = x; y = y }) }
-    ensures set { (t : Triangle) (i : ℕ) → t.state.merge ≡ merge.now → IsDepthOf t depth.now → IsColourOf t colour.now → i < 16 → slice_index mask i ≡ 65535
+    ensures set { (t : Triangle) (i : ℕ) → AreFragmentsOf t fragments.now → i < 16 → slice_index mask i ≡ 65535
         → Covers t.tri.a t.tri.b t.tri.c (position_in (record { x = x; y = y }) i)
         → IsDrawnAt t (position_in (record { x = x; y = y }) i) (stored_at samples.old (at + i)) (stored_at samples.new (at + i)) }
     ensures clear { (i : ℕ) → i < 16 → slice_index mask i ≡ 0 → stored_at samples.new (at + i) ≡ stored_at samples.old (at + i) }
     ensures elsewhere { (k : ℕ) → (k < at) ⊎ (at + 16 ≤ k) → stored_at samples.new k ≡ stored_at samples.old k }
 {
-    let drawn = test_depths_of(depth, merge, mask, x, y, &mut samples.z, at);
+    let merge = &fragments.merge;
+    let drawn = test_depths_of(fragments, mask, x, y, &mut samples.z, at);
     if is_clear(drawn) {
         return;
     }
-    let c = colour.values(merge, x, y);
+    let c = fragments.colours(x, y);
     draw_channel(
         merge.write[0],
         merge.over,

@@ -73,16 +73,6 @@ impl Plane {
         }
     }
 
-    /// A plane that nobody reads.
-    #[inline(always)]
-    pub(crate) fn none() -> Plane {
-        Plane {
-            start: 0,
-            across: 0,
-            down: 0,
-        }
-    }
-
     /// The numerator of a slope as a plane.
     pub(crate) fn of_numerator(slope: Slope, area: u64) -> Plane
         ensures { IsNumeratorPlane area slope result }

@@ -2,8 +2,8 @@
 ghost use Rattle.std.specs.Prelude.{IsTrue, pos, ◌≤ℤ◌, ◌<ℤ◌};
 ghost use Rattle.lanes.specs.Group.{IsGroupOnScreen};
 
+use crate::attribute_plane::AttributePlane;
 use crate::colour_planes::{ColourPlanes, ColourSlopes};
-use crate::depth_plane::DepthPlane;
 use crate::reciprocal::Reciprocal;
 use crate::slope::Slope;
 use crate::test_support::{GREATEST, GREATEST_TURNED, everywhere, triangle};
@@ -64,12 +64,12 @@ fn agrees(rt: &impl Abort, t: &Placed, (x, y): (i32, i32)) -> Option<bool> {
     assert!(rt; t.tri.area2() != 0);
     let reciprocal = Reciprocal::of(t.tri.area2().unsigned_abs());
     let slope = Slope::of(&t.tri, t.z);
-    let slopes = ColourSlopes::of_used(true, t);
+    let slopes = ColourSlopes::of(t);
     if !slope.is_level(reciprocal, 48) || !slopes.are_level(reciprocal) {
         return None;
     }
-    let depths = DepthPlane::new(&slope, reciprocal)
-        .values(t, x, y)
+    let depths = AttributePlane::new(&slope, reciprocal, 16)
+        .values(&t.tri, t.z, 16, x, y)
         .to_array();
     let colours = ColourPlanes::new(&slopes, reciprocal).values(t, &t.state.merge, x, y);
     let (reds, greens) = (colours.r.to_array(), colours.g.to_array());
