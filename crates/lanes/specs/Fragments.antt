@@ -1,11 +1,11 @@
 -- How depth and colour of a triangle are found at its samples.
-use Rattle.std.specs.Prelude.{◌≡◌, ℕ, true, false, List, [], ◌∷◌, slice_index}
+use Rattle.std.specs.Prelude.{◌≡◌, ℕ, ◌<◌, true, false, List, [], ◌∷◌, slice_index}
 use Rattle.shade.specs.declared.depth.DepthTest.TheVariants.{Always}
 use Rattle.shade.specs.declared.placed.Placed.{Placed}
 use Rattle.shade.specs.declared.sample.Merge.{Merge}
-use Rattle.shade.specs.Merging.{Writes}
 use Rattle.shade.specs.Placed.{channel}
-use Rattle.lanes.specs.AttributePlane.{IsAttributePlane, AreColourPlanes}
+use Rattle.lanes.specs.AttributePlane.{IsAttributePlane}
+use Rattle.lanes.specs.Channels.{Reads, AreColourPlanes}
 use Rattle.lanes.specs.declared.attribute_plane.AttributePlane.{AttributePlane}
 use Rattle.lanes.specs.declared.depth.Depth.{Depth}
 use Rattle.lanes.specs.declared.depth.Depth.TheVariants.{Unused, Flat, Plane}
@@ -34,15 +34,11 @@ IsDepthOf t Q Unused = NeedsNoDepth t
 IsDepthOf t Q (Flat z) = IsFlat t.z z
 IsDepthOf t Q (Plane p) = Q p
 
--- The vertices have the same red, green and blue where they are written, and the same alpha where it is blended.
-pub record IsFlatColour (t : Placed) (rgba : List ℕ) : Type 0 where
-  pub red : Writes t.state.merge 0 → IsFlat (channel t 0) (slice_index rgba 0)
-  pub green : Writes t.state.merge 1 → IsFlat (channel t 1) (slice_index rgba 1)
-  pub blue : Writes t.state.merge 2 → IsFlat (channel t 2) (slice_index rgba 2)
-  pub alpha : t.state.merge.over ≡ true → IsFlat (channel t 3) (slice_index rgba 3)
+-- In each channel that the draw reads the three vertices have the same.
+abbrev pub IsFlatColour : Placed → List ℕ → Type 0
+IsFlatColour t rgba = (k : ℕ) → k < 4 → Reads t.state.merge k → IsFlat (channel t k) (slice_index rgba k)
 
--- The triangle's colour in the channels that are written, and its alpha where it is blended, are found so, where Q holds of their
--- planes.
+-- The triangle's channels that the draw reads are found so, where Q holds of their planes.
 abbrev pub IsColourOf : {P : Type 0} → Placed → (P → Type 0) → Colour P → Type 0
 IsColourOf t Q (colour.Flat rgba) = IsFlatColour t rgba
 IsColourOf t Q (colour.Planes p) = Q p

@@ -1,6 +1,7 @@
 pub mod Block
 pub mod BlockMask
 pub mod Lanes
+pub mod Channels
 pub mod Fragments
 pub mod Candidate
 pub mod Modulo

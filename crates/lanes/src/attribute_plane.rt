@@ -25,7 +25,7 @@ use grid::Tri;
 use std::simd::prelude::*;
 
 /// One attribute of a triangle, made ready for sixteen samples at once.
-#[derive(Clone, Copy, Debug)]
+#[derive(Clone, Copy)]
 pub(crate) struct AttributePlane {
     /// The attribute in fixed point.
     plane: Plane,

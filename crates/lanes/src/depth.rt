@@ -10,7 +10,7 @@ use crate::slope::Slope;
 use shade::{DepthTest, Placed};
 
 /// How the depth of a triangle is found at its samples, by a plane `P` or a reference to one.
-#[derive(Clone, Copy, Debug)]
+#[derive(Clone, Copy)]
 pub(crate) enum Depth<P> {
     /// Each depth passes and none is stored, so it is not needed.
     Unused,

@@ -1,18 +1,15 @@
 //! The fragments of a triangle at sixteen samples at once: two rows of eight pixels.
-ghost use Rattle.std.specs.Prelude.{◌≡◌, ◌≤◌, ◌<◌, ℕ, true, length, slice_index};
-ghost use Rattle.std.specs.Simd.Lanes.{Each1};
-ghost use Rattle.grid.specs.Triangle.{Covers};
+ghost use Rattle.std.specs.Prelude.{◌≡◌};
 ghost use Rattle.shade.specs.declared.placed.Placed.{Placed as Triangle};
-ghost use Rattle.shade.specs.Placed.{channel, IsInterpolated};
-ghost use Rattle.shade.specs.Merging.{Writes};
-ghost use Rattle.lanes.specs.Block.{position_in};
+ghost use Rattle.lanes.specs.Channels.{AreBytesOfChannels, AreColoursOf};
 ghost use Rattle.lanes.specs.Group.{IsGroupOnScreen};
 
 use crate::attribute_plane::AttributePlane;
 use crate::colour::{Colour, flat_colours};
-use crate::colour_planes::{ColourPlanes, Colours};
+use crate::colour_planes::colours;
 use crate::depth::Depth;
 use shade::{Merge, Placed};
+use std::simd::prelude::*;
 
 /// What the fragments of a triangle are made of, and how they are merged. Its parts are copied, so that what they are is known
 /// where the code is inlined.
@@ -21,31 +18,23 @@ pub(crate) struct Fragments<'a> {
     pub(crate) placed: &'a Placed,
     pub(crate) merge: Merge,
     pub(crate) depth: Depth<&'a AttributePlane>,
-    pub(crate) colour: Colour<&'a ColourPlanes>,
+    pub(crate) colour: Colour<&'a [AttributePlane; 4]>,
 }
 
 impl<'a> Fragments<'a> {
     ghost use Rattle.lanes.specs.Fragments.{AreFragmentsOf};
 
-    /// The colours at sixteen samples, the first of which is at (x, y), each at most 255: right wherever the triangle covers the
-    /// sample, in what the merge of its draw reads.
+    /// The colours at sixteen samples, the first of which is at (x, y): right wherever the triangle covers the sample, in the
+    /// channels that its draw reads.
     #[inline(always)]
-    pub(crate) fn colours(&self, x: i32, y: i32) -> Colours
+    pub(crate) fn colours(&self, x: i32, y: i32) -> [u16x16; 4]
         requires { IsGroupOnScreen (record { x = x; y = y }) }
-        ensures length { (length result.r ≡ 16) × (length result.g ≡ 16) × (length result.b ≡ 16) × (length result.a ≡ 16) }
-        ensures bytes { Each1 (λ n. n ≤ 255) result.r × Each1 (λ n. n ≤ 255) result.g × Each1 (λ n. n ≤ 255) result.b × Each1 (λ n. n ≤ 255) result.a }
-        ensures red { (t : Triangle) (i : ℕ) → AreFragmentsOf t self.now → Writes self.now.merge 0 → i < 16 → Covers t.tri.a t.tri.b t.tri.c (position_in (record { x = x; y = y }) i)
-            → IsInterpolated t (position_in (record { x = x; y = y }) i) (channel t 0) (slice_index result.r i) }
-        ensures green { (t : Triangle) (i : ℕ) → AreFragmentsOf t self.now → Writes self.now.merge 1 → i < 16 → Covers t.tri.a t.tri.b t.tri.c (position_in (record { x = x; y = y }) i)
-            → IsInterpolated t (position_in (record { x = x; y = y }) i) (channel t 1) (slice_index result.g i) }
-        ensures blue { (t : Triangle) (i : ℕ) → AreFragmentsOf t self.now → Writes self.now.merge 2 → i < 16 → Covers t.tri.a t.tri.b t.tri.c (position_in (record { x = x; y = y }) i)
-            → IsInterpolated t (position_in (record { x = x; y = y }) i) (channel t 2) (slice_index result.b i) }
-        ensures alpha { (t : Triangle) (i : ℕ) → AreFragmentsOf t self.now → self.now.merge.over ≡ true → i < 16 → Covers t.tri.a t.tri.b t.tri.c (position_in (record { x = x; y = y }) i)
-            → IsInterpolated t (position_in (record { x = x; y = y }) i) (channel t 3) (slice_index result.a i) }
+        ensures bytes { AreBytesOfChannels result }
+        ensures each { (t : Triangle) → AreFragmentsOf t self.now → AreColoursOf t (record { x = x; y = y }) result }
     {
         match self.colour {
             Colour::Flat(rgba) => flat_colours(rgba),
-            Colour::Planes(planes) => planes.values(self.placed, &self.merge, x, y),
+            Colour::Planes(planes) => colours(planes, self.placed, &self.merge, x, y),
         }
     }
 
@@ -68,7 +57,7 @@ impl<'a> Fragments<'a> {
     pub(crate) fn with_colour(
         &self,
         merge: Merge,
-        colour: Colour<&'a ColourPlanes>,
+        colour: Colour<&'a [AttributePlane; 4]>,
     ) -> Fragments<'a>
         requires merge { merge ≡ self.now.merge }
         requires colour { colour ≡ self.now.colour }

@@ -1,5 +1,5 @@
 //! Sixteen samples of a block drawn at once: two rows of eight pixels.
-ghost use Rattle.std.specs.Prelude.{◌≡◌, ◌⊎◌, ℕ, true, if◌then◌else◌, ◌+◌, ◌<◌, ◌≤◌, length, slice_index};
+ghost use Rattle.std.specs.Prelude.{◌≡◌, ◌⊎◌, ℕ, true, if◌then◌else◌, ◌+◌, ◌<◌, ◌≤◌, length, slice_index, slice_index_or, false};
 ghost use Rattle.std.specs.Simd.Lanes.{Each1};
 ghost use Rattle.grid.specs.Triangle.{Covers};
 ghost use Rattle.shade.specs.Blend.{IsBlended};
@@ -8,6 +8,7 @@ ghost use Rattle.shade.specs.declared.placed.Placed.{Placed as Triangle};
 ghost use Rattle.shade.specs.Placed.{IsInterpolated, IsDrawnAt};
 ghost use Rattle.lanes.specs.Block.{stored_at, position_in};
 ghost use Rattle.lanes.specs.Group.{IsGroupOnScreen};
+ghost use Rattle.lanes.specs.Channels.{lanes_of, AreBytesOfChannels};
 ghost use Rattle.lanes.specs.Fragments.{AreFragmentsOf};
 
 use crate::blend::over_lanes;
@@ -36,28 +37,29 @@ fn drawn_lanes(over: bool, mask: u16x16, s: u16x16, a: u16x16, d: u8x16) -> u8x1
     choose_bytes(mask, new, d)
 }
 
-/// A channel of stored samples, where the mask is set.
+/// A channel of stored samples, where the mask is set: red, green or blue, which are the channels 0 to 2.
 #[inline(always)]
 fn draw_channel(
-    written: bool,
-    over: bool,
+    merge: &Merge,
+    number: usize,
     mask: u16x16,
-    s: u16x16,
-    a: u16x16,
+    colours: &[u16x16; 4],
     stored: &mut [u8],
     at: usize,
 )
+    requires number { number < 3 }
     requires room { at + 16 ≤ length stored.old }
-    requires bytes { Each1 (λ n. n ≤ 255) s × Each1 (λ n. n ≤ 255) a }
+    requires bytes { AreBytesOfChannels colours.now }
     ensures set { (i : ℕ) → i < 16 → slice_index mask i ≡ 65535
-        → IsBlended written over (slice_index s i) (slice_index a i) (slice_index stored.old (at + i)) (slice_index stored.new (at + i)) }
+        → IsBlended (slice_index_or merge.now.write number false) merge.now.over (slice_index (lanes_of colours.now number) i) (slice_index (lanes_of colours.now 3) i) (slice_index stored.old (at + i)) (slice_index stored.new (at + i)) }
     ensures clear { (i : ℕ) → i < 16 → slice_index mask i ≡ 0 → slice_index stored.new (at + i) ≡ slice_index stored.old (at + i) }
     ensures elsewhere { (k : ℕ) → (k < at) ⊎ (at + 16 ≤ k) → slice_index stored.new k ≡ slice_index stored.old k }
     ensures room { length stored.new ≡ length stored.old }
 {
-    if written {
+    if merge.write[number] {
         let old = u8x16::from_slice(&stored[at..]);
-        drawn_lanes(over, mask, s, a, old).copy_to_slice(&mut stored[at..]);
+        let new = drawn_lanes(merge.over, mask, colours[number], colours[3], old);
+        new.copy_to_slice(&mut stored[at..]);
     }
 }
 
@@ -151,32 +153,8 @@ pub(crate) fn draw_group(
     if is_clear(drawn) {
         return;
     }
-    let c = fragments.colours(x, y);
-    draw_channel(
-        merge.write[0],
-        merge.over,
-        drawn,
-        c.r,
-        c.a,
-        &mut samples.r,
-        at,
-    );
-    draw_channel(
-        merge.write[1],
-        merge.over,
-        drawn,
-        c.g,
-        c.a,
-        &mut samples.g,
-        at,
-    );
-    draw_channel(
-        merge.write[2],
-        merge.over,
-        drawn,
-        c.b,
-        c.a,
-        &mut samples.b,
-        at,
-    );
+    let colours = fragments.colours(x, y);
+    draw_channel(merge, 0, drawn, &colours, &mut samples.r, at);
+    draw_channel(merge, 1, drawn, &colours, &mut samples.g, at);
+    draw_channel(merge, 2, drawn, &colours, &mut samples.b, at);
 }

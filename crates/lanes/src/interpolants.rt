@@ -1,26 +1,24 @@
 ghost use Rattle.std.specs.Prelude.{◌≡◌, pos, IfSome};
-ghost use Rattle.std.specs.Int.RustNames.{unsigned_abs};
 ghost use Rattle.grid.specs.Triangle.{doubled_area};
 
 use crate::attribute_plane::AttributePlane;
 use crate::colour::{Colour, by_planes, without_planes};
-use crate::colour_planes::ColourPlanes;
 use crate::depth::{Depth, by_plane, without_plane};
 use crate::fragments::Fragments;
-use crate::reciprocal::Reciprocal;
+use crate::reciprocal::{Reciprocal, area_of};
 use shade::Placed;
 use std::marker::Model;
 
 /// How a triangle is drawn at sixteen samples at once.
-#[derive(Clone, Copy, Debug)]
+#[derive(Clone, Copy)]
 pub(crate) struct FastPath {
     pub(crate) depth: Depth<AttributePlane>,
-    pub(crate) colour: Colour<ColourPlanes>,
+    pub(crate) colour: Colour<[AttributePlane; 4]>,
 }
 
 /// A triangle made ready to be drawn: how its depth, its colour and its alpha change from pixel to pixel, which is found once for
 /// all its samples (attribute setup). Contracts see the triangle.
-#[derive(Debug, Drop)]
+#[derive(Drop)]
 pub struct Interpolants {
     pub(crate) placed: Placed,
     /// `None` if a value changes too fast from pixel to pixel for a plane: the samples are drawn one after another.
@@ -39,14 +37,6 @@ impl Model for Interpolants {
     ghost invariant = { λ i. IfSome i.fast_path (IsFastPathOf i.placed) };
 }
 
-/// The doubled area of a triangle that has one, with its reciprocal.
-fn reciprocal(placed: &Placed) -> Reciprocal
-    requires { ¬ (doubled_area placed.now.tri.a placed.now.tri.b placed.now.tri.c ≡ pos 0) }
-    ensures { result.area ≡ unsigned_abs (doubled_area placed.now.tri.a placed.now.tri.b placed.now.tri.c) }
-{
-    Reciprocal::of(placed.tri.area2().unsigned_abs())
-}
-
 impl FastPath {
     ghost use Rattle.lanes.specs.Fragments.{IsFastPathOf, AreFragmentsOf};
 
@@ -60,7 +50,7 @@ impl FastPath {
         if let (Some(depth), Some(colour)) = (flat, plain) {
             return Some(FastPath { depth, colour });
         }
-        let reciprocal = reciprocal(placed);
+        let reciprocal = Reciprocal::of(area_of(&placed.tri));
         let depth = match flat {
             Some(depth) => depth,
             None => by_plane(placed, reciprocal)?,

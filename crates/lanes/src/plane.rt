@@ -9,7 +9,7 @@ use crate::slope::Slope;
 use std::simd::prelude::*;
 
 /// An attribute in fixed point, modulo 2^64, as a plane over x and y.
-#[derive(Clone, Copy, Debug)]
+#[derive(Clone, Copy)]
 pub(crate) struct Plane {
     start: u64,
     across: i64,

@@ -7,7 +7,7 @@ use grid::Tri;
 
 /// An attribute's numerator, which is the attribute times the size of the doubled area: `first` times that size at (x, y), growing
 /// by `across` and `down` with 1/256 pixel of x and of y.
-#[derive(Clone, Copy, Debug)]
+#[derive(Clone, Copy)]
 pub(crate) struct Slope {
     pub(crate) first: u16,
     pub(crate) x: i32,

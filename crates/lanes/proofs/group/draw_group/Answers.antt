@@ -1,4 +1,4 @@
-use Rattle.std.proofs.Common.{refl, w32}
+use Rattle.std.proofs.Common.{refl, arith, w32}
 use Rattle.std.proofs.lemmas.Int.{to_z-of_z}
 use Rattle.lanes.specs.Block.{position_in}
 use Rattle.lanes.proofs.Groups.{combined, undrawn}
@@ -17,11 +17,13 @@ returns-clause-set c t i f l set covered =
     let x = to_z-of_z w32 c.args.x c.ranges.x in
     let y = to_z-of_z w32 c.args.y c.ranges.y in
     let p = position_in (record { x = c.args.x; y = c.args.y }) i in
-    let v = c.colours-c.ensures in
+    let v = c.colours-colours.ensures in
     combined t p c.args.fragments.now.merge _ _ _ _ _ _ _ f.merge_of covered
     (λ z value. c.test_depths_of-drawn.ensures.set t i z f l set (rw (x, y) covered) (rw (x, y) value))
-    (λ writes. rw (x, y) at (v.red t i f writes l (rw (x, y) covered))) (λ writes. rw (x, y) at (v.green t i f writes l (rw (x, y) covered)))
-    (λ writes. rw (x, y) at (v.blue t i f writes l (rw (x, y) covered))) (λ over. rw (x, y) at (v.alpha t i f over l (rw (x, y) covered)))
+    (λ writes. rw (x, y) at (v.each t f 0 (omega arith) (rw f.merge_of writes) i l (rw (x, y) covered)))
+    (λ writes. rw (x, y) at (v.each t f 1 (omega arith) (rw f.merge_of writes) i l (rw (x, y) covered)))
+    (λ writes. rw (x, y) at (v.each t f 2 (omega arith) (rw f.merge_of writes) i l (rw (x, y) covered)))
+    (λ over. rw (x, y) at (v.each t f 3 (omega arith) (rw f.merge_of over) i l (rw (x, y) covered)))
     (record { set = c.draw_channel.ensures.set i l; clear = c.draw_channel.ensures.clear i l })
     (record { set = c.draw_channel-2.ensures.set i l; clear = c.draw_channel-2.ensures.clear i l })
     (record { set = c.draw_channel-3.ensures.set i l; clear = c.draw_channel-3.ensures.clear i l })
