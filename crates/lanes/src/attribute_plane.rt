@@ -25,7 +25,7 @@ use grid::Tri;
 use std::simd::prelude::*;
 
 /// One attribute of a triangle, made ready for sixteen samples at once.
-#[derive(Clone, Copy, Debug)]
+#[derive(Clone, Copy)]
 pub(crate) struct AttributePlane {
     /// The attribute in fixed point.
     plane: Plane,
@@ -49,15 +49,6 @@ impl AttributePlane {
         AttributePlane {
             plane,
             lanes: plane.lanes(),
-        }
-    }
-
-    /// A plane that nobody reads.
-    #[inline(always)]
-    pub(crate) fn none() -> AttributePlane {
-        AttributePlane {
-            plane: Plane::none(),
-            lanes: u32x16::splat(0),
         }
     }
 

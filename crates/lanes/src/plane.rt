@@ -9,7 +9,7 @@ use crate::slope::Slope;
 use std::simd::prelude::*;
 
 /// An attribute in fixed point, modulo 2^64, as a plane over x and y.
-#[derive(Clone, Copy, Debug)]
+#[derive(Clone, Copy)]
 pub(crate) struct Plane {
     start: u64,
     across: i64,
@@ -70,16 +70,6 @@ impl Plane {
             start,
             across,
             down,
-        }
-    }
-
-    /// A plane that nobody reads.
-    #[inline(always)]
-    pub(crate) fn none() -> Plane {
-        Plane {
-            start: 0,
-            across: 0,
-            down: 0,
         }
     }
 
