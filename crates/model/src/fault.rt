@@ -1,3 +1,4 @@
+use grid::OutOfMemory;
 use std::alloc::AllocError;
 
 /// What is wrong with a draw list.
@@ -17,7 +18,7 @@ pub enum ReadKind {
     BadIndex,
     /// There are more draws, vertices or triangles than a draw list may have.
     TooMany,
-    /// A growth of memory was refused.
+    /// An allocation failed.
     OutOfMemory,
     /// A draw has more than one list of primitives.
     TwoLists,
@@ -83,6 +84,41 @@ impl From<AllocError> for ReadKind {
 
     fn from(_refused: AllocError) -> ReadKind {
         ReadKind::OutOfMemory
+    }
+}
+
+impl From<ReadKind> for ReadFault {
+    ghost use Rattle.std.specs.Prelude.{◌≡◌};
+    ghost use Rattle.model.specs.Checks.{outside as told_outside};
+
+    ghost from_gives = { λ kind fault. fault ≡ told_outside kind };
+
+    fn from(kind: ReadKind) -> ReadFault {
+        ReadFault::outside(kind)
+    }
+}
+
+impl From<AllocError> for ReadFault {
+    ghost use Rattle.std.specs.Prelude.{◌≡◌};
+    ghost use Rattle.model.specs.Checks.{outside as told_outside};
+    ghost use Rattle.model.specs.declared.fault.ReadKind.TheVariants.{OutOfMemory};
+
+    ghost from_gives = { λ _ fault. fault ≡ told_outside OutOfMemory };
+
+    fn from(_refused: AllocError) -> ReadFault {
+        ReadFault::outside(ReadKind::OutOfMemory)
+    }
+}
+
+impl From<OutOfMemory> for ReadFault {
+    ghost use Rattle.std.specs.Prelude.{◌≡◌};
+    ghost use Rattle.model.specs.Checks.{outside as told_outside};
+    ghost use Rattle.model.specs.declared.fault.ReadKind.TheVariants.{OutOfMemory};
+
+    ghost from_gives = { λ _ fault. fault ≡ told_outside OutOfMemory };
+
+    fn from(_refused: OutOfMemory) -> ReadFault {
+        ReadFault::outside(ReadKind::OutOfMemory)
     }
 }
 

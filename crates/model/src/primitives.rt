@@ -34,8 +34,8 @@ pub fn quads_count(quads: usize) -> usize
     2 * quads
 }
 
-/// Whether each of these numbers names one of so many vertices.
-fn name_vertices(numbers: &[u32], vertices: usize) -> bool
+/// Whether each of these numbers is that of one of `vertices` vertices.
+pub fn name_vertices(numbers: &[u32], vertices: usize) -> bool
     ensures { IsTrue result ↔ All (λ k. k < vertices) numbers.now }
 {
     numbers.iter().all(|number| (*number as usize) < vertices)
