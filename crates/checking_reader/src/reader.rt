@@ -38,7 +38,7 @@ fn numbered_draw(
     read_draw(alloc, value, picture, earlier).map_err(|kind| ReadFault::in_draw(kind, number))
 }
 
-/// The draws on a picture of these pixels. Each fault tells its draw.
+/// The draws on a picture of these pixels. Each fault names its draw.
 fn draws_of(alloc: Global, list: &[Value], picture: PixelBox) -> Result<Vec<Draw>, ReadFault>
     requires { length list.now ≤ 1024 }
     ensures told { let items = items_view list.now in ReadsAll (draws_checks 0 0 items)
@@ -83,7 +83,7 @@ fn kind_of(error: &Error) -> ReadKind
     }
 }
 
-/// Reads a draw list from JSON through `serde_json`'s tree of values, and tells faults as `read` does.
+/// Reads a draw list from JSON through `serde_json`'s tree of values, and returns the faults that `read` returns.
 pub fn read_by_value(alloc: Global, bytes: &[u8]) -> Result<DrawList, ReadFault>
     requires { length bytes.now ≤ MOST_BYTES }
     ensures ok { IfOk result (Denotes bytes.now) }

@@ -19,7 +19,7 @@ fn has_minus(bytes: &[u8]) -> bool
     !bytes.is_empty() && bytes[0] == b'-'
 }
 
-/// The number that digits write. None where another byte stands there, and of many digits.
+/// The number that digits write. Returns `None` for no digits, for another byte among them, and for many digits.
 #[inline(always)]
 fn value_of(digits: &[u8]) -> Option<i64>
     ensures { IfSome result (λ z. (z ≡ pos (digits_value 10 digits.now)) × AllDigits 10 digits.now
@@ -38,7 +38,7 @@ fn value_of(digits: &[u8]) -> Option<i64>
     Some(value as i64)
 }
 
-/// The whole number that `serde_json` reads from a number's text. None of a fraction, of `-0`, and of some with many digits.
+/// The integer that `serde_json` reads from a number's text. Returns `None` for a fraction, for `-0`, and for some with many digits.
 #[inline(always)]
 fn whole_of(text: &str) -> Option<i64>
     ensures { IfSome result (λ z. option_and_then as_integer (number_of text.now) ≡ Some z) }
@@ -51,7 +51,7 @@ fn whole_of(text: &str) -> Option<i64>
     if size > 0 { Some(0 - size) } else { None }
 }
 
-/// Takes a whole number.
+/// Takes an integer.
 fn take_whole(reader: &mut Reader<'_>) -> Option<i64>
     ensures { IfSome result (λ z. Took 0 IsNumber reader.old z reader.new) }
 {
@@ -61,7 +61,7 @@ fn take_whole(reader: &mut Reader<'_>) -> Option<i64>
     }
 }
 
-/// Takes a whole number from `low` to `high`.
+/// Takes an integer from `low` to `high`.
 pub(super) fn take_between(reader: &mut Reader<'_>, low: i64, high: i64) -> Option<i64>
     ensures { IfSome result (λ z. Took 0 (λ d z. IsWhole low high (Some d) z) reader.old z reader.new) }
 {
@@ -73,7 +73,7 @@ pub(super) fn take_between(reader: &mut Reader<'_>, low: i64, high: i64) -> Opti
     }
 }
 
-/// Takes a whole number of 32 bits.
+/// Takes an integer of 32 bits.
 pub(super) fn take_i32(reader: &mut Reader<'_>) -> Option<i32>
     ensures { IfSome result (λ z. Took 0 IsNumber reader.old z reader.new) }
 {
@@ -120,7 +120,7 @@ pub(super) fn take_sample_mask(reader: &mut Reader<'_>) -> Option<u8>
     Some(take_between(reader, 0, i64::from(ALL_SAMPLES))? as u8)
 }
 
-/// Takes how many samples a pixel has.
+/// Takes the number of samples of a pixel.
 pub(super) fn take_sample_count(reader: &mut Reader<'_>) -> Option<SampleCount>
     ensures { IfSome result (λ n. Took 0 (λ d n. IsSampleCount (Some d) n) reader.old n reader.new) }
 {

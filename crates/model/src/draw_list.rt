@@ -132,7 +132,7 @@ impl DrawList {
         self.target.height
     }
 
-    /// How many samples a pixel has.
+    /// The number of samples of a pixel.
     pub fn count(&self) -> SampleCount
         ensures { result ≡ self.now.count }
     {
@@ -153,7 +153,7 @@ impl DrawList {
         self.target.output
     }
 
-    /// How many triangles all draws have together.
+    /// The number of triangles of all draws together.
     pub fn triangles(&self) -> usize
         ensures value { result ≡ length self.now.triangles }
         ensures greatest { result ≤ 65536 }

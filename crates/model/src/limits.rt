@@ -6,7 +6,7 @@ use crate::draw::Draw;
 /// The greatest width and height of a picture, in pixels.
 pub const MOST_PIXELS: u32 = 4096;
 
-/// The most bytes that are read: 64 MiB. It is the number in the contract of `list::read`.
+/// The most bytes that are read: 64 MiB. The contract of `list::read` has it as a number.
 pub const MOST_BYTES: usize = 67_108_864;
 
 /// The most draws of a draw list.
