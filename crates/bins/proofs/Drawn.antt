@@ -1,10 +1,9 @@
 -- The triangles of a bin, which make of a sample what all triangles make.
-use Rattle.std.proofs.Common.{◌≡◌, inl, inr, refl, sym, ◌∙◌, ℕ, zero, suc, ◌+◌, ◌-◌, ◌<◌, ◌≤◌, List, [], ◌∷◌, map, length, take, drop, get_or, slice_get, slice_index, Some, arith}
+use Rattle.std.proofs.Common.{◌≡◌, inl, inr, refl, sym, ◌∙◌, ℕ, zero, suc, ◌+◌, ◌-◌, ◌<◌, ◌≤◌, List, length, take, slice_get, slice_index, Some, arith}
 use Rattle.std.specs.List.Sorted.{IsStrictlyIncreasing}
-use Rattle.std.proofs.lemmas.List.{take_all, drop_all, drop_more}
+use Rattle.std.proofs.lemmas.List.{take_all}
 use Rattle.std.proofs.lemmas.Bool.{cases_lt}
 use Rattle.std.proofs.lemmas.Grind.{get_or_default_zero}
-use Rattle.std.proofs.lemmas.Option.{slice_get-get_or}
 use Rattle.grid.specs.Pixels.{IsInBox}
 use Rattle.grid.specs.Samples.{count_of}
 use Rattle.grid.specs.declared.pixels.PixelBox.{PixelBox}
@@ -83,24 +82,3 @@ bin_at_sample l r i j s bin inside is_sample h = record {
   numbers = h.numbers;
   whole = λ n t e meets. h.whole n t e (record { column = i; row = j; sample = s; is_sample = is_sample; inside = inside; meets = meets });
 }
-
--- what the triangles of the bin make of the sample, one after another, is what all triangles make of it
-module _ (l : Scene) (i j s : ℕ) (bin : List ℕ) (h : IsBin l (λ t. Meets t l.count i j s) bin) (d : Placed) where
-  abbrev triangle : ℕ → Placed
-  triangle n = get_or l.triangles n d
-
-  rest_drawn : (many b : ℕ) (sample end : Sample) → many + b ≡ length bin → HasDrawn l i j s bin b sample → Ends (map triangle (drop b bin)) l.count i j s sample end → IsEnd l i j s end
-  rest_drawn zero b sample end e drawn ends =
-      let gone : drop b bin ≡ [] = drop_all b bin (omega arith) in
-      let ended : end ≡ sample = rw gone at ends in
-      rw ended (all_drawn l i j s bin h b sample drawn (omega arith))
-  rest_drawn (suc many) b sample end e drawn ends =
-      let below : b < length bin = omega arith in
-      let number : slice_index bin b < length l.triangles = h.numbers b 0 below in
-      let split : Ends (triangle (slice_index bin b) ∷ map triangle (drop (b + 1) bin)) l.count i j s sample end = rw (drop_more bin b 0 below) at ends in
-      let found : slice_get l.triangles (slice_index bin b) ≡ Some (triangle (slice_index bin b)) = slice_get-get_or l.triangles (slice_index bin b) d number in
-      let next = one_drawn l i j s bin h b sample drawn (slice_index bin b) (triangle (slice_index bin b)) split.0 below refl found split.1 in
-      rest_drawn many (b + 1) split.0 end (omega arith) next split.2
-
-  pub ends_in_bin : (end : Sample) → Ends (map triangle bin) l.count i j s l.clear end → IsEnd l i j s end
-  ends_in_bin end ends = rest_drawn (length bin) 0 l.clear end (omega arith) (none_drawn l i j s bin) ends

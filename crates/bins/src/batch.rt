@@ -5,12 +5,12 @@ ghost use Rattle.bins.specs.Batch.{AreFetched};
 
 use model::{DrawList, Placed};
 
-/// How many triangles are fetched together.
+/// The number of triangles that are fetched together.
 pub const BATCH: usize = 16;
 
-/// Fetches the triangles of these numbers from this place on, as many as there is room for, in place of those that were fetched
-/// before. They lie far from each other in memory. Of triangles that are fetched one after another the waiting for memory
-/// overlaps, and it does not where each is drawn before the next is fetched.
+/// Fetches the triangles of these numbers from index `first` on, as many as the batch holds, in place of those that were fetched
+/// before. They lie far from each other in memory. If triangles are fetched one after another, the waiting for memory overlaps;
+/// if each is drawn before the next is fetched, it does not.
 pub fn fetch(list: &DrawList, numbers: &[u32], first: usize, batch: &mut [Placed; BATCH])
     requires numbers { All (λ number. number < length list.now.triangles) numbers.now }
     requires first { first < length numbers.now }

@@ -3,35 +3,12 @@ ghost use Rattle.std.specs.Prelude.{◌≡◌, IfOk};
 use crate::{Bins, Tiling};
 use cover::{Class, Setup};
 use grid::{Cull, PixelBox, Point, SampleCount, TileSide};
-use model::{Draw, DrawList, Output, Placed, Primitives, State, Vertex};
-use shade::{DepthTest, Merge, Sample};
+use model::{
+    DEFAULT_CLEAR, DEFAULT_STATE, Draw, DrawList, Output, Placed, Primitives, State, Vertex,
+};
 use std::alloc::Global;
 use std::process::Abort;
 use std::test::Fail;
-
-const BLACK: Sample = Sample {
-    r: 0,
-    g: 0,
-    b: 0,
-    z: 65535,
-};
-
-const STATE: State = State {
-    merge: Merge {
-        test: DepthTest::Always,
-        depth_write: false,
-        write: [true, true, true],
-        over: false,
-    },
-    cull: Cull::None,
-    sample_mask: 15,
-    scissor: PixelBox {
-        x0: 0,
-        y0: 0,
-        x1: 4096,
-        y1: 4096,
-    },
-};
 
 const SIDES: [TileSide; 4] = [TileSide::T8, TileSide::T16, TileSide::T32, TileSide::T64];
 
@@ -76,7 +53,15 @@ fn list(
         draws.push(draw(rt, alloc, state, *corners)?)?;
     }
     let (width, height) = size;
-    let list = DrawList::new(alloc, width, height, count, BLACK, Output::Color, draws);
+    let list = DrawList::new(
+        alloc,
+        width,
+        height,
+        count,
+        DEFAULT_CLEAR,
+        Output::Color,
+        draws,
+    );
     Ok(list.expect(rt, "within the limits"))
 }
 
@@ -100,30 +85,37 @@ fn assert_bins(
 #[test]
 fn leaves_out_what_misses_a_tile(rt: HostRuntime) -> Result<(), Fail> {
     let alloc = rt.alloc();
-    assert_bins(&rt, alloc, STATE, &[CORNER], &[0], &[])?;
+    assert_bins(&rt, alloc, DEFAULT_STATE, &[CORNER], &[0], &[])?;
     let in_last_column = [(1920, 128), (2000, 128), (1920, 200)];
-    assert_bins(&rt, alloc, STATE, &[in_last_column], &[0], &[])?;
+    assert_bins(&rt, alloc, DEFAULT_STATE, &[in_last_column], &[0], &[])?;
     // Its box goes over pixel (8, 0), of which it covers no sample.
     let box_in_both = [(1920, 128), (2176, 128), (1920, 384)];
-    assert_bins(&rt, alloc, STATE, &[box_in_both], &[0], &[])?;
+    assert_bins(&rt, alloc, DEFAULT_STATE, &[box_in_both], &[0], &[])?;
     Ok(())
 }
 
 #[test]
 fn has_a_repeated_triangle_twice(rt: HostRuntime) -> Result<(), Fail> {
-    assert_bins(&rt, rt.alloc(), STATE, &[CORNER, CORNER], &[0, 1], &[])
+    assert_bins(
+        &rt,
+        rt.alloc(),
+        DEFAULT_STATE,
+        &[CORNER, CORNER],
+        &[0, 1],
+        &[],
+    )
 }
 
 #[test]
 fn leaves_out_what_is_not_drawn(rt: HostRuntime) -> Result<(), Fail> {
     let alloc = rt.alloc();
     let both = [(0, 0), (4096, 0), (0, 4096)];
-    assert_bins(&rt, alloc, STATE, &[both], &[0], &[0])?;
+    assert_bins(&rt, alloc, DEFAULT_STATE, &[both], &[0], &[0])?;
     let flat = [(0, 0), (2048, 2048), (1024, 1024)];
-    assert_bins(&rt, alloc, STATE, &[flat, both], &[1], &[1])?;
+    assert_bins(&rt, alloc, DEFAULT_STATE, &[flat, both], &[1], &[1])?;
     let culled = State {
         cull: Cull::Front,
-        ..STATE
+        ..DEFAULT_STATE
     };
     assert_bins(&rt, alloc, culled, &[both], &[], &[])?;
     let right_of_8 = State {
@@ -133,7 +125,7 @@ fn leaves_out_what_is_not_drawn(rt: HostRuntime) -> Result<(), Fail> {
             x1: 4096,
             y1: 4096,
         },
-        ..STATE
+        ..DEFAULT_STATE
     };
     assert_bins(&rt, alloc, right_of_8, &[both], &[], &[0])?;
     Ok(())
@@ -222,7 +214,7 @@ fn bins_are_by_box_scissor_and_class(rt: HostRuntime) -> Result<(), Fail> {
             x1: 80,
             y1: 64,
         },
-        ..STATE
+        ..DEFAULT_STATE
     };
     for side in SIDES {
         for count in [SampleCount::One, SampleCount::Four] {
@@ -252,7 +244,7 @@ fn one_row_is_that_row_of_all(rt: HostRuntime) -> Result<(), Fail> {
         alloc,
         (100, 70),
         SampleCount::Four,
-        STATE,
+        DEFAULT_STATE,
         &scattered(),
     )?;
     let tiling = Tiling::new(100, 70, TileSide::T16);

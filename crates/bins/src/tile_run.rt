@@ -3,7 +3,6 @@ ghost use Rattle.std.specs.Prelude.{◌≡◌, ◌+◌, ◌≤◌, ◌^◌, leng
 ghost use Rattle.bins.specs.Grid.{rows_of, IsWithinLimits};
 
 use crate::batch::{BATCH, fetch};
-use crate::candidates::candidates_of;
 use crate::reach::{Columns, overlap};
 use crate::tiling::Tiling;
 use cover::Setup;
@@ -21,32 +20,35 @@ pub(crate) struct TileRun {
 }
 
 impl TileRun {
-    ghost use Rattle.bins.specs.TileRuns.{AreTileRuns};
+    ghost use Rattle.bins.specs.TileRuns.{AreCandidates, AreTileRuns};
 
-    /// The runs of all triangles in `rows` rows of tiles from `first_row` on, in draw order.
-    pub(crate) fn of_list(
+    /// The runs of the triangles of these numbers, which are the candidates, in `rows` rows of tiles from `first_row` on.
+    pub(crate) fn of_candidates(
         alloc: Global,
         list: &DrawList,
+        numbers: &[u32],
         tiling: &Tiling,
         first_row: u32,
         rows: u32,
     ) -> Result<Vec<TileRun>, AllocError>
-        requires { first_row + rows ≤ rows_of tiling.now }
+        requires rows { first_row + rows ≤ rows_of tiling.now }
+        requires limits { IsWithinLimits tiling.now }
+        requires few { length list.now.triangles ≤ 65536 }
+        requires candidates { AreCandidates list.now tiling.now first_row rows (length list.now.triangles) numbers.now }
         ensures few { IfOk result (λ runs. length runs.items ≤ 2 ^ 25) }
         ensures runs { IfOk result (λ runs. AreTileRuns list.now tiling.now first_row rows (length list.now.triangles) 0 runs.items) }
     {
-        let numbers = candidates_of(alloc, list, tiling, first_row, rows)?;
         let mut runs = Vec::new(alloc);
         let Some(number) = numbers.first() else {
             return Ok(runs);
         };
         let mut batch = [list.triangle(*number as usize); BATCH];
         let mut first = 0;
-        fetch(list, &numbers, first, &mut batch);
+        fetch(list, numbers, first, &mut batch);
         for place in 0..numbers.len() {
             if place - first == BATCH {
                 first = place;
-                fetch(list, &numbers, first, &mut batch);
+                fetch(list, numbers, first, &mut batch);
             }
             let triangle = &batch[place - first];
             push_runs(

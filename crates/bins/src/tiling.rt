@@ -14,7 +14,7 @@ pub struct Tiling {
     side: TileSide,
 }
 
-/// How many tiles of this side reach over so many pixels.
+/// The number of tiles of this size that reach over `pixels` pixels.
 fn tiles_over(pixels: u32, side: TileSide) -> u32
     requires { pixels ≤ 4096 }
     ensures value { result ≡ tiles.tiles_over pixels side }
@@ -73,14 +73,14 @@ impl Tiling {
         self.height
     }
 
-    /// The side of a tile.
+    /// The tile size.
     pub fn side(&self) -> TileSide
         ensures { result ≡ self.now.side }
     {
         self.side
     }
 
-    /// How many tiles stand in a row.
+    /// The number of tiles in a row.
     pub fn columns(&self) -> u32
         ensures value { result ≡ columns_of self.now }
         ensures least { 1 ≤ result }
@@ -89,7 +89,7 @@ impl Tiling {
         tiles_over(self.width, self.side)
     }
 
-    /// How many rows of tiles there are.
+    /// The number of rows of tiles.
     pub fn rows(&self) -> u32
         ensures value { result ≡ rows_of self.now }
         ensures least { 1 ≤ result }
@@ -98,7 +98,7 @@ impl Tiling {
         tiles_over(self.height, self.side)
     }
 
-    /// How many tiles there are.
+    /// The number of tiles.
     pub fn tiles(&self) -> u32
         ensures value { result ≡ tiles_of self.now }
         ensures least { 1 ≤ result }
@@ -122,7 +122,7 @@ impl Tiling {
         }
     }
 
-    /// How many tiles so many rows of tiles have.
+    /// The number of tiles of `rows` rows of tiles.
     pub(crate) fn tiles_in(&self, rows: u32) -> u32
         requires { rows ≤ rows_of self.now }
         ensures value { result ≡ rows * columns_of self.now }
@@ -131,7 +131,7 @@ impl Tiling {
         rows * tiles_over(self.width, self.side)
     }
 
-    /// The first row of pixels of so many rows of tiles, and the row of pixels after them, were the picture high enough.
+    /// The first row of pixels of `rows` rows of tiles, and the row of pixels after them, were the picture high enough.
     pub(crate) fn pixel_rows(&self, first_row: u32, rows: u32) -> (u32, u32)
         requires { first_row + rows ≤ rows_of self.now }
         ensures top { result.0 ≡ side_of self.now.side * first_row }

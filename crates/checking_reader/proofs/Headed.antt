@@ -1,5 +1,5 @@
 -- A top object and its draws.
-use Rattle.std.proofs.Common.{◌≡◌, ◌≤◌, List, sum_by, arith}
+use Rattle.std.proofs.Common.{◌≤◌, List, sum_by, arith}
 use Rattle.serde_json.specs.Data.{Data}
 use Rattle.serde_json.specs.View.{items_view}
 use Rattle.model.specs.Primitives.{count_of_triangles}
@@ -11,9 +11,9 @@ use Rattle.checking_reader.specs.Header.{IsHeader}
 use Rattle.checking_reader.proofs.Elements.{items_len_view}
 
 -- a top object with its draws is a draw list
-pub headed : (d : Data) (h : Header) (draws : List DrawListing) → IsHeader d h → Each (IsDraw (picture_box h.width h.height)) (items_view h.draws.now) draws
+pub headed : (d : Data) (h : Header) (draws : List DrawListing) → IsHeader d h → Each (IsDraw (picture_box h.target.width h.target.height)) (items_view h.draws.now) draws
     → sum_by (λ d. count_of_triangles d.primitives) draws ≤ 65536
-    → IsListing d (record { width = h.width; height = h.height; count = h.count; clear = h.clear; output = h.output; draws = draws })
+    → IsListing d (record { width = h.target.width; height = h.target.height; count = h.target.count; clear = h.target.clear; output = h.target.output; draws = draws })
 headed d h draws is parts few =
     let many = items_len_each _ _ _ parts in
     let all = items_len_view h.draws.now in

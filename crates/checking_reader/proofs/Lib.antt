@@ -4,6 +4,5 @@ pub mod Draws
 pub mod KnownKeys
 pub mod Memory
 pub mod Reached
-pub mod Words
 pub mod Headed
 pub mod Parts

@@ -12,9 +12,9 @@ use Rattle.checking_reader.specs.declared.header.Header.{Header}
 pub record IsHeader (value : Data) (h : Header) : Type 0 where
   pub object : IsSome (as_object value)
   pub keys : has_other_key top_keys (as_object value) ≡ false
-  pub width : IsSize (get (codes "width") value) h.width
-  pub height : IsSize (get (codes "height") value) h.height
-  pub beginning : IsBeginning value h.count h.clear h.output
+  pub width : IsSize (get (codes "width") value) h.target.width
+  pub height : IsSize (get (codes "height") value) h.target.height
+  pub beginning : IsBeginning value h.target.count h.target.clear h.target.output
   pub array : IsSome (array_of (get (codes "draws") value))
   pub draws : items_view h.draws.now ≡ elements (get (codes "draws") value)
   pub at_most : length h.draws.now ≤ 1024

@@ -7,7 +7,7 @@ ghost use Rattle.model.specs.Checks.{array_checks, has_length as has_length_of};
 use model::ReadKind;
 use serde_json::Value;
 
-/// Whether the value is an array of just so many elements.
+/// Whether the value is an array of exactly `count` elements.
 #[tactic(auto, using(crate::proofs::Elements::items_len_view))]
 pub(crate) fn has_length(value: &Value, count: usize) -> bool
     ensures { result ≡ has_length_of count (Some (view value.now)) }

@@ -11,18 +11,16 @@ use crate::keys::has_other;
 use crate::number::{channel, depth, whole_number};
 use crate::word::output;
 use grid::SampleCount;
-use model::{MOST_DRAWS, Output, ReadKind};
+use model::{
+    DEFAULT_CLEAR, DEFAULT_SAMPLE_COUNT, MOST_DRAWS, MOST_PIXELS, Output, ReadKind, Target,
+};
 use serde_json::Value;
 use shade::Sample;
 
 /// The parts of the top object, with its draws still as they were written.
 #[derive(Drop)]
 pub(crate) struct Header<'v> {
-    pub width: u32,
-    pub height: u32,
-    pub count: SampleCount,
-    pub clear: Sample,
-    pub output: Output,
+    pub target: Target,
     pub draws: &'v [Value],
 }
 
@@ -31,16 +29,16 @@ fn size(value: Option<&Value>) -> Result<u32, ReadKind>
     ensures { let seen = option_map (λ v. view v.now) value.entry in
         Tells (size_checks seen) (IsSize seen) result }
 {
-    Ok(whole_number(value, 1, 4096, ReadKind::OutOfRange)? as u32)
+    Ok(whole_number(value, 1, i64::from(MOST_PIXELS), ReadKind::OutOfRange)? as u32)
 }
 
-/// How many samples a pixel has; one where the key is absent.
+/// The number of samples of a pixel; the default if the key is absent.
 fn sample_count(value: Option<&Value>) -> Result<SampleCount, ReadKind>
     ensures { let seen = option_map (λ v. view v.now) value.entry in
         Tells (where_there sample_count_checks seen) (OrDefault count_of.One IsSampleCount seen) result }
 {
     if value.is_none() {
-        return Ok(SampleCount::One);
+        return Ok(DEFAULT_SAMPLE_COUNT);
     }
     match whole_number(value, 1, 4, ReadKind::OutOfRange)? {
         1 => Ok(SampleCount::One),
@@ -49,43 +47,49 @@ fn sample_count(value: Option<&Value>) -> Result<SampleCount, ReadKind>
     }
 }
 
-/// The colour that each sample begins with; black where the key is absent.
-fn clear_colour(value: Option<&Value>) -> Result<[u8; 3], ReadKind>
+/// The colour that each sample begins with, beside the default depth; the default if the key is absent.
+fn clear_colour(value: Option<&Value>) -> Result<Sample, ReadKind>
     ensures { let seen = option_map (λ v. view v.now) value.entry in
-        Tells (where_there colour_checks seen) (OrDefault (0 ∷ 0 ∷ 0 ∷ []) IsClearColour seen) result }
+        Tells (where_there colour_checks seen) (λ found. OrDefault (0 ∷ 0 ∷ 0 ∷ []) IsClearColour seen (found.r ∷ found.g ∷ found.b ∷ [])) result }
 {
     let Some(value) = value else {
-        return Ok([0, 0, 0]);
+        return Ok(DEFAULT_CLEAR);
     };
     if !has_length(value, 3) {
         return Err(ReadKind::WrongKind);
     }
-    let red = channel(value.get(0usize))?;
-    let green = channel(value.get(1usize))?;
-    let blue = channel(value.get(2usize))?;
-    Ok([red, green, blue])
+    let r = channel(value.get(0usize))?;
+    let g = channel(value.get(1usize))?;
+    let b = channel(value.get(2usize))?;
+    Ok(Sample {
+        r,
+        g,
+        b,
+        z: DEFAULT_CLEAR.z,
+    })
 }
 
-/// The depth that each sample begins with; the greatest where the key is absent.
+/// The depth that each sample begins with; the default if the key is absent.
 fn clear_depth(value: Option<&Value>) -> Result<u16, ReadKind>
     ensures { let seen = option_map (λ v. view v.now) value.entry in
         Tells (where_there depth_checks seen) (OrDefault 65535 IsDepthNumber seen) result }
 {
     if value.is_none() {
-        return Ok(65_535);
+        return Ok(DEFAULT_CLEAR.z);
     }
     depth(value)
 }
 
-/// How many samples a pixel has, what each begins with, and what the picture shows.
+/// The number of samples of a pixel, what each begins with, and what the picture shows.
 #[tactic(auto, using(model::proofs::Faults::first_fault_of_both), unfolding(model::specs::Checks::clear_checks))]
 fn beginning(value: &Value) -> Result<(SampleCount, Sample, Output), ReadKind>
     ensures { Tells (clear_checks (view value.now)) (λ found. IsBeginning (view value.now) found.0 found.1 found.2) result }
 {
     let count = sample_count(value.get("samples"))?;
-    let [r, g, b] = clear_colour(value.get("clear"))?;
+    let colour = clear_colour(value.get("clear"))?;
     let z = clear_depth(value.get("clear_depth"))?;
     let output = output(value.get("output"))?;
+    let (r, g, b) = (colour.r, colour.g, colour.b);
     Ok((count, Sample { r, g, b, z }, output))
 }
 
@@ -124,13 +128,13 @@ impl<'v> Header<'v> {
         let height = size(value.get("height"))?;
         let (count, clear, output) = beginning(value)?;
         let draws = array_of(draw_array, MOST_DRAWS)?;
-        Ok(Header {
+        let target = Target {
             width,
             height,
             count,
             clear,
             output,
-            draws,
-        })
+        };
+        Ok(Header { target, draws })
     }
 }

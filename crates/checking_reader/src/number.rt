@@ -8,7 +8,7 @@ use grid::Point;
 use model::ReadKind;
 use serde_json::Value;
 
-/// A whole number from `low` to `high`; `outside` is told of another whole number.
+/// An integer from `low` to `high`. Another integer is the error `outside`.
 pub(crate) fn whole_number(
     value: Option<&Value>,
     low: i64,
@@ -46,7 +46,7 @@ pub(crate) fn depth(value: Option<&Value>) -> Result<u16, ReadKind>
     ensures { let seen = option_map (λ v. view v.now) value.entry in
         Tells (depth_checks seen) (IsDepthNumber seen) result }
 {
-    Ok(whole_number(value, 0, 65_535, ReadKind::OutOfRange)? as u16)
+    Ok(whole_number(value, 0, i64::from(u16::MAX), ReadKind::OutOfRange)? as u16)
 }
 
 /// A colour channel or an alpha.
@@ -54,5 +54,5 @@ pub(crate) fn channel(value: Option<&Value>) -> Result<u8, ReadKind>
     ensures { let seen = option_map (λ v. view v.now) value.entry in
         Tells (channel_checks seen) (IsChannel seen) result }
 {
-    Ok(whole_number(value, 0, 255, ReadKind::OutOfRange)? as u8)
+    Ok(whole_number(value, 0, i64::from(u8::MAX), ReadKind::OutOfRange)? as u8)
 }

@@ -1,4 +1,4 @@
-ghost use Rattle.std.specs.Prelude.{◌≡◌, ◌≢◌, ◌≤◌, ◌⊎◌, ℕ, ◌+◌, pos, ◌≤ℤ◌, length, map, sum_by, Some, None, IfOk, IfErr, MatchResult};
+ghost use Rattle.std.specs.Prelude.{◌≡◌, ◌≢◌, ◌≤◌, ◌⊎◌, ℕ, ◌+◌, length, map, sum_by, Some, None, IfOk, IfErr, MatchResult};
 ghost use Rattle.serde_json.specs.View.{view, items_view};
 ghost use Rattle.model.specs.declared.fault.ReadKind.TheVariants.{NotJson, OutOfMemory};
 ghost use Rattle.serde_json.specs.Errors.{IsMemory};
@@ -9,12 +9,12 @@ ghost use Rattle.model.specs.Primitives.{primitive_listing, count_of_triangles};
 ghost use Rattle.model.specs.Listing.{draw_listing};
 ghost use Rattle.model.specs.Scene.{Scene};
 ghost use Rattle.model.specs.Checks.{outside, draw_checks, checks_before_vertices, draws_checks, value_checks, all_checks, IsReached, Reaches};
-ghost use Rattle.model.specs.Denotes.{Each, picture_box, IsDraw, IsDrawList, Denotes};
+ghost use Rattle.model.specs.Denotes.{Each, IsDraw, IsDrawList, Denotes};
 
 use crate::draw::read_draw;
 use crate::header::Header;
 use grid::PixelBox;
-use model::{Draw, DrawList, MOST_BYTES, MOST_TRIANGLES, ReadFault, ReadKind};
+use model::{Draw, DrawList, MOST_BYTES, MOST_TRIANGLES, ReadFault, ReadKind, picture_box};
 use serde_json::{Error, Value};
 use std::alloc::Global;
 
@@ -35,13 +35,10 @@ fn numbered_draw(
         → first_fault (checks_before_vertices (view value.now)) ≡ None) }
     ensures room { IfOk result (λ d. earlier + count_of_triangles (primitive_listing d.primitives) ≤ MOST_TRIANGLES) }
 {
-    match read_draw(alloc, value, picture, earlier) {
-        Ok(draw) => Ok(draw),
-        Err(kind) => Err(ReadFault::in_draw(kind, number)),
-    }
+    read_draw(alloc, value, picture, earlier).map_err(|kind| ReadFault::in_draw(kind, number))
 }
 
-/// The draws on a picture of these pixels. Each fault tells its draw.
+/// The draws on a picture of these pixels. Each fault names its draw.
 fn draws_of(alloc: Global, list: &[Value], picture: PixelBox) -> Result<Vec<Draw>, ReadFault>
     requires { length list.now ≤ 1024 }
     ensures told { let items = items_view list.now in ReadsAll (draws_checks 0 0 items)
@@ -61,49 +58,21 @@ fn draws_of(alloc: Global, list: &[Value], picture: PixelBox) -> Result<Vec<Draw
     Ok(found)
 }
 
-/// All pixels of a picture of this size.
-fn picture_of(width: u32, height: u32) -> PixelBox
-    requires width { pos width ≤ℤ pos 4096 }
-    requires height { pos height ≤ℤ pos 4096 }
-    ensures { result ≡ picture_box width height }
-{
-    PixelBox {
-        x0: 0,
-        y0: 0,
-        x1: width as i32,
-        y1: height as i32,
-    }
-}
-
 /// The draw list that a value denotes, or the first fault of it.
 #[tactic(auto, using(model::proofs::Faults::first_fault_of_both, model::proofs::Faults::first_fault_told_as, crate::proofs::Memory::top_never))]
 fn read_value(alloc: Global, value: &Value) -> Result<DrawList, ReadFault>
     ensures told { ReadsAll (value_checks (view value.now)) (IsDrawList (view value.now)) result }
     ensures reached { IfErr result (Reaches (Some (view value.now))) }
-    // Want of memory is told without a draw only after the last.
+    // `OutOfMemory` names no draw only after the last.
     ensures after_all { IfErr result (λ fault. fault ≡ outside OutOfMemory → first_fault (value_checks (view value.now)) ≡ None) }
 {
-    let header = match Header::read(value) {
-        Ok(header) => header,
-        Err(kind) => return Err(ReadFault::outside(kind)),
-    };
-    let (width, height) = (header.width, header.height);
-    let draws = draws_of(alloc, header.draws, picture_of(width, height))?;
-    match DrawList::within_limits(
-        alloc,
-        width,
-        height,
-        header.count,
-        header.clear,
-        header.output,
-        draws,
-    ) {
-        Ok(list) => Ok(list),
-        Err(_) => Err(ReadFault::outside(ReadKind::OutOfMemory)),
-    }
+    let header = Header::read(value)?;
+    let picture = picture_box(header.target.width, header.target.height);
+    let draws = draws_of(alloc, header.draws, picture)?;
+    Ok(DrawList::within_limits(alloc, header.target, draws)?)
 }
 
-/// What is told where `serde_json` gives no value.
+/// The error if `serde_json` gives no value.
 fn kind_of(error: &Error) -> ReadKind
     ensures { (IsMemory error.now × (result ≡ OutOfMemory)) ⊎ ((¬ IsMemory error.now) × (result ≡ NotJson)) }
 {
@@ -114,7 +83,7 @@ fn kind_of(error: &Error) -> ReadKind
     }
 }
 
-/// Reads a draw list from JSON through `serde_json`'s tree of values, and tells faults as `read` does.
+/// Reads a draw list from JSON through `serde_json`'s tree of values, and returns the faults that `read` returns.
 pub fn read_by_value(alloc: Global, bytes: &[u8]) -> Result<DrawList, ReadFault>
     requires { length bytes.now ≤ MOST_BYTES }
     ensures ok { IfOk result (Denotes bytes.now) }

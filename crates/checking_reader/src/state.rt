@@ -8,7 +8,7 @@ use crate::array::has_length;
 use crate::number::whole_number;
 use crate::word::{blends_over, cull, depth_test};
 use grid::PixelBox;
-use model::ReadKind;
+use model::{ALL_SAMPLES, DEFAULT_STATE, MOST_PIXELS, ReadKind};
 use serde_json::Value;
 use shade::{Merge, State};
 
@@ -22,24 +22,24 @@ fn truth(value: Option<&Value>) -> Result<bool, ReadKind>
     }
 }
 
-/// Whether a draw stores depths; it does not where the key is absent.
+/// Whether a draw stores depths; the default if the key is absent.
 fn depth_write(value: Option<&Value>) -> Result<bool, ReadKind>
     ensures { let seen = option_map (λ v. view v.now) value.entry in
         Tells (where_there truth_checks seen) (OrDefault false IsTruth seen) result }
 {
     if value.is_none() {
-        return Ok(false);
+        return Ok(DEFAULT_STATE.merge.depth_write);
     }
     truth(value)
 }
 
-/// Which of red, green and blue a draw writes; all of them where the key is absent.
+/// Which of red, green and blue a draw writes; the default if the key is absent.
 fn write_mask(value: Option<&Value>) -> Result<[bool; 3], ReadKind>
     ensures { let seen = option_map (λ v. view v.now) value.entry in
         Tells (where_there write_mask_checks seen) (OrDefault (true ∷ true ∷ true ∷ []) IsWriteMask seen) result }
 {
     let Some(value) = value else {
-        return Ok([true, true, true]);
+        return Ok(DEFAULT_STATE.merge.write);
     };
     if !has_length(value, 3) {
         return Err(ReadKind::WrongKind);
@@ -50,16 +50,16 @@ fn write_mask(value: Option<&Value>) -> Result<[bool; 3], ReadKind>
     Ok([red, green, blue])
 }
 
-/// Which samples a draw writes, bit s for sample s; all of them where the key is absent. The number stays as it is read, also
-/// with one sample, of which only bit 0 counts.
+/// Which samples a draw writes, bit s for sample s; the default if the key is absent. The number stays as it is read,
+/// also with one sample, of which only bit 0 counts.
 fn sample_mask(value: Option<&Value>) -> Result<u8, ReadKind>
     ensures { let seen = option_map (λ v. view v.now) value.entry in
         Tells (where_there sample_mask_checks seen) (OrDefault 15 IsSampleMask seen) result }
 {
     if value.is_none() {
-        return Ok(15);
+        return Ok(DEFAULT_STATE.sample_mask);
     }
-    Ok(whole_number(value, 0, 15, ReadKind::OutOfRange)? as u8)
+    Ok(whole_number(value, 0, i64::from(ALL_SAMPLES), ReadKind::OutOfRange)? as u8)
 }
 
 /// A side of a scissor, in pixels.
@@ -67,10 +67,10 @@ fn scissor_side(value: Option<&Value>) -> Result<i32, ReadKind>
     ensures { let seen = option_map (λ v. view v.now) value.entry in
         Tells (scissor_side_checks seen) (IsScissorSide seen) result }
 {
-    Ok(whole_number(value, 0, 4096, ReadKind::OutOfRange)? as i32)
+    Ok(whole_number(value, 0, i64::from(MOST_PIXELS), ReadKind::OutOfRange)? as i32)
 }
 
-/// The scissor of a draw; all pixels of the picture where the key is absent. It may reach past the picture, and be empty.
+/// The scissor of a draw; all pixels of the picture if the key is absent. It may reach past the picture, and be empty.
 fn scissor(value: Option<&Value>, picture: PixelBox) -> Result<PixelBox, ReadKind>
     ensures { let seen = option_map (λ v. view v.now) value.entry in
         Tells (where_there scissor_checks seen) (OrDefault picture IsScissor seen) result }

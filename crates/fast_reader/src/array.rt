@@ -1,13 +1,14 @@
 ghost use Rattle.std.specs.Prelude.{◌≡◌, ◌∷◌, IfSome, IsTrue, Some, option_map};
 ghost use Rattle.json.specs.Token.{begin_array, begin_object};
 ghost use Rattle.json.specs.Json.{read_key};
-ghost use Rattle.model.specs.Denotes.{IsClearColour, IsWriteMask, IsScissor};
+ghost use Rattle.model.specs.Denotes.{IsClearColour, IsWriteMask, IsScissorSide, IsScissor};
 ghost use Rattle.fast_reader.specs.Took.{Took};
 
-use crate::number::{take_channel, take_scissor_side};
+use crate::number::{take_between, take_channel};
 use crate::word::take_truth;
 use grid::PixelBox;
 use json::{Reader, Token};
+use model::MOST_PIXELS;
 
 /// Takes the bracket that opens an array, if it is next.
 pub(crate) fn take_begin_array(reader: &mut Reader<'_>) -> bool
@@ -60,6 +61,13 @@ pub(crate) fn take_write_mask(reader: &mut Reader<'_>) -> Option<[bool; 3]>
         return None;
     }
     Some([red, green, blue])
+}
+
+/// Takes a side of a scissor, in pixels.
+fn take_scissor_side(reader: &mut Reader<'_>) -> Option<i32>
+    ensures { IfSome result (λ z. Took 0 (λ d z. IsScissorSide (Some d) z) reader.old z reader.new) }
+{
+    Some(take_between(reader, 0, i64::from(MOST_PIXELS))? as i32)
 }
 
 /// Takes a scissor, written as [left, top, right, bottom].

@@ -12,16 +12,15 @@ use crate::state::take_state_value;
 use crate::strip::take_strip;
 use crate::triangles::take_triangles;
 use crate::vertices::take_vertices;
-use grid::{Cull, PixelBox};
+use grid::PixelBox;
 use json::Reader;
-use model::{Draw, Primitives, Vertex};
-use shade::{DepthTest, Merge, State};
+use model::{Draw, Primitives, State, Vertex, default_state};
 use std::alloc::Global;
 
 /// What the members of a draw that were taken so far say of it.
 #[derive(Drop)]
 pub(crate) struct DrawDraft {
-    /// How the triangles are drawn, by default where no member says it.
+    /// How the triangles are drawn; the default where no member says it.
     pub state: State,
     pub vertices: Option<Vec<Vertex>>,
     pub triangles: Option<Vec<[u32; 3]>>,
@@ -41,19 +40,8 @@ impl DrawDraft {
     fn new(picture: PixelBox) -> DrawDraft
         ensures { HasDraw picture no_members result }
     {
-        let merge = Merge {
-            test: DepthTest::Always,
-            depth_write: false,
-            write: [true, true, true],
-            over: false,
-        };
         DrawDraft {
-            state: State {
-                merge,
-                cull: Cull::None,
-                sample_mask: 15,
-                scissor: picture,
-            },
+            state: default_state(picture),
             vertices: None,
             triangles: None,
             strip: None,

@@ -3,11 +3,12 @@ ghost use Rattle.std.specs.Int.{w64};
 ghost use Rattle.std.specs.Str.Parse.{digits_value, AllDigits};
 ghost use Rattle.serde_json.specs.Read.{number_of};
 ghost use Rattle.serde_json.specs.Find.{as_integer};
-ghost use Rattle.model.specs.Denotes.{IsWhole, IsDepthNumber, IsChannel, IsIndex, IsSize, IsSampleMask, IsScissorSide, IsSampleCount};
+ghost use Rattle.model.specs.Denotes.{IsWhole, IsDepthNumber, IsChannel, IsIndex, IsSize, IsSampleMask, IsSampleCount};
 ghost use Rattle.fast_reader.specs.Took.{Took, IsNumber};
 
 use grid::SampleCount;
 use json::{Reader, Token};
+use model::{ALL_SAMPLES, MOST_PIXELS, MOST_VERTICES};
 
 /// Whether the bytes begin with a minus.
 #[inline(always)]
@@ -18,7 +19,7 @@ fn has_minus(bytes: &[u8]) -> bool
     !bytes.is_empty() && bytes[0] == b'-'
 }
 
-/// The number that digits write. None where another byte stands there, and of many digits.
+/// The number that digits write. Returns `None` for no digits, for another byte among them, and for many digits.
 #[inline(always)]
 fn value_of(digits: &[u8]) -> Option<i64>
     ensures { IfSome result (λ z. (z ≡ pos (digits_value 10 digits.now)) × AllDigits 10 digits.now
@@ -37,7 +38,7 @@ fn value_of(digits: &[u8]) -> Option<i64>
     Some(value as i64)
 }
 
-/// The whole number that `serde_json` reads from a number's text. None of a fraction, of `-0`, and of some with many digits.
+/// The integer that `serde_json` reads from a number's text. Returns `None` for a fraction, for `-0`, and for some with many digits.
 #[inline(always)]
 fn whole_of(text: &str) -> Option<i64>
     ensures { IfSome result (λ z. option_and_then as_integer (number_of text.now) ≡ Some z) }
@@ -50,7 +51,7 @@ fn whole_of(text: &str) -> Option<i64>
     if size > 0 { Some(0 - size) } else { None }
 }
 
-/// Takes a whole number.
+/// Takes an integer.
 fn take_whole(reader: &mut Reader<'_>) -> Option<i64>
     ensures { IfSome result (λ z. Took 0 IsNumber reader.old z reader.new) }
 {
@@ -60,8 +61,8 @@ fn take_whole(reader: &mut Reader<'_>) -> Option<i64>
     }
 }
 
-/// Takes a whole number from `low` to `high`.
-fn take_between(reader: &mut Reader<'_>, low: i64, high: i64) -> Option<i64>
+/// Takes an integer from `low` to `high`.
+pub(super) fn take_between(reader: &mut Reader<'_>, low: i64, high: i64) -> Option<i64>
     ensures { IfSome result (λ z. Took 0 (λ d z. IsWhole low high (Some d) z) reader.old z reader.new) }
 {
     let number = take_whole(reader)?;
@@ -72,7 +73,7 @@ fn take_between(reader: &mut Reader<'_>, low: i64, high: i64) -> Option<i64>
     }
 }
 
-/// Takes a whole number of 32 bits.
+/// Takes an integer of 32 bits.
 pub(super) fn take_i32(reader: &mut Reader<'_>) -> Option<i32>
     ensures { IfSome result (λ z. Took 0 IsNumber reader.old z reader.new) }
 {
@@ -83,21 +84,21 @@ pub(super) fn take_i32(reader: &mut Reader<'_>) -> Option<i32>
 pub(super) fn take_depth(reader: &mut Reader<'_>) -> Option<u16>
     ensures { IfSome result (λ n. Took 0 (λ d n. IsDepthNumber (Some d) n) reader.old n reader.new) }
 {
-    Some(take_between(reader, 0, 65_535)? as u16)
+    Some(take_between(reader, 0, i64::from(u16::MAX))? as u16)
 }
 
 /// Takes a colour channel or an alpha.
 pub(super) fn take_channel(reader: &mut Reader<'_>) -> Option<u8>
     ensures { IfSome result (λ n. Took 0 (λ d n. IsChannel (Some d) n) reader.old n reader.new) }
 {
-    Some(take_between(reader, 0, 255)? as u8)
+    Some(take_between(reader, 0, i64::from(u8::MAX))? as u8)
 }
 
 /// Takes the number of one of `count` vertices.
 pub(super) fn take_index(reader: &mut Reader<'_>, count: usize) -> Option<u32>
     ensures { IfSome result (λ k. Took 0 (λ d k. IsIndex count (Some d) k) reader.old k reader.new) }
 {
-    let index = take_between(reader, 0, 65_535)? as u32;
+    let index = take_between(reader, 0, MOST_VERTICES as i64 - 1)? as u32;
     if (index as usize) < count {
         Some(index)
     } else {
@@ -109,24 +110,17 @@ pub(super) fn take_index(reader: &mut Reader<'_>, count: usize) -> Option<u32>
 pub(super) fn take_size(reader: &mut Reader<'_>) -> Option<u16>
     ensures { IfSome result (λ n. Took 0 (λ d n. IsSize (Some d) n) reader.old n reader.new) }
 {
-    Some(take_between(reader, 1, 4096)? as u16)
+    Some(take_between(reader, 1, i64::from(MOST_PIXELS))? as u16)
 }
 
 /// Takes which samples a draw writes, bit s for sample s.
 pub(super) fn take_sample_mask(reader: &mut Reader<'_>) -> Option<u8>
     ensures { IfSome result (λ n. Took 0 (λ d n. IsSampleMask (Some d) n) reader.old n reader.new) }
 {
-    Some(take_between(reader, 0, 15)? as u8)
+    Some(take_between(reader, 0, i64::from(ALL_SAMPLES))? as u8)
 }
 
-/// Takes a side of a scissor, in pixels.
-pub(super) fn take_scissor_side(reader: &mut Reader<'_>) -> Option<i32>
-    ensures { IfSome result (λ z. Took 0 (λ d z. IsScissorSide (Some d) z) reader.old z reader.new) }
-{
-    Some(take_between(reader, 0, 4096)? as i32)
-}
-
-/// Takes how many samples a pixel has.
+/// Takes the number of samples of a pixel.
 pub(super) fn take_sample_count(reader: &mut Reader<'_>) -> Option<SampleCount>
     ensures { IfSome result (λ n. Took 0 (λ d n. IsSampleCount (Some d) n) reader.old n reader.new) }
 {

@@ -8,7 +8,7 @@ ghost use Rattle.fast_reader.specs.Drafted.{HasList};
 
 use crate::top::{ListDraft, take_list};
 use json::{Reader, Scratch};
-use model::{DrawList, MOST_BYTES};
+use model::{DrawList, MOST_BYTES, Target};
 use std::alloc::Global;
 
 /// What a JSON text says of a draw list. Nothing of the reader's memory is kept.
@@ -29,23 +29,20 @@ fn read_draft(alloc: Global, bytes: &[u8]) -> Option<ListDraft>
     Some(draft)
 }
 
-/// Reads a draw list from JSON in one pass over its tokens, with no tree of values between. None tells nothing: of a fault, of
-/// keys in an order where one needs a later one, of a repeated key whose earlier value is no value of the key, and of want of
-/// memory. `read` asks `read_by_value` then.
+/// Reads a draw list from JSON in one pass over its tokens, with no tree of values between. Returns `None` for a
+/// list with a fault, for keys in an order in which one needs a later one, for a repeated key whose earlier value is no value of
+/// the key, and out of memory. `read` calls `read_by_value` then.
 pub fn read_in_one_pass(alloc: Global, bytes: &[u8]) -> Option<DrawList>
     requires { length bytes.now ≤ MOST_BYTES }
     ensures { IfSome result (Denotes bytes.now) }
 {
     let draft = read_draft(alloc, bytes)?;
-    let (width, height) = (u32::from(draft.width?), u32::from(draft.height?));
-    DrawList::within_limits(
-        alloc,
-        width,
-        height,
-        draft.count,
-        draft.clear,
-        draft.output,
-        draft.draws?,
-    )
-    .ok()
+    let target = Target {
+        width: u32::from(draft.width?),
+        height: u32::from(draft.height?),
+        count: draft.count,
+        clear: draft.clear,
+        output: draft.output,
+    };
+    DrawList::within_limits(alloc, target, draft.draws?).ok()
 }

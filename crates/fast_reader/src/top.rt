@@ -10,7 +10,7 @@ use crate::number::{take_depth, take_sample_count, take_size};
 use crate::word::take_output;
 use grid::{PixelBox, SampleCount};
 use json::Reader;
-use model::{Draw, Output};
+use model::{DEFAULT_CLEAR, DEFAULT_OUTPUT, DEFAULT_SAMPLE_COUNT, Draw, Output, picture_box};
 use shade::Sample;
 use std::alloc::Global;
 
@@ -21,11 +21,11 @@ pub(crate) struct ListDraft {
     pub width: Option<u16>,
     /// The height of the picture, in pixels.
     pub height: Option<u16>,
-    /// How many samples a pixel has, by default where no member says it.
+    /// The number of samples of a pixel; the default where no member says it.
     pub count: SampleCount,
-    /// What each sample begins with, by default where no member says it.
+    /// What each sample begins with; the default where no member says it.
     pub clear: Sample,
-    /// What the picture shows, by default where no member says it.
+    /// What the picture shows; the default where no member says it.
     pub output: Output,
     pub draws: Option<Vec<Draw>>,
 }
@@ -41,18 +41,12 @@ impl ListDraft {
     fn new() -> ListDraft
         ensures { HasList no_members result }
     {
-        let clear = Sample {
-            r: 0,
-            g: 0,
-            b: 0,
-            z: 65_535,
-        };
         ListDraft {
             width: None,
             height: None,
-            count: SampleCount::One,
-            clear,
-            output: Output::Color,
+            count: DEFAULT_SAMPLE_COUNT,
+            clear: DEFAULT_CLEAR,
+            output: DEFAULT_OUTPUT,
             draws: None,
         }
     }
@@ -61,13 +55,8 @@ impl ListDraft {
     fn picture(&self) -> Option<PixelBox>
         ensures { result ≡ picture_of self.now.width self.now.height }
     {
-        let (width, height) = (self.width?, self.height?);
-        Some(PixelBox {
-            x0: 0,
-            y0: 0,
-            x1: i32::from(width),
-            y1: i32::from(height),
-        })
+        let (width, height) = (u32::from(self.width?), u32::from(self.height?));
+        Some(picture_box(width, height))
     }
 
     /// Takes the value of a key. The sides of the picture are taken before the draws, which all its pixels are for by default.

@@ -5,10 +5,10 @@ ghost use Rattle.fast_reader.specs.Took.{Took};
 
 use grid::Cull;
 use json::{Reader, Token};
-use model::Output;
+use model::{Output, blend_named, cull_named, depth_test_named, output_named};
 use shade::DepthTest;
 
-/// Takes a text.
+/// Takes a string.
 fn take_text<'a>(reader: &mut Reader<'a>) -> Option<&'a str>
     ensures { IfSome result (λ t. Took 0 (λ d s. text_of (Some d) ≡ Some s) reader.old t.now reader.new) }
 {
@@ -18,7 +18,7 @@ fn take_text<'a>(reader: &mut Reader<'a>) -> Option<&'a str>
     }
 }
 
-/// Takes a truth value.
+/// Takes a boolean.
 pub(crate) fn take_truth(reader: &mut Reader<'_>) -> Option<bool>
     ensures { IfSome result (λ b. Took 0 (λ d b. IsTruth (Some d) b) reader.old b reader.new) }
 {
@@ -32,49 +32,26 @@ pub(crate) fn take_truth(reader: &mut Reader<'_>) -> Option<bool>
 pub(crate) fn take_cull(reader: &mut Reader<'_>) -> Option<Cull>
     ensures { IfSome result (λ m. Took 0 (λ d m. IsCull (Some d) m) reader.old m reader.new) }
 {
-    match take_text(reader)? {
-        "none" => Some(Cull::None),
-        "front" => Some(Cull::Front),
-        "back" => Some(Cull::Back),
-        _ => None,
-    }
+    cull_named(take_text(reader)?)
 }
 
 /// Takes a depth test.
 pub(crate) fn take_depth_test(reader: &mut Reader<'_>) -> Option<DepthTest>
     ensures { IfSome result (λ t. Took 0 (λ d t. IsDepthTest (Some d) t) reader.old t reader.new) }
 {
-    match take_text(reader)? {
-        "never" => Some(DepthTest::Never),
-        "less" => Some(DepthTest::Less),
-        "equal" => Some(DepthTest::Equal),
-        "less_equal" => Some(DepthTest::LessEqual),
-        "greater" => Some(DepthTest::Greater),
-        "not_equal" => Some(DepthTest::NotEqual),
-        "greater_equal" => Some(DepthTest::GreaterEqual),
-        "always" => Some(DepthTest::Always),
-        _ => None,
-    }
+    depth_test_named(take_text(reader)?)
 }
 
 /// Takes whether a draw is blended over what is stored.
 pub(crate) fn take_blend(reader: &mut Reader<'_>) -> Option<bool>
     ensures { IfSome result (λ b. Took 0 (λ d b. IsBlend (Some d) b) reader.old b reader.new) }
 {
-    match take_text(reader)? {
-        "none" => Some(false),
-        "over" => Some(true),
-        _ => None,
-    }
+    blend_named(take_text(reader)?)
 }
 
 /// Takes what a picture shows.
 pub(crate) fn take_output(reader: &mut Reader<'_>) -> Option<Output>
     ensures { IfSome result (λ o. Took 0 (λ d o. IsOutput (Some d) o) reader.old o reader.new) }
 {
-    match take_text(reader)? {
-        "color" => Some(Output::Color),
-        "depth" => Some(Output::Depth),
-        _ => None,
-    }
+    output_named(take_text(reader)?)
 }

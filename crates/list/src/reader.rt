@@ -13,16 +13,15 @@ use std::alloc::Global;
 
 /// Reads a draw list from JSON (RFC 8259, as `serde_json` reads it; the keys, ranges and defaults are this project's format).
 ///
-/// What is told is the first check that fails, in this order. Whether the bytes are JSON. The top object: its kind, a key that
+/// Returns the first check that fails as the error, in this order. Whether the bytes are JSON. The top object: its kind, a key that
 /// it should not have, a key that it lacks, then `width`, `height`, `samples`, `clear`, `clear_depth`, `output` and `draws`.
 /// Each draw in turn: its kind, a key that it should not have, a key that it lacks, a second list of primitives, then `cull`,
 /// `depth_test`, `depth_write`, `blend`, `write`, `sample_mask`, `scissor`, `vertices`, and `triangles`, `strip` or `quads`. The
 /// kind of a value comes before its range, the number of elements before the elements, the indices of a quad before its shape.
-/// A fault of a draw tells the draw's number.
+/// A fault of a draw names the draw's number.
 ///
-/// `OutOfMemory` is told where a growth of memory was refused, in place of whatever would have come later: with the number of
-/// the draw that was being read, where no check before that draw's vertices fails, and without one before the first draw and
-/// after the last. Nothing of the bytes is kept.
+/// `OutOfMemory` is returned as soon as an allocation fails; later checks are not made. It names the draw that was being read, of
+/// which no check before its vertices fails. Before the first draw and after the last it names none. Nothing of the bytes is kept.
 pub fn read(alloc: Global, bytes: &[u8]) -> Result<DrawList, ReadFault>
     requires { length bytes.now ≤ 67_108_864 }
     // What is read is denoted.
@@ -33,7 +32,7 @@ pub fn read(alloc: Global, bytes: &[u8]) -> Result<DrawList, ReadFault>
     // A fault is the first one, unless memory ran out.
     ensures first { IfErr result (λ fault. fault.kind ≢ OutOfMemory
         → IsFirstFault (all_checks (json_of bytes.now)) fault) }
-    // Want of memory too names a draw only where all before that draw is right, and all of it before its vertices.
+    // Out of memory too names a draw only if all before that draw is right, and all of it before its vertices.
     ensures reached { IfErr result (Reaches (json_of bytes.now)) }
     // Bytes that denote a list fail no check.
     ensures passed { (list : Scene) → Denotes bytes.now list → AllPass (all_checks (json_of bytes.now)) }

@@ -1,5 +1,5 @@
 //! Reading by itself: a draw list from standard input is read in one pass, as the program reads it, and by `serde_json` into its
-//! tree of values alone. By default it prints how many triangles the list draws, or the fault that is told in its place, and
+//! tree of values alone. By default it prints how many triangles the list draws, or the fault that is returned in its place, and
 //! whether the tree is an object. With `--time` both are read again and again in turn, and it prints the least time of each and
 //! their ratio.
 #![tactic(auto)]
@@ -13,7 +13,7 @@ use std::io::{ErrorKind, Read};
 use std::time::{Clock, Instant};
 use std::{env, io};
 
-/// How often each is read where times are asked for.
+/// How often each is read with `--time`.
 const ROUNDS: u32 = 7;
 
 /// The bytes on standard input.
@@ -28,7 +28,7 @@ fn input(rt: &HostRuntime) -> io::Result<Vec<u8>>
     Ok(bytes)
 }
 
-/// How many triangles the list draws, or the fault that is told in its place.
+/// The number of triangles that the list draws, or its fault.
 fn triangles(alloc: Global, bytes: &[u8]) -> Result<usize, ReadFault>
     requires { length bytes.now ≤ MOST_BYTES }
 {

@@ -1,4 +1,4 @@
-//! Lists with one part that a test gives, and what is told of them.
+//! Lists with one part that a test gives, and their faults.
 use list::{DrawList, MOST_BYTES, ReadFault, ReadKind, read};
 use std::alloc::AllocGlobal;
 use std::process::Abort;
@@ -9,7 +9,7 @@ pub(crate) fn answer(rt: &(impl Abort + AllocGlobal), text: &str) -> Result<Draw
     read(rt.alloc(), bytes)
 }
 
-/// The fault that is told, or none where the text denotes a list.
+/// The fault of a text, or `None` if it denotes a list.
 pub(crate) fn fault(rt: &(impl Abort + AllocGlobal), text: &str) -> Option<ReadFault> {
     answer(rt, text).err()
 }

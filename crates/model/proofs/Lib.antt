@@ -21,3 +21,4 @@ pub mod OneDraw
 pub mod OneList
 pub mod FaultKinds
 pub mod Denoted
+pub mod UnknownWord

@@ -13,3 +13,4 @@ pub mod FirstFault
 pub mod Checks
 pub mod Denotes
 pub mod Beginning
+pub mod Defaults

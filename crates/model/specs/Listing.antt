@@ -7,6 +7,7 @@ use Rattle.model.specs.declared.draw.Vertex.{Vertex}
 use Rattle.shade.specs.declared.state.State.{State}
 use Rattle.model.specs.declared.draw.Draw.{Draw}
 use Rattle.model.specs.declared.output.Output.{Output}
+use Rattle.model.specs.declared.target.Target.{Target}
 use Rattle.shade.specs.declared.placed.Placed.{Placed}
 use Rattle.model.specs.Primitives.{PrimitiveListing, triangles_of, count_of_triangles, AreOver, primitive_listing}
 use Rattle.model.specs.Scene.{Scene}
@@ -82,3 +83,7 @@ draw_listing d = record { state = d.state; vertices = d.vertices.items; primitiv
 -- The listing of draws in memory, with the picture's size, samples, clear values and output.
 abbrev pub listing_of : ℕ → ℕ → SampleCount → Sample → Output → List Draw → Listing
 listing_of width height count clear output draws = record { width = width; height = height; count = count; clear = clear; output = output; draws = map draw_listing draws }
+
+-- The same on a target.
+abbrev pub listing_on : Target → List Draw → Listing
+listing_on target draws = listing_of target.width target.height target.count target.clear target.output draws

@@ -1,12 +1,12 @@
 use Rattle.std.specs.Prelude.{length}
 use Rattle.model.specs.declared.draw_list.DrawList.TheInside.{Inside}
-use Rattle.model.specs.Listing.{Listing, listing_of, scene_of, IsWithinLimits}
+use Rattle.model.specs.Listing.{Listing, listing_on, scene_of, IsWithinLimits}
 use Rattle.model.specs.Rows.{AreRows}
 use Rattle.model.specs.Starts.{AreStarts, AreOwners}
 
 -- What a draw list in memory holds.
 abbrev pub listing : Inside → Listing
-listing l = listing_of l.width l.height l.count l.clear l.output l.draws.items
+listing l = listing_on l.target l.draws.items
 
 -- What each draw list keeps: the limits, and for the look-ups where each draw starts, the draw of every sixteenth triangle, and the
 -- rows of each.

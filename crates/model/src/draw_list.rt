@@ -1,5 +1,5 @@
 ghost use Rattle.std.specs.Prelude.{◌≡◌, ◌↔◌, ◌<◌, ◌≤◌, length, slice_get, Some, IfSome, IfOk};
-ghost use Rattle.model.specs.Listing.{listing_of, scene_of, IsWithinLimits};
+ghost use Rattle.model.specs.Listing.{listing_of, listing_on, scene_of, IsWithinLimits};
 ghost use Rattle.model.specs.Rows.{IsRowSpan};
 
 use crate::draw::Draw;
@@ -7,6 +7,7 @@ use crate::limits::{are_within_limits, is_side};
 use crate::output::Output;
 use crate::rows::{RowSpan, rows_of};
 use crate::starts::{owner, owners_of, starts_of};
+use crate::target::Target;
 use grid::{OutOfMemory, SampleCount};
 use shade::{Placed, Sample};
 use std::alloc::Global;
@@ -17,11 +18,7 @@ use std::marker::Model;
 /// primitives that name vertices of their draw alone, and strictly convex quads.
 #[derive(Debug, Drop)]
 pub struct DrawList {
-    width: u32,
-    height: u32,
-    count: SampleCount,
-    clear: Sample,
-    output: Output,
+    target: Target,
     draws: Vec<Draw>,
     /// The number of each draw's first triangle.
     starts: Vec<u32>,
@@ -36,8 +33,19 @@ pub struct DrawList {
 pub enum ListFault {
     /// It would be past a limit of a draw list.
     PastLimit,
-    /// A growth of memory was refused.
+    /// An allocation failed.
     OutOfMemory,
+}
+
+impl From<OutOfMemory> for ListFault {
+    ghost use Rattle.std.specs.Prelude.{◌≡◌};
+    ghost use Rattle.model.specs.declared.draw_list.ListFault.TheVariants.{OutOfMemory};
+
+    ghost from_gives = { λ _ fault. fault ≡ OutOfMemory };
+
+    fn from(_refused: OutOfMemory) -> ListFault {
+        ListFault::OutOfMemory
+    }
 }
 
 impl Model for DrawList {
@@ -54,7 +62,7 @@ impl Model for DrawList {
 }
 
 impl DrawList {
-    /// The draw list of these draws. Past a limit is told before want of memory.
+    /// The draw list of these draws. Fails with `PastLimit` before it allocates, if they are past a limit.
     ///
     /// The state of a draw has no limits. Of its sample mask the bits of the picture's samples count, and of its scissor the
     /// pixels of the picture, so a mask over 15 and a scissor with sides outside of 0 to 4096, which the reader refuses, may
@@ -75,34 +83,30 @@ impl DrawList {
         if !is_side(width) || !is_side(height) || !are_within_limits(&draws) {
             return Err(ListFault::PastLimit);
         }
-        match DrawList::within_limits(alloc, width, height, count, clear, output, draws) {
-            Ok(list) => Ok(list),
-            Err(OutOfMemory) => Err(ListFault::OutOfMemory),
-        }
-    }
-
-    /// The draw list of these draws, which are within the limits.
-    pub fn within_limits(
-        alloc: Global,
-        width: u32,
-        height: u32,
-        count: SampleCount,
-        clear: Sample,
-        output: Output,
-        draws: Vec<Draw>,
-    ) -> Result<DrawList, OutOfMemory>
-        requires { IsWithinLimits (listing_of width height count clear output draws.items) }
-        ensures { IfOk result (λ list. list ≡ scene_of (listing_of width height count clear output draws.items)) }
-    {
-        let starts = starts_of(alloc, &draws)?;
-        let rows = rows_of(alloc, &draws)?;
-        let owners = owners_of(alloc, &starts, rows.len())?;
-        Ok(DrawList {
+        let target = Target {
             width,
             height,
             count,
             clear,
             output,
+        };
+        Ok(DrawList::within_limits(alloc, target, draws)?)
+    }
+
+    /// The draw list of these draws on this target, which are within the limits.
+    pub fn within_limits(
+        alloc: Global,
+        target: Target,
+        draws: Vec<Draw>,
+    ) -> Result<DrawList, OutOfMemory>
+        requires { IsWithinLimits (listing_on target draws.items) }
+        ensures { IfOk result (λ list. list ≡ scene_of (listing_on target draws.items)) }
+    {
+        let starts = starts_of(alloc, &draws)?;
+        let rows = rows_of(alloc, &draws)?;
+        let owners = owners_of(alloc, &starts, rows.len())?;
+        Ok(DrawList {
+            target,
             draws,
             starts,
             owners,
@@ -116,7 +120,7 @@ impl DrawList {
         ensures least { 1 ≤ result }
         ensures greatest { result ≤ 4096 }
     {
-        self.width
+        self.target.width
     }
 
     /// The height of the picture, in pixels.
@@ -125,31 +129,31 @@ impl DrawList {
         ensures least { 1 ≤ result }
         ensures greatest { result ≤ 4096 }
     {
-        self.height
+        self.target.height
     }
 
-    /// How many samples a pixel has.
+    /// The number of samples of a pixel.
     pub fn count(&self) -> SampleCount
         ensures { result ≡ self.now.count }
     {
-        self.count
+        self.target.count
     }
 
     /// The colour and depth that each sample begins with.
     pub fn clear(&self) -> Sample
         ensures { result ≡ self.now.clear }
     {
-        self.clear
+        self.target.clear
     }
 
     /// What the picture shows.
     pub fn output(&self) -> Output
         ensures { result ≡ self.now.output }
     {
-        self.output
+        self.target.output
     }
 
-    /// How many triangles all draws have together.
+    /// The number of triangles of all draws together.
     pub fn triangles(&self) -> usize
         ensures value { result ≡ length self.now.triangles }
         ensures greatest { result ≤ 65536 }

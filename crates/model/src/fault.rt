@@ -1,3 +1,4 @@
+use grid::OutOfMemory;
 use std::alloc::AllocError;
 
 /// What is wrong with a draw list.
@@ -17,7 +18,7 @@ pub enum ReadKind {
     BadIndex,
     /// There are more draws, vertices or triangles than a draw list may have.
     TooMany,
-    /// A growth of memory was refused.
+    /// An allocation failed.
     OutOfMemory,
     /// A draw has more than one list of primitives.
     TwoLists,
@@ -66,7 +67,7 @@ impl ReadKind {
     }
 }
 
-/// What is wrong with a draw list, and the draw where it is; none for a fault of the list outside of its draws.
+/// What is wrong with a draw list, and in which draw. A fault outside of the draws names none.
 #[derive(Clone, Copy, Debug, PartialEq, Eq)]
 pub struct ReadFault {
     /// What is wrong.
@@ -86,20 +87,55 @@ impl From<AllocError> for ReadKind {
     }
 }
 
+impl From<ReadKind> for ReadFault {
+    ghost use Rattle.std.specs.Prelude.{◌≡◌};
+    ghost use Rattle.model.specs.Checks.{outside as fault_outside};
+
+    ghost from_gives = { λ kind fault. fault ≡ fault_outside kind };
+
+    fn from(kind: ReadKind) -> ReadFault {
+        ReadFault::outside(kind)
+    }
+}
+
+impl From<AllocError> for ReadFault {
+    ghost use Rattle.std.specs.Prelude.{◌≡◌};
+    ghost use Rattle.model.specs.Checks.{outside as fault_outside};
+    ghost use Rattle.model.specs.declared.fault.ReadKind.TheVariants.{OutOfMemory};
+
+    ghost from_gives = { λ _ fault. fault ≡ fault_outside OutOfMemory };
+
+    fn from(_refused: AllocError) -> ReadFault {
+        ReadFault::outside(ReadKind::OutOfMemory)
+    }
+}
+
+impl From<OutOfMemory> for ReadFault {
+    ghost use Rattle.std.specs.Prelude.{◌≡◌};
+    ghost use Rattle.model.specs.Checks.{outside as fault_outside};
+    ghost use Rattle.model.specs.declared.fault.ReadKind.TheVariants.{OutOfMemory};
+
+    ghost from_gives = { λ _ fault. fault ≡ fault_outside OutOfMemory };
+
+    fn from(_refused: OutOfMemory) -> ReadFault {
+        ReadFault::outside(ReadKind::OutOfMemory)
+    }
+}
+
 impl ReadFault {
     ghost use Rattle.std.specs.Prelude.{◌≡◌};
-    ghost use Rattle.model.specs.Checks.{outside as told_outside, in_draw as told_in_draw};
+    ghost use Rattle.model.specs.Checks.{outside as fault_outside, in_draw as fault_in_draw};
 
     /// A fault of the list, outside of its draws.
     pub fn outside(kind: ReadKind) -> ReadFault
-        ensures { result ≡ told_outside kind }
+        ensures { result ≡ fault_outside kind }
     {
         ReadFault { kind, draw: None }
     }
 
     /// A fault of the draw of this number.
     pub fn in_draw(kind: ReadKind, number: u32) -> ReadFault
-        ensures { result ≡ told_in_draw number kind }
+        ensures { result ≡ fault_in_draw number kind }
     {
         ReadFault {
             kind,

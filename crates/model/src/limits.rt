@@ -4,9 +4,9 @@ ghost use Rattle.model.specs.Listing.{draw_listing, AreWithinLimits};
 use crate::draw::Draw;
 
 /// The greatest width and height of a picture, in pixels.
-const MOST_PIXELS: u32 = 4096;
+pub const MOST_PIXELS: u32 = 4096;
 
-/// The most bytes that are read: 64 MiB. It is the number in the contract of `list::read`.
+/// The most bytes that are read: 64 MiB. The contract of `list::read` has it as a number.
 pub const MOST_BYTES: usize = 67_108_864;
 
 /// The most draws of a draw list.
@@ -24,14 +24,17 @@ pub const MOST_STRIP_INDICES: usize = 65_538;
 /// The most quads, which have two triangles each.
 pub const MOST_QUADS: usize = 32_768;
 
-/// Whether so many pixels are within the limits of a side of a picture.
-pub(crate) fn is_side(pixels: u32) -> bool
+/// The sample mask of all samples, and so the greatest.
+pub const ALL_SAMPLES: u8 = 15;
+
+/// Whether a number of pixels is within the limits of a picture's width and height.
+pub fn is_side(pixels: u32) -> bool
     ensures { IsTrue result ↔ ((1 ≤ pixels) × (pixels ≤ 4096)) }
 {
     1 <= pixels && pixels <= MOST_PIXELS
 }
 
-/// Whether so many draws, each of them, and all their triangles are within the limits.
+/// Whether the number of draws, each of them, and all their triangles are within the limits.
 pub(crate) fn are_within_limits(draws: &[Draw]) -> bool
     ensures { IsTrue result ↔ AreWithinLimits (map draw_listing draws.now) }
 {

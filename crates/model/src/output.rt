@@ -12,7 +12,7 @@ pub enum Output {
 impl Output {
     ghost use Rattle.model.specs.Picture.{pixel_bytes};
 
-    /// How many bytes a pixel has.
+    /// The number of bytes of a pixel.
     pub fn pixel_bytes(self) -> u32
         ensures value { result ≡ pixel_bytes self }
         ensures greatest { result ≤ 3 }

@@ -19,14 +19,14 @@ pub enum Primitives {
     Quads(Vec<[u32; 4]>),
 }
 
-/// How many triangles a strip of so many indices has.
+/// The number of triangles of a strip of `indices` indices.
 pub fn strip_count(indices: usize) -> usize
     ensures { result ≡ count_of_strip indices }
 {
     indices.saturating_sub(2)
 }
 
-/// How many triangles so many quads have.
+/// The number of triangles of `quads` quads.
 pub fn quads_count(quads: usize) -> usize
     requires { quads ≤ 9223372036854775807 }
     ensures { result ≡ count_of_quads quads }
@@ -34,8 +34,8 @@ pub fn quads_count(quads: usize) -> usize
     2 * quads
 }
 
-/// Whether each of these numbers names one of so many vertices.
-fn name_vertices(numbers: &[u32], vertices: usize) -> bool
+/// Whether each of these numbers is the number of one of `vertices` vertices.
+pub fn name_vertices(numbers: &[u32], vertices: usize) -> bool
     ensures { IsTrue result ↔ All (λ k. k < vertices) numbers.now }
 {
     numbers.iter().all(|number| (*number as usize) < vertices)
@@ -100,7 +100,7 @@ fn is_quad(quad: [u32; 4], vertices: &[Vertex]) -> bool
 }
 
 impl Primitives {
-    /// How many triangles the primitives are.
+    /// The number of triangles that the primitives are.
     pub fn triangles(&self) -> usize
         ensures value { result ≡ count_of_triangles (primitive_listing self.now) }
         ensures all { result ≡ length (triangles_of_listing (primitive_listing self.now)) }

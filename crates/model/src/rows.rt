@@ -6,11 +6,12 @@ ghost use Rattle.model.specs.Listing.{draw_listing, placed_all, IsDrawWithinLimi
 ghost use Rattle.model.specs.Rows as rows;
 
 use crate::draw::Draw;
+use crate::limits::MOST_PIXELS;
 use grid::{Tri, greatest, least};
 use std::alloc::{AllocError, Global};
 
-/// How many rows of pixels the screen has.
-const SCREEN_ROWS: i32 = 4096;
+/// The rows of pixels of the screen.
+const SCREEN_ROWS: i32 = MOST_PIXELS as i32;
 
 /// Rows of pixels of the screen, from `first` to before `end`. There are none where `end` is at most `first`, as for a triangle
 /// above the screen or below it.

@@ -30,10 +30,10 @@ fn draw_of(starts: &[u32], number: usize) -> usize
     starts.partition_point(|start| (*start as usize) <= number) - 1
 }
 
-/// How many triangles lie from one entry of a table of owners to the next.
+/// The number of triangles from one entry of a table of owners to the next.
 const STEP: usize = 16;
 
-/// The draws of every sixteenth of so many triangles, by the number of each draw's first triangle.
+/// The draw of every sixteenth of `triangles` triangles, by the number of each draw's first triangle.
 pub(crate) fn owners_of(
     alloc: Global,
     starts: &[u32],
@@ -58,8 +58,8 @@ pub(crate) fn owners_of(
     Ok(owners)
 }
 
-/// The draw of the triangle of this number. Where the entries of the table before and behind it are the same, that is it, and else
-/// it is searched for.
+/// The draw of the triangle of this number. If the entries of the table before and behind it are the same, it is that draw;
+/// otherwise it is searched for.
 pub(crate) fn owner(starts: &[u32], owners: &[u16], number: usize) -> usize
     requires owners { AreOwners starts.now (number + 1) owners.now }
     requires first { slice_index starts.now 0 ≡ 0 }

@@ -1,13 +1,13 @@
 //! The picture of a draw list, drawn as it is defined: each sample by itself, through all triangles in order.
 #![tactic(auto)]
 
-mod drawing;
 mod picture;
 mod pixel;
+mod triangle_sample;
 
-pub use drawing::draw;
 pub use picture::render;
 pub use pixel::{Colour, colour_at, end_at};
+pub use triangle_sample::draw;
 
 #[cfg(test)]
 mod tests;

@@ -3,7 +3,7 @@ ghost use Rattle.grid.specs.Samples.{count_of};
 ghost use Rattle.shade.specs.declared.sample.Sample.{Sample};
 ghost use Rattle.model.specs.Picture.{IsEnd, IsColour};
 
-use crate::drawing::draw;
+use crate::triangle_sample::draw;
 use grid::SampleCount;
 use model::DrawList;
 use shade::{Sample, mean_of_four};

@@ -1,38 +1,23 @@
 use crate::render;
-use grid::{Cull, PixelBox, Point, SampleCount};
-use model::{Draw, DrawList, Output, Primitives, State, Vertex};
-use shade::{DepthTest, Merge, Sample};
+use grid::{Point, SampleCount};
+use model::{DEFAULT_CLEAR, DEFAULT_STATE, Draw, DrawList, Output, Primitives, State, Vertex};
+use shade::DepthTest;
 use std::alloc::Global;
 use std::process::Abort;
 use std::test::Fail;
-
-const BLACK: Sample = Sample {
-    r: 0,
-    g: 0,
-    b: 0,
-    z: 65535,
-};
 
 const WHITE: [u8; 4] = [255, 255, 255, 255];
 
 const RED: [u8; 4] = [255, 0, 0, 255];
 
-/// A draw of one triangle without culling, over the whole picture.
+/// A draw of one triangle.
 #[derive(Clone, Copy)]
 struct Drawn {
     corners: [(i32, i32); 3],
     depths: [u16; 3],
     colours: [[u8; 4]; 3],
-    merge: Merge,
-    sample_mask: u8,
+    state: State,
 }
-
-const OPAQUE: Merge = Merge {
-    test: DepthTest::Always,
-    depth_write: false,
-    write: [true, true, true],
-    over: false,
-};
 
 /// The triangle over the centres of pixels (0, 0), (2, 0) and (0, 2).
 const CORNER: [(i32, i32); 3] = [(128, 128), (640, 128), (128, 640)];
@@ -49,17 +34,7 @@ impl Drawn {
             })?;
         }
         Ok(Draw {
-            state: State {
-                merge: self.merge,
-                cull: Cull::None,
-                sample_mask: self.sample_mask,
-                scissor: PixelBox {
-                    x0: 0,
-                    y0: 0,
-                    x1: 4096,
-                    y1: 4096,
-                },
-            },
+            state: self.state,
             vertices,
             primitives: Primitives::Triangles(vec![in alloc; [0, 1, 2]]?),
         })
@@ -79,7 +54,7 @@ fn shown(
     for one in drawn {
         draws.push(one.place(rt, alloc)?)?;
     }
-    let list = DrawList::new(alloc, side, side, count, BLACK, output, draws).expect(
+    let list = DrawList::new(alloc, side, side, count, DEFAULT_CLEAR, output, draws).expect(
         rt,
         "within the limits",
     );
@@ -108,29 +83,27 @@ fn depths(
     shown(rt, alloc, side, count, Output::Depth, drawn)
 }
 
-/// A white triangle whose depths are stored.
-fn stored(corners: [(i32, i32); 3], depths: [u16; 3]) -> Drawn {
+/// A triangle of one colour in the default state, with a depth of 0.
+fn coloured(corners: [(i32, i32); 3], colour: [u8; 4]) -> Drawn {
     Drawn {
         corners,
-        depths,
-        colours: [WHITE, WHITE, WHITE],
-        merge: Merge {
-            depth_write: true,
-            ..OPAQUE
-        },
-        sample_mask: 15,
+        depths: [0, 0, 0],
+        colours: [colour, colour, colour],
+        state: DEFAULT_STATE,
     }
+}
+
+/// A white triangle whose depths are stored.
+fn stored(corners: [(i32, i32); 3], depths: [u16; 3]) -> Drawn {
+    let mut white = coloured(corners, WHITE);
+    white.depths = depths;
+    white.state.merge.depth_write = true;
+    white
 }
 
 #[test]
 fn draws_a_corner(rt: HostRuntime) -> Result<(), Fail> {
-    let white = Drawn {
-        corners: CORNER,
-        depths: [0, 0, 0],
-        colours: [WHITE, WHITE, WHITE],
-        merge: OPAQUE,
-        sample_mask: 15,
-    };
+    let white = coloured(CORNER, WHITE);
     let bytes = picture(&rt, rt.alloc(), 3, SampleCount::One, &[white])?;
     let expected = b"\xFF\xFF\xFF\xFF\xFF\xFF\0\0\0\xFF\xFF\xFF\0\0\0\0\0\0\0\0\0\0\0\0\0\0\0";
     assert_eq!(rt; bytes.as_slice(), expected.as_slice());
@@ -139,13 +112,8 @@ fn draws_a_corner(rt: HostRuntime) -> Result<(), Fail> {
 
 #[test]
 fn interpolates_red_at_samples(rt: HostRuntime) -> Result<(), Fail> {
-    let red = Drawn {
-        corners: [(0, 0), (256, 0), (0, 256)],
-        depths: [0, 0, 0],
-        colours: [[0, 0, 0, 255], RED, [0, 0, 0, 255]],
-        merge: OPAQUE,
-        sample_mask: 15,
-    };
+    let mut red = coloured([(0, 0), (256, 0), (0, 256)], [0, 0, 0, 255]);
+    red.colours[1] = RED;
     let bytes = picture(&rt, rt.alloc(), 1, SampleCount::Four, &[red])?;
     assert_eq!(rt; bytes.as_slice(), b"\x20\0\0".as_slice());
     Ok(())
@@ -153,26 +121,10 @@ fn interpolates_red_at_samples(rt: HostRuntime) -> Result<(), Fail> {
 
 #[test]
 fn compares_depths(rt: HostRuntime) -> Result<(), Fail> {
-    let white = Drawn {
-        corners: CORNER,
-        depths: [0, 3, 0],
-        colours: [WHITE, WHITE, WHITE],
-        merge: Merge {
-            depth_write: true,
-            ..OPAQUE
-        },
-        sample_mask: 15,
-    };
-    let red = Drawn {
-        corners: CORNER,
-        depths: [1, 1, 1],
-        colours: [RED, RED, RED],
-        merge: Merge {
-            test: DepthTest::Equal,
-            ..OPAQUE
-        },
-        sample_mask: 15,
-    };
+    let white = stored(CORNER, [0, 3, 0]);
+    let mut red = coloured(CORNER, RED);
+    red.depths = [1, 1, 1];
+    red.state.merge.test = DepthTest::Equal;
     let bytes = picture(&rt, rt.alloc(), 3, SampleCount::One, &[white, red])?;
     let expected = b"\xFF\xFF\xFF\xFF\0\0\0\0\0\xFF\xFF\xFF\0\0\0\0\0\0\0\0\0\0\0\0\0\0\0";
     assert_eq!(rt; bytes.as_slice(), expected.as_slice());
@@ -181,20 +133,9 @@ fn compares_depths(rt: HostRuntime) -> Result<(), Fail> {
 
 #[test]
 fn resolves_after_all_triangles(rt: HostRuntime) -> Result<(), Fail> {
-    let white = Drawn {
-        corners: [(0, 0), (256, 0), (0, 256)],
-        depths: [0, 0, 0],
-        colours: [WHITE, WHITE, WHITE],
-        merge: OPAQUE,
-        sample_mask: 15,
-    };
-    let red = Drawn {
-        corners: [(0, 0), (512, 0), (0, 512)],
-        depths: [0, 0, 0],
-        colours: [RED, RED, RED],
-        merge: OPAQUE,
-        sample_mask: 1,
-    };
+    let white = coloured([(0, 0), (256, 0), (0, 256)], WHITE);
+    let mut red = coloured([(0, 0), (512, 0), (0, 512)], RED);
+    red.state.sample_mask = 1;
     let bytes = picture(&rt, rt.alloc(), 1, SampleCount::Four, &[white, red])?;
     assert_eq!(rt; bytes.as_slice(), b"\x80\x40\x40".as_slice());
     Ok(())
@@ -202,21 +143,9 @@ fn resolves_after_all_triangles(rt: HostRuntime) -> Result<(), Fail> {
 
 #[test]
 fn repeats_a_triangle(rt: HostRuntime) -> Result<(), Fail> {
-    let half = || Drawn {
-        corners: CORNER,
-        depths: [0, 0, 0],
-        colours: [
-            [255, 255, 255, 128],
-            [255, 255, 255, 128],
-            [255, 255, 255, 128],
-        ],
-        merge: Merge {
-            over: true,
-            ..OPAQUE
-        },
-        sample_mask: 15,
-    };
-    let bytes = picture(&rt, rt.alloc(), 3, SampleCount::One, &[half(), half()])?;
+    let mut half = coloured(CORNER, [255, 255, 255, 128]);
+    half.state.merge.over = true;
+    let bytes = picture(&rt, rt.alloc(), 3, SampleCount::One, &[half, half])?;
     let expected = b"\xC0\xC0\xC0\xC0\xC0\xC0\0\0\0\xC0\xC0\xC0\0\0\0\0\0\0\0\0\0\0\0\0\0\0\0";
     assert_eq!(rt; bytes.as_slice(), expected.as_slice());
     Ok(())
@@ -243,7 +172,7 @@ fn shows_the_depth_of_the_first_sample(rt: HostRuntime) -> Result<(), Fail> {
 #[test]
 fn shows_no_depth_of_a_sample_that_is_masked(rt: HostRuntime) -> Result<(), Fail> {
     let mut drawn = stored([(0, 0), (256, 0), (0, 256)], [0, 255, 0]);
-    drawn.sample_mask = 14;
+    drawn.state.sample_mask = 14;
     let bytes = depths(&rt, rt.alloc(), 1, SampleCount::Four, &[drawn])?;
     assert_eq!(rt; bytes.as_slice(), b"\xFF\xFF".as_slice());
     Ok(())
@@ -252,7 +181,7 @@ fn shows_no_depth_of_a_sample_that_is_masked(rt: HostRuntime) -> Result<(), Fail
 #[test]
 fn shows_no_depth_that_is_not_stored(rt: HostRuntime) -> Result<(), Fail> {
     let mut drawn = stored(CORNER, [7, 7, 7]);
-    drawn.merge.depth_write = false;
+    drawn.state.merge.depth_write = false;
     let bytes = depths(&rt, rt.alloc(), 1, SampleCount::One, &[drawn])?;
     assert_eq!(rt; bytes.as_slice(), b"\xFF\xFF".as_slice());
     Ok(())

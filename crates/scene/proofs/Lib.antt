@@ -2,3 +2,4 @@ pub mod Draws
 pub mod Limits
 pub mod Faults
 pub mod Chunks
+pub mod Numbered

@@ -12,6 +12,7 @@ use Rattle.shade.specs.declared.state.State.{State}
 use Rattle.model.specs.declared.draw.Vertex.{Vertex}
 use Rattle.model.specs.declared.output.Output.{Output}
 use Rattle.model.specs.declared.output.Output.TheVariants as output
+use Rattle.model.specs.declared.target.Target.{Target}
 use Rattle.model.specs.Primitives.{PrimitiveListing, triangle_list, triangle_strip, quad_list}
 use Rattle.model.specs.Listing.{DrawListing, Listing}
 use Rattle.scene.specs.declared.head.SceneHead.{SceneHead}
@@ -91,6 +92,15 @@ draws_listed (d ∷ ds) vertices indices = draw_listed d vertices indices ∷ dr
 
 abbrev pub clear_listed : SceneHead → Sample
 clear_listed head = record { r = head.clear_red; g = head.clear_green; b = head.clear_blue; z = head.clear_depth }
+
+abbrev pub target_listed : SceneHead → Target
+target_listed head = record {
+  width = head.width;
+  height = head.height;
+  count = samples_listed head.samples;
+  clear = clear_listed head;
+  output = output_listed head.output;
+}
 
 abbrev pub scene_listed : SceneHead → List SceneDraw → List SceneVertex → List ℕ → Listing
 scene_listed head draws vertices indices = record {

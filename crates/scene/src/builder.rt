@@ -9,18 +9,8 @@ ghost use Rattle.scene.specs.Checks.{draw_checks, checks_before_vertices, DrawsP
 use crate::draw::SceneDraw;
 use crate::head::SceneHead;
 use crate::vertex::SceneVertex;
-use model::{Draw, DrawList, ReadFault, ReadKind};
+use model::{Draw, DrawList, MOST_DRAWS, ReadFault, ReadKind};
 use std::alloc::Global;
-
-/// The most draws of a draw list.
-const MOST_DRAWS: usize = 1024;
-
-/// A fault of the scene, outside of its draws.
-fn outside(kind: ReadKind) -> ReadFault
-    ensures { result ≡ record { kind = kind; draw = None } }
-{
-    ReadFault { kind, draw: None }
-}
 
 /// The draw of this number, whose vertices and indices are the first of these. The draws before it have `earlier` triangles.
 fn numbered_draw(
@@ -39,13 +29,8 @@ fn numbered_draw(
     ensures memory { IfErr result (λ fault. fault.kind ≡ OutOfMemory
         → Pass (checks_before_vertices draw.now vertices.now indices.now)) }
 {
-    match draw.draw(alloc, vertices, indices, earlier) {
-        Ok(found) => Ok(found),
-        Err(kind) => Err(ReadFault {
-            kind,
-            draw: Some(number),
-        }),
-    }
+    draw.draw(alloc, vertices, indices, earlier)
+        .map_err(|kind| ReadFault::in_draw(kind, number))
 }
 
 /// The draws of a scene.
@@ -63,9 +48,7 @@ fn draws_of(
     ensures reached { IfErr result (λ fault. IfSome fault.draw
         (IsReached 0 0 draws.now vertices.now indices.now fault.kind)) }
 {
-    let Ok(mut found) = Vec::with_capacity(alloc, draws.len()) else {
-        return Err(outside(ReadKind::OutOfMemory));
-    };
+    let mut found = Vec::with_capacity(alloc, draws.len())?;
     let mut earlier = 0;
     let (mut vertices_left, mut indices_left) = (vertices, indices);
     for (number, draw) in draws.iter().enumerate() {
@@ -77,7 +60,7 @@ fn draws_of(
         (_, indices_left) = indices_left.split_at(draw.indices as usize);
     }
     if !vertices_left.is_empty() || !indices_left.is_empty() {
-        return Err(outside(ReadKind::WrongKind));
+        return Err(ReadFault::outside(ReadKind::WrongKind));
     }
     Ok(found)
 }
@@ -85,12 +68,12 @@ fn draws_of(
 /// The draw list of a caller's own arrays: a picture, the draws on it in their order, and one after another the vertices and the
 /// indices of all draws.
 ///
-/// What is told is the first check that fails, in this order. The numbers of the picture are in their ranges: else `OutOfRange`.
+/// Returns the first check that fails as the error, in this order. The numbers of the picture are in their ranges: else `OutOfRange`.
 /// There are at most 1,024 draws: else `TooMany`. Then each draw in turn: that many vertices and indices are left for it
 /// (`WrongKind`), the numbers of its state are in their ranges (`OutOfRange`), it has at most 65,536 vertices (`TooMany`), whose
 /// numbers are in their ranges (`OutOfRange`), its indices make whole primitives (`WrongKind`), all draws so far have at most
 /// 65,536 triangles together (`TooMany`), each index names a vertex of the draw (`BadIndex`), each quad is strictly convex
-/// (`NotConvex`). At the end no vertex and no index is left over: else `WrongKind`. A fault of a draw tells the draw's number.
+/// (`NotConvex`). At the end no vertex and no index is left over: else `WrongKind`. A fault of a draw names the draw's number.
 ///
 /// `OutOfMemory` is returned as soon as an allocation fails; later checks are not made. It names the draw that was being read, of
 /// which no check before its vertices fails. Before the first draw and after the last it names none. Nothing of the arrays is kept.
@@ -113,15 +96,11 @@ pub fn build(
     ensures reached { IfErr result (Reaches head.now draws.now vertices.now indices.now) }
 {
     if !head.is_in_range() {
-        return Err(outside(ReadKind::OutOfRange));
+        return Err(ReadFault::outside(ReadKind::OutOfRange));
     }
     if draws.len() > MOST_DRAWS {
-        return Err(outside(ReadKind::TooMany));
+        return Err(ReadFault::outside(ReadKind::TooMany));
     }
     let found = draws_of(alloc, draws, vertices, indices)?;
-    let (count, clear, shows) = (head.count(), head.clear(), head.shows());
-    match DrawList::within_limits(alloc, head.width, head.height, count, clear, shows, found) {
-        Ok(list) => Ok(list),
-        Err(_) => Err(outside(ReadKind::OutOfMemory)),
-    }
+    Ok(DrawList::within_limits(alloc, head.target(), found)?)
 }

@@ -9,7 +9,7 @@ ghost use Rattle.scene.specs.Checks.{draw_checks, checks_before_vertices};
 use crate::primitives::primitives_of;
 use crate::vertex::{SceneVertex, vertices_of};
 use grid::{Cull, PixelBox};
-use model::{Draw, ReadKind, State};
+use model::{ALL_SAMPLES, Draw, MOST_PIXELS, ReadKind, State};
 use shade::{DepthTest, Merge};
 use std::alloc::Global;
 
@@ -85,9 +85,10 @@ impl SceneDraw {
         let tests = self.primitives <= 2 && self.cull <= 2 && self.depth_test <= 7;
         let merge = self.depth_write <= 1 && self.blend <= 1;
         let write = self.write_red <= 1 && self.write_green <= 1 && self.write_blue <= 1;
-        let upper_left = self.scissor_left <= 4096 && self.scissor_top <= 4096;
-        let lower_right = self.scissor_right <= 4096 && self.scissor_bottom <= 4096;
-        tests && merge && write && self.sample_mask <= 15 && upper_left && lower_right
+        let samples = self.sample_mask <= u32::from(ALL_SAMPLES);
+        let upper_left = self.scissor_left <= MOST_PIXELS && self.scissor_top <= MOST_PIXELS;
+        let lower_right = self.scissor_right <= MOST_PIXELS && self.scissor_bottom <= MOST_PIXELS;
+        tests && merge && write && samples && upper_left && lower_right
     }
 
     /// The state.

@@ -1,9 +1,9 @@
 ghost use Rattle.std.specs.Prelude.{◌≡◌, ◌↔◌, IsTrue};
-ghost use Rattle.scene.specs.Listed.{samples_listed, clear_listed, output_listed};
+ghost use Rattle.scene.specs.Listed.{samples_listed, clear_listed, output_listed, target_listed};
 ghost use Rattle.scene.specs.Ranges.{IsHeadInRange};
 
 use grid::SampleCount;
-use model::Output;
+use model::{Output, Target, is_side};
 use shade::Sample;
 
 /// The picture that a scene is drawn on, laid out as in C.
@@ -33,14 +33,14 @@ impl SceneHead {
     pub(crate) fn is_in_range(&self) -> bool
         ensures { IsTrue result ↔ IsHeadInRange self.now }
     {
-        let size = 1 <= self.width && self.width <= 4096 && 1 <= self.height && self.height <= 4096;
+        let size = is_side(self.width) && is_side(self.height);
         let samples = self.samples == 1 || self.samples == 4;
         let colour = self.clear_red <= 255 && self.clear_green <= 255 && self.clear_blue <= 255;
         size && samples && self.output <= 1 && colour && self.clear_depth <= 65_535
     }
 
-    /// How many samples a pixel has.
-    pub(crate) fn count(&self) -> SampleCount
+    /// The number of samples of a pixel.
+    fn count(&self) -> SampleCount
         ensures { result ≡ samples_listed self.now.samples }
     {
         if self.samples == 4 {
@@ -51,7 +51,7 @@ impl SceneHead {
     }
 
     /// The colour and depth that each sample begins with.
-    pub(crate) fn clear(&self) -> Sample
+    fn clear(&self) -> Sample
         requires { IsHeadInRange self.now }
         ensures { result ≡ clear_listed self.now }
     {
@@ -64,13 +64,27 @@ impl SceneHead {
     }
 
     /// What the picture shows.
-    pub(crate) fn shows(&self) -> Output
+    fn shows(&self) -> Output
         ensures { result ≡ output_listed self.now.output }
     {
         if self.output == 1 {
             Output::Depth
         } else {
             Output::Color
+        }
+    }
+
+    /// What the draws are drawn on.
+    pub(crate) fn target(&self) -> Target
+        requires { IsHeadInRange self.now }
+        ensures { result ≡ target_listed self.now }
+    {
+        Target {
+            width: self.width,
+            height: self.height,
+            count: self.count(),
+            clear: self.clear(),
+            output: self.shows(),
         }
     }
 }

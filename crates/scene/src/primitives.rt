@@ -1,15 +1,13 @@
-ghost use Rattle.std.specs.Prelude.{◌≡◌, ◌↔◌, ◌<◌, ◌≤◌, IsTrue, IfOk, length};
-ghost use Rattle.std.specs.List.{All};
+ghost use Rattle.std.specs.Prelude.{◌≡◌, ◌≤◌, IfOk};
 ghost use Rattle.model.specs.Primitives.{primitive_listing, count_of_triangles};
 ghost use Rattle.scene.specs.Listed.{corners_of, primitives_listed};
 ghost use Rattle.scene.specs.Checking.{Reads};
 ghost use Rattle.scene.specs.Checks.{primitives_checks};
 
-use model::{Primitives, ReadKind, Vertex};
+use model::{
+    MOST_TRIANGLES, Primitives, ReadKind, Vertex, name_vertices, quads_count, strip_count,
+};
 use std::alloc::{AllocError, Global};
-
-/// The most triangles of all draws together.
-const MOST_TRIANGLES: usize = 65_536;
 
 /// How many indices each of the primitives of this kind takes.
 fn corners(kind: u32) -> usize
@@ -30,16 +28,9 @@ fn triangles(kind: u32, indices: &[u32]) -> usize
 {
     match kind {
         0 => indices.len() / 3,
-        1 => indices.len().saturating_sub(2),
-        _ => 2 * (indices.len() / 4),
+        1 => strip_count(indices.len()),
+        _ => quads_count(indices.len() / 4),
     }
-}
-
-/// Whether each index names one of so many vertices.
-fn name_vertices(indices: &[u32], vertices: usize) -> bool
-    ensures { IsTrue result ↔ All (λ k. k < vertices) indices.now }
-{
-    indices.iter().all(|index| (*index as usize) < vertices)
 }
 
 /// The primitives of this kind with these indices; what is left at the end and too few for a primitive is none.

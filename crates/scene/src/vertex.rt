@@ -6,11 +6,8 @@ ghost use Rattle.scene.specs.Checking.{Pass, Reads};
 ghost use Rattle.scene.specs.Checks.{number_checks, vertices_checks};
 
 use grid::Point;
-use model::{ReadKind, Vertex};
+use model::{MOST_VERTICES, ReadKind, Vertex};
 use std::alloc::Global;
-
-/// The most vertices of a draw.
-const MOST_VERTICES: usize = 65_536;
 
 /// A vertex of a draw, laid out as in C.
 #[repr(C)]

@@ -11,13 +11,13 @@ pub within_limits-requires : goal.within_limits-requires
 within_limits-requires c =
     let head : IsHeadInRange c.args.head.now = search rules in
     let found = c.in_ok-found.ensures.ok in
-    record {
+    rw c.target.ensures (record {
       wide = omega (arith, head.wide, head.high);
       width = omega (arith, head.width, head.height);
       high = omega (arith, head.wide, head.high);
       height = omega (arith, head.width, head.height);
       draws = rw found.1 (draws_within c.args.draws.now c.args.vertices.now c.args.indices.now (omega arith) found.0);
-    }
+    })
 
 pub returns-in_err-found-clause-only : goal.returns-in_err-found-clause-only
 returns-in_err-found-clause-only c list listed =

@@ -9,14 +9,14 @@ pub returns-in_err-next-clause-fault : goal.returns-in_err-next-clause-fault
 returns-in_err-next-clause-fault c =
     let within : c.loop-number.number < length c.args.draws.now = omega arith in
     let fault = c.in_err-next.field-0.0 in
-    let p = err_from_is_err_and c.from_residual.result c.from_residual.ensures.1 in
+    let p = err_from_is_err_and c.from_residual-in_err-next.result c.from_residual-in_err-next.ensures.1 in
     rw (p.1, p.2) (λ other. c.loop-number.invariant.faults fault (fails_here c.args.draws.now c.loop-number.number _ within _ _ _ fault (c.in_err-next.ensures.told other) c.in_err-next.ensures.named))
 
 pub returns-in_err-next-clause-reached : goal.returns-in_err-next-clause-reached
 returns-in_err-next-clause-reached c =
     let within : c.loop-number.number < length c.args.draws.now = omega arith in
     let fault = c.in_err-next.field-0.0 in
-    let p = err_from_is_err_and c.from_residual.result c.from_residual.ensures.1 in
+    let p = err_from_is_err_and c.from_residual-in_err-next.result c.from_residual-in_err-next.ensures.1 in
     let reached = c.loop-number.invariant.reached fault.kind _ (reached_here c.args.draws.now c.loop-number.number _ within _ _ _ fault.kind c.in_err-next.ensures.memory) in
     rw (p.1, p.2) (rw c.in_err-next.ensures.named reached)
 

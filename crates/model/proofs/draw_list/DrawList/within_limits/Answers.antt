@@ -1,5 +1,5 @@
 use Rattle.std.proofs.Common.{◌≡◌, length, arith}
-use Rattle.model.specs.Listing.{listing_of, scene_of}
+use Rattle.model.specs.Listing.{listing_on, scene_of}
 use Rattle.model.proofs.Numbering.{length-triangles, most_triangles}
 use Rattle.model.proofs.Spans.{length-rows}
 use Rattle.model.proofs.Starting.{ascending}
@@ -17,7 +17,7 @@ pub invariant_of-result : goal.invariant_of-result
 invariant_of-result c =
     let rows = rw c.deref-2.ensures.value at c.in_ok-rows.ensures in
     let owners = rw c.deref-3.ensures.value at c.in_ok-owners.ensures in
-    let many : c.len.result ≡ length (scene_of (listing_of c.args.width c.args.height c.args.count c.args.clear c.args.output c.args.draws.items)).triangles = omega (arith, length-rows _ _ rows, c.len.ensures, c.in_ok-rows.rows.ok.0) in
+    let many : c.len.result ≡ length (scene_of (listing_on c.args.target c.args.draws.items)).triangles = omega (arith, length-rows _ _ rows, c.len.ensures, c.in_ok-rows.rows.ok.0) in
     record {
       limits = c.requires;
       starts = rw c.deref.ensures.value at c.in_ok-starts.ensures;
