@@ -2,6 +2,7 @@
 ghost use Rattle.std.specs.Prelude.{◌≡◌};
 
 use grid::OutOfMemory;
+use std::alloc::AllocError;
 
 /// Why there are no answers. Where several hold, the first of these is told: memory refused in
 /// dealing, a thread that was not started, memory refused in a worker or in gathering.
@@ -31,6 +32,16 @@ impl PoolFault {
             PoolFault::OutOfMemory => "OutOfMemory",
             PoolFault::NoWorker => "NoWorker",
         }
+    }
+}
+
+impl From<AllocError> for PoolFault {
+    ghost use Rattle.pool.specs.declared.fault.PoolFault.{PoolFault};
+
+    ghost from_gives = { λ _ fault. fault ≡ PoolFault.OutOfMemory };
+
+    fn from(_error: AllocError) -> PoolFault {
+        PoolFault::OutOfMemory
     }
 }
 

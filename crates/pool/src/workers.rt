@@ -8,7 +8,6 @@ use crate::fault::PoolFault;
 use crate::gate::Gate;
 use crate::job::Job;
 use crate::worker::{WorkerResult, WorksThrough, work_through};
-use grid::OutOfMemory;
 use std::alloc::Global;
 use std::snapshot::Snapshot;
 use std::sync::Wait;
@@ -149,14 +148,7 @@ pub fn run_beside<R: Threads + Wait + Sync, D: Dealer, J: Job, G: Gate, T: Drop,
         return (Err(PoolFault::OutOfMemory), beside());
     };
     let (worked, answer) = work_seats(rt, alloc, &dealer, job, gate, seats, beside);
-    let gathered = match worked {
-        Ok(results) => match gather(alloc, dealer, job, n, results) {
-            Ok(answers) => Ok(answers),
-            Err(OutOfMemory) => Err(PoolFault::OutOfMemory),
-        },
-        Err(fault) => Err(fault),
-    };
-    (gathered, answer)
+    (gather(alloc, dealer, job, n, worked), answer)
 }
 
 /// The answers of the job for the numbers below `n`, in their order: `run_beside` where the calling thread has nothing else to do.
