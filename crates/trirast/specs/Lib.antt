@@ -3,6 +3,7 @@ pub mod Counted
 pub mod File
 pub mod Runs
 pub mod Words
+pub mod Writes
 pub mod Program
 pub mod Band
 pub mod TileRows

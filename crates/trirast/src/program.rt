@@ -8,7 +8,6 @@ use crate::counted::Counted;
 use crate::engine::run;
 use crate::fault::Fault;
 use crate::line::LineFault;
-use crate::sending::send;
 use crate::telling::{FaultLine, fault_line};
 use crate::words::options;
 use std::alloc::Global;
@@ -99,5 +98,5 @@ fn tell<W: Write>(line: &[u8], out: &mut Counted<W>)
     requires { out.old.failures < u64.MAX }
     ensures { WritesLine line.now (W.contents out.old.inner) (W.contents out.new.inner) }
 {
-    let _ = send(line, 0, out);
+    let _ = out.write_all(line, 0);
 }

@@ -2,7 +2,7 @@ use Rattle.std.proofs.Common.{arith}
 use Rattle.std.proofs.lemmas.Grind.{common_steps}
 use Rattle.std.proofs.lemmas.Bool.Decides.{nat_tests}
 use Rattle.trirast.proofs.Beginnings.{Appends-more}
-use Rattle.trirast.proofs.sending.send.Goals as goal
+use Rattle.trirast.proofs.counted.Counted.write_all.Goals as goal
 
 pub loop-sent-preserved : goal.loop-sent-preserved
 loop-sent-preserved g c =
