@@ -1,5 +1,6 @@
 pub mod Device
 pub mod Counted
+pub mod Faults
 pub mod File
 pub mod Runs
 pub mod Words

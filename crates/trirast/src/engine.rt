@@ -12,7 +12,7 @@ use crate::fault::Fault;
 use crate::input::read_input;
 use crate::line::Options;
 use crate::picture::write_picture;
-use list::{DrawList, MOST_BYTES, ReadFault, ReadKind, read};
+use list::{DrawList, MOST_BYTES, read};
 use pool::{Gate, Open};
 use std::alloc::Global;
 use std::io::{Read, Write};
@@ -25,16 +25,7 @@ pub fn read_list(alloc: Global, bytes: &[u8]) -> Result<DrawList, Fault>
     ensures ok { IfOk result (Denotes bytes.now) }
     ensures fault { IfErr result (λ e. (e ≡ Fault.OutOfMemory) ⊎ ((fault : ReadFault) × (e ≡ Fault.List fault) × IsFirstFault (all_checks (json_of bytes.now)) fault)) }
 {
-    match read(alloc, bytes) {
-        Ok(list) => Ok(list),
-        Err(
-            ReadFault {
-                kind: ReadKind::OutOfMemory,
-                draw: _,
-            },
-        ) => Err(Fault::OutOfMemory),
-        Err(fault) => Err(Fault::List(fault)),
-    }
+    Ok(read(alloc, bytes)?)
 }
 
 /// Reads an input, draws what it denotes with these options, and writes the picture. Each worker passes through the gate before

@@ -34,13 +34,11 @@ fn read_part<R: Read>(
     ensures faults { IfErr result (λ e. (e ≡ Fault.InputFailed) ⊎ (e ≡ Fault.OutOfMemory)) }
     ensures failures { OnOk result (input.new.failures ≡ input.old.failures) }
 {
-    match input.read(buffer) {
-        Ok(count) => {
-            bytes.extend_from_slice(&buffer[..count])?;
-            Ok(count)
-        }
-        Err(_) => Err(Fault::InputFailed),
-    }
+    let Ok(count) = input.read(buffer) else {
+        return Err(Fault::InputFailed);
+    };
+    bytes.extend_from_slice(&buffer[..count])?;
+    Ok(count)
 }
 
 /// Reads an input to its end, unless it is too long.

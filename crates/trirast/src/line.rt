@@ -3,7 +3,9 @@ ghost use Rattle.std.specs.Prelude.{◌≡◌};
 ghost use Rattle.trirast.specs.declared.line.LineFault.TheVariants.{OutOfMemory};
 
 use grid::TileSide;
-use std::alloc::AllocError;
+use std::alloc::{AllocError, AllocFailed};
+use std::io;
+use std::io::ErrorKind;
 
 /// How a picture is drawn. No option changes a byte of it.
 #[derive(Clone, Copy, Debug, PartialEq, Eq)]
@@ -28,7 +30,25 @@ pub enum LineFault {
 impl From<AllocError> for LineFault {
     ghost from_gives = { λ _ fault. fault ≡ OutOfMemory };
 
-    fn from(_refused: AllocError) -> LineFault {
+    fn from(_error: AllocError) -> LineFault {
         LineFault::OutOfMemory
+    }
+}
+
+impl<T: Drop> From<AllocFailed<T>> for LineFault {
+    ghost from_gives = { λ _ fault. fault ≡ OutOfMemory };
+
+    fn from(_error: AllocFailed<T>) -> LineFault {
+        LineFault::OutOfMemory
+    }
+}
+
+/// The program could not be given its arguments: memory ran out, or one of them is not UTF-8, and so none of the program's.
+impl From<io::Error> for LineFault {
+    fn from(error: io::Error) -> LineFault {
+        match error.kind() {
+            ErrorKind::OutOfMemory => LineFault::OutOfMemory,
+            _ => LineFault::Refused,
+        }
     }
 }

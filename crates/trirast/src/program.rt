@@ -8,7 +8,7 @@ use crate::counted::Counted;
 use crate::engine::run;
 use crate::fault::Fault;
 use crate::line::LineFault;
-use crate::telling::{FaultLine, fault_line};
+use crate::messages::fault_line;
 use crate::words::options;
 use std::alloc::Global;
 use std::io::{Read, Write};

@@ -1,20 +1,25 @@
 ghost use Rattle.std.specs.Prelude.{◌≡◌, ◌≤◌, [], map, codes, option_map, IfOk, IfSome, IsSome};
 ghost use Rattle.clap.specs.Words.{fault_of};
-ghost use Rattle.trirast.specs.Words.{AsksForHelp, trirast_app, matched, tile_word, IsNumberText, line_fault};
+ghost use Rattle.trirast.specs.Words.{AsksForHelp, trirast_app, matched, tile_word, IsNumberText};
 
 use crate::line::{LineFault, Options};
 use clap::error::ErrorKind;
-use clap::{Arg, Command};
+use clap::{Arg, Command, Error};
 use grid::TileSide;
 use std::alloc::Global;
 
-fn fault_from(kind: ErrorKind) -> LineFault
-    ensures { result ≡ line_fault kind }
-{
-    match kind {
-        ErrorKind::OutOfMemory => LineFault::OutOfMemory,
-        ErrorKind::DisplayHelp => LineFault::Help,
-        _ => LineFault::Refused,
+impl From<Error> for LineFault {
+    ghost use Rattle.clap.specs.Words.{kind_of};
+    ghost use Rattle.trirast.specs.Words.{line_fault};
+
+    ghost from_gives = { λ error fault. fault ≡ line_fault (kind_of error) };
+
+    fn from(error: Error) -> LineFault {
+        match error.kind() {
+            ErrorKind::OutOfMemory => LineFault::OutOfMemory,
+            ErrorKind::DisplayHelp => LineFault::Help,
+            _ => LineFault::Refused,
+        }
     }
 }
 
@@ -60,10 +65,7 @@ pub fn options<'a>(alloc: Global, words: &'a [&'a str]) -> Result<Options, LineF
         .long("workers")
         .default_value("4");
     let command = Command::new(alloc, "trirast").arg(tile)?.arg(workers)?;
-    let matches = match command.try_get_matches_from(words) {
-        Ok(matches) => matches,
-        Err(error) => return Err(fault_from(error.kind())),
-    };
+    let matches = command.try_get_matches_from(words)?;
     let Some(tile) = tile_named(matches.get_str("tile")) else {
         return Err(LineFault::Refused);
     };

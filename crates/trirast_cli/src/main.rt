@@ -2,22 +2,12 @@
 #![tactic(auto)]
 
 use std::alloc::{AllocError, Global};
-use std::io::ErrorKind;
+use std::env;
 use std::process::ExitCode;
-use std::{env, io};
 use trirast::{Counted, LineFault, command, refuse};
 
 /// The words that the program was called with, its own name first.
 fn own_words(rt: &HostRuntime) -> Result<Vec<String>, LineFault> {
-    match collect_words(rt) {
-        Ok(words) => Ok(words),
-        Err(error) if error.kind() == ErrorKind::OutOfMemory => Err(LineFault::OutOfMemory),
-        // A word that is no UTF-8 is none of this program's.
-        Err(_) => Err(LineFault::Refused),
-    }
-}
-
-fn collect_words(rt: &HostRuntime) -> io::Result<Vec<String>> {
     let mut words = Vec::new(rt.alloc());
     for word in env::args(rt)? {
         words.push(word)?;

@@ -1,5 +1,8 @@
 use Rattle.std.proofs.Common.{rules, ◌≡◌, ◌⊎◌, ℕ, List, Option, Some, None, IfSome, IsSome, Bor, false, true, [], subst, map, codes, option_map, refl, ap, ap₂, sym, inl, inr, ◌∙◌}
 use Rattle.clap.specs.Words.{App, Text, HasMatchesOf, IsAmong, app_of, fault_of, first_of, first_value, found_of, is_simple, is_simple_and_free, matches_of, rule_of, with_rule}
+use Rattle.std.proofs.lemmas.Result.{err_from_is_err_and}
+use Rattle.std.proofs.lemmas.Option.{same_Some}
+use Rattle.std.specs.Result.{result_err}
 use Rattle.clap.proofs.WalkLemmas.{first_value-rows}
 use Rattle.clap.specs.declared.error.kind.ErrorKind.{ErrorKind}
 use Rattle.clap.specs.declared.error.kind.ErrorKind.TheVariants as kind
@@ -39,15 +42,16 @@ named app words m id is has =
     let rows = (has (ap is_simple is)).0 in
     first_value-rows (found_of m) id ∙ (ap (first_of id) rows ∙ ap (λ a. first_of id (matches_of a words)) is)
 
-pub returns-in-Err-clause-help : goal.returns-in-Err-clause-help
-returns-in-Err-clause-help c told =
+pub returns-in_err-matches-clause-help : goal.returns-in_err-matches-clause-help
+returns-in_err-matches-clause-help c told =
+    let p = err_from_is_err_and c.from_residual-in_err-matches.result c.from_residual-in_err-matches.ensures.1 in
     let tile_is : rule_of c.default_value-tile.result ≡ option_rule (codes "tile") (codes "32") = search rules in
     let workers_is : rule_of c.default_value-workers.result ≡ option_rule (codes "workers") (codes "4") = search rules in
     let app_is : app_of c.in_ok-command.command ≡ trirast_app = c.in_ok-command.ensures.shape (search rules)
     ∙ ap₂ with_rule (c.in_ok-arg.ensures.shape (search rules) ∙ ap₂ with_rule c.new-3.ensures.app tile_is) workers_is in
-    let has = c.in-Err.ensures.kinds (ap is_simple_and_free app_is) in
-    let help : c.fault_from.result ≡ fault.Help = cc in
-    asked_for_help (app_of c.in_ok-command.command) (map (λ word. word.now) c.args.words.now) _ _ _ app_is c.fault_from.ensures c.kind.ensures help has
+    let has = c.in_err-matches.ensures.kinds (ap is_simple_and_free app_is) in
+    let help : p.0 ≡ fault.Help = same_Some _ _ (ap result_err (sym p.1 ∙ told)) in
+    asked_for_help (app_of c.in_ok-command.command) (map (λ word. word.now) c.args.words.now) _ _ _ app_is p.2 refl help has
 
 pub returns-clause-tile : goal.returns-clause-tile
 returns-clause-tile c =
@@ -56,8 +60,8 @@ returns-clause-tile c =
     let app_is : app_of c.in_ok-command.command ≡ trirast_app = c.in_ok-command.ensures.shape (search rules)
     ∙ ap₂ with_rule (c.in_ok-arg.ensures.shape (search rules) ∙ ap₂ with_rule c.new-3.ensures.app tile_is) workers_is in
     let texts = map (λ word. word.now) c.args.words.now in
-    let none = c.in-Ok.ensures.kinds (ap is_simple_and_free app_is) in
-    let value = named (app_of c.in_ok-command.command) texts c.in-Ok.matches (codes "tile") app_is c.in-Ok.ensures.matches in
+    let none = c.in_ok-matches.ensures.kinds (ap is_simple_and_free app_is) in
+    let value = named (app_of c.in_ok-command.command) texts c.in_ok-matches.matches (codes "tile") app_is c.in_ok-matches.ensures.matches in
     (no_fault (app_of c.in_ok-command.command) texts app_is none, sym value ∙ (sym c.get_str.ensures ∙ c.in-Some.ensures))
 
 pub returns-clause-workers : goal.returns-clause-workers
@@ -67,7 +71,7 @@ returns-clause-workers c =
     let app_is : app_of c.in_ok-command.command ≡ trirast_app = c.in_ok-command.ensures.shape (search rules)
     ∙ ap₂ with_rule (c.in_ok-arg.ensures.shape (search rules) ∙ ap₂ with_rule c.new-3.ensures.app tile_is) workers_is in
     let texts = map (λ word. word.now) c.args.words.now in
-    let value = named (app_of c.in_ok-command.command) texts c.in-Ok.matches (codes "workers") app_is c.in-Ok.ensures.matches in
+    let value = named (app_of c.in_ok-command.command) texts c.in_ok-matches.matches (codes "workers") app_is c.in_ok-matches.ensures.matches in
     let number = c.in-Some-workers_named.ensures in
     let both = number_named c.get_str-2.result (matched (codes "workers") texts) c.in-Some-workers_named.workers (c.get_str-2.ensures ∙ value) number.2 number.3 in
     (number.0, number.1, both.0, both.1)
