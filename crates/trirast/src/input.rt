@@ -9,7 +9,7 @@ use list::MOST_BYTES;
 use std::alloc::{AllocError, Global};
 use std::io::Read;
 
-/// How much is read at once, in bytes.
+/// How many bytes are read at once.
 const CHUNK: usize = 65_536;
 
 /// A buffer of this size.
@@ -19,7 +19,7 @@ fn room_for(alloc: Global, size: usize) -> Result<Vec<u8>, AllocError>
     vec![in alloc; 0; size]
 }
 
-/// Reads once, and appends the bytes that came. The answer is how many.
+/// Reads once, and appends the bytes that came. Returns their count.
 fn read_part<R: Read>(
     input: &mut Counted<R>,
     buffer: &mut [u8],
