@@ -87,11 +87,15 @@ def is_our_crate(crate: str) -> bool:
 
 @lru_cache(maxsize=None)
 def file_of_type(crate: str, word: str) -> str:
-    """The .rt file of a crate that declares a struct or an enum."""
+    """The .rt file that declares a struct or an enum of a crate, which may have it from another crate."""
     paths = glob.glob(os.path.join(TOP, "crates", crate, "src", "**", "*.rt"), recursive=True)
     paths = sorted(os.path.relpath(path, TOP) for path in paths)
     declares = re.compile(rf"^{DECLARES}{word}\b", re.MULTILINE)
     found = [path for path in paths if declares.search(text_of(path))]
+    roots = "".join(text_of(path) for path in paths if path.endswith("src/lib.rt"))
+    given_on = re.search(rf"^pub use (\w+)::[^;]*\b{word}\b", roots, re.MULTILINE)
+    if not found and given_on and is_our_crate(given_on[1]):
+        return file_of_type(given_on[1], word)
     if len(found) != 1:
         raise Unclear(f"the type {word} of {crate} is declared in {len(found)} files")
     return found[0]

@@ -144,7 +144,7 @@ GROUPS = (
         "A scene is what a picture is drawn of. The picture has the bytes of its pixels, row by row from the top. A pixel is the "
         "resolved colour, or the depth of the pixel's sample 0.",
         "the order of a depth's two bytes is that of Netpbm's pgm(5); that sample 0 is shown is this project's rule.",
-        ("crates/list/src/output.rt", "crates/model/specs/Scene.antt", "crates/model/specs/Picture.antt"),
+        ("crates/model/src/output.rt", "crates/model/specs/Scene.antt", "crates/model/specs/Picture.antt"),
     ),
     Group(
         "The picture's file",
@@ -166,7 +166,7 @@ GROUPS = (
         "their triangles in draw order, each with its draw's state.",
         "Vulkan 1.3 for the order of a strip's indices; quads are this project's own.",
         (
-            "crates/list/src/draw.rt",
+            "crates/model/src/draw.rt",
             "crates/grid/specs/Quad.antt",
             "crates/model/specs/Primitives.antt",
             "crates/model/specs/Listing.antt",
@@ -183,7 +183,7 @@ GROUPS = (
         "The first fault",
         "All checks of an input stand in one list, in a fixed order. An input that fails one has the fault of the first that fails.",
         "this project's format, in words in `docs/draw-list.md`.",
-        ("crates/list/src/fault.rt", "crates/model/specs/FirstFault.antt", "crates/model/specs/Checks.antt"),
+        ("crates/model/src/fault.rt", "crates/model/specs/FirstFault.antt", "crates/model/specs/Checks.antt"),
     ),
     Group(
         "Readers and writers",
