@@ -202,7 +202,7 @@ GROUPS = (
         (
             "crates/grid/src/pixels.rt#TileSide",
             "crates/grid/specs/Pixels.antt#side_of",
-            "crates/trirast/src/line.rt",
+            "crates/trirast/src/command_line.rt",
             "crates/pool/src/fault.rt",
             "crates/trirast/src/fault.rt",
             "crates/trirast/specs/Runs.antt",

@@ -103,8 +103,11 @@ class Names(unittest.TestCase):
 
     def test_lines_of_the_program(self) -> None:
         page = text_of("docs/trirast.1")
-        texts = [text for path, text in sources("src/**/*.rt").items() if path.split(os.sep)[1] == "trirast"]
-        lines = {line.rstrip() for line in re.findall(r'"(trirast: [a-z ]+)', "".join(texts))}
+        texts = {path.split(os.sep)[1]: "" for path in sources("src/**/*.rt")}
+        for path, text in sources("src/**/*.rt").items():
+            texts[path.split(os.sep)[1]] += text
+        lines = {line.rstrip() for line in re.findall(r'"(trirast: [a-z ]+)', texts["trirast"])}
+        lines |= {f"trirast: {line}" for line in re.findall(r'"([a-z ]+ fault) \{', texts["pool"])}
         self.assertLessEqual({"trirast: list fault", "trirast: pool fault", "trirast: out of memory"}, lines)
         for line in lines:
             self.assertIn(line, page)

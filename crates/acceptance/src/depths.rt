@@ -3,14 +3,12 @@
 ghost use Rattle.std.specs.Prelude.{◌≤◌};
 
 use crate::devices::{End, Sink};
-use crate::support::{depth_file, run_into, was_cut_short};
-use grid::TileSide;
+use crate::support::{always_writes, depth_file, run_into, was_cut_short};
 use std::alloc::{AllocError, Global};
 use std::process::Abort;
 use std::sync::Wait;
 use std::test::Fail;
 use std::thread::Threads;
-use trirast::{Counted, Options, run};
 
 /// Pixels (0, 0), (1, 0) and (0, 1) under depths 0, 3 and 0 at the corners: at the second centre 3 by half is 1.
 const CORNER: &str = "0000 0001 FFFF  0000 FFFF FFFF  FFFF FFFF FFFF";
@@ -49,21 +47,7 @@ fn shows<R: Threads + Wait + Sync + Abort>(
     pixels: &str,
 ) -> Result<(), Fail> {
     let expected = depth_file(alloc, size.0, size.1, pixels)?;
-    for tile in [TileSide::T8, TileSide::T16, TileSide::T32, TileSide::T64] {
-        for workers in [1, 2, 7, 16] {
-            let mut input = Counted::new(list.as_bytes());
-            let mut output = Counted::new(Vec::new(alloc));
-            let options = Options { tile, workers };
-            run(rt, alloc, &mut input, &mut output, options)?;
-            let written: Vec<u8> = output.into_inner();
-            assert_eq!(rt;
-                written.as_slice(),
-                expected.as_slice(),
-                "{tile:?} {workers}"
-            );
-        }
-    }
-    Ok(())
+    always_writes(rt, alloc, list, &expected)
 }
 
 #[test]

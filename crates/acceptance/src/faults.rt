@@ -177,27 +177,15 @@ fn takes_lists_at_their_limits(rt: HostRuntime) -> Result<(), Fail> {
 #[test]
 fn refuses_lists_past_their_limits(rt: HostRuntime) -> Result<(), Fail> {
     let alloc = rt.alloc();
-    let list = crowded(alloc, &[(65_537, 1)])?;
-    refuses(
-        &rt,
-        alloc,
-        list.as_bytes(),
-        "list fault 7 TooMany in draw 0",
-    )?;
-    let list = crowded(alloc, &[(3, 65_537)])?;
-    refuses(
-        &rt,
-        alloc,
-        list.as_bytes(),
-        "list fault 7 TooMany in draw 0",
-    )?;
-    let list = crowded(alloc, &[(3, 40_000), (3, 25_537)])?;
-    refuses(
-        &rt,
-        alloc,
-        list.as_bytes(),
-        "list fault 7 TooMany in draw 1",
-    )
+    for (first, second, line) in [
+        ((65_537, 1), (3, 1), "list fault 7 TooMany in draw 0"),
+        ((3, 65_537), (3, 1), "list fault 7 TooMany in draw 0"),
+        ((3, 40_000), (3, 25_537), "list fault 7 TooMany in draw 1"),
+    ] {
+        let list = crowded(alloc, &[first, second])?;
+        refuses(&rt, alloc, list.as_bytes(), line)?;
+    }
+    Ok(())
 }
 
 #[test]

@@ -172,6 +172,26 @@ pub(crate) fn depth_file(
     Ok(bytes)
 }
 
+/// Asserts that a run writes this file of the list, with each tile size and several numbers of workers.
+pub(crate) fn always_writes<R: Threads + Wait + Sync + Abort>(
+    rt: &R,
+    alloc: Global,
+    list: &str,
+    expected: &[u8],
+) -> Result<(), Fail> {
+    for tile in [TileSide::T8, TileSide::T16, TileSide::T32, TileSide::T64] {
+        for workers in [1, 2, 3, 7, 16] {
+            let mut input = Counted::new(list.as_bytes());
+            let mut output = Counted::new(Vec::new(alloc));
+            let options = Options { tile, workers };
+            run(rt, alloc, &mut input, &mut output, options)?;
+            let written: Vec<u8> = output.into_inner();
+            assert!(rt; written.as_slice() == expected, "{tile:?} {workers}");
+        }
+    }
+    Ok(())
+}
+
 /// Asserts that the program, called with these words, writes this file of the list, and no line of a fault.
 pub(crate) fn writes<R: Threads + Wait + Sync + Abort>(
     rt: &R,

@@ -1,7 +1,7 @@
 //! One picture from all tile sides and numbers of workers, and workers that are at work at once.
 ghost use Rattle.std.specs.Prelude.{◌≤◌};
 
-use crate::support::{HALF, call, half, white_before};
+use crate::support::{HALF, always_writes, call, half, white_before};
 use grid::TileSide;
 use pool::Gate;
 use std::alloc::{AllocError, Global};
@@ -17,45 +17,19 @@ use trirast::{Counted, Options, run, run_with};
 fn draws_the_same_bytes(rt: HostRuntime) -> Result<(), Fail> {
     let expected = half(rt.alloc())?;
     assert_eq!(rt; expected.len(), 12_688);
-    for tile in [TileSide::T8, TileSide::T16, TileSide::T32, TileSide::T64] {
-        for workers in [1, 2, 7, 16] {
-            let mut input = Counted::new(HALF.as_bytes());
-            let mut output = Counted::new(Vec::new(rt.alloc()));
-            let options = Options { tile, workers };
-            run(&rt, rt.alloc(), &mut input, &mut output, options)?;
-            let written: Vec<u8> = output.into_inner();
-            assert_eq!(rt;
-                written.as_slice(),
-                expected.as_slice(),
-                "{tile:?} {workers}"
-            );
-        }
-    }
-    Ok(())
+    always_writes(&rt, rt.alloc(), HALF, &expected)
 }
 
-/// 700 by 600 pixels, which several workers draw in more than one strip at each tile side, and a triangle over the upper left half of
-/// 600 by 600 of them: row j has white pixels 0 to 598 - j, since the other centres of the half lie on the hypotenuse, a right edge.
-const STRIPS: &str =
+/// 700 by 600 pixels, which several workers draw in more than one batch of tile rows at each tile size, and a triangle over the
+/// upper left half of 600 by 600 of them: row j has white pixels 0 to 598 - j, since the other centres of the half lie on the
+/// hypotenuse, a right edge.
+const BATCHES: &str =
     r#"{"width":700,"height":600,"draws":[{"vertices":[[0,0,0,255,255,255,255],[153600,0,0,255,255,255,255],[0,153600,0,255,255,255,255]],"triangles":[[0,1,2]]}]}"#;
 
 #[test]
-fn draws_each_band_of_each_strip(rt: HostRuntime) -> Result<(), Fail> {
+fn draws_each_tile_row_of_each_batch(rt: HostRuntime) -> Result<(), Fail> {
     let expected = white_before(rt.alloc(), b"P6\n700 600\n255\n", 700, 600, 599)?;
-    for tile in [TileSide::T8, TileSide::T16, TileSide::T32, TileSide::T64] {
-        for workers in [1, 3] {
-            let mut input = Counted::new(STRIPS.as_bytes());
-            let mut output = Counted::new(Vec::new(rt.alloc()));
-            let options = Options { tile, workers };
-            run(&rt, rt.alloc(), &mut input, &mut output, options)?;
-            let written: Vec<u8> = output.into_inner();
-            assert!(rt;
-                written.as_slice() == expected.as_slice(),
-                "{tile:?} {workers}"
-            );
-        }
-    }
-    Ok(())
+    always_writes(&rt, rt.alloc(), BATCHES, &expected)
 }
 
 /// Holds the first tile entered until a second is entered, for at most a million turns.

@@ -1,9 +1,12 @@
 //! The writer of picture files, the counted devices and the options, called by themselves.
 use crate::devices::{End, Sink, Source};
 use grid::TileSide;
+use list::{ReadFault, ReadKind};
+use pool::PoolFault;
 use std::test::Fail;
 use trirast::{
-    Counted, LineFault, Options, WriteFault, options, pgm_header, ppm_header, ppm_rows, write_ppm,
+    Counted, Fault, LineFault, Options, WriteFault, fault_line, options, pgm_header, ppm_header,
+    ppm_rows, write_ppm,
 };
 
 #[test]
@@ -114,6 +117,41 @@ fn counts_failures(rt: HostRuntime) -> Result<(), Fail> {
     assert_eq!(rt; input.failures(), 0);
     assert!(rt; input.read(&mut buffer).is_err());
     assert_eq!(rt; input.failures(), 1);
+    Ok(())
+}
+
+#[test]
+fn makes_the_fault_of_a_run_of_the_faults_of_its_parts(rt: HostRuntime) -> Result<(), Fail> {
+    for (fault, line) in [
+        (
+            Fault::from(ReadFault::outside(ReadKind::NotJson)),
+            "trirast: list fault 1 NotJson\n",
+        ),
+        (
+            Fault::from(ReadFault::in_draw(ReadKind::BadIndex, 1)),
+            "trirast: list fault 6 BadIndex in draw 1\n",
+        ),
+        (
+            Fault::from(ReadFault::in_draw(ReadKind::OutOfMemory, 1)),
+            "trirast: out of memory\n",
+        ),
+        (
+            Fault::from(PoolFault::NoWorker),
+            "trirast: pool fault 2 NoWorker\n",
+        ),
+        (
+            Fault::from(PoolFault::OutOfMemory),
+            "trirast: out of memory\n",
+        ),
+        (
+            Fault::from(WriteFault { written: 5 }),
+            "trirast: write failed after 5 bytes\n",
+        ),
+        (Fault::InputFailed, "trirast: input failed\n"),
+        (Fault::InputTooLong, "trirast: input too long\n"),
+    ] {
+        assert_eq!(rt; fault_line(&fault).as_str(), line);
+    }
     Ok(())
 }
 

@@ -4,6 +4,7 @@ ghost use Rattle.pool.specs.Lines.{times};
 ghost use Rattle.pool.specs.Work.{AreWorkerResults, IsRight, RightInOrder, AreRight, HasAnswer};
 
 use crate::dealer::Dealer;
+use crate::fault::PoolFault;
 use crate::job::Job;
 use crate::worker::{WorkerAnswers, WorkerResult};
 use grid::OutOfMemory;
@@ -48,21 +49,22 @@ fn answers_of<T: Drop>(alloc: Global, places: Vec<Option<T>>) -> Result<Vec<T>, 
     Ok(answers)
 }
 
-/// The answers in the order of their numbers. Where no worker was refused memory, dealing has given
-/// each number once, so that each place gets its answer.
+/// The answers of the workers, in the order of their numbers. If all workers were started and none ran out of memory, each number was
+/// given once, so that each place gets its answer.
 pub(crate) fn gather<D: Dealer, J: Job>(
     alloc: Global,
     dealer: D,
     job: &J,
     n: u32,
-    results: Vec<WorkerResult<D, J>>,
-) -> Result<Vec<J::Out>, OutOfMemory>
+    worked: Result<Vec<WorkerResult<D, J>>, PoolFault>,
+) -> Result<Vec<J::Out>, PoolFault>
     requires count { D.count dealer ≡ n }
     requires seats { 0 < D.seat_count dealer }
-    requires results { AreWorkerResults D.Dealer J.Job dealer job.now (D.seat_count dealer) results.items }
+    requires results { IfOk worked (λ results. AreWorkerResults D.Dealer J.Job dealer job.now (D.seat_count dealer) results.items) }
     ensures len { IfOk result (λ answers. vec_len answers ≡ n) }
     ensures right { IfOk result (λ answers. RightInOrder (J.right job.now) answers.items) }
 {
+    let results = worked?;
     let mut seats = Vec::with_capacity(alloc, results.len())?;
     let mut places = empty_places(alloc, n)?;
     for worker in results {
@@ -71,5 +73,5 @@ pub(crate) fn gather<D: Dealer, J: Job>(
         seats.push_reserved(seat);
     }
     dealer.settle(seats);
-    answers_of(alloc, places)
+    Ok(answers_of(alloc, places)?)
 }

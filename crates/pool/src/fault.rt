@@ -2,19 +2,21 @@
 ghost use Rattle.std.specs.Prelude.{◌≡◌};
 
 use grid::OutOfMemory;
+use std::alloc::AllocError;
+use std::fmt;
 
-/// Why there are no answers. Where several hold, the first of these is told: memory refused in
-/// dealing, a thread that was not started, memory refused in a worker or in gathering.
+/// Why there are no answers. If several causes hold, the first of these is reported: out of memory before the workers start, a
+/// thread that was not started, out of memory in a worker or after it.
 #[derive(Clone, Copy, Debug, PartialEq, Eq)]
 pub enum PoolFault {
-    /// A growth of memory was refused.
+    /// An allocation failed.
     OutOfMemory,
     /// A thread was not started, for whatever cause.
     NoWorker,
 }
 
 impl PoolFault {
-    /// The number by which the program's lines name the fault.
+    /// The fault's number in the program's lines.
     pub fn number(self) -> u32
         ensures memory { self ≡ PoolFault.OutOfMemory → result ≡ 1 }
         ensures thread { self ≡ PoolFault.NoWorker → result ≡ 2 }
@@ -25,12 +27,28 @@ impl PoolFault {
         }
     }
 
-    /// The name by which the program's lines name the fault.
+    /// The fault's name in the program's lines.
     pub fn name(self) -> &'static str {
         match self {
             PoolFault::OutOfMemory => "OutOfMemory",
             PoolFault::NoWorker => "NoWorker",
         }
+    }
+}
+
+impl fmt::Display for PoolFault {
+    fn fmt<W: fmt::Write>(&self, f: &mut fmt::Formatter<W>) -> fmt::Result {
+        write!(f, "pool fault {} {}", self.number(), self.name())
+    }
+}
+
+impl From<AllocError> for PoolFault {
+    ghost use Rattle.pool.specs.declared.fault.PoolFault.{PoolFault};
+
+    ghost from_gives = { λ _ fault. fault ≡ PoolFault.OutOfMemory };
+
+    fn from(_error: AllocError) -> PoolFault {
+        PoolFault::OutOfMemory
     }
 }
 

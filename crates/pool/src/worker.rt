@@ -56,9 +56,7 @@ pub(crate) fn work_through<D: Dealer, J: Job, G: Gate>(
     while let Some(tile) = dealer.next(&mut seat) {
         gate.enter(number, tile);
         let answer = job.work(alloc, tile, &mut scratch)?;
-        if pairs.push((tile, answer)).is_err() {
-            return Err(OutOfMemory);
-        }
+        pairs.push((tile, answer))?;
     }
     Ok(WorkerAnswers { seat, pairs })
 }

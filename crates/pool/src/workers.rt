@@ -8,7 +8,6 @@ use crate::fault::PoolFault;
 use crate::gate::Gate;
 use crate::job::Job;
 use crate::worker::{WorkerResult, WorksThrough, work_through};
-use grid::OutOfMemory;
 use std::alloc::Global;
 use std::snapshot::Snapshot;
 use std::sync::Wait;
@@ -74,43 +73,8 @@ fn join_all<R: Threads, D: Dealer, J: Job>(
     }
 }
 
-/// Starts a worker for each seat, makes the call beside them, and joins all that were started. There is room for all of them
-/// before the first one starts, so that none is left behind for want of memory.
-fn work_all<'s, E, R: Threads, D: Dealer, J: Job, G: Gate, T: Drop, F: FnOnce() -> T>(
-    rt: &R,
-    alloc: Global,
-    scope: &'s Scope<'s, E>,
-    dealer: &'s D,
-    job: &'s J,
-    gate: &'s G,
-    seats: Vec<D::Seat>,
-    beside: F,
-) -> (Result<Vec<WorkerResult<D, J>>, PoolFault>, T)
-    requires can_work { AllCanWork D.Dealer J.Job G.Gate dealer.now job.now gate.now (vec_len seats) }
-    requires seats { AreDealt D.Dealer dealer.now seats.items }
-    requires beside { F.pre beside }
-    ensures results { IfOk result.0 (λ results. AreWorkerResults D.Dealer J.Job dealer.now job.now (vec_len seats) results.items) }
-    ensures beside { F.post beside result.1 }
-{
-    let count = seats.len();
-    let (Ok(mut workers), Ok(mut results)) = (
-        Vec::with_capacity(alloc, count),
-        Vec::with_capacity(alloc, count),
-    ) else {
-        return (Err(PoolFault::OutOfMemory), beside());
-    };
-    let all_started = start_all(alloc, scope, dealer, job, gate, seats, &mut workers);
-    let answer = beside();
-    join_all(rt, workers, &mut results, dealer, job);
-    if all_started {
-        (Ok(results), answer)
-    } else {
-        (Err(PoolFault::NoWorker), answer)
-    }
-}
-
-/// Has the numbers that these seats are given worked on, by a worker for each seat, makes the call beside them, and waits for
-/// them all.
+/// Starts one worker for each seat, runs `beside` on the calling thread, and then joins all workers that were started. The handles
+/// are allocated before the first worker starts, so that none is left behind if memory runs out.
 fn work_seats<'a, R: Threads + Wait + Sync, D: Dealer, J: Job, G: Gate, T: Drop, F: FnOnce() -> T>(
     rt: &'a R,
     alloc: Global,
@@ -132,7 +96,24 @@ fn work_seats<'a, R: Threads + Wait + Sync, D: Dealer, J: Job, G: Gate, T: Drop,
         move |scope| -> (Result<Vec<WorkerResult<D, J>>, PoolFault>, T)
             requires { AllCanWork D.Dealer J.Job G.Gate dealer.now job.now gate.now (vec_len seats) × AreDealt D.Dealer dealer.now seats.items × F.pre beside }
             ensures { IfOk result.0 (λ results. AreWorkerResults D.Dealer J.Job dealer.entry.now job.entry.now (vec_len seats) results.items) × F.post beside result.1 }
-        { work_all(rt, alloc, scope, dealer, job, gate, seats, beside) },
+        {
+            let count = seats.len();
+            let (Ok(mut workers), Ok(mut results)) = (
+                Vec::with_capacity(alloc, count),
+                Vec::with_capacity(alloc, count),
+            ) else {
+                return (Err(PoolFault::OutOfMemory), beside());
+            };
+            let all_started = start_all(alloc, scope, dealer, job, gate, seats, &mut workers);
+            let answer = beside();
+            join_all(rt, workers, &mut results, dealer, job);
+            let joined = if all_started {
+                Ok(results)
+            } else {
+                Err(PoolFault::NoWorker)
+            };
+            (joined, answer)
+        },
     )
 }
 
@@ -167,14 +148,7 @@ pub fn run_beside<R: Threads + Wait + Sync, D: Dealer, J: Job, G: Gate, T: Drop,
         return (Err(PoolFault::OutOfMemory), beside());
     };
     let (worked, answer) = work_seats(rt, alloc, &dealer, job, gate, seats, beside);
-    let gathered = match worked {
-        Ok(results) => match gather(alloc, dealer, job, n, results) {
-            Ok(answers) => Ok(answers),
-            Err(OutOfMemory) => Err(PoolFault::OutOfMemory),
-        },
-        Err(fault) => Err(fault),
-    };
-    (gathered, answer)
+    (gather(alloc, dealer, job, n, worked), answer)
 }
 
 /// The answers of the job for the numbers below `n`, in their order: `run_beside` where the calling thread has nothing else to do.

@@ -3,9 +3,11 @@
 use grid::OutOfMemory;
 use pool::{Desks, Job, Open, PoolFault, run_beside};
 use std::alloc::Global;
+use std::sync::Wait;
 use std::sync::atomic::{AtomicU64, Ordering};
 use std::test::Fail;
 use std::thread;
+use std::thread::Threads;
 
 /// Waits in each work until the call beside was made, for at most 1,000,000 turns, and answers whether it was. The work on one
 /// number is refused after that.
@@ -58,18 +60,22 @@ impl Job for Waiting {
     }
 }
 
+/// Has two workers do the job for three numbers, with a call beside them that is counted. The result is that of the workers, and how
+/// often the call was made before.
+fn run_counted<R: Threads + Wait + Sync>(
+    rt: &R,
+    alloc: Global,
+    job: &Waiting,
+) -> (Result<Vec<bool>, PoolFault>, u64) {
+    run_beside::<_, Desks, _, _, _, _>(rt, alloc, 3, 2, job, &Open, || {
+        job.calls.fetch_add(1, Ordering::SeqCst)
+    })
+}
+
 #[test]
 fn the_call_is_made_while_the_workers_work(rt: HostRuntime) -> Result<(), Fail> {
     let job = Waiting::new(3);
-    let (answers, calls) = run_beside::<_, Desks, _, _, _, _>(
-        &rt,
-        rt.alloc(),
-        3,
-        2,
-        &job,
-        &Open,
-        || { job.calls.fetch_add(1, Ordering::SeqCst) },
-    );
+    let (answers, calls) = run_counted(&rt, rt.alloc(), &job);
     assert!(rt; answers?.as_slice() == [true, true, true].as_slice());
     assert!(rt; calls == 0 && job.calls() == 1);
     Ok(())
@@ -79,15 +85,7 @@ fn the_call_is_made_while_the_workers_work(rt: HostRuntime) -> Result<(), Fail> 
 fn the_call_is_made_also_where_work_is_refused(rt: HostRuntime) -> Result<(), Fail> {
     for refused in 0..3 {
         let job = Waiting::new(refused);
-        let (answers, calls) = run_beside::<_, Desks, _, _, _, _>(
-            &rt,
-            rt.alloc(),
-            3,
-            2,
-            &job,
-            &Open,
-            || { job.calls.fetch_add(1, Ordering::SeqCst) },
-        );
+        let (answers, calls) = run_counted(&rt, rt.alloc(), &job);
         assert!(rt; matches!(answers, Err(PoolFault::OutOfMemory)));
         assert!(rt; calls == 0 && job.calls() == 1);
     }

@@ -1,4 +1,4 @@
--- A tile by its column and its row, and the runs that it adds to the rows of its band.
+-- A tile by its column and its row, and the runs that it adds to the rows of its tile row.
 use Rattle.std.proofs.Common.{◌≡◌, ◌⊎◌, inl, inr, refl, sym, ap, subst, ◌∙◌, ℕ, ◌+◌, ◌-◌, ◌*◌, ◌/◌, ◌%◌, ◌<◌, ◌≤◌, min, List, [], ◌++◌, Result, Ok, Err, IfOk, zero-add, append_assoc, append-nil, length-append, arith}
 use Rattle.std.proofs.lemmas.Bool.{cases_lt}
 use Rattle.std.proofs.lemmas.Nat.{same_from_place}
@@ -14,8 +14,8 @@ use Rattle.model.proofs.Pixels.{bytes_of_both, bytes_of_none, same_pixel, pixel_
 use Rattle.bins.specs.Grid.{TileGrid, columns_of, rect_at, rect_of, tiles_over}
 use Rattle.tile.specs.Picture.{AddsPixelRun, IsPictureIn}
 use Rattle.tile.specs.declared.drawing.TilePixels.{TilePixels}
-use Rattle.trirast.specs.Band.{AddsBand, IsColumn, band_height, band_top, column_left, column_width}
-use Rattle.trirast.proofs.Strips.{strip_next, strip_before}
+use Rattle.trirast.specs.TileRow.{AddsTileRow, IsColumn, tile_row_height, tile_row_top, column_left, column_width}
+use Rattle.trirast.proofs.Intervals.{interval_next, interval_before}
 
 -- the tile of this column and row has this number
 pub tile_of_column : (row column columns : ℕ) → column < columns → ((row * columns + column) % columns ≡ column) × ((row * columns + column) / columns ≡ row)
@@ -39,9 +39,9 @@ column_of_tile l g row column k pixels e h rect picture =
     let x1 = ap (λ (r : PixelBox). r.x1) here in
     let y1 = ap (λ (r : PixelBox). r.y1) here in
     let x : picture.x ≡ column_left g column = omega (arith, ints) in
-    let y : picture.y ≡ band_top g row = omega (arith, ints) in
+    let y : picture.y ≡ tile_row_top g row = omega (arith, ints) in
     let width : picture.width ≡ column_width g column = omega (arith, ints) in
-    let height : picture.height ≡ band_height g row = omega (arith, ints) in
+    let height : picture.height ≡ tile_row_height g row = omega (arith, ints) in
     record { rect = here; part = rw (x, y, width, height) at picture.part }
 
 pub column_of_answer : {E : Type 0} (l : Scene) (g : TileGrid) (row column k : ℕ) (answer : Result TilePixels E) → k ≡ row * columns_of g + column → column < columns_of g
@@ -81,8 +81,8 @@ column_added l g y column old bytes run all h same added more e =
     let left : ℕ = side_of g.side * column in
     let many : ℕ = min l.width (left + side_of g.side) - left in
     let within : column < tiles_over l.width g.side = rw (← same) h in
-    let before : min l.width left ≡ left = strip_before column l.width g.side within in
-    let next : min l.width (side_of g.side * (column + 1)) ≡ left + many = strip_next column l.width g.side within in
+    let before : min l.width left ≡ left = interval_before column l.width g.side within in
+    let next : min l.width (side_of g.side * (column + 1)) ≡ left + many = interval_next column l.width g.side within in
     let wide : column_width g column ≡ many = ap (λ n. min n (left + side_of g.side) - left) same in
     let is : IsPixelRun l 0 y left added.run = subst (λ n. IsPixelRun l 0 y n added.run) before added.is in
     let run' : IsPixelRun l (0 + left) y many run = subst (λ x. IsPixelRun l x y many run) (sym (zero-add left)) (subst (λ n. IsPixelRun l left y n run) wide more) in
@@ -113,10 +113,10 @@ row_added l y j old bytes all above added =
       behind = added.behind ∙ (ap (λ b. b ++ added.run) above.behind ∙ append_assoc old above.rows added.run);
     }
 
--- all rows of a band were added
-pub band_added : (l : Scene) (g : TileGrid) (row j : ℕ) (old new : List ℕ) → j ≡ band_height g row → AddsPixelPrefix l (band_top g row) (j * l.width) old new → AddsBand l g row old new
-band_added l g row j old new all added = record {
-  band = added.rows;
-  is = part_of_rows l 0 (band_top g row) l.width (band_height g row) added.rows (rw all at added.is);
+-- all rows of a tile row were added
+pub tile_row_added : (l : Scene) (g : TileGrid) (row j : ℕ) (old new : List ℕ) → j ≡ tile_row_height g row → AddsPixelPrefix l (tile_row_top g row) (j * l.width) old new → AddsTileRow l g row old new
+tile_row_added l g row j old new all added = record {
+  bytes = added.rows;
+  is = part_of_rows l 0 (tile_row_top g row) l.width (tile_row_height g row) added.rows (rw all at added.is);
   behind = added.behind;
 }

@@ -31,7 +31,7 @@ module _ {Done T B : Type 0} (side : TileSide) (left left' held held' : Option (
       let no_write : W → ⊥ = λ rose. let failed = write.1 rose in none-some failed.0 (ap written_of (same_Some _ _ (ap result_err failed.1))) in
       record {
         picture = tt;
-        fault = inr (record { bytes = bytes; list = list; input = given; denoted = denoted; band = row; output = explained });
+        fault = inr (record { bytes = bytes; list = list; input = given; denoted = denoted; row = row; output = explained });
         input_failed = (search rules, λ rose. absurd (no_read R b read rose));
         write_failed = (search rules, λ rose. absurd (no_write rose));
       }

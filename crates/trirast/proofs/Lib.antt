@@ -1,10 +1,10 @@
 pub mod Beginnings
-pub mod Files
-pub mod Strips
 pub mod Columns
-pub mod Tiled
-pub mod Written
-pub mod Writing
 pub mod Ended
-pub mod Bands
+pub mod Files
+pub mod Intervals
+pub mod JoinedRows
 pub mod Lines
+pub mod Tiled
+pub mod Writing
+pub mod Written

@@ -17,30 +17,30 @@ use Rattle.model.proofs.Parts.{part-append}
 use Rattle.model.proofs.Pixels.{bytes_of_none, bytes_up_to}
 use Rattle.bins.specs.Bin.{TileBins, AreBins}
 use Rattle.bins.specs.Grid.{TileGrid, tiles_over}
-use Rattle.trirast.specs.Band.{AddsBands, AreBands}
+use Rattle.trirast.specs.TileRow.{AddsTileRows, AreTileRows}
 use Rattle.trirast.specs.Runs.{WritesAll}
 use Rattle.trirast.specs.Picture.{CutsRows, ExplainsPicture, ExplainsRows, WritesRows}
 use Rattle.trirast.specs.declared.picture.PictureFault.{PictureFault}
 use Rattle.trirast.specs.declared.picture.PictureFault.TheVariants.{NotBegun, OutOfMemory, WriteFailed}
 use Rattle.trirast.proofs.Beginnings.{Appends-front}
-use Rattle.trirast.proofs.Written.{HasWritten, all_written, bands_cut, bands_written, whole_bands}
+use Rattle.trirast.proofs.Written.{HasWritten, all_written, tile_rows_cut, tile_rows_written, whole_tile_rows}
 
 -- no rows of pixels
 no_rows : (l : Scene) (y height : ℕ) → height ≡ 0 → IsPart l 0 y l.width height []
 no_rows l y height none = rw none (record { size = sym (bytes_of_none l.output (0 * l.width) (omega arith)); pixels = λ i j wide high. absurd (omega arith) })
 
-pub no_tile_rows : (l : Scene) (side : TileSide) (row : ℕ) → AreBands l side row row []
+pub no_tile_rows : (l : Scene) (side : TileSide) (row : ℕ) → AreTileRows l side row row []
 no_tile_rows l side row = no_rows l (side_of side * row) _ (omega arith)
 
 -- tile rows and those below them
-module _ (l : Scene) (side : TileSide) (first middle end : ℕ) (order : first ≤ middle) (order' : middle ≤ end) (upper lower : List ℕ) (h : AreBands l side first middle upper) (k : AreBands l side middle end lower) where
+module _ (l : Scene) (side : TileSide) (first middle end : ℕ) (order : first ≤ middle) (order' : middle ≤ end) (upper lower : List ℕ) (h : AreTileRows l side first middle upper) (k : AreTileRows l side middle end lower) where
   top : side_of side * first ≤ side_of side * middle
   top = mul-le-mul_left (side_of side) order
 
   bottom : side_of side * middle ≤ side_of side * end
   bottom = mul-le-mul_left (side_of side) order'
 
-  inside : side_of side * middle ≤ l.height → AreBands l side first end (upper ++ lower)
+  inside : side_of side * middle ≤ l.height → AreTileRows l side first end (upper ++ lower)
   inside within =
       let above = top in
       let below = bottom in
@@ -52,7 +52,7 @@ module _ (l : Scene) (side : TileSide) (first middle end : ℕ) (order : first �
       let sum : high + low ≡ min l.height (side_of side * end) - side_of side * first = omega arith in
       subst (λ n. IsPart l 0 (side_of side * first) l.width n (upper ++ lower)) sum both
 
-  past : l.height < side_of side * middle → AreBands l side first end (upper ++ lower)
+  past : l.height < side_of side * middle → AreTileRows l side first end (upper ++ lower)
   past behind =
       let above = top in
       let below = bottom in
@@ -60,31 +60,31 @@ module _ (l : Scene) (side : TileSide) (first middle end : ℕ) (order : first �
       let nothing : length lower ≡ 0 = k.size ∙ bytes_of_none l.output _ (omega (arith, flat)) in
       let none : lower ≡ [] = nil_from_length lower nothing in
       let same : min l.height (side_of side * middle) ≡ min l.height (side_of side * end) = omega arith in
-      let all : AreBands l side first end upper = subst (λ n. IsPart l 0 (side_of side * first) l.width (n - side_of side * first) upper) same h in
-      subst (AreBands l side first end) (sym (ap (λ xs. upper ++ xs) none ∙ append-nil upper)) all
+      let all : AreTileRows l side first end upper = subst (λ n. IsPart l 0 (side_of side * first) l.width (n - side_of side * first) upper) same h in
+      subst (AreTileRows l side first end) (sym (ap (λ xs. upper ++ xs) none ∙ append-nil upper)) all
 
-  pub tile_rows_behind : AreBands l side first end (upper ++ lower)
+  pub tile_rows_behind : AreTileRows l side first end (upper ++ lower)
   tile_rows_behind = here (cases_lt l.height (side_of side * middle)) where
-    here : (l.height < side_of side * middle) ⊎ (side_of side * middle ≤ l.height) → AreBands l side first end (upper ++ lower)
+    here : (l.height < side_of side * middle) ⊎ (side_of side * middle ≤ l.height) → AreTileRows l side first end (upper ++ lower)
     here (inl behind) = past behind
     here (inr within) = inside within
 
 -- the bytes of one tile row by what its parts are called, where there were none before
-pub tile_row_of : (l l' : Scene) (g g' : TileGrid) (row first end : ℕ) (old new : List ℕ) → l' ≡ l → g' ≡ g → first ≡ row → end ≡ row + 1 → old ≡ [] → AddsBands l' g'.side first end old new → AreBands l g.side row (row + 1) new
+pub tile_row_of : (l l' : Scene) (g g' : TileGrid) (row first end : ℕ) (old new : List ℕ) → l' ≡ l → g' ≡ g → first ≡ row → end ≡ row + 1 → old ≡ [] → AddsTileRows l' g'.side first end old new → AreTileRows l g.side row (row + 1) new
 tile_row_of l l' g g' row first end old new d e f h none adds =
-    let same : new ≡ adds.bands = adds.behind ∙ ap (λ xs. xs ++ adds.bands) none in
-    let here : AreBands l' g'.side first end new = subst (AreBands l' g'.side first end) (sym same) adds.are in
+    let same : new ≡ adds.bytes = adds.behind ∙ ap (λ xs. xs ++ adds.bytes) none in
+    let here : AreTileRows l' g'.side first end new = subst (AreTileRows l' g'.side first end) (sym same) adds.are in
     rw (← d, ← e, ← h, ← f) here
 
 -- the bytes and the bins of tile rows by what their parts are called
-pub bytes_of : (l l' : Scene) (g g' : TileGrid) (first end : ℕ) (bytes : List ℕ) → l' ≡ l → g' ≡ g → AreBands l' g'.side first end bytes → AreBands l g.side first end bytes
+pub bytes_of : (l l' : Scene) (g g' : TileGrid) (first end : ℕ) (bytes : List ℕ) → l' ≡ l → g' ≡ g → AreTileRows l' g'.side first end bytes → AreTileRows l g.side first end bytes
 bytes_of l l' g g' first end bytes d e are = rw (← d, ← e) are
 
 pub bins_of : (l l' : Scene) (g g' : TileGrid) (first first' end end' : ℕ) (bins : Option TileBins) → l' ≡ l → g' ≡ g → first' ≡ first → end' ≡ end → IfSome bins (AreBins l' g' first' (end' - first')) → IfSome bins (AreBins l g first (end - first))
 bins_of l l' g g' first first' end end' bins d e f h are = rw (← d, ← e, ← f, ← h) are
 
 -- a picture has at most 50,331,648 bytes
-pub few_bytes : (l : Scene) (side : TileSide) (first end : ℕ) (bytes : List ℕ) → l.width ≤ 4096 → l.height ≤ 4096 → AreBands l side first end bytes → length bytes ≤ 50331648
+pub few_bytes : (l : Scene) (side : TileSide) (first end : ℕ) (bytes : List ℕ) → l.width ≤ 4096 → l.height ≤ 4096 → AreTileRows l side first end bytes → length bytes ≤ 50331648
 few_bytes l side first end bytes wide high are =
     let rows : min l.height (side_of side * end) - side_of side * first ≤ 4096 = omega arith in
     let pixels : (min l.height (side_of side * end) - side_of side * first) * l.width ≤ 4096 * 4096 = mul-le-mul rows wide in
@@ -109,7 +109,7 @@ module _ (l : Scene) (side : TileSide) where
 
   module _ (first middle before count : ℕ) (order : first ≤ middle) (held held' : Option (List ℕ)) (h : WritesRows l side first middle before count held held') where
     -- more tile rows are written behind others
-    pub more_written : (end count' : ℕ) (bytes : List ℕ) (held'' : Option (List ℕ)) → middle ≤ end → AreBands l side middle end bytes → count' ≡ count + length bytes → Appends held' held'' bytes
+    pub more_written : (end count' : ℕ) (bytes : List ℕ) (held'' : Option (List ℕ)) → middle ≤ end → AreTileRows l side middle end bytes → count' ≡ count + length bytes → Appends held' held'' bytes
         → WritesRows l side first end before count' held held''
     more_written end count' bytes held'' order' are many written =
         let size = h.many in record {
@@ -123,7 +123,7 @@ module _ (l : Scene) (side : TileSide) where
     then_written end count' held'' order' k = more_written end count' k.rows held'' order' k.are k.many k.written
 
     -- or a beginning of them
-    pub more_cut : (end count' : ℕ) (bytes : List ℕ) (held'' : Option (List ℕ)) → middle ≤ end → AreBands l side middle end bytes → (count ≤ count') × (count' ≤ count + length bytes)
+    pub more_cut : (end count' : ℕ) (bytes : List ℕ) (held'' : Option (List ℕ)) → middle ≤ end → AreTileRows l side middle end bytes → (count ≤ count') × (count' ≤ count + length bytes)
         → Appends held' held'' (take (count' - count) bytes) → CutsRows l side first before count' held held''
     more_cut end count' bytes held'' order' are within written =
         let size = h.many in
@@ -172,12 +172,12 @@ by_names l l' g g' side first first' end end' d e same f h P k =
 -- behind the header they are the file
 module _ (l : Scene) (side : TileSide) (rows header : ℕ) (wide : 1 ≤ l.width) (some : 0 < tiles_over l.height side) (all : rows ≡ tiles_over l.height side) (held held' : Option (List ℕ)) (h : HasWritten l side 0 header held held') where
   behind : (row count : ℕ) (held'' : Option (List ℕ)) → WritesRows l side 0 row header count held' held'' → HasWritten l side row count held held''
-  behind row count held'' k = bands_written l side 0 header held held' wide some h row (omega arith) k.rows k.are count held'' k.many k.written
+  behind row count held'' k = tile_rows_written l side 0 header held held' wide some h row (omega arith) k.rows k.are count held'' k.many k.written
 
   pub file_written : (count : ℕ) (held'' : Option (List ℕ)) → WritesRows l side 0 rows header count held' held'' → WritesAll l count held held''
   file_written count held'' k = all_written l side rows count held held'' (omega arith) (behind rows count held'' k)
 
   pub file_explained : (e : PictureFault) (held'' : Option (List ℕ)) → ExplainsRows l side 0 rows header e held' held'' → ExplainsPicture l side e held held''
   file_explained NotBegun held'' k = elim k [ ]
-  file_explained (OutOfMemory row) held'' k = whole_bands l side row k.2.0 held held'' wide (omega (arith, k.1)) (behind row k.2.0 held'' k.2.1)
-  file_explained (WriteFailed count) held'' k = bands_cut l side 0 header held held' wide some h k.end (omega arith) k.rows k.are count held'' k.within k.written
+  file_explained (OutOfMemory row) held'' k = whole_tile_rows l side row k.2.0 held held'' wide (omega (arith, k.1)) (behind row k.2.0 held'' k.2.1)
+  file_explained (WriteFailed count) held'' k = tile_rows_cut l side 0 header held held' wide some h k.end (omega arith) k.rows k.are count held'' k.within k.written

@@ -1,4 +1,4 @@
--- What a writer has of a picture's file, band after band.
+-- What a writer has of a picture's file, tile row after tile row.
 use Rattle.std.proofs.Common.{◌≡◌, refl, sym, ap, subst, ◌∙◌, ℕ, ◌+◌, ◌-◌, ◌*◌, ◌<◌, ◌≤◌, min, List, [], ◌++◌, length, take, Option, zero-add, append_assoc, append-nil, length-append, arith}
 use Rattle.std.proofs.lemmas.List.{take-append-le}
 use Rattle.std.proofs.Math.Nat.{mul-le-mul_left}
@@ -14,11 +14,11 @@ use Rattle.model.proofs.Exists.{part-exists}
 use Rattle.model.proofs.Parts.{part-append}
 use Rattle.model.proofs.Pixels.{bytes_of_none}
 use Rattle.bins.specs.Grid.{tiles_over}
-use Rattle.trirast.specs.Band.{AreBands}
+use Rattle.trirast.specs.TileRow.{AreTileRows}
 use Rattle.trirast.specs.File.{header_of, file_of, IsPictureFile}
-use Rattle.trirast.specs.Runs.{WritesAll, WritesBands, WritesFileUpTo, bytes_before}
+use Rattle.trirast.specs.Runs.{WritesAll, WritesTileRows, WritesFileUpTo, bytes_before}
 use Rattle.trirast.proofs.Beginnings.{Appends-front}
-use Rattle.trirast.proofs.Strips.{begins_within, strip_before, strips_all}
+use Rattle.trirast.proofs.Intervals.{begins_within, interval_before, intervals_all}
 
 -- rows that are there, and the others of the picture
 pub file_with : (l : Scene) (y : ℕ) (rows : List ℕ) → 1 ≤ l.width → y ≤ l.height → IsPart l 0 0 l.width y rows → (rest : List ℕ) × IsPictureFile l (file_of l.output l.width l.height (rows ++ rest))
@@ -46,7 +46,7 @@ header_cut l output width height n held held_after d e f wide short written =
       written = subst (Appends held held_after) (ap (take n) header ∙ sym front) written;
     }
 
--- The header and the bands before this one went out, in so many bytes.
+-- The header and the tile rows before this one went out, in so many bytes.
 pub record HasWritten (l : Scene) (side : TileSide) (row count : ℕ) (held held_after : Option (List ℕ)) : Type 0 where
   pub rows : List ℕ
   pub part : IsPart l 0 0 l.width (min l.height (side_of side * row)) rows
@@ -80,14 +80,14 @@ module _ (l : Scene) (side : TileSide) (first count : ℕ) (held held' : Option 
   before = header ++ h.rows
 
   top : min l.height (side_of side * first) ≡ side_of side * first
-  top = strip_before first l.height side within
+  top = interval_before first l.height side within
 
   below_top : side_of side * first < l.height
   below_top = begins_within first l.height side within
 
-  -- no band more went out
-  pub whole_bands : WritesBands l side first held held'
-  whole_bands =
+  -- no tile row more went out
+  pub whole_tile_rows : WritesTileRows l side first held held'
+  whole_tile_rows =
       let part : IsPart l 0 0 l.width (side_of side * first) h.rows = rw top at h.part in
       let start = below_top in
       let all = file_with l (side_of side * first) h.rows wide (omega arith) part in
@@ -102,7 +102,7 @@ module _ (l : Scene) (side : TileSide) (first count : ℕ) (held held' : Option 
         written = subst (Appends held held') (sym (ap (take (bytes_before l side first)) file ∙ front)) h.written;
       }
 
-  module _ (end : ℕ) (ordered : first ≤ end) (bytes : List ℕ) (bands : AreBands l side first end bytes) where
+  module _ (end : ℕ) (ordered : first ≤ end) (bytes : List ℕ) (are : AreTileRows l side first end bytes) where
     rows_more : IsPart l 0 0 l.width (min l.height (side_of side * end)) (h.rows ++ bytes)
     rows_more =
         let start = below_top in
@@ -110,14 +110,14 @@ module _ (l : Scene) (side : TileSide) (first count : ℕ) (held held' : Option 
         let more : side_of side * first ≤ side_of side * end = mul-le-mul_left (side_of side) ordered in
         let high : ℕ = min l.height (side_of side * end) - side_of side * first in
         let low : side_of side * first ≡ 0 + min l.height (side_of side * first) = omega arith in
-        let below = subst (λ y. IsPart l 0 y l.width high bytes) low bands in
+        let below = subst (λ y. IsPart l 0 y l.width high bytes) low are in
         let both = part-append l 0 0 l.width (min l.height (side_of side * first)) high h.rows bytes h.part below in
         let sum : min l.height (side_of side * first) + high ≡ min l.height (side_of side * end) = omega arith in
         subst (λ n. IsPart l 0 0 l.width n (h.rows ++ bytes)) sum both
 
-    -- the bands went out whole
-    pub bands_written : (count' : ℕ) (held'' : Option (List ℕ)) → count' ≡ count + length bytes → Appends held' held'' bytes → HasWritten l side end count' held held''
-    bands_written count' held'' more written =
+    -- the tile rows went out whole
+    pub tile_rows_written : (count' : ℕ) (held'' : Option (List ℕ)) → count' ≡ count + length bytes → Appends held' held'' bytes → HasWritten l side end count' held held''
+    tile_rows_written count' held'' more written =
         let many = h.many in record {
           rows = h.rows ++ bytes;
           part = rows_more;
@@ -126,8 +126,8 @@ module _ (l : Scene) (side : TileSide) (first count : ℕ) (held held' : Option 
         }
 
     -- or they were cut short
-    pub bands_cut : (n : ℕ) (held'' : Option (List ℕ)) → (count ≤ n) × (n ≤ count + length bytes) → Appends held' held'' (take (n - count) bytes) → WritesFileUpTo l n held held''
-    bands_cut n held'' within' written =
+    pub tile_rows_cut : (n : ℕ) (held'' : Option (List ℕ)) → (count ≤ n) × (n ≤ count + length bytes) → Appends held' held'' (take (n - count) bytes) → WritesFileUpTo l n held held''
+    tile_rows_cut n held'' within' written =
         let all = file_with l (min l.height (side_of side * end)) (h.rows ++ bytes) wide (omega arith) rows_more in
         let many : count ≡ length before = h.many ∙ sym (length-append header h.rows) in
         let low = within'.0 in
@@ -144,10 +144,10 @@ module _ (l : Scene) (side : TileSide) (first count : ℕ) (held held' : Option 
           written = subst (Appends held held'') (sym (ap (take n) file ∙ front)) went;
         }
 
--- all bands went out
+-- all tile rows went out
 pub all_written : (l : Scene) (side : TileSide) (row count : ℕ) (held held' : Option (List ℕ)) → tiles_over l.height side ≤ row → HasWritten l side row count held held' → WritesAll l count held held'
 all_written l side row count held held' past h =
-    let all = strips_all row l.height side past in
+    let all = intervals_all row l.height side past in
     let part : IsPart l 0 0 l.width l.height h.rows = rw all at h.part in
     record {
       file = file_of l.output l.width l.height h.rows;

@@ -1,9 +1,11 @@
-pub mod Device
+pub mod Args
 pub mod Counted
+pub mod Device
+pub mod Faults
 pub mod File
-pub mod Runs
-pub mod Words
-pub mod Program
-pub mod Band
-pub mod TileRows
 pub mod Picture
+pub mod Program
+pub mod Runs
+pub mod TileRow
+pub mod TileRows
+pub mod Writes

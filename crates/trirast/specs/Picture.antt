@@ -3,8 +3,8 @@ use Rattle.std.specs.Prelude.{◌≡◌, ℕ, ◌+◌, ◌-◌, ◌<◌, ◌≤�
 use Rattle.std.specs.Io.KnownBytes.{Keeps, Appends}
 use Rattle.grid.specs.declared.pixels.TileSide.{TileSide}
 use Rattle.model.specs.Scene.{Scene}
-use Rattle.trirast.specs.Band.{AreBands}
-use Rattle.trirast.specs.Runs.{WritesBands, WritesFileUpTo}
+use Rattle.trirast.specs.TileRow.{AreTileRows}
+use Rattle.trirast.specs.Runs.{WritesTileRows, WritesFileUpTo}
 use Rattle.trirast.specs.declared.fault.Fault.{Fault}
 use Rattle.trirast.specs.declared.fault.Fault.TheVariants.{OutOfMemory as NoMemory, WriteFailed as FailedWrite}
 use Rattle.trirast.specs.declared.picture.PictureFault.{PictureFault}
@@ -13,7 +13,7 @@ use Rattle.trirast.specs.declared.picture.PictureFault.TheVariants.{NotBegun, Ou
 -- What was written is the bytes of the tile rows from `first` to before `end`; with the bytes that were written before they are `count`.
 pub record WritesRows (l : Scene) (side : TileSide) (first end before count : ℕ) (held held_after : Option (List ℕ)) : Type 0 where
   pub rows : List ℕ
-  pub are : AreBands l side first end rows
+  pub are : AreTileRows l side first end rows
   pub many : count ≡ before + length rows
   pub written : Appends held held_after rows
 
@@ -22,7 +22,7 @@ pub record CutsRows (l : Scene) (side : TileSide) (first before count : ℕ) (he
   pub end : ℕ
   pub ordered : first ≤ end
   pub rows : List ℕ
-  pub are : AreBands l side first end rows
+  pub are : AreTileRows l side first end rows
   pub within : (before ≤ count) × (count ≤ before + length rows)
   pub written : Appends held held_after (take (count - before) rows)
 
@@ -36,7 +36,7 @@ ExplainsRows l side first end before (WriteFailed count) held held_after = CutsR
 -- tile rows before it.
 abbrev pub ExplainsPicture : Scene → TileSide → PictureFault → Option (List ℕ) → Option (List ℕ) → Type 0
 ExplainsPicture l side NotBegun held held_after = Keeps held held_after
-ExplainsPicture l side (OutOfMemory row) held held_after = WritesBands l side row held held_after
+ExplainsPicture l side (OutOfMemory row) held held_after = WritesTileRows l side row held held_after
 ExplainsPicture l side (WriteFailed count) held held_after = WritesFileUpTo l count held held_after
 
 -- The run's fault.

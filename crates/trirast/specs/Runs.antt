@@ -45,16 +45,16 @@ pub record WritesAll (list : Scene) (count : ℕ) (held held_after : Option (Lis
   pub many : count ≡ length file
   pub written : Appends held held_after file
 
--- How many bytes of the file come before the band of this number, where each band has so many rows of pixels.
+-- How many bytes of the file come before the tile row of this number, where each tile row has so many rows of pixels.
 abbrev pub bytes_before : Scene → TileSide → ℕ → ℕ
-bytes_before list side band = length (header_of list.output list.width list.height) + pixel_bytes list.output * (side_of side * band * list.width)
+bytes_before list side row = length (header_of list.output list.width list.height) + pixel_bytes list.output * (side_of side * row * list.width)
 
--- What was written is the header of that file and all bands before this one of the picture's, each whole.
-pub record WritesBands (list : Scene) (side : TileSide) (band : ℕ) (held held_after : Option (List ℕ)) : Type 0 where
+-- What was written is the header of that file and all tile rows before this one of the picture's, each whole.
+pub record WritesTileRows (list : Scene) (side : TileSide) (row : ℕ) (held held_after : Option (List ℕ)) : Type 0 where
   pub file : List ℕ
   pub picture : IsPictureFile list file
-  pub within : side_of side * band < list.height
-  pub written : Appends held held_after (take (bytes_before list side band) file)
+  pub within : side_of side * row < list.height
+  pub written : Appends held held_after (take (bytes_before list side row) file)
 
 -- The input's bytes, up to its end, denote a draw list, and what was written is the file of its picture.
 pub record WritesPicture (left left_after held held_after : Option (List ℕ)) : Type 0 where
@@ -72,14 +72,14 @@ pub record WritesBeginning (left left_after held held_after : Option (List ℕ))
   pub denoted : Denotes bytes list
   pub output : WritesFileUpTo list count held held_after
 
--- The same, cut short before a band.
-pub record WritesWholeBands (side : TileSide) (left left_after held held_after : Option (List ℕ)) : Type 0 where
+-- The same, cut short before a tile row.
+pub record WritesWholeTileRows (side : TileSide) (left left_after held held_after : Option (List ℕ)) : Type 0 where
   pub bytes : List ℕ
   pub list : Scene
   pub input : GivesAll left left_after bytes
   pub denoted : Denotes bytes list
-  pub band : ℕ
-  pub output : WritesBands list side band held held_after
+  pub row : ℕ
+  pub output : WritesTileRows list side row held held_after
 
 -- The input's bytes, up to its end, have this first fault.
 pub record HasFault (left left_after : Option (List ℕ)) (fault : ReadFault) : Type 0 where
@@ -101,7 +101,7 @@ Explains side (Pool fault) left left_after held held_after = ⊥
 Explains side InputFailed left left_after held held_after = Keeps held held_after
 Explains side InputTooLong left left_after held held_after = Gives left left_after 67_108_865 × Keeps held held_after
 Explains side (WriteFailed count) left left_after held held_after = WritesBeginning left left_after held held_after count
-Explains side OutOfMemory left left_after held held_after = Keeps held held_after ⊎ WritesWholeBands side left left_after held held_after
+Explains side OutOfMemory left left_after held held_after = Keeps held held_after ⊎ WritesWholeTileRows side left left_after held held_after
 
 -- How a run ends: the picture's file was written, or the fault explains what was. It is a failed input exactly where a read failed,
 -- and a failed output exactly where a write did.

@@ -4,7 +4,7 @@ use Rattle.model.specs.Scene.{Scene}
 use Rattle.bins.specs.Bin.{TileBins, AreBins}
 use Rattle.bins.specs.Grid.{TileGrid, columns_of}
 use Rattle.tile.specs.declared.drawing.TilePixels.{TilePixels}
-use Rattle.trirast.specs.Band.{AreBands, IsColumn}
+use Rattle.trirast.specs.TileRow.{AreTileRows, IsColumn}
 use Rattle.trirast.specs.declared.tile_rows.Beside.{Beside}
 use Rattle.trirast.specs.declared.tile_rows.TileRows.{TileRows}
 
@@ -31,11 +31,11 @@ AreBinsOf rows bins = AreBins rows.list.now rows.tiling.now rows.first (rows.end
 
 -- The bytes of their rows of pixels.
 abbrev pub AreBytesOf : TileRows → List ℕ → Type 0
-AreBytesOf rows bytes = AreBands rows.list.now rows.tiling.now.side rows.first rows.end bytes
+AreBytesOf rows bytes = AreTileRows rows.list.now rows.tiling.now.side rows.first rows.end bytes
 
 -- What the calling thread makes while these tile rows are drawn: the bytes of those above, from `above` on, whose memory can be
 -- refused only if there are some, and the bins of those below, to before `below`.
 pub record IsBeside (rows : TileRows) (above below : ℕ) (beside : Beside) : Type 0 where
-  pub joined : IfOk beside.joined (λ bytes. AreBands rows.list.now rows.tiling.now.side above rows.first bytes.items)
+  pub joined : IfOk beside.joined (λ bytes. AreTileRows rows.list.now rows.tiling.now.side above rows.first bytes.items)
   pub refused : IfErr beside.joined (λ _. above < rows.first)
   pub bins : IfSome beside.bins (AreBins rows.list.now rows.tiling.now rows.end (below - rows.end))

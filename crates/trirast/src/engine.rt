@@ -7,34 +7,25 @@ ghost use Rattle.model.specs.Json.{json_of};
 ghost use Rattle.model.specs.FirstFault.{IsFirstFault};
 ghost use Rattle.trirast.specs.Runs.{EndsAs};
 
+use crate::command_line::Options;
 use crate::counted::Counted;
 use crate::fault::Fault;
 use crate::input::read_input;
-use crate::line::Options;
 use crate::picture::write_picture;
-use list::{DrawList, MOST_BYTES, ReadFault, ReadKind, read};
+use list::{DrawList, MOST_BYTES, read};
 use pool::{Gate, Open};
 use std::alloc::Global;
 use std::io::{Read, Write};
 use std::sync::Wait;
 use std::thread::Threads;
 
-/// The draw list that the bytes denote, at most 64 MiB, or their first fault. Want of memory is told as such.
+/// The draw list that the bytes denote, at most 64 MiB, or their first fault. Returns `OutOfMemory` if an allocation fails.
 pub fn read_list(alloc: Global, bytes: &[u8]) -> Result<DrawList, Fault>
     requires { length bytes.now ≤ MOST_BYTES }
     ensures ok { IfOk result (Denotes bytes.now) }
     ensures fault { IfErr result (λ e. (e ≡ Fault.OutOfMemory) ⊎ ((fault : ReadFault) × (e ≡ Fault.List fault) × IsFirstFault (all_checks (json_of bytes.now)) fault)) }
 {
-    match read(alloc, bytes) {
-        Ok(list) => Ok(list),
-        Err(
-            ReadFault {
-                kind: ReadKind::OutOfMemory,
-                draw: _,
-            },
-        ) => Err(Fault::OutOfMemory),
-        Err(fault) => Err(Fault::List(fault)),
-    }
+    Ok(read(alloc, bytes)?)
 }
 
 /// Reads an input, draws what it denotes with these options, and writes the picture. Each worker passes through the gate before

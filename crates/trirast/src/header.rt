@@ -1,11 +1,11 @@
 //! The headers of picture files.
-ghost use Rattle.std.specs.Prelude.{◌≡◌, ◌+◌, ◌*◌, ◌<◌, ◌≤◌, ◌++◌, length, take, decimal, codes, OnOk, IfOk, IfErr, MatchResult};
-ghost use Rattle.std.specs.Io.KnownBytes.{Appends};
+ghost use Rattle.std.specs.Prelude.{◌≡◌, ◌+◌, ◌<◌, ◌≤◌, ◌++◌, length, decimal, codes, IfOk};
 ghost use Rattle.arrayvec.specs.ArrayVec.{array_vec_len};
 ghost use Rattle.trirast.specs.File.{ppm_header as header_of_colours, pgm_header as header_of_depths, header_of};
+ghost use Rattle.trirast.specs.Writes.{WritesBytes};
 
 use crate::counted::Counted;
-use crate::sending::{WriteFault, send};
+use crate::write_all::WriteFault;
 use arrayvec::ArrayVec;
 use list::{DrawList, Output};
 use std::io::Write;
@@ -85,13 +85,10 @@ pub(crate) fn write_header<W: Write>(
     requires failures { out.old.failures < u64.MAX }
     ensures count { IfOk result (λ n. n ≡ length (header_of output width height)) }
     ensures short { IfOk result (λ n. n ≤ 19) }
-    ensures all { OnOk result (Appends (W.contents out.old.inner) (W.contents out.new.inner) (header_of output width height)) }
-    ensures beginning { IfErr result (λ e. Appends (W.contents out.old.inner) (W.contents out.new.inner) (take e.written (header_of output width height))) }
-    ensures written { IfErr result (λ e. e.written ≤ length (header_of output width height)) }
-    ensures failures { MatchResult result (λ _. out.new.failures ≡ out.old.failures) (λ _. out.new.failures ≡ out.old.failures + 1) }
+    ensures bytes { WritesBytes (header_of output width height) 0 result (W.contents out.old.inner) (W.contents out.new.inner) out.old.failures out.new.failures }
 {
     let header = picture_header(output, width, height);
-    send(header.as_slice(), 0, out)
+    out.write_all(header.as_slice(), 0)
 }
 
 /// Writes the header of a picture of colours (binary PPM: Netpbm, ppm(5)), and answers its length.
@@ -104,10 +101,7 @@ pub fn ppm_header<W: Write>(
     requires failures { out.old.failures < u64.MAX }
     ensures count { IfOk result (λ n. n ≡ length (header_of_colours width height)) }
     ensures short { IfOk result (λ n. n ≤ 17) }
-    ensures all { OnOk result (Appends (W.contents out.old.inner) (W.contents out.new.inner) (header_of_colours width height)) }
-    ensures beginning { IfErr result (λ e. Appends (W.contents out.old.inner) (W.contents out.new.inner) (take e.written (header_of_colours width height))) }
-    ensures written { IfErr result (λ e. e.written ≤ length (header_of_colours width height)) }
-    ensures failures { MatchResult result (λ _. out.new.failures ≡ out.old.failures) (λ _. out.new.failures ≡ out.old.failures + 1) }
+    ensures bytes { WritesBytes (header_of_colours width height) 0 result (W.contents out.old.inner) (W.contents out.new.inner) out.old.failures out.new.failures }
 {
     write_header(Output::Color, width, height, out)
 }
@@ -122,10 +116,7 @@ pub fn pgm_header<W: Write>(
     requires failures { out.old.failures < u64.MAX }
     ensures count { IfOk result (λ n. n ≡ length (header_of_depths width height)) }
     ensures short { IfOk result (λ n. n ≤ 19) }
-    ensures all { OnOk result (Appends (W.contents out.old.inner) (W.contents out.new.inner) (header_of_depths width height)) }
-    ensures beginning { IfErr result (λ e. Appends (W.contents out.old.inner) (W.contents out.new.inner) (take e.written (header_of_depths width height))) }
-    ensures written { IfErr result (λ e. e.written ≤ length (header_of_depths width height)) }
-    ensures failures { MatchResult result (λ _. out.new.failures ≡ out.old.failures) (λ _. out.new.failures ≡ out.old.failures + 1) }
+    ensures bytes { WritesBytes (header_of_depths width height) 0 result (W.contents out.old.inner) (W.contents out.new.inner) out.old.failures out.new.failures }
 {
     write_header(Output::Depth, width, height, out)
 }

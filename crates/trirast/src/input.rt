@@ -9,7 +9,7 @@ use list::MOST_BYTES;
 use std::alloc::{AllocError, Global};
 use std::io::Read;
 
-/// How much is read at once, in bytes.
+/// How many bytes are read at once.
 const CHUNK: usize = 65_536;
 
 /// A buffer of this size.
@@ -19,7 +19,7 @@ fn room_for(alloc: Global, size: usize) -> Result<Vec<u8>, AllocError>
     vec![in alloc; 0; size]
 }
 
-/// Reads once, and appends the bytes that came. The answer is how many.
+/// Reads once, and appends the bytes that came. Returns their count.
 fn read_part<R: Read>(
     input: &mut Counted<R>,
     buffer: &mut [u8],
@@ -34,13 +34,11 @@ fn read_part<R: Read>(
     ensures faults { IfErr result (λ e. (e ≡ Fault.InputFailed) ⊎ (e ≡ Fault.OutOfMemory)) }
     ensures failures { OnOk result (input.new.failures ≡ input.old.failures) }
 {
-    match input.read(buffer) {
-        Ok(count) => {
-            bytes.extend_from_slice(&buffer[..count])?;
-            Ok(count)
-        }
-        Err(_) => Err(Fault::InputFailed),
-    }
+    let Ok(count) = input.read(buffer) else {
+        return Err(Fault::InputFailed);
+    };
+    bytes.extend_from_slice(&buffer[..count])?;
+    Ok(count)
 }
 
 /// Reads an input to its end, unless it is too long.

@@ -1,31 +1,31 @@
 //! From the bytes of a draw list to the bytes of its picture: the engine, the writer of picture files, and the command line.
 #![tactic(auto)]
 
-mod band;
+mod args;
+mod command_line;
 mod counted;
-mod drawing;
 mod engine;
 mod fault;
 mod header;
 mod input;
-mod line;
+mod messages;
 mod picture;
+mod picture_bytes;
 mod ppm;
 mod program;
-mod sending;
-mod telling;
+mod tile_row;
 mod tile_rows;
-mod words;
+mod write_all;
 
+pub use args::options;
+pub use command_line::{LineFault, Options};
 pub use counted::Counted;
-pub use drawing::{draw, draw_rows};
 pub use engine::{read_list, run, run_with};
 pub use fault::Fault;
 pub use header::{HEADER_BYTES, file_header, pgm_header, ppm_header};
-pub use line::{LineFault, Options};
+pub use messages::{FaultLine, LINE_BYTES, fault_line};
 pub use picture::{PictureFault, write_picture};
+pub use picture_bytes::{draw, draw_rows};
 pub use ppm::{ppm_rows, write_ppm};
 pub use program::{command, refuse};
-pub use sending::WriteFault;
-pub use telling::{FaultLine, LINE_BYTES, fault_line};
-pub use words::options;
+pub use write_all::WriteFault;

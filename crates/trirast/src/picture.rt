@@ -5,13 +5,13 @@ ghost use Rattle.trirast.specs.Picture.{ExplainsPicture, ExplainsRows, WritesRow
 ghost use Rattle.trirast.specs.Runs.{WritesAll, WritesFile};
 ghost use Rattle.trirast.specs.declared.picture.PictureFault.TheVariants as picture;
 
+use crate::command_line::Options;
 use crate::counted::Counted;
 use crate::fault::Fault;
 use crate::header::write_header;
-use crate::line::Options;
 use crate::ppm::ppm_rows;
-use crate::sending::WriteFault;
 use crate::tile_rows::{Beside, TileRows, rows_together};
+use crate::write_all::WriteFault;
 use bins::Tiling;
 use list::DrawList;
 use pool::Gate;

@@ -1,16 +1,15 @@
-//! The program, over words and streams.
+//! The command line program, over arguments and streams.
 ghost use Rattle.std.specs.Prelude.{◌≡◌, ◌<◌, ◌⊎◌, map};
 ghost use Rattle.trirast.specs.Program.{EndsByFault, WritesLine, refusal_line, usage_line};
 ghost use Rattle.trirast.specs.Runs.{WritesPicture};
-ghost use Rattle.trirast.specs.Words.{AsksForHelp, status_of};
+ghost use Rattle.trirast.specs.Args.{AsksForHelp, status_of};
 
+use crate::args::options;
+use crate::command_line::LineFault;
 use crate::counted::Counted;
 use crate::engine::run;
 use crate::fault::Fault;
-use crate::line::LineFault;
-use crate::sending::send;
-use crate::telling::{FaultLine, fault_line};
-use crate::words::options;
+use crate::messages::fault_line;
 use std::alloc::Global;
 use std::io::{Read, Write};
 use std::sync::Wait;
@@ -20,17 +19,17 @@ use std::thread::Threads;
 const USAGE: &[u8] =
     b"usage: trirast [--tile 8|16|32|64] [--workers 1..16] < list.json > picture.ppm\n";
 
-/// What is told of words that are refused.
+/// The line that reports arguments that the program does not have.
 const REFUSAL: &[u8] = b"trirast: command line refused\n";
 
-/// Reads the words as a command line, the program's name first, and a draw list from the input, and writes its picture. The
-/// answer is the program's status: 0 where the picture was written or the usage line was asked for, 1 where the run came to
-/// a fault or memory ran out while the words were read, which a line on `errors` tells, and 2 where the words are refused.
-/// A line that cannot be written is passed over.
+/// Reads the arguments, of which the first is the program's name, and a draw list from the input, and writes its picture. Returns the
+/// program's status: 0 if the picture was written or the usage line was asked for, 1 if the run failed or memory ran out while the
+/// arguments were read, and 2 if the program has no such arguments. After 1 and 2 a line on `errors` reports the error. A line that
+/// cannot be written is passed over.
 pub fn command<'a, Rt: Threads + Wait + Sync, R: Read, W: Write, E: Write>(
     rt: &Rt,
     alloc: Global,
-    words: &'a [&'a str],
+    arguments: &'a [&'a str],
     input: &mut Counted<R>,
     output: &mut Counted<W>,
     errors: &mut Counted<E>,
@@ -39,7 +38,7 @@ pub fn command<'a, Rt: Threads + Wait + Sync, R: Read, W: Write, E: Write>(
     requires output { output.old.failures < u64.MAX }
     requires errors { errors.old.failures < u64.MAX }
     ensures status { (result ≡ 0) ⊎ (result ≡ 1) ⊎ (result ≡ 2) }
-    ensures drawn { result ≡ 0 → (AsksForHelp (map (λ word. word.now) words.entry.now) × WritesLine usage_line (W.contents output.old.inner) (W.contents output.new.inner))
+    ensures drawn { result ≡ 0 → (AsksForHelp (map (λ word. word.now) arguments.entry.now) × WritesLine usage_line (W.contents output.old.inner) (W.contents output.new.inner))
         ⊎ WritesPicture (R.remaining input.old.inner) (R.remaining input.new.inner) (W.contents output.old.inner) (W.contents output.new.inner) }
     ensures quiet { result ≡ 0 → errors.new ≡ errors.old }
     // What is on the output is what a fault of the run explains, and nothing behind it.
@@ -48,7 +47,7 @@ pub fn command<'a, Rt: Threads + Wait + Sync, R: Read, W: Write, E: Write>(
     ensures refused { result ≡ 2 → (input.new ≡ input.old) × (output.new ≡ output.old) }
     ensures refusal { result ≡ 2 → WritesLine refusal_line (E.contents errors.old.inner) (E.contents errors.new.inner) }
 {
-    match options(alloc, words) {
+    match options(alloc, arguments) {
         Ok(options) => match run(rt, alloc, input, output, options) {
             Ok(()) => 0,
             Err(fault) => {
@@ -60,8 +59,8 @@ pub fn command<'a, Rt: Threads + Wait + Sync, R: Read, W: Write, E: Write>(
     }
 }
 
-/// Answers words that give no options: the usage line on the output where it was asked for, else the fault's line on
-/// `errors`. The answer is the program's status.
+/// Reports that the arguments give no options: writes the usage line to the output if it was asked for, else the line of the error to
+/// `errors`. Returns the program's status.
 pub fn refuse<W: Write, E: Write>(
     fault: LineFault,
     output: &mut Counted<W>,
@@ -99,5 +98,5 @@ fn tell<W: Write>(line: &[u8], out: &mut Counted<W>)
     requires { out.old.failures < u64.MAX }
     ensures { WritesLine line.now (W.contents out.old.inner) (W.contents out.new.inner) }
 {
-    let _ = send(line, 0, out);
+    let _ = out.write_all(line, 0);
 }

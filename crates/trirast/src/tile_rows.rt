@@ -2,7 +2,7 @@
 ghost use Rattle.std.specs.Prelude.{◌≡◌, ◌+◌, ◌-◌, ◌*◌, ◌<◌, ◌≤◌, min, IfOk, OnOk, IfErr, IfSome};
 ghost use Rattle.bins.specs.Grid.{rows_of};
 
-use crate::band::Band;
+use crate::tile_row::TileRow;
 use bins::{Bins, Tiling};
 use grid::OutOfMemory;
 use list::DrawList;
@@ -88,7 +88,7 @@ pub(crate) struct Beside {
 }
 
 impl<'a> TileRows<'a> {
-    ghost use Rattle.trirast.specs.Band.{AddsBands};
+    ghost use Rattle.trirast.specs.TileRow.{AddsTileRows};
     ghost use Rattle.trirast.specs.TileRows.{AreBinsOf, AreBytesOf, AreTiles, AreTilesOf, IsBeside, tiles_in};
 
     /// The tile rows of this list's picture from `first` to before `end`.
@@ -173,14 +173,14 @@ impl<'a> TileRows<'a> {
     /// Puts the tiles together, row by row, behind the bytes that are there.
     fn join(&self, tiles: &[TilePixels], bytes: &mut Vec<u8>) -> Result<(), OutOfMemory>
         requires { AreTilesOf self.now tiles.now }
-        ensures bytes { OnOk result (AddsBands self.now.list.now self.now.tiling.now.side self.now.first self.now.end bytes.old.items bytes.new.items) }
+        ensures bytes { OnOk result (AddsTileRows self.now.list.now self.now.tiling.now.side self.now.first self.now.end bytes.old.items bytes.new.items) }
         ensures refused { IfErr result (λ _. self.now.first < self.now.end) }
     {
         let columns = self.tiling.columns() as usize;
         for row in self.first..self.end {
             let start = (row - self.first) as usize * columns;
-            let band = Band::new(self.list, self.tiling, row);
-            band.join(&tiles[start..start + columns], bytes)?;
+            let tile_row = TileRow::new(self.list, self.tiling, row);
+            tile_row.join(&tiles[start..start + columns], bytes)?;
         }
         Ok(())
     }
@@ -309,7 +309,7 @@ impl<'a> TileRows<'a> {
         bytes: &mut Vec<u8>,
     ) -> Result<(), OutOfMemory>
         requires { store.old ≡ record { side = self.now.tiling.now.side; count = self.now.list.now.count } }
-        ensures bytes { OnOk result (AddsBands self.now.list.now self.now.tiling.now.side self.now.first self.now.end bytes.old.items bytes.new.items) }
+        ensures bytes { OnOk result (AddsTileRows self.now.list.now self.now.tiling.now.side self.now.first self.now.end bytes.old.items bytes.new.items) }
         ensures store { store.new ≡ store.old }
     {
         let bins = self.bins(alloc)?;

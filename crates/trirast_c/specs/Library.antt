@@ -15,7 +15,7 @@ use Rattle.scene.specs.declared.draw.SceneDraw.{SceneDraw}
 use Rattle.scene.specs.declared.head.SceneHead.{SceneHead}
 use Rattle.scene.specs.declared.vertex.SceneVertex.{SceneVertex}
 use Rattle.bins.specs.Grid.{tiles_over}
-use Rattle.trirast.specs.Band.{AreBands}
+use Rattle.trirast.specs.TileRow.{AreTileRows}
 use Rattle.trirast.specs.File.{header_of, IsPictureFile}
 use Rattle.trirast_c.specs.declared.fault.CallFault.{CallFault}
 use Rattle.trirast_c.specs.declared.fault.CallFault.TheVariants.{List as BadList, InputTooLong, OutOfMemory, BufferTooShort, NoSide, NoRows}
@@ -49,7 +49,7 @@ HasRows list side first end = (first < end) × (end ≤ tiles_over list.height s
 pub record HoldsRows (list : Scene) (side : TileSide) (first end : ℕ) (old new : List ℕ) : Type 0 where
   pub has : HasRows list side first end
   pub rows : List ℕ
-  pub are : AreBands list side first end rows
+  pub are : AreTileRows list side first end rows
   pub put : IsPut rows old new
 
 -- The same of the list that the caller gave, and the tiles of the side that it named.
@@ -79,7 +79,7 @@ IsFileLonger list room = (file : List ℕ) → IsPictureFile list file → room 
 
 -- The bytes of these rows are longer than the buffer.
 abbrev pub AreRowsLonger : Scene → TileSide → ℕ → ℕ → ℕ → Type 0
-AreRowsLonger list side first end room = (rows : List ℕ) → AreBands list side first end rows → room < length rows
+AreRowsLonger list side first end room = (rows : List ℕ) → AreTileRows list side first end rows → room < length rows
 
 pub record LacksRoomForFile (Means : Scene → Type 0) (room : ℕ) : Type 0 where
   pub list : Scene

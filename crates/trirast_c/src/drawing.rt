@@ -3,7 +3,7 @@ ghost use Rattle.std.specs.Prelude.{◌≡◌, ◌≢◌, ◌<◌, ◌≤◌, �
 ghost use Rattle.model.specs.Denotes.{Denotes};
 ghost use Rattle.scene.specs.Checks.{IsListOf};
 ghost use Rattle.bins.specs.Grid.{tiles_over};
-ghost use Rattle.trirast.specs.Band.{AreBands};
+ghost use Rattle.trirast.specs.TileRow.{AreTileRows};
 ghost use Rattle.trirast_c.specs.Faults.{no_fault, number_of, told};
 ghost use Rattle.trirast_c.specs.Library.{DrawsFile, DrawsRows, ExplainsDraw, ExplainsRows, HoldsFile, IsFileLonger, IsPut, arrays, text};
 ghost use Rattle.trirast_c.specs.declared.fault.CallFault.TheVariants as call;
@@ -30,7 +30,7 @@ fn put(bytes: &[u8], buffer: &mut [u8])
 fn bytes_of_rows(list: &DrawList, side: TileSide, first: u32, end: u32) -> u64
     requires order { first < end }
     requires within { end ≤ tiles_over list.now.height side }
-    ensures { (rows : List ℕ) → AreBands list.now side first end rows → result ≡ length rows }
+    ensures { (rows : List ℕ) → AreTileRows list.now side first end rows → result ≡ length rows }
 {
     let height = list.height();
     let top = side.pixels() * first;

@@ -1,42 +1,32 @@
-//! The program `trirast`: its own words and standard streams, given to `trirast::command`.
+//! The program `trirast`: its arguments and standard streams, given to `trirast::command`.
 #![tactic(auto)]
 
 use std::alloc::{AllocError, Global};
-use std::io::ErrorKind;
+use std::env;
 use std::process::ExitCode;
-use std::{env, io};
 use trirast::{Counted, LineFault, command, refuse};
 
-/// The words that the program was called with, its own name first.
-fn own_words(rt: &HostRuntime) -> Result<Vec<String>, LineFault> {
-    match collect_words(rt) {
-        Ok(words) => Ok(words),
-        Err(error) if error.kind() == ErrorKind::OutOfMemory => Err(LineFault::OutOfMemory),
-        // A word that is no UTF-8 is none of this program's.
-        Err(_) => Err(LineFault::Refused),
+/// The arguments of the program. The first is its name.
+fn own_arguments(rt: &HostRuntime) -> Result<Vec<String>, LineFault> {
+    let mut arguments = Vec::new(rt.alloc());
+    for argument in env::args(rt)? {
+        arguments.push(argument)?;
     }
+    Ok(arguments)
 }
 
-fn collect_words(rt: &HostRuntime) -> io::Result<Vec<String>> {
-    let mut words = Vec::new(rt.alloc());
-    for word in env::args(rt)? {
-        words.push(word)?;
-    }
-    Ok(words)
-}
-
-fn borrowed(alloc: Global, words: &[String]) -> Result<Vec<&str>, AllocError> {
-    words.iter().map(|word| word.as_str()).collect(alloc)
+fn borrowed(alloc: Global, arguments: &[String]) -> Result<Vec<&str>, AllocError> {
+    arguments.iter().map(|argument| argument.as_str()).collect(alloc)
 }
 
 fn main(rt: HostRuntime) -> ExitCode {
     let mut output = Counted::new(rt.stdout());
     let mut errors = Counted::new(rt.stderr());
-    let words = match own_words(&rt) {
-        Ok(words) => words,
+    let arguments = match own_arguments(&rt) {
+        Ok(arguments) => arguments,
         Err(fault) => return ExitCode::from(refuse(fault, &mut output, &mut errors)),
     };
-    let Ok(words) = borrowed(rt.alloc(), &words) else {
+    let Ok(arguments) = borrowed(rt.alloc(), &arguments) else {
         let status = refuse(LineFault::OutOfMemory, &mut output, &mut errors);
         return ExitCode::from(status);
     };
@@ -44,7 +34,7 @@ fn main(rt: HostRuntime) -> ExitCode {
     let status = command(
         &rt,
         rt.alloc(),
-        &words,
+        &arguments,
         &mut input,
         &mut output,
         &mut errors,

@@ -1,6 +1,5 @@
 use Rattle.std.proofs.Common.{arith, sym, ap, ◌∙◌, subst, ◌≡◌, ◌<◌, ◌∷◌, [], ◌++◌, ℕ, List, Bool, map, true, All, length, Some, ⊎_elim, vec_len}
 use Rattle.std.specs.Vec.Iter.{into_iter_items}
-use Rattle.std.proofs.lemmas.Result.{IfOk-weaker}
 use Rattle.std.proofs.lemmas.List.{map-append, length-map}
 use Rattle.std.proofs.lemmas.List.Elements.{All-push}
 use Rattle.pool.specs.Lines.{times}
@@ -48,7 +47,8 @@ answers_of-requires g c =
     let at = c.loop-worker in
     let list_of : g.row.D-Seat.Denot → List ℕ × Bool = λ s. (g.D.Dealer.given s, g.D.Dealer.ended s) in
     let none_left = c.in-None.ensures.steps in
-    let some : 0 < length at.seats.items = omega (arith, at.invariant.4, c.requires.seats, c.requires.results.1, at.seats.ok, c.args.results.ok) in
+    let results = rw c.in_ok-results.was at c.requires.results in
+    let some : 0 < length at.seats.items = omega (arith, at.invariant.4, c.requires.seats, results.1, at.seats.ok, c.in_ok-results.results.ok, c.into_iter-worker-iterator.ensures) in
     let dealt = subst (λ l. SomeEnded l → DealtOnce (g.D.Dealer.count c.args.dealer) l) c.settle.ensures.lists c.settle.ensures.once
     (some_ended g.D.Dealer.given g.D.Dealer.ended at.seats.items some at.invariant.3) in
     all_filled c.args.n (map list_of at.seats.items) at.places.items (omega (arith, at.places.ok, at.invariant.6))
@@ -56,9 +56,11 @@ answers_of-requires g c =
 
 pub returns-clause-len : goal.returns-clause-len
 returns-clause-len g c =
-    IfOk-weaker c.answers_of.result _ _
-    (λ answers is. let len = ap length is in let m = length-map answers.items (λ answer. Some answer) in omega (arith, answers.ok, c.loop-worker.places.ok, c.loop-worker.invariant.6)) c.answers_of.ensures
+    let answers = c.in_ok-answers_of.field-0 in
+    let is = rw c.in_ok-answers_of.was at c.answers_of.ensures in
+    let len = ap length is in
+    let m = length-map answers.items (λ answer. Some answer) in omega (arith, answers.ok, c.loop-worker.places.ok, c.loop-worker.invariant.6)
 
 pub returns-clause-right : goal.returns-clause-right
 returns-clause-right g c =
-    IfOk-weaker c.answers_of.result _ _ (λ answers. RightInOrder-filled (g.J.Job.right c.args.job.now) c.loop-worker.places.items answers.items c.loop-worker.invariant.7) c.answers_of.ensures
+    RightInOrder-filled (g.J.Job.right c.args.job.now) c.loop-worker.places.items c.in_ok-answers_of.field-0.items c.loop-worker.invariant.7 (rw c.in_ok-answers_of.was at c.answers_of.ensures)

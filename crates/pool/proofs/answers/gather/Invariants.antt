@@ -12,8 +12,8 @@ invariant-loop-worker g l =
     × (map g.D.Dealer.number l.seats.items ≡ range_with_len 0 (vec_len l.seats))
     × All (g.D.Dealer.fits l.dealer) l.seats.items
     × All (λ s. g.D.Dealer.ended s ≡ true) l.seats.items
-    × (vec_len l.seats + into_iter_len l.worker-iterator ≡ vec_len l.fn.results)
-    × (vec_len l.fn.results ≤ vec_capacity l.seats)
+    × (vec_len l.seats + into_iter_len l.worker-iterator ≡ into_iter_len l.initial.worker-iterator)
+    × (into_iter_len l.initial.worker-iterator ≤ vec_capacity l.seats)
     × (vec_len l.places ≡ l.n)
     × AreRight (g.J.Job.right l.job) l.places.items
     × ((k : ℕ) → 0 < times_in k (map (λ s. (g.D.Dealer.given s, g.D.Dealer.ended s)) l.seats.items) → HasAnswer l.places.items k)

@@ -1,5 +1,6 @@
 use Rattle.std.proofs.Common.{arith, ◌∙◌, ◌≡◌, [], ap, length, false}
 use Rattle.std.specs.List.{range_with_len}
+use Rattle.std.proofs.lemmas.Result.{IfOk-weaker}
 use Rattle.std.proofs.lemmas.List.{length-map}
 use Rattle.std.proofs.lemmas.List.Elements.{All-weaker}
 use Rattle.std.proofs.lemmas.List.FromFn.{length-range_with_len}
@@ -30,5 +31,6 @@ pub gather-requires-clause-results : goal.gather-requires-clause-results
 gather-requires-clause-results g c κs within =
     let deal = c.in-Ok.ensures in
     let seats = c.in-Ok.seats in
-    let results = rw c.in-Ok-worked.is at c.work_seats-worked.ensures.results in
-    (results.0, omega (arith, results.1, seats.ok, deal.dealer.1, ap length deal.seats, length-map seats.items g.D.Dealer.number, length-range_with_len 0 c.args.workers))
+    IfOk-weaker c.work_seats-worked.result.0 _ _
+    (λ results are. (are.0, omega (arith, are.1, seats.ok, deal.dealer.1, ap length deal.seats, length-map seats.items g.D.Dealer.number, length-range_with_len 0 c.args.workers)))
+    c.work_seats-worked.ensures.results

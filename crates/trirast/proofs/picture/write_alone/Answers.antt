@@ -17,7 +17,7 @@ returns-in_err-written-clause-fault g c =
     let row = tile_row_of c.args.rows.list.now c.others.result.list.now c.args.rows.tiling.now c.others.result.tiling.now c.loop-row.row _ _ _ _ c.others.ensures.0 c.others.ensures.1 c.others.ensures.2 c.others.ensures.3 c.clear.ensures.items c.in-Ok-push_alone.ensures.bytes in
     rw (p.1, p.2)
     (more_cut c.args.rows.list.now c.args.rows.tiling.now.side c.args.rows.first c.loop-row.row c.args.before c.loop-row.written from _ _ c.loop-row.invariant.rows (c.loop-row.row + 1) c.in_err-written.field-0.0.written _ _ (omega arith) row
-    (rw c.deref.ensures.value at c.in_err-written.ensures.written) (rw c.deref.ensures.value at c.in_err-written.ensures.beginning))
+    (rw c.deref.ensures.value at c.in_err-written.ensures.bytes.written) (rw c.deref.ensures.value at c.in_err-written.ensures.bytes.beginning))
 
 pub loop-row-preserved : goal.loop-row-preserved
 loop-row-preserved g c =
@@ -25,9 +25,9 @@ loop-row-preserved g c =
     let row = tile_row_of c.args.rows.list.now c.others.result.list.now c.args.rows.tiling.now c.others.result.tiling.now c.loop-row.row _ _ _ _ c.others.ensures.0 c.others.ensures.1 c.others.ensures.2 c.others.ensures.3 c.clear.ensures.items c.in-Ok-push_alone.ensures.bytes in
     record {
       rows = more_written c.args.rows.list.now c.args.rows.tiling.now.side c.args.rows.first c.loop-row.row c.args.before c.loop-row.written from _ _ c.loop-row.invariant.rows (c.loop-row.row + 1) c.in_ok-written.written _ _ (omega arith) row
-          (rw c.deref.ensures.value at c.in_ok-written.ensures.count) (rw c.deref.ensures.value at c.in_ok-written.ensures.all);
+          (rw c.deref.ensures.value at c.in_ok-written.ensures.count) (rw c.deref.ensures.value at c.in_ok-written.ensures.bytes.all);
       store = c.push_alone.ensures.store ∙ c.loop-row.invariant.store;
-      same_failures = c.in_ok-written.ensures.failures ∙ c.loop-row.invariant.same_failures;
+      same_failures = c.in_ok-written.ensures.bytes.failures ∙ c.loop-row.invariant.same_failures;
     }
 
 pub returns-clause-rows : goal.returns-clause-rows

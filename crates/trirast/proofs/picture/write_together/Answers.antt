@@ -1,6 +1,6 @@
 use Rattle.std.proofs.Common.{◌≡◌, ◌∙◌, ◌+◌, min, ap, refl, sym, subst, arith}
 use Rattle.std.proofs.lemmas.Result.{err_from_is_err_and}
-use Rattle.trirast.specs.Band.{AreBands}
+use Rattle.trirast.specs.TileRow.{AreTileRows}
 use Rattle.trirast.specs.Picture.{WritesRows}
 use Rattle.trirast.proofs.Tiled.{no_tiles_between, tiles_of}
 use Rattle.trirast.proofs.Writing.{bins_of, by_names, err_of, explains_behind, explains_of, few_bytes, more_cut, more_written, then_written}
@@ -16,10 +16,10 @@ returns-in_err-written-clause-fault g c =
     let batch = c.batch-batch in
     let at = c.loop-first.invariant in
     let bytes = by_names rows.list.now batch.result.list.now rows.tiling.now batch.result.tiling.now rows.tiling.now.side above above first batch.result.first batch.ensures.0 batch.ensures.1 refl refl batch.ensures.2
-    (λ l side first end. AreBands l side first end c.in-Ok.joined.items) (rw c.in-Ok.is at c.draw-drawn.ensures.beside.joined) in
+    (λ l side first end. AreTileRows l side first end c.in-Ok.joined.items) (rw c.in-Ok.is at c.draw-drawn.ensures.beside.joined) in
     rw (p.1, p.2)
     (more_cut rows.list.now rows.tiling.now.side rows.first above c.args.before c.loop-first.written at.begin _ _ at.written first c.in_err-written.field-0.0.written _ _ at.order bytes
-    (rw c.deref.ensures.value at c.in_err-written.ensures.written) (rw c.deref.ensures.value at c.in_err-written.ensures.beginning))
+    (rw c.deref.ensures.value at c.in_err-written.ensures.bytes.written) (rw c.deref.ensures.value at c.in_err-written.ensures.bytes.beginning))
 
 pub write_alone-requires-clause-before : goal.write_alone-requires-clause-before
 write_alone-requires-clause-before g c κs within =
@@ -29,9 +29,9 @@ write_alone-requires-clause-before g c κs within =
     let batch = c.batch-batch in
     let at = c.loop-first.invariant in
     let bytes = by_names rows.list.now batch.result.list.now rows.tiling.now batch.result.tiling.now rows.tiling.now.side above above first batch.result.first batch.ensures.0 batch.ensures.1 refl refl batch.ensures.2
-    (λ l side first end. AreBands l side first end c.in-Ok.joined.items) (rw c.in-Ok.is at c.draw-drawn.ensures.beside.joined) in
+    (λ l side first end. AreTileRows l side first end c.in-Ok.joined.items) (rw c.in-Ok.is at c.draw-drawn.ensures.beside.joined) in
     let written = more_written rows.list.now rows.tiling.now.side rows.first above c.args.before c.loop-first.written at.begin _ _ at.written first c.in_ok-written.written _ _ at.order bytes
-    (rw c.deref.ensures.value at c.in_ok-written.ensures.count) (rw c.deref.ensures.value at c.in_ok-written.ensures.all) in
+    (rw c.deref.ensures.value at c.in_ok-written.ensures.count) (rw c.deref.ensures.value at c.in_ok-written.ensures.bytes.all) in
     omega (arith, written.many, few_bytes rows.list.now rows.tiling.now.side rows.first first written.rows rows.size.0 rows.size.1 written.are, c.requires.before)
 
 pub returns-in_err-written-2-clause-fault : goal.returns-in_err-written-2-clause-fault
@@ -43,16 +43,16 @@ returns-in_err-written-2-clause-fault g c =
     let batch = c.batch-batch in
     let at = c.loop-first.invariant in
     let bytes = by_names rows.list.now batch.result.list.now rows.tiling.now batch.result.tiling.now rows.tiling.now.side above above first batch.result.first batch.ensures.0 batch.ensures.1 refl refl batch.ensures.2
-    (λ l side first end. AreBands l side first end c.in-Ok.joined.items) (rw c.in-Ok.is at c.draw-drawn.ensures.beside.joined) in
+    (λ l side first end. AreTileRows l side first end c.in-Ok.joined.items) (rw c.in-Ok.is at c.draw-drawn.ensures.beside.joined) in
     let written = more_written rows.list.now rows.tiling.now.side rows.first above c.args.before c.loop-first.written at.begin _ _ at.written first c.in_ok-written.written _ _ at.order bytes
-    (rw c.deref.ensures.value at c.in_ok-written.ensures.count) (rw c.deref.ensures.value at c.in_ok-written.ensures.all) in
+    (rw c.deref.ensures.value at c.in_ok-written.ensures.count) (rw c.deref.ensures.value at c.in_ok-written.ensures.bytes.all) in
     let fault = explains_of rows.list.now batch.result.list.now rows.tiling.now batch.result.tiling.now first batch.result.first rows.end batch.result.end _ _ _ _ batch.ensures.0 batch.ensures.1 batch.ensures.2 (omega (arith, batch.ensures.3)) c.in_err-written-2.ensures.fault in
     rw (p.1, p.2) (explains_behind rows.list.now rows.tiling.now.side rows.first first c.args.before c.in_ok-written.written (omega (arith, at.begin, at.order)) _ _ written rows.end _ _ fault)
 
 pub returns-in_err-written-2-clause-write_failed : goal.returns-in_err-written-2-clause-write_failed
 returns-in_err-written-2-clause-write_failed g c =
     let p = err_from_is_err_and c.from_residual-in_err-written-2.result c.from_residual-in_err-written-2.ensures.1 in
-    let both = rw (c.in_ok-written.ensures.failures ∙ c.loop-first.invariant.same_failures) at c.in_err-written-2.ensures.write_failed in
+    let both = rw (c.in_ok-written.ensures.bytes.failures ∙ c.loop-first.invariant.same_failures) at c.in_err-written-2.ensures.write_failed in
     rw (p.1, p.2) (λ failed. both.0 (failed.0, err_of _ _ failed.1), λ rose. let failed = both.1 rose in (failed.0, err_of _ _ failed.1))
 
 pub loop-first-preserved : goal.loop-first-preserved
@@ -66,9 +66,9 @@ loop-first-preserved g c =
     let below_end : c.end-in-loop-first-2.result ≡ min rows.end (c.end-first.result + c.args.together) =
     c.end-in-loop-first-2.ensures ∙ (c.batch-below.ensures.3 ∙ ap (λ n. min rows.end (n + c.args.together)) (c.end-in-loop-first.ensures ∙ sym end_is)) in
     let bytes = by_names rows.list.now batch.result.list.now rows.tiling.now batch.result.tiling.now rows.tiling.now.side above above first batch.result.first batch.ensures.0 batch.ensures.1 refl refl batch.ensures.2
-    (λ l side first end. AreBands l side first end c.in-Ok.joined.items) (rw c.in-Ok.is at c.draw-drawn.ensures.beside.joined) in
+    (λ l side first end. AreTileRows l side first end c.in-Ok.joined.items) (rw c.in-Ok.is at c.draw-drawn.ensures.beside.joined) in
     let written = more_written rows.list.now rows.tiling.now.side rows.first above c.args.before c.loop-first.written at.begin _ _ at.written first c.in_ok-written.written _ _ at.order bytes
-    (rw c.deref.ensures.value at c.in_ok-written.ensures.count) (rw c.deref.ensures.value at c.in_ok-written.ensures.all) in
+    (rw c.deref.ensures.value at c.in_ok-written.ensures.count) (rw c.deref.ensures.value at c.in_ok-written.ensures.bytes.all) in
     let bins = bins_of rows.list.now batch.result.list.now rows.tiling.now batch.result.tiling.now c.end-first.result batch.result.end (min rows.end (c.end-first.result + c.args.together)) c.end-in-loop-first-2.result _ batch.ensures.0 batch.ensures.1 (sym end_is) below_end c.draw-drawn.ensures.beside.bins in
     elim c.match-drawn-3.branch [
       | in-Ok-drawn w ↦ record {
@@ -78,7 +78,7 @@ loop-first-preserved g c =
         written = rw (w.above-is, w.written-is, w.output-is) written;
         tiles = rw (w.above-is, w.tiles-is) (tiles_of rows.list.now batch.result.list.now rows.tiling.now batch.result.tiling.now first batch.result.first c.end-first.result batch.result.end _ batch.ensures.0 batch.ensures.1 batch.ensures.2 (sym end_is) (rw w.in-Ok-drawn.is at c.draw-drawn.ensures.tiles));
         bins = bins;
-        same_failures = rw w.output-is (c.in_ok-written.ensures.failures ∙ at.same_failures);
+        same_failures = rw w.output-is (c.in_ok-written.ensures.bytes.failures ∙ at.same_failures);
       }
       | in_default-drawn+in_ok-written-2 w ↦
           let drawn = by_names rows.list.now batch.result.list.now rows.tiling.now batch.result.tiling.now rows.tiling.now.side first batch.result.first batch.result.end batch.result.end batch.ensures.0 batch.ensures.1 refl batch.ensures.2 refl
@@ -91,7 +91,7 @@ loop-first-preserved g c =
             written = rw (w.above-is, w.end-above.ensures, w.written-is, w.output-is) all;
             tiles = no_tiles_between rows.list.now rows.tiling.now _ _ _ (w.above-is ∙ (w.end-above.ensures ∙ sym end_is)) (rw w.tiles-is w.new-tiles-in_default-drawn.ensures.items);
             bins = bins;
-            same_failures = rw w.output-is (w.in_ok-written-2.ensures.same_failures ∙ (c.in_ok-written.ensures.failures ∙ at.same_failures));
+            same_failures = rw w.output-is (w.in_ok-written-2.ensures.same_failures ∙ (c.in_ok-written.ensures.bytes.failures ∙ at.same_failures));
           }
     ]
 
@@ -103,10 +103,10 @@ returns-in_err-ppm_rows-clause-fault g c =
     let first = c.loop-first.first in
     let at = c.loop-first.invariant in
     let bytes = by_names rows.list.now c.others.result.list.now rows.tiling.now c.others.result.tiling.now rows.tiling.now.side above c.others.result.first first c.others.result.end c.others.ensures.0 c.others.ensures.1 refl c.others.ensures.2 c.others.ensures.3
-    (λ l side first end. AreBands l side first end c.in-Ok-joined.last.items) c.in-Ok-joined.ensures.bytes in
+    (λ l side first end. AreTileRows l side first end c.in-Ok-joined.last.items) c.in-Ok-joined.ensures.bytes in
     rw (p.1, p.2)
     (more_cut rows.list.now rows.tiling.now.side rows.first above c.args.before c.loop-first.written at.begin _ _ at.written first c.in_err-ppm_rows.field-0.0.written _ _ at.order bytes
-    (rw c.deref-2.ensures.value at c.in_err-ppm_rows.ensures.written) (rw c.deref-2.ensures.value at c.in_err-ppm_rows.ensures.beginning))
+    (rw c.deref-2.ensures.value at c.in_err-ppm_rows.ensures.bytes.written) (rw c.deref-2.ensures.value at c.in_err-ppm_rows.ensures.bytes.beginning))
 
 pub returns-clause-rows : goal.returns-clause-rows
 returns-clause-rows g c =
@@ -115,8 +115,8 @@ returns-clause-rows g c =
     let first = c.loop-first.first in
     let at = c.loop-first.invariant in
     let bytes = by_names rows.list.now c.others.result.list.now rows.tiling.now c.others.result.tiling.now rows.tiling.now.side above c.others.result.first first c.others.result.end c.others.ensures.0 c.others.ensures.1 refl c.others.ensures.2 c.others.ensures.3
-    (λ l side first end. AreBands l side first end c.in-Ok-joined.last.items) c.in-Ok-joined.ensures.bytes in
+    (λ l side first end. AreTileRows l side first end c.in-Ok-joined.last.items) c.in-Ok-joined.ensures.bytes in
     let written = more_written rows.list.now rows.tiling.now.side rows.first above c.args.before c.loop-first.written at.begin _ _ at.written first c.in_ok-ppm_rows.field-0 _ _ at.order bytes
-    (rw c.deref-2.ensures.value at c.in_ok-ppm_rows.ensures.count) (rw c.deref-2.ensures.value at c.in_ok-ppm_rows.ensures.all) in
+    (rw c.deref-2.ensures.value at c.in_ok-ppm_rows.ensures.count) (rw c.deref-2.ensures.value at c.in_ok-ppm_rows.ensures.bytes.all) in
     let last : first ≡ rows.end = omega (arith, at.end, c.loop-first-test.false, c.end.ensures) in
     subst (λ end. WritesRows rows.list.now rows.tiling.now.side rows.first end c.args.before c.in_ok-ppm_rows.field-0 (g.W.Write.contents c.args.output.now.inner) (g.W.Write.contents c.ppm_rows-2.new.out.inner)) last written

@@ -1,6 +1,6 @@
-use Rattle.trirast.specs.Band.{AddsBands}
+use Rattle.trirast.specs.TileRow.{AddsTileRows}
 use Rattle.trirast.proofs.tile_rows.TileRows.join.Given as goal
 
--- the bands so far
+-- the tile rows so far
 abbrev pub invariant-loop-row : goal.invariant-loop-row
-invariant-loop-row l = AddsBands l.self.list.now l.self.tiling.now.side l.self.first l.row l.initial.bytes.items l.bytes.items
+invariant-loop-row l = AddsTileRows l.self.list.now l.self.tiling.now.side l.self.first l.row l.initial.bytes.items l.bytes.items

@@ -1,0 +1,74 @@
+//! The bytes of a picture, drawn on the calling thread alone: no thread is started, and none is waited for.
+ghost use Rattle.std.specs.Prelude.{◌≡◌, ◌≤◌, IfOk, OnOk};
+ghost use Rattle.bins.specs.Grid.{tiles_over};
+ghost use Rattle.trirast.specs.TileRow.{AreTileRows, AddsTileRows};
+ghost use Rattle.trirast.specs.File.{IsPictureFile};
+
+use crate::header::{HEADER_BYTES, file_header};
+use crate::tile_rows::TileRows;
+use bins::Tiling;
+use grid::{OutOfMemory, TileSide};
+use list::DrawList;
+use pool::Open;
+use std::alloc::Global;
+use tile::Store;
+
+/// How many bytes the rows of pixels in `rows` tile rows take at most.
+fn most_bytes(list: &DrawList, tile: TileSide, rows: u32) -> usize
+    ensures { result ≤ 50331648 }
+{
+    let pixel_rows = (u64::from(rows) * u64::from(tile.pixels())).min(u64::from(list.height()));
+    (u64::from(list.output().pixel_bytes() * list.width()) * pixel_rows) as usize
+}
+
+/// Draws these rows of tiles, from `first` to before `end`, one by one, and appends the bytes of their rows of pixels.
+fn push_tile_rows(
+    alloc: Global,
+    list: &DrawList,
+    tile: TileSide,
+    first: u32,
+    end: u32,
+    bytes: &mut Vec<u8>,
+) -> Result<(), OutOfMemory>
+    requires order { first ≤ end }
+    requires within { end ≤ tiles_over list.now.height tile }
+    ensures { OnOk result (AddsTileRows list.now tile first end bytes.old.items bytes.new.items) }
+{
+    let tiling = Tiling::new(list.width(), list.height(), tile);
+    let mut store = Store::new(alloc, tile, list.count())?;
+    for row in first..end {
+        TileRows::new(list, &tiling, row, row + 1).push_alone(alloc, &mut store, &Open, bytes)?;
+    }
+    Ok(())
+}
+
+/// The bytes of the rows of pixels in these rows of tiles, from `first` to before `end`, drawn on the calling thread. Each row
+/// has its pixels from left to right: red, green and blue of each, or where the list's output is its depths the more and the
+/// less significant byte of the depth. Nothing else of the picture is drawn. Out of memory is the only error.
+pub fn draw_rows(
+    alloc: Global,
+    list: &DrawList,
+    tile: TileSide,
+    first: u32,
+    end: u32,
+) -> Result<Vec<u8>, OutOfMemory>
+    requires order { first ≤ end }
+    requires within { end ≤ tiles_over list.now.height tile }
+    ensures { IfOk result (λ bytes. AreTileRows list.now tile first end bytes.items) }
+{
+    let mut bytes = Vec::with_capacity(alloc, most_bytes(list, tile, end - first))?;
+    push_tile_rows(alloc, list, tile, first, end, &mut bytes)?;
+    Ok(bytes)
+}
+
+/// The file of a list's picture, drawn on the calling thread. The whole file stands in memory, once. Want of memory is the only
+/// error.
+pub fn draw(alloc: Global, list: &DrawList, tile: TileSide) -> Result<Vec<u8>, OutOfMemory>
+    ensures { IfOk result (λ file. IsPictureFile list.now file.items) }
+{
+    let rows = Tiling::new(list.width(), list.height(), tile).rows();
+    let mut file = Vec::with_capacity(alloc, HEADER_BYTES + most_bytes(list, tile, rows))?;
+    file.extend_from_slice(file_header(list).as_slice())?;
+    push_tile_rows(alloc, list, tile, 0, rows, &mut file)?;
+    Ok(file)
+}
