@@ -13,7 +13,7 @@ abbrev pub QuadCoversInBlock : Corners → ℕ → ℕ → SampleCount → ℕ �
 QuadCoversInBlock q bx by count s row column =
     QuadCovers q.a q.b q.c q.d (sample_position (8 * bx + column) (8 * by + row) s count)
 
--- One word for each sample below the count, whose bit 8 row + column tells whether it is covered, and zero for the others.
+-- One word for each sample below the count, whose bit 8 row + column is set if and only if it is covered, and zero for the others.
 pub record AreMasksOfQuad (q : Corners) (bx by : ℕ) (count : SampleCount) (m : Masks) : Type 0 where
   pub covered : (s row column : ℕ) → s < count_of count → row < 8 → column < 8 → (HasSample m s row column ↔ QuadCoversInBlock q bx by count s row column)
   pub empty : (s : ℕ) → count_of count ≤ s → slice_index m.plane s ≡ 0

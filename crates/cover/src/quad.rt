@@ -9,7 +9,7 @@ use crate::masks::Masks;
 use crate::samples::start;
 use grid::{Quad, SampleCount};
 
-/// The edges of a quad, each turned so that the quad lies where its edge function is over zero.
+/// The edges of a quad, each turned so that the quad lies where its edge function is positive.
 #[derive(Drop)]
 struct Sides {
     ab: Edge,

@@ -1,14 +1,14 @@
 ghost use Rattle.std.specs.Prelude.{◌↔◌, IsTrue};
 
-/// Which triangles are dropped by their orientation (Direct3D 11, face culling). A triangle is front-facing where its vertices
-/// run clockwise on the screen, that is, where its doubled area is over zero.
+/// Which triangles are dropped by their orientation (Direct3D 11, face culling). A triangle is front-facing if its vertices
+/// run clockwise on the screen, that is, if its doubled area is positive.
 #[derive(Clone, Copy, Debug, PartialEq, Eq)]
 pub enum Cull {
     /// None is dropped.
     None,
     /// Front-facing triangles are dropped.
     Front,
-    /// Triangles whose doubled area is under zero are dropped.
+    /// Triangles whose doubled area is negative are dropped.
     Back,
 }
 

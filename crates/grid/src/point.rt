@@ -86,7 +86,7 @@ fn product_of_differences(start: i32, end: i32, from: i32, to: i32) -> i64
 }
 
 /// The edge function of Pineda 1988 with the sign reversed, in 1/65536 square pixel: the distance of `p` from the line ab times
-/// the length of ab, over zero on the right of the direction from `a` to `b` as the screen shows it. It is exact for all points.
+/// the length of ab, positive on the right of the direction from `a` to `b` as the screen shows it. It is exact for all points.
 #[tactic(auto, unfolding(crate::specs::Edge::side))]
 pub fn side(a: Point, b: Point, p: Point) -> i64
     ensures value { result ≡ edge.side a b p }

@@ -102,8 +102,8 @@ impl Quad {
     }
 
     /// Whether the quad covers `p` by the top-left rule at its four edges, where either corner off an edge may stand for the
-    /// third vertex. Either diagonal cuts the quad into two triangles, of which just one covers `p` where the quad does, and
-    /// none elsewhere.
+    /// third vertex. Either diagonal cuts the quad into two triangles, of which exactly one covers `p` if the quad does, and
+    /// none otherwise.
     pub fn covers(&self, p: Point) -> bool
         ensures value { IsTrue result ↔ QuadCovers self.now.a self.now.b self.now.c self.now.d p }
         ensures either_corner { EitherCornerServes self.now.a self.now.b self.now.c self.now.d p }

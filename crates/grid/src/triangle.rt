@@ -24,7 +24,7 @@ impl Tri {
         Tri { a, b, c }
     }
 
-    /// Twice the area in 1/65536 square pixel, over zero where the vertices run clockwise on the screen.
+    /// Twice the area in 1/65536 square pixel, positive if the vertices run clockwise on the screen.
     pub fn area2(&self) -> i64
         ensures value { result ≡ doubled_area self.now.a self.now.b self.now.c }
         ensures size { IsWithin (2 ^ 48) result }
@@ -101,9 +101,9 @@ pub(crate) fn passes_edge(a: Point, b: Point, third: Point, p: Point) -> bool
     }
 }
 
-/// Which of the triangles abc and abd cover `p`. Where they lie on opposite sides of their shared edge ab, at most one does,
-/// and just one where `p` lies on the edge between its ends. So a seam is never drawn twice and has no crack, which is the
-/// purpose of the top-left rule.
+/// Which of the triangles abc and abd cover `p`. If they lie on opposite sides of their shared edge ab, at most one does,
+/// and exactly one if `p` lies on the edge between its ends. So a shared edge is never drawn twice and has no crack, which is
+/// the purpose of the top-left rule.
 pub fn covers_at_seam(a: Point, b: Point, c: Point, d: Point, p: Point) -> (bool, bool)
     ensures first { IsTrue result.0 ↔ Covers a b c p }
     ensures second { IsTrue result.1 ↔ Covers a b d p }

@@ -11,8 +11,8 @@ pub record TriangleAndPoint : Type 0 where
   pub c : Position
   pub p : Position
 
--- The weights of the vertices a, b, c at the covered point p: the sizes of the edge function of the opposite edges there. They
--- add up to the size of the doubled area.
+-- The weights of the vertices a, b, c at the covered point p: the absolute edge functions of the opposite edges there.
+-- They add up to the absolute doubled area.
 pub record AreWeights (a b c p : Position) (first second third area : ℕ) : Type 0 where
   pub covered : Covers a b c p
   pub of_a : first ≡ unsigned_abs (side b c p)

@@ -6,9 +6,8 @@ ghost use Rattle.shade.specs.Row.{IsChange, IsSplit};
 
 use grid::{Point, Tri};
 
-/// How much a weighted sum of three values changes from a point to the one a pixel to the right: so many times the size of the
-/// doubled area, and what is left of it. So a value is stepped along a row by additions alone, as by a digital differential
-/// analyzer.
+/// The change of a weighted sum of three values per pixel step to the right, as quotient and remainder of a division by the
+/// absolute doubled area. So a value is stepped along a row by additions alone, as by a digital differential analyzer.
 #[derive(Clone, Copy, Debug)]
 pub(crate) struct Step {
     pub(crate) quotient: i64,
@@ -56,7 +55,7 @@ fn change(t: &Tri, v: [u16; 3]) -> i64
     if t.area2() < 0 { -sum } else { sum }
 }
 
-/// A change as so many times the area, and what is left.
+/// A change as quotient and remainder of its division by the area.
 fn split(change: i64, area: u64) -> Step
     requires some { 0 < area }
     requires bound { area ≤ 2 ^ 48 }

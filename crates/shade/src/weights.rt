@@ -8,8 +8,8 @@ ghost use Rattle.shade.specs.Value.{weighted_sum, IsValueAt};
 use grid::{Point, Tri, side};
 use std::marker::Model;
 
-/// The weights of a triangle's vertices at a point that it covers: the size of the edge function of each vertex's opposite edge
-/// there. They are found once for all values at the point. Contracts see the triangle and the point, which are kept for them.
+/// The weights of a triangle's vertices at a point that it covers: the absolute value of the edge function of each vertex's opposite
+/// edge there. They are found once for all values at the point. Contracts see the triangle and the point, which are kept for them.
 #[derive(Debug, Drop)]
 pub struct Weights {
     triangle: Tri,
@@ -30,7 +30,7 @@ impl Model for Weights {
     ghost invariant = { λ w. AreWeights w.triangle.a w.triangle.b w.triangle.c w.point w.first w.second w.third w.area };
 }
 
-/// The size of the edge function of ab at `p`, in 1/65536 square pixel.
+/// The absolute value of the edge function of ab at `p`, in 1/65536 square pixel.
 fn weight(a: Point, b: Point, p: Point) -> u64
     ensures value { result ≡ unsigned_abs (edge.side a b p) }
     ensures size { result ≤ 2 ^ 48 }
@@ -62,7 +62,7 @@ impl Weights {
         self.point
     }
 
-    /// The weighted sum of `v` at the point by the size of the doubled area, and what is left of it.
+    /// The weighted sum of `v` at the point divided by the absolute doubled area: quotient and remainder.
     pub(crate) fn divided(&self, v: [u16; 3]) -> (u16, u64)
         ensures divided { IsDivided (weighted_sum self.now.a self.now.b self.now.c self.now.p (slice_index v 0) (slice_index v 1) (slice_index v 2)) (unsigned_abs (doubled_area self.now.a self.now.b self.now.c)) result.0 result.1 }
         ensures at_most { (most : ℕ) → slice_index v 0 ≤ most → slice_index v 1 ≤ most → slice_index v 2 ≤ most → result.0 ≤ most }
