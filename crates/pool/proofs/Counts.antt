@@ -1,4 +1,4 @@
--- Each step keeps the rule of a line.
+-- Each step keeps the rule of a counter.
 use Rattle.std.proofs.Common.{◌≡◌, ℕ, zero, suc, ◌+◌, ◌%◌, ◌^◌, ◌<◌, ◌≤◌, ◌≢◌, Bool, true, false, cond, eqb, ltb, min, List, [], ◌∷◌, ◌++◌, length, get_or, set, All, sym, refl, ap, ◌∙◌, subst, ⊎_elim, arith, length-set, get_or-set_same, length-append}
 use Rattle.std.proofs.lemmas.Bool.Decides.{nat_tests}
 use Rattle.std.proofs.lemmas.List.Sums.{sum_by-cons, sum_by-append, sum_by_push}
@@ -11,7 +11,7 @@ use Rattle.atomic_table.specs.Table.{State, Me, step, keeps, stepped, Allows, Sp
 use Rattle.atomic_table.proofs.Lists.{at_set, at_snoc, set_else}
 use Rattle.pool.specs.declared.known.Known.{Known}
 use Rattle.pool.specs.declared.known.Limits.{Limits}
-use Rattle.pool.specs.Lines.{times, once_below, total, FitsLine, IsCounted, LineInvariant, with_number, with_mark, DrawsNumber, without_one, one_seat, both, spent}
+use Rattle.pool.specs.Counters.{times, once_below, total, FitsCounter, IsCounted, CounterInvariant, with_number, with_mark, DrawsNumber, without_one, one_seat, both, spent}
 
 -- the total after a change of one view
 pub total_set : (f : Known → ℕ) (views : List Known) (id : ℕ) (v w : Known) → get_elem? views id ≡ some v → total f (set views id w) + f v ≡ total f views + f w
@@ -77,7 +77,7 @@ module _ (limits : Limits) where
       → w.seats ≡ v.seats → y + (length v.numbers + v.marks) ≡ x + (length w.numbers + w.marks)
       → min y limits.count + length v.numbers ≡ min x limits.count + length w.numbers
       → ((k : ℕ) → once_below k (min y limits.count) + times k v.numbers ≡ once_below k (min x limits.count) + times k w.numbers)
-      → FitsLine limits.count w → IsCounted limits y (set views id w)
+      → FitsCounter limits.count w → IsCounted limits y (set views id w)
   changed x y id views v w r at seats word given once fits = record {
     no_wrap = r.no_wrap;
     seats = (let t = total_set (λ u. u.seats) views id v w at in let is = r.seats in omega arith);
@@ -86,7 +86,7 @@ module _ (limits : Limits) where
         let is = r.word_is in omega arith);
     given = (let l = total_set (λ u. length u.numbers) views id v w at in let is = r.given in omega arith);
     once = (λ k. let t = total_set (λ u. times k u.numbers) views id v w at in let is = r.once k in let o = once k in omega arith);
-    fits = (λ j u e. ⊎_elim (λ (t : (j ≡ id) × (w ≡ u)). subst (FitsLine limits.count) t.1 fits) (λ (t : (j ≢ id) × (get_elem? views j ≡ some u)). r.fits j u t.1) (at_set views id j w u e));
+    fits = (λ j u e. ⊎_elim (λ (t : (j ≡ id) × (w ≡ u)). subst (FitsCounter limits.count) t.1 fits) (λ (t : (j ≢ id) × (get_elem? views j ≡ some u)). r.fits j u t.1) (at_set views id j w u e));
   }
 
   -- the word is at most the numbers and the marks, of which there are at most as many as seats
@@ -118,7 +118,7 @@ module _ (limits : Limits) where
 
   -- the rule of the state whose word is one more
   placed : (s : State (Unit {0}) Known) (id : ℕ) (me : Me (Unit {0}) Known) (w : Known) → length s.words ≡ 1
-      → IsCounted limits (get_or s.words 0 0 + 1) (set s.views id w) → LineInvariant limits (stepped s 0 ((get_or s.words 0 0 + 1) % 2 ^ 64) id me.1 w keeps)
+      → IsCounted limits (get_or s.words 0 0 + 1) (set s.views id w) → CounterInvariant limits (stepped s 0 ((get_or s.words 0 0 + 1) % 2 ^ 64) id me.1 w keeps)
   placed s id me w one r =
       let x : ℕ = get_or s.words 0 0 in
       let few = marks_le (x + 1) (set s.views id w) r in
@@ -138,7 +138,7 @@ module _ (limits : Limits) where
       )
 
   pub draws : (slots id : ℕ) (me : Me (Unit {0}) Known) → me.0.marks < me.0.seats → me.0.count ≡ limits.count
-      → Allows (LineInvariant limits) slots id me 0 (λ n. (n + 1) % 2 ^ 64) (DrawsNumber (step slots 0 1 0 none) me)
+      → Allows (CounterInvariant limits) slots id me 0 (λ n. (n + 1) % 2 ^ 64) (DrawsNumber (step slots 0 1 0 none) me)
   draws slots id me unmarked count s r _ at _ =
       let x : ℕ = get_or s.words 0 0 in
       dite (dec_le me.0.count x)
@@ -158,7 +158,7 @@ module _ (limits : Limits) where
       ))
 
   -- the rule after one view gave way to two that have the same together
-  pub cuts : (id : ℕ) (v : Known) → 1 < v.seats → v.marks < v.seats → v.count ≡ limits.count → Splits (LineInvariant limits) id v (without_one v) (one_seat v)
+  pub cuts : (id : ℕ) (v : Known) → 1 < v.seats → v.marks < v.seats → v.count ≡ limits.count → Splits (CounterInvariant limits) id v (without_one v) (one_seat v)
   cuts id v several unmarked count s r at =
       let w = without_one v in let o = one_seat v in
       let same : (f : Known → ℕ) → f w + f o ≡ f v → total f (set s.views id w ++ o ∷ []) ≡ total f s.views
@@ -176,16 +176,16 @@ module _ (limits : Limits) where
           once = (λ x. same (λ u. times x u.numbers) (omega arith) ∙ k.once x);
           fits = (λ j u e. ⊎_elim
               (λ (was : get_elem? (set s.views id w) j ≡ some u). ⊎_elim
-              (λ (t : (j ≡ id) × (w ≡ u)). subst (FitsLine limits.count) t.1 (omega arith, (λ none_left. absurd (omega arith)), λ some_left. count))
+              (λ (t : (j ≡ id) × (w ≡ u)). subst (FitsCounter limits.count) t.1 (omega arith, (λ none_left. absurd (omega arith)), λ some_left. count))
               (λ (t : (j ≢ id) × (get_elem? s.views j ≡ some u)). k.fits j u t.1)
               (at_set s.views id j w u was))
-              (λ (is : o ≡ u). subst (FitsLine limits.count) is (omega arith, (λ none_left. refl), λ some_left. count))
+              (λ (is : o ≡ u). subst (FitsCounter limits.count) is (omega arith, (λ none_left. refl), λ some_left. count))
               (at_snoc (set s.views id w) o u j e));
         },
       )
 
   -- the rule after one view took in another
-  pub joins : (id other : ℕ) (v w : Known) → v.count ≡ limits.count → Joins (LineInvariant limits) id v other w (both v w) spent
+  pub joins : (id other : ℕ) (v w : Known) → v.count ≡ limits.count → Joins (CounterInvariant limits) id v other w (both v w) spent
   joins id other v w count s r at apart at' =
       let b = both v w in
       let same : (f : Known → ℕ) → f b ≡ f v + f w → f spent ≡ 0 → total f (set (set s.views id b) other spent) ≡ total f s.views
@@ -204,9 +204,9 @@ module _ (limits : Limits) where
           given = len ∙ k.given;
           once = (λ x. same (λ u. times x u.numbers) (times_append x v.numbers w.numbers) refl ∙ k.once x);
           fits = (λ j u e. ⊎_elim
-              (λ (t : (j ≡ other) × (spent ≡ u)). subst (FitsLine limits.count) t.1 (omega arith, (λ none_left. refl), λ some_left. absurd (omega arith)))
+              (λ (t : (j ≡ other) × (spent ≡ u)). subst (FitsCounter limits.count) t.1 (omega arith, (λ none_left. refl), λ some_left. absurd (omega arith)))
               (λ (t : (j ≢ other) × (get_elem? (set s.views id b) j ≡ some u)). ⊎_elim
-              (λ (t : (j ≡ id) × (b ≡ u)). subst (FitsLine limits.count) t.1 (omega arith, (λ none_left. no_numbers v w f.1 g.1 (omega arith) (omega arith)), λ some_left. count))
+              (λ (t : (j ≡ id) × (b ≡ u)). subst (FitsCounter limits.count) t.1 (omega arith, (λ none_left. no_numbers v w f.1 g.1 (omega arith) (omega arith)), λ some_left. count))
               (λ (t : (j ≢ id) × (get_elem? s.views j ≡ some u)). k.fits j u t.1)
               (at_set s.views id j b u t.1))
               (at_set (set s.views id b) other j spent u e));
@@ -222,7 +222,7 @@ module _ (limits : Limits) where
   whole x id views v r at all k =
       sym (total_alone (λ u. times k u.numbers) (λ u. u.seats) views id v at (r.seats ∙ sym all) (λ j u here idle. let e = (r.fits j u here).1 idle in rw e refl)) ∙ r.once k
 
-  -- each number stands at most once, and where a seat has marked the line none is left out
+  -- each number stands at most once, and where a seat has marked the counter none is left out
   pub dealt : (x id : ℕ) (views : List Known) (v : Known) → IsCounted limits x views → get_elem? views id ≡ some v → v.seats ≡ limits.seats
       → ((k : ℕ) → times k v.numbers ≤ once_below k limits.count) × (0 < v.marks → (k : ℕ) → times k v.numbers ≡ once_below k limits.count)
   dealt x id views v r at all = (

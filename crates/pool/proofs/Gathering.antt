@@ -1,10 +1,10 @@
--- The lists of the seats, against the place that their places were joined into.
+-- The lists of the seats, against the handle that their handles were joined into.
 use Rattle.std.proofs.Common.{◌≡◌, ℕ, zero, suc, ◌+◌, ◌<◌, Bool, true, false, cond, List, [], ◌∷◌, ◌++◌, map, sym, refl, ap, ◌∙◌, arith, length-append}
 use Rattle.std.specs.List.{range_with_len, list_any}
 use Rattle.std.proofs.lemmas.List.Sums.{sum_by_push, sum_by-cons}
 use Rattle.std.proofs.lemmas.List.{map-append}
 use Rattle.pool.specs.declared.known.Known.{Known}
-use Rattle.pool.specs.Lines.{times, both}
+use Rattle.pool.specs.Counters.{times, both}
 use Rattle.pool.specs.Dealing.{marks_in, Gathered}
 use Rattle.pool.proofs.Counts.{times_append}
 

@@ -8,7 +8,7 @@ use Rattle.std.proofs.lemmas.List.Sums.{sum_by_push}
 use Rattle.std.proofs.lemmas.Option.{slice_get_within, get_or_from_slice_get}
 use mathlib.Core.Logic.{dite}
 use native.Mathlib.Decide.{ℕ_discrete}
-use Rattle.pool.specs.Lines.{times, once_below}
+use Rattle.pool.specs.Counters.{times, once_below}
 use Rattle.pool.specs.Dealing.{times_in, DealtOnce}
 use Rattle.pool.specs.Work.{EachFrom, IsRight, AreRight, HasAnswer, RightInOrder}
 use Rattle.pool.proofs.Counts.{times_cons}

@@ -6,7 +6,7 @@ use Rattle.std.proofs.lemmas.Nat.{mod-mul-add, div-mul-add}
 use Rattle.std.proofs.Math.Nat.{mod-eq_of_lt, mod-eq-sub-mod, add-mul-mod_self_right, le-div_iff_mul-le}
 use mathlib.Core.Logic.{dite}
 use native.Mathlib.Decide.{dec_le, ℕ_discrete}
-use Rattle.pool.specs.Lines.{times}
+use Rattle.pool.specs.Counters.{times}
 use Rattle.pool.specs.Rows.{desk_count, turns_to}
 use Rattle.pool.proofs.Counts.{times_cons}
 

@@ -1,12 +1,12 @@
--- What contracts say of a dealer with a line for each seat, and of its seats.
+-- What contracts say of a dealer with a counter for each seat, and of its seats.
 use Rattle.std.specs.Prelude.{◌≡◌, ℕ, ◌+◌, ◌*◌, ◌<◌, ◌≤◌, ◌==◌, ◌⊎◌, Bool, List, length, slice_index_or, if◌then◌else◌, nat_lt, AllPairs, All, vec_capacity}
-use Rattle.pool.specs.Lines.{times, once_below}
+use Rattle.pool.specs.Counters.{times, once_below}
 use Rattle.pool.specs.Dealing.{times_in, marks_in}
 use Rattle.pool.specs.declared.known.Known.{Known}
-use Rattle.pool.specs.Places.{known_of}
+use Rattle.pool.specs.Handles.{known_of}
 use Rattle.pool.specs.Rows.{turns_to, IsRow}
-use Rattle.pool.specs.declared.line.Line.{Line}
-use Rattle.pool.specs.declared.line.Place.{Place}
+use Rattle.pool.specs.declared.counter.Counter.{Counter}
+use Rattle.pool.specs.declared.counter.CounterHandle.{CounterHandle}
 use Rattle.pool.specs.declared.desks.Desks.{Desks}
 use Rattle.pool.specs.declared.desks.DeskSeat.{DeskSeat}
 
@@ -18,27 +18,27 @@ PrecedesInTurn w s x y = (turns_to w s x < turns_to w s y) ⊎ ((turns_to w s x 
 abbrev pub GoesRound : ℕ → ℕ → List ℕ → Type 0
 GoesRound w s xs = AllPairs (PrecedesInTurn w s) xs
 
--- The seat has a place in each line, has marked those that it passed, and its numbers are those that its places were given
-pub record IsDeskSeat (n : ℕ) (lines : List Line) (number passed : ℕ) (places : List Place) (numbers : List ℕ) : Type 0 where
-  pub row : IsRow lines places
-  pub within : number < length lines
-  pub passed_some : passed ≤ length lines
-  pub one : (d : ℕ) (p : Place) → d < length lines → (known_of (slice_index_or places d p)).seats ≡ 1
-  pub marks : (d : ℕ) (p : Place) → d < length lines → (known_of (slice_index_or places d p)).marks ≡ (if nat_lt (turns_to (length lines) number d) passed then 1 else 0)
-  pub same : (d j : ℕ) (p : Place) → d < length lines → times (d + j * length lines) numbers ≡ times j (known_of (slice_index_or places d p)).numbers
+-- The seat has a handle in each counter, has marked those that it passed, and its numbers are those that its handles were given
+pub record IsDeskSeat (n : ℕ) (counters : List Counter) (number passed : ℕ) (handles : List CounterHandle) (numbers : List ℕ) : Type 0 where
+  pub row : IsRow counters handles
+  pub within : number < length counters
+  pub passed_some : passed ≤ length counters
+  pub one : (d : ℕ) (p : CounterHandle) → d < length counters → (known_of (slice_index_or handles d p)).seats ≡ 1
+  pub marks : (d : ℕ) (p : CounterHandle) → d < length counters → (known_of (slice_index_or handles d p)).marks ≡ (if nat_lt (turns_to (length counters) number d) passed then 1 else 0)
+  pub same : (d j : ℕ) (p : CounterHandle) → d < length counters → times (d + j * length counters) numbers ≡ times j (known_of (slice_index_or handles d p)).numbers
   pub once : (k : ℕ) → times k numbers ≤ once_below k n
-  pub turn : All (λ k. turns_to (length lines) number k ≤ passed) numbers
-  pub order : GoesRound (length lines) number numbers
+  pub turn : All (λ k. turns_to (length counters) number k ≤ passed) numbers
+  pub order : GoesRound (length counters) number numbers
 
 abbrev pub IsSeatOf : Desks → DeskSeat → Type 0
 IsSeatOf dealer seat =
-    IsDeskSeat dealer.count dealer.lines.items seat.number seat.passed seat.places.items seat.numbers.items × (dealer.count ≤ vec_capacity seat.numbers)
+    IsDeskSeat dealer.count dealer.counters.items seat.number seat.passed seat.handles.items seat.numbers.items × (dealer.count ≤ vec_capacity seat.numbers)
 
 abbrev pub desks_count : Desks → ℕ
 desks_count dealer = dealer.count
 
 abbrev pub desks_seats : Desks → ℕ
-desks_seats dealer = length dealer.lines.items
+desks_seats dealer = length dealer.counters.items
 
 abbrev pub seat_number : DeskSeat → ℕ
 seat_number seat = seat.number
@@ -48,15 +48,15 @@ seat_given seat = seat.numbers.items
 
 -- it has passed all desks
 abbrev pub seat_ended : DeskSeat → Bool
-seat_ended seat = seat.passed == length seat.places.items
+seat_ended seat = seat.passed == length seat.handles.items
 
 abbrev pub seat_list : DeskSeat → List ℕ × Bool
 seat_list seat = (seat_given seat, seat_ended seat)
 
--- the place at desk d has what the lists have of the desk's numbers, and a mark of each that has ended
+-- the handle at desk d has what the lists have of the desk's numbers, and a mark of each that has ended
 abbrev pub GathersAt : ℕ → ℕ → Known → List (List ℕ × Bool) → Type 0
 GathersAt w d v lists = (v.seats ≡ length lists) × ((j : ℕ) → times j v.numbers ≡ times_in (d + j * w) lists) × (marks_in lists ≤ v.marks)
 
 -- the same at each desk
-abbrev pub Gathers : ℕ → List Place → List (List ℕ × Bool) → Type 0
-Gathers w whole lists = (d : ℕ) (p : Place) → d < w → GathersAt w d (known_of (slice_index_or whole d p)) lists
+abbrev pub Gathers : ℕ → List CounterHandle → List (List ℕ × Bool) → Type 0
+Gathers w whole lists = (d : ℕ) (p : CounterHandle) → d < w → GathersAt w d (known_of (slice_index_or whole d p)) lists

@@ -1,7 +1,7 @@
+pub mod Counters
 pub mod Dealing
 pub mod Desks
-pub mod Lines
-pub mod Places
+pub mod Handles
 pub mod Rows
 pub mod Tickets
 pub mod Work

@@ -1,6 +1,6 @@
--- What contracts say of a dealer with one line, and of its seats.
+-- What contracts say of a dealer with one counter, and of its seats.
 use Rattle.std.specs.Prelude.{ℕ, Bool, List}
-use Rattle.pool.specs.Places.{seats_of, IsIn}
+use Rattle.pool.specs.Handles.{seats_of, IsIn}
 use Rattle.pool.specs.declared.tickets.Tickets.{Tickets}
 use Rattle.pool.specs.declared.tickets.TicketSeat.{TicketSeat}
 
@@ -8,10 +8,10 @@ abbrev pub tickets_count : Tickets → ℕ
 tickets_count dealer = dealer.count
 
 abbrev pub tickets_seats : Tickets → ℕ
-tickets_seats dealer = seats_of dealer.line
+tickets_seats dealer = seats_of dealer.counter
 
 abbrev pub IsSeatOf : Tickets → TicketSeat → Type 0
-IsSeatOf dealer seat = IsIn dealer.line seat.place
+IsSeatOf dealer seat = IsIn dealer.counter seat.handle
 
 abbrev pub seat_number : TicketSeat → ℕ
 seat_number seat = seat.number

@@ -1,6 +1,6 @@
 //! The answers of all workers, put at the places of their numbers.
 ghost use Rattle.std.specs.Prelude.{◌≡◌, ◌<◌, ℕ, Some, None, IsTrue, is_some, All, map, IfOk, vec_len};
-ghost use Rattle.pool.specs.Lines.{times};
+ghost use Rattle.pool.specs.Counters.{times};
 ghost use Rattle.pool.specs.Work.{AreWorkerResults, IsRight, RightInOrder, AreRight, HasAnswer};
 
 use crate::dealer::Dealer;
@@ -10,7 +10,7 @@ use crate::worker::{WorkerAnswers, WorkerResult};
 use grid::OutOfMemory;
 use std::alloc::Global;
 
-/// So many places without an answer.
+/// `n` places without an answer.
 fn empty_places<T: Drop>(alloc: Global, n: u32) -> Result<Vec<Option<T>>, OutOfMemory>
     ensures len { IfOk result (λ places. vec_len places ≡ n) }
     ensures none { IfOk result (λ places. All (λ place. place ≡ None) places.items) }

@@ -3,7 +3,6 @@ ghost use Rattle.std.specs.Prelude.{◌≡◌};
 
 use grid::OutOfMemory;
 use std::alloc::AllocError;
-use std::fmt;
 
 /// Why there are no answers. If several causes hold, the first of these is reported: out of memory before the workers start, a
 /// thread that was not started, out of memory in a worker or after it.
@@ -33,12 +32,6 @@ impl PoolFault {
             PoolFault::OutOfMemory => "OutOfMemory",
             PoolFault::NoWorker => "NoWorker",
         }
-    }
-}
-
-impl fmt::Display for PoolFault {
-    fn fmt<W: fmt::Write>(&self, f: &mut fmt::Formatter<W>) -> fmt::Result {
-        write!(f, "pool fault {} {}", self.number(), self.name())
     }
 }
 

@@ -1,8 +1,8 @@
-//! Where a worker passes before each piece of work.
+//! A hook that is called before each piece of work.
 ghost use Rattle.std.specs.Prelude.{ℕ};
 
-/// Called by a worker before the work on each tile, with the number of its seat and the number of
-/// the tile. Tests watch the order in which workers take tiles by a gate of their own.
+/// A hook: each worker calls it before the work on each tile, with the number of its seat and the number of the tile. Tests watch
+/// with it in which order workers take tiles.
 pub trait Gate: Sync {
     /// What is known once the worker with this number has entered for this tile, and from then on. A job may ask for it.
     ghost entered: { Self → ℕ → ℕ → Type 0 } = { λ _ _ _. Unit {0} };
@@ -11,7 +11,7 @@ pub trait Gate: Sync {
         ensures { entered self.now worker tile };
 }
 
-/// The gate that does nothing.
+/// The hook that does nothing.
 #[derive(Clone, Copy, Debug)]
 pub struct Open;
 

@@ -19,12 +19,11 @@ pub trait Job: Sync {
     /// The numbers that the work may be asked for.
     ghost can_work: { Self → ℕ → Type 0 };
 
-    /// A scratch for one worker. It is refused only for want of memory.
+    /// A scratch for one worker. Fails only if an allocation fails.
     fn scratch(&self, alloc: Global) -> Result<Self::Scratch, OutOfMemory>
         ensures { IfOk result (fits self.now) };
 
-    /// The answer for number `k`, refused only for want of memory.
-    /// The scratch fits afterwards too, also after a refusal.
+    /// The answer for number `k`. Fails only if an allocation fails. The scratch fits after the call, also after an error.
     fn work(
         &self,
         alloc: Global,

@@ -1,15 +1,15 @@
-//! Deals the numbers below n to workers in threads of their own, each number once, and gathers
-//! their answers in the order of the numbers.
+//! Distributes the numbers below n to workers in threads of their own, each number once, and gathers their answers in the order of the
+//! numbers.
 #![tactic(auto)]
 
 mod answers;
+mod counter;
 mod dealer;
 mod desks;
 mod fault;
 mod gate;
 mod job;
 mod known;
-mod line;
 mod rule;
 mod settled;
 mod tickets;

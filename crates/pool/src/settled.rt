@@ -1,7 +1,7 @@
-//! What a dealer's seats were given.
+//! Which numbers the seats of a dealer were given.
 ghost use Rattle.std.specs.Prelude.{◌≡◌, ◌<◌, length, slice_index_or};
 
-/// Of each seat the numbers that it was given, in their order, and whether it was told that none is left.
+/// For each seat the numbers that it was given, in their order, and whether it found none left.
 #[derive(Drop)]
 pub struct Settled {
     /// An entry for each seat, in the order of the seats.
@@ -17,7 +17,7 @@ impl Settled {
         self.lists[s as usize].0.as_slice()
     }
 
-    /// Whether seat `s` was told that none is left.
+    /// Whether seat `s` found none left.
     pub fn ended(&self, s: u32) -> bool
         requires { s < length self.now.lists.items }
         ensures { (other : _) → result ≡ (slice_index_or self.now.lists.items s other).1 }

@@ -1,37 +1,37 @@
-//! One line for all seats.
+//! Work distribution by one shared counter.
 ghost use Rattle.std.specs.Prelude.{◌≡◌, ◌<◌, ◌≤◌, ◌^◌, [], length, if◌then◌else◌};
 ghost use Rattle.std.specs.Vec.{vec_capacity};
 ghost use Rattle.pool.specs.Dealing.{Ascends};
-ghost use Rattle.pool.specs.Places.{count_of, seats_of, known_of};
+ghost use Rattle.pool.specs.Handles.{count_of, seats_of, known_of};
 
-use crate::line::{Line, Place};
+use crate::counter::{Counter, CounterHandle};
 
 mod calls;
 
-/// Deals by tickets: all seats draw from one line, so each is given the least number that no seat has.
+/// A shared counter: all seats draw from it, so each draw gives the least number that no seat has.
 #[derive(Drop)]
 pub struct Tickets {
-    line: Line,
+    counter: Counter,
     count: u32,
     lists: Vec<(Vec<u32>, bool)>,
-    ghost counted: { count_of line ≡ count },
+    ghost counted: { count_of counter ≡ count },
     ghost small: { count < 2 ^ 32 },
     ghost empty: { lists.items ≡ [] },
-    ghost some: { 0 < seats_of line },
-    ghost room: { seats_of line ≤ vec_capacity lists },
+    ghost some: { 0 < seats_of counter },
+    ghost room: { seats_of counter ≤ vec_capacity lists },
 }
 
-/// A seat of `Tickets`.
+/// A worker's handle on `Tickets`.
 #[derive(Drop)]
 pub struct TicketSeat {
     number: u32,
-    place: Place,
+    handle: CounterHandle,
     numbers: Vec<u32>,
     ended: bool,
-    ghost one: { (known_of place).seats ≡ 1 },
-    ghost same: { (known_of place).numbers ≡ numbers.items },
-    ghost marked: { (known_of place).marks ≡ (if ended then 1 else 0) },
-    ghost room: { (known_of place).count ≤ vec_capacity numbers },
-    ghost short: { length numbers.items ≤ (known_of place).count },
+    ghost one: { (known_of handle).seats ≡ 1 },
+    ghost same: { (known_of handle).numbers ≡ numbers.items },
+    ghost marked: { (known_of handle).marks ≡ (if ended then 1 else 0) },
+    ghost room: { (known_of handle).count ≤ vec_capacity numbers },
+    ghost short: { length numbers.items ≤ (known_of handle).count },
     ghost ascends: { Ascends numbers.items },
 }

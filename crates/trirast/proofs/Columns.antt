@@ -9,7 +9,7 @@ use Rattle.grid.specs.declared.pixels.PixelBox.{PixelBox}
 use Rattle.model.specs.PixelPrefix.{IsPixelPrefix, IsPixelRun}
 use Rattle.model.specs.Scene.{Scene}
 use Rattle.model.specs.Picture.{IsPixel, pixel_at}
-use Rattle.model.proofs.PixelPrefix.{prefix_run, empty_prefix, part_of_rows}
+use Rattle.model.proofs.PixelPrefix.{prefix_run, part_of_rows}
 use Rattle.model.proofs.Pixels.{bytes_of_both, bytes_of_none, same_pixel, pixel_before, pixel_behind}
 use Rattle.bins.specs.Grid.{TileGrid, columns_of, rect_at, rect_of, tiles_over}
 use Rattle.tile.specs.Picture.{AddsPixelRun, IsPictureIn}
@@ -98,9 +98,6 @@ pub record AddsPixelPrefix (l : Scene) (y n : ℕ) (old new : List ℕ) : Type 0
   pub rows : List ℕ
   pub is : IsPixelPrefix l 0 y l.width n rows
   pub behind : new ≡ old ++ rows
-
-pub no_rows_yet : (l : Scene) (y n : ℕ) (bytes : List ℕ) → n ≡ 0 → AddsPixelPrefix l y n bytes bytes
-no_rows_yet l y n bytes none = record { rows = []; is = empty_prefix l 0 y l.width n none; behind = sym (append-nil bytes) }
 
 -- a row behind those above it
 pub row_added : (l : Scene) (y j : ℕ) (old bytes all : List ℕ) → AddsPixelPrefix l y (j * l.width) old bytes → AddsPixelRun l 0 (y + j) l.width bytes all → AddsPixelPrefix l y ((j + 1) * l.width) old all

@@ -20,12 +20,6 @@ reach_over pixels T16 = omega arith
 reach_over pixels T32 = omega arith
 reach_over pixels T64 = omega arith
 
-pub side_small : (side : TileSide) → side_of side ≤ 64
-side_small T8 = omega arith
-side_small T16 = omega arith
-side_small T32 = omega arith
-side_small T64 = omega arith
-
 -- the top or the left of an interval fits
 pub begin_fits : (n s pixels : ℕ) (side side' : TileSide) → n < tiles_over pixels side → pixels ≤ 4096 → s ≡ side_of side' → side' ≡ side → s * n < 4096
 begin_fits n s pixels side side' h small e f = let begin = begins_within n pixels side h in rw (e, f) (omega arith)

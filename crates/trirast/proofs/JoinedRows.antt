@@ -6,17 +6,9 @@ use Rattle.grid.specs.declared.pixels.TileSide.{TileSide}
 use Rattle.model.specs.Picture.{IsPart}
 use Rattle.model.specs.Scene.{Scene}
 use Rattle.model.proofs.Parts.{part-append}
-use Rattle.model.proofs.Pixels.{bytes_of_none}
 use Rattle.bins.specs.Grid.{TileGrid, tiles_over}
 use Rattle.trirast.specs.TileRow.{AddsTileRow, AddsTileRows}
-use Rattle.trirast.specs.File.{header_of, IsPictureFile}
-use Rattle.trirast.proofs.Intervals.{interval_before, interval_next, intervals_all}
-
-no_rows : (l : Scene) (y height : ℕ) → height ≡ 0 → IsPart l 0 y l.width height []
-no_rows l y height none = rw none (record { size = sym (bytes_of_none l.output (0 * l.width) (omega arith)); pixels = λ i j wide high. absurd (omega arith) })
-
-pub nothing_added : (l : Scene) (side : TileSide) (row : ℕ) (bytes : List ℕ) → AddsTileRows l side row row bytes bytes
-nothing_added l side row bytes = record { bytes = []; are = no_rows l (side_of side * row) _ (omega arith); behind = sym (append-nil bytes) }
+use Rattle.trirast.proofs.Intervals.{interval_before, interval_next}
 
 -- a tile row by what its parts are called
 pub adds_of : (l l' : Scene) (g g' : TileGrid) (row row' : ℕ) (old new : List ℕ) → l' ≡ l → g' ≡ g → row' ≡ row → AddsTileRow l' g' row' old new → AddsTileRow l g row old new
@@ -56,14 +48,3 @@ added_next l g first row old bytes new same order within above h =
 -- tile rows by what their parts are called
 pub added_by_names : (l l' : Scene) (g g' : TileGrid) (row first end : ℕ) (old new : List ℕ) → l' ≡ l → g' ≡ g → first ≡ row → end ≡ row + 1 → AddsTileRows l' g'.side first end old new → AddsTileRows l g.side row (row + 1) old new
 added_by_names l l' g g' row first end old new d e f h bytes = rw (← d, ← e, ← h, ← f) bytes
-
--- all tile rows behind the header are the file
-pub file_of_tile_rows : (l : Scene) (side : TileSide) (rows : ℕ) (header file : List ℕ) → tiles_over l.height side ≤ rows → header ≡ header_of l.output l.width l.height → AddsTileRows l side 0 rows header file → IsPictureFile l file
-file_of_tile_rows l side rows header file all is h =
-    let high : min l.height (side_of side * rows) - side_of side * 0 ≡ l.height = ap (λ n. n - side_of side * 0) (intervals_all rows l.height side all) ∙ omega arith in
-    let top : side_of side * 0 ≡ 0 = omega arith in
-    record {
-      rows = h.bytes;
-      picture = subst (λ y. IsPart l 0 y l.width l.height h.bytes) top (subst (λ n. IsPart l 0 (side_of side * 0) l.width n h.bytes) high h.are);
-      whole = h.behind ∙ ap (λ xs. xs ++ h.bytes) is;
-    }

@@ -1,7 +1,6 @@
 pub mod Beginnings
 pub mod Columns
 pub mod Ended
-pub mod Files
 pub mod Intervals
 pub mod JoinedRows
 pub mod Lines

@@ -144,11 +144,6 @@ module _ (l : Scene) (side : TileSide) where
     explains_behind end (OutOfMemory row) held'' k = (omega (arith, k.0), k.1, (k.2.0, then_written row k.2.0 held'' k.0 k.2.1))
     explains_behind end (WriteFailed count') held'' k = more_cut k.end count' k.rows held'' k.ordered k.are k.within k.written
 
--- what was written by what the parts are called
-pub writes_of : (l l' : Scene) (g g' : TileGrid) (first first' end before count : ℕ) (held held' : Option (List ℕ)) → l' ≡ l → g' ≡ g → first' ≡ first
-    → WritesRows l' g'.side first' end before count held held' → WritesRows l g.side first end before count held held'
-writes_of l l' g g' first first' end before count held held' d e f k = rw (← d, ← e, ← f) k
-
 -- the error of an answer of another type
 pub err_of : {T T' E : Type 0} (e x : E) → IsErrOf {T = T} {E = E} (Err e) x → IsErrOf {T = T'} {E = E} (Err e) x
 err_of e x h = ap Err (same_Some e x (ap result_err h))

@@ -65,13 +65,6 @@ header_written l side begin output width height count held held_after top d e f 
       many = many ∙ ap length header ∙ omega arith;
     }
 
--- the header is short
-pub short_header : (l : Scene) (output : Output) (width height count : ℕ) → output ≡ l.output → width ≡ l.width → height ≡ l.height → count ≡ length (header_of output width height) → count ≤ 19
-    → length (header_of l.output l.width l.height) ≤ 19
-short_header l output width height count d e f many short =
-    let header : header_of output width height ≡ header_of l.output l.width l.height = rw (d, e, f) refl in
-    omega (arith, many, ap length header)
-
 module _ (l : Scene) (side : TileSide) (first count : ℕ) (held held' : Option (List ℕ)) (wide : 1 ≤ l.width) (within : first < tiles_over l.height side) (h : HasWritten l side first count held held') where
   abbrev header : List ℕ
   header = header_of l.output l.width l.height

@@ -17,7 +17,7 @@ pub enum Fault {
     #[error("trirast: list fault {} {}{}", .0.kind.number(), .0.kind.name(), InDraw(.0.draw))]
     List(ReadFault),
     /// A worker was not started. A run never ends so: the calling thread draws the tiles that no worker draws.
-    #[error("trirast: {0}")]
+    #[error("trirast: pool fault {} {}", .0.number(), .0.name())]
     Pool(PoolFault),
     /// The reader failed. Nothing was written.
     #[error("trirast: input failed")]

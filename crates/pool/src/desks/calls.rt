@@ -1,4 +1,4 @@
-//! Dealing by desks.
+//! The calls of `Desks`.
 ghost use Rattle.std.specs.Prelude.{◌≡◌, ◌+◌, ◌*◌, ◌%◌, ◌≤◌, ◌<◌, ◌++◌, [], ◌∷◌, length, map, All, IfOk, IfSome, IfNone, true, false};
 ghost use Rattle.std.specs.List.{range_with_len};
 ghost use Rattle.std.specs.Vec.{vec_len, vec_capacity};
@@ -8,8 +8,8 @@ ghost use Rattle.pool.specs.Desks.{IsSeatOf, GoesRound, desks_count, desks_seats
 use super::deals::{cut_row, make_desks};
 use super::rows::{close_all, join_row};
 use super::{DeskSeat, Desks};
+use crate::counter::CounterHandle;
 use crate::dealer::Dealer;
-use crate::line::Place;
 use crate::settled::Settled;
 use grid::OutOfMemory;
 use std::alloc::Global;
@@ -18,14 +18,14 @@ impl Desks {
     // One draw at the desk whose turn it is.
     fn draw_in_turn(&self, seat: &mut DeskSeat) -> Option<u32>
         requires seat { IsSeatOf self.now seat.old }
-        requires left { seat.old.passed < length self.now.lines.items }
+        requires left { seat.old.passed < length self.now.counters.items }
         ensures seat { IsSeatOf self.now seat.new × (seat.new.number ≡ seat.old.number) }
         ensures some { IfSome result (λ k. (k < self.now.count) × (seat_given seat.new ≡ seat_given seat.old ++ k ∷ []) × (seat.new.passed ≡ seat.old.passed)) }
         ensures none { IfNone result ((seat_given seat.new ≡ seat_given seat.old) × (seat.new.passed ≡ seat.old.passed + 1)) }
     {
-        let desks = self.lines.len();
+        let desks = self.counters.len();
         let desk = (seat.number as usize + seat.passed as usize) % desks;
-        match self.lines[desk].draw(&mut seat.places[desk]) {
+        match self.counters[desk].draw(&mut seat.handles[desk]) {
             Some(j) => {
                 let number = (desk as u64 + j * desks as u64) as u32;
                 seat.numbers.push_reserved(number);
@@ -43,9 +43,9 @@ impl Desks {
         ensures seat { IsSeatOf self.now seat.new × (seat.new.number ≡ seat.old.number) }
         ensures some { IfSome result (λ k. (k < self.now.count) × (seat_given seat.new ≡ seat_given seat.old ++ k ∷ []) × (seat_ended seat.old ≡ false) × (seat_ended seat.new ≡ false)) }
         ensures none { IfNone result ((seat_given seat.new ≡ seat_given seat.old) × (seat_ended seat.new ≡ true)) }
-        ensures order { GoesRound (length self.now.lines.items) seat.new.number (seat_given seat.new) }
+        ensures order { GoesRound (length self.now.counters.items) seat.new.number (seat_given seat.new) }
     {
-        while (seat.passed as usize) < self.lines.len() {
+        while (seat.passed as usize) < self.counters.len() {
             if let Some(number) = self.draw_in_turn(seat) {
                 return Some(number);
             }
@@ -54,21 +54,21 @@ impl Desks {
     }
 
     fn gather_all(self, mut seats: Vec<DeskSeat>) -> Settled
-        requires seats { vec_len seats ≡ length self.lines.items }
+        requires seats { vec_len seats ≡ length self.counters.items }
         requires fits { All (λ s. IsSeatOf self s) seats.items }
         ensures lists { lists_of result ≡ map seat_list seats.items }
         ensures twice { NoneTwice self.count (lists_of result) }
         ensures once { SomeEnded (lists_of result) → DealtOnce self.count (lists_of result) }
     {
         let Desks {
-            lines,
+            counters,
             count: _,
             mut lists,
         } = self;
         let DeskSeat {
             number: _,
             passed,
-            places: mut whole,
+            handles: mut whole,
             numbers,
         } = seats.remove(0);
         let ended = passed as usize == whole.len();
@@ -77,28 +77,33 @@ impl Desks {
             let DeskSeat {
                 number: _,
                 passed,
-                places,
+                handles,
                 numbers,
             } = seat;
-            let ended = passed as usize == places.len();
-            join_row(&lines, &mut whole, places);
+            let ended = passed as usize == handles.len();
+            join_row(&counters, &mut whole, handles);
             lists.push_reserved((numbers, ended));
         }
-        close_all(lines, whole);
+        close_all(counters, whole);
         Settled { lists }
     }
 }
 
 impl DeskSeat {
     /// A seat that was given nothing, with room for `n` numbers.
-    fn new(alloc: Global, number: u32, n: u32, places: Vec<Place>) -> Result<DeskSeat, OutOfMemory>
-        ensures { IfOk result (λ s. (s.number ≡ number) × (s.passed ≡ 0) × (s.places ≡ places) × (s.numbers.items ≡ []) × (n ≤ vec_capacity s.numbers)) }
+    fn new(
+        alloc: Global,
+        number: u32,
+        n: u32,
+        handles: Vec<CounterHandle>,
+    ) -> Result<DeskSeat, OutOfMemory>
+        ensures { IfOk result (λ s. (s.number ≡ number) × (s.passed ≡ 0) × (s.handles ≡ handles) × (s.numbers.items ≡ []) × (n ≤ vec_capacity s.numbers)) }
     {
         let numbers = Vec::with_capacity(alloc, n as usize)?;
         Ok(DeskSeat {
             number,
             passed: 0,
-            places,
+            handles,
             numbers,
         })
     }
@@ -124,14 +129,14 @@ impl Dealer for Desks {
     fn deal(alloc: Global, n: u32, seats: u32) -> Result<(Desks, Vec<DeskSeat>), OutOfMemory> {
         let lists = Vec::with_capacity(alloc, seats as usize)?;
         let mut row = Vec::with_capacity(alloc, seats as usize)?;
-        let (lines, mut rest) = make_desks(alloc, n, seats)?;
+        let (counters, mut rest) = make_desks(alloc, n, seats)?;
         for number in 0..seats - 1 {
-            let places = cut_row(alloc, &lines, &mut rest)?;
-            row.push_reserved(DeskSeat::new(alloc, number, n, places)?);
+            let handles = cut_row(alloc, &counters, &mut rest)?;
+            row.push_reserved(DeskSeat::new(alloc, number, n, handles)?);
         }
         row.push_reserved(DeskSeat::new(alloc, seats - 1, n, rest)?);
         let dealer = Desks {
-            lines,
+            counters,
             count: n,
             lists,
         };

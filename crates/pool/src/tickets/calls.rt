@@ -1,79 +1,89 @@
-//! Dealing by one line.
+//! The calls of `Tickets`.
 ghost use Rattle.std.specs.Prelude.{◌≡◌, ◌+◌, ◌≤◌, ◌<◌, [], ◌∷◌, ◌++◌, length, true, false, All, map, IfOk, IfSome, IfNone};
 ghost use Rattle.std.specs.List.{range_with_len};
 ghost use Rattle.std.specs.Vec.{vec_len, vec_capacity};
-ghost use Rattle.pool.specs.Lines.{both};
-ghost use Rattle.pool.specs.Places.{count_of, seats_of, known_of, IsIn};
+ghost use Rattle.pool.specs.Counters.{both};
+ghost use Rattle.pool.specs.Handles.{count_of, seats_of, known_of, IsIn};
 ghost use Rattle.pool.specs.Dealing.{list_of, lists_of, NoneTwice, DealtOnce, SomeEnded, Ascends};
 ghost use Rattle.pool.specs.Tickets.{tickets_count, tickets_seats, IsSeatOf, seat_list, seat_number, seat_given, seat_ended};
 
 use super::{TicketSeat, Tickets};
+use crate::counter::{Counter, CounterHandle};
 use crate::dealer::Dealer;
-use crate::line::{Line, Place};
 use crate::settled::Settled;
 use grid::OutOfMemory;
 use std::alloc::Global;
 
 impl TicketSeat {
     /// A seat that was given nothing, with room for `n` numbers.
-    fn new(alloc: Global, number: u32, n: u32, place: Place) -> Result<TicketSeat, OutOfMemory>
-        requires { ((known_of place).seats ≡ 1) × ((known_of place).numbers ≡ []) × ((known_of place).marks ≡ 0) × ((known_of place).count ≡ n) }
-        ensures { IfOk result (λ s. (s.number ≡ number) × (s.place ≡ place) × (s.numbers.items ≡ []) × (s.ended ≡ false)) }
+    fn new(
+        alloc: Global,
+        number: u32,
+        n: u32,
+        handle: CounterHandle,
+    ) -> Result<TicketSeat, OutOfMemory>
+        requires { ((known_of handle).seats ≡ 1) × ((known_of handle).numbers ≡ []) × ((known_of handle).marks ≡ 0) × ((known_of handle).count ≡ n) }
+        ensures { IfOk result (λ s. (s.number ≡ number) × (s.handle ≡ handle) × (s.numbers.items ≡ []) × (s.ended ≡ false)) }
     {
         let numbers = Vec::with_capacity(alloc, n as usize)?;
         Ok(TicketSeat {
             number,
-            place,
+            handle,
             numbers,
             ended: false,
         })
     }
 }
 
-// Joins the seat's place to the others, and keeps its list.
-fn gather(line: &Line, whole: &mut Place, lists: &mut Vec<(Vec<u32>, bool)>, seat: TicketSeat)
-    requires whole { IsIn line.now whole.old }
-    requires seat { IsIn line.now seat.place }
+// Joins the seat's handle to the others, and keeps its list.
+fn gather(
+    counter: &Counter,
+    whole: &mut CounterHandle,
+    lists: &mut Vec<(Vec<u32>, bool)>,
+    seat: TicketSeat,
+)
+    requires whole { IsIn counter.now whole.old }
+    requires seat { IsIn counter.now seat.handle }
     requires room { vec_len lists.old < vec_capacity lists.old }
-    ensures whole { IsIn line.now whole.new × (known_of whole.new ≡ both (known_of whole.old) (known_of seat.place)) }
+    ensures whole { IsIn counter.now whole.new × (known_of whole.new ≡ both (known_of whole.old) (known_of seat.handle)) }
     ensures lists { map list_of lists.new.items ≡ map list_of lists.old.items ++ (seat.numbers.items, seat.ended) ∷ [] }
     ensures room { (vec_len lists.new ≡ vec_len lists.old + 1) × (vec_capacity lists.new ≡ vec_capacity lists.old) }
 {
     let TicketSeat {
         number: _,
-        place,
+        handle,
         numbers,
         ended,
     } = seat;
-    line.join(whole, place);
+    counter.join(whole, handle);
     lists.push_reserved((numbers, ended));
 }
 
 impl Tickets {
     fn gather_all(self, mut seats: Vec<TicketSeat>) -> Settled
-        requires seats { vec_len seats ≡ seats_of self.line }
+        requires seats { vec_len seats ≡ seats_of self.counter }
         requires some { 0 < vec_len seats }
-        requires fits { All (λ s. IsIn self.line s.place) seats.items }
+        requires fits { All (λ s. IsIn self.counter s.handle) seats.items }
         ensures lists { lists_of result ≡ map seat_list seats.items }
-        ensures twice { NoneTwice (count_of self.line) (lists_of result) }
-        ensures once { SomeEnded (lists_of result) → DealtOnce (count_of self.line) (lists_of result) }
+        ensures twice { NoneTwice (count_of self.counter) (lists_of result) }
+        ensures once { SomeEnded (lists_of result) → DealtOnce (count_of self.counter) (lists_of result) }
     {
         let Tickets {
-            line,
+            counter,
             count: _,
             mut lists,
         } = self;
         let TicketSeat {
             number: _,
-            place: mut whole,
+            handle: mut whole,
             numbers,
             ended,
         } = seats.remove(0);
         lists.push_reserved((numbers, ended));
         for seat in seats {
-            gather(&line, &mut whole, &mut lists, seat);
+            gather(&counter, &mut whole, &mut lists, seat);
         }
-        line.close(whole);
+        counter.close(whole);
         Settled { lists }
     }
 }
@@ -98,14 +108,14 @@ impl Dealer for Tickets {
     fn deal(alloc: Global, n: u32, seats: u32) -> Result<(Tickets, Vec<TicketSeat>), OutOfMemory> {
         let lists = Vec::with_capacity(alloc, seats as usize)?;
         let mut row = Vec::with_capacity(alloc, seats as usize)?;
-        let (line, mut rest) = Line::new(alloc, u64::from(n), u64::from(seats))?;
+        let (counter, mut rest) = Counter::new(alloc, u64::from(n), u64::from(seats))?;
         for number in 0..seats - 1 {
-            let place = line.cut(&mut rest);
-            row.push_reserved(TicketSeat::new(alloc, number, n, place)?);
+            let handle = counter.cut(&mut rest);
+            row.push_reserved(TicketSeat::new(alloc, number, n, handle)?);
         }
         row.push_reserved(TicketSeat::new(alloc, seats - 1, n, rest)?);
         let dealer = Tickets {
-            line,
+            counter,
             count: n,
             lists,
         };
@@ -124,7 +134,7 @@ impl Dealer for Tickets {
         if seat.ended {
             return None;
         }
-        match self.line.draw(&mut seat.place) {
+        match self.counter.draw(&mut seat.handle) {
             Some(k) => {
                 let number = k as u32;
                 seat.numbers.push_reserved(number);

@@ -2,7 +2,7 @@ use Rattle.std.proofs.Common.{arith, sym, ap, ◌∙◌, subst, ◌≡◌, ◌<�
 use Rattle.std.specs.Vec.Iter.{into_iter_items}
 use Rattle.std.proofs.lemmas.List.{map-append, length-map}
 use Rattle.std.proofs.lemmas.List.Elements.{All-push}
-use Rattle.pool.specs.Lines.{times}
+use Rattle.pool.specs.Counters.{times}
 use Rattle.pool.specs.Dealing.{times_in, DealtOnce, SomeEnded}
 use Rattle.pool.specs.Work.{IsWorkerResult, IsRight}
 use Rattle.pool.proofs.Gathering.{numbered_more}

@@ -1,15 +1,15 @@
 use Rattle.std.proofs.Common.{◌≡◌, ℕ, length, get_or, sym, ◌∙◌, subst, vec_len, arith}
 use Rattle.pool.specs.Rows.{IsClosed}
-use Rattle.pool.specs.declared.line.Line.{Line}
-use Rattle.pool.specs.declared.line.Place.{Place}
+use Rattle.pool.specs.declared.counter.Counter.{Counter}
+use Rattle.pool.specs.declared.counter.CounterHandle.{CounterHandle}
 use Rattle.pool.proofs.Rowed.{popped, stays, from_here}
 use Rattle.pool.proofs.desks.rows.close_all.Goals as goal
 
-pub loop-line-preserved-in-Some-pop : goal.loop-line-preserved-in-Some-pop
-loop-line-preserved-in-Some-pop c =
-    let inv = c.loop-line.invariant in
-    let line = c.in-Some.line in
-    let place = c.in-Some-pop.place in
+pub loop-counter-preserved-in-Some-pop : goal.loop-counter-preserved-in-Some-pop
+loop-counter-preserved-in-Some-pop c =
+    let inv = c.loop-counter.invariant in
+    let counter = c.in-Some.counter in
+    let handle = c.in-Some-pop.handle in
     let k : ℕ = vec_len c.pop.new.self in
     let lines_were = c.in-Some.ensures.items in
     let whole_was = c.in-Some-pop.ensures.items in
@@ -20,16 +20,16 @@ loop-line-preserved-in-Some-pop c =
     let whole_len : length c.pop-in-Some.new.self.items ≡ k = sym c.pop-in-Some.new.self.ok.0 ∙ same in (
       omega arith,
       same,
-      (λ d o h. stays c.loop-line.lines.items c.pop.new.self.items line k lines_were lines_len d o h ∙ inv.2 d o (omega arith)),
-      (λ d p h. stays c.loop-line.whole.items c.pop-in-Some.new.self.items place k whole_was whole_len d p h ∙ inv.3 d p (omega arith)),
+      (λ d o h. stays c.loop-counter.counters.items c.pop.new.self.items counter k lines_were lines_len d o h ∙ inv.2 d o (omega arith)),
+      (λ d p h. stays c.loop-counter.whole.items c.pop-in-Some.new.self.items handle k whole_was whole_len d p h ∙ inv.3 d p (omega arith)),
       (λ d o p le lt.
-          from_here (λ i. IsClosed (get_or c.args.lines.items i o) (get_or c.args.whole.items i p)) k (length c.args.lines.items)
-          (subst (λ (l : Line). IsClosed l (get_or c.args.whole.items k p)) (sym (popped c.loop-line.lines.items c.pop.new.self.items line k lines_were lines_len o) ∙ inv.2 k o (omega arith))
-          (subst (λ (q : Place). IsClosed line q) (sym (popped c.loop-line.whole.items c.pop-in-Some.new.self.items place k whole_was whole_len p) ∙ inv.3 k p (omega arith))
+          from_here (λ i. IsClosed (get_or c.args.counters.items i o) (get_or c.args.whole.items i p)) k (length c.args.counters.items)
+          (subst (λ (l : Counter). IsClosed l (get_or c.args.whole.items k p)) (sym (popped c.loop-counter.counters.items c.pop.new.self.items counter k lines_were lines_len o) ∙ inv.2 k o (omega arith))
+          (subst (λ (q : CounterHandle). IsClosed counter q) (sym (popped c.loop-counter.whole.items c.pop-in-Some.new.self.items handle k whole_was whole_len p) ∙ inv.3 k p (omega arith))
           (c.close.ensures.once, c.close.ensures.all)))
           (λ i le' lt'. inv.4 i o p (omega arith) lt')
           d le lt),
     )
 
 pub returns : goal.returns
-returns c = λ d l p h. let none = c.in_default.ensures.cases.0 in c.loop-line.invariant.4 d l p (omega arith) h
+returns c = λ d l p h. let none = c.in_default.ensures.cases.0 in c.loop-counter.invariant.4 d l p (omega arith) h

@@ -11,27 +11,27 @@ use Rattle.pool.proofs.desks.calls.DesksDealer.deal.Goals as goal
 
 pub cut_row-requires-clause-uncut : goal.cut_row-requires-clause-uncut
 cut_row-requires-clause-uncut c = λ d p h.
-    let is = c.loop-number.invariant.1 d (some_of c.in_ok-lines.lines.items (omega arith)) p h in
+    let is = c.loop-number.invariant.1 d (some_of c.in_ok-counters.counters.items (omega arith)) p h in
     let seats = ap (λ k. k.seats) is in
     (omega arith, ap (λ k. k.marks) is)
 
 pub loop-number-preserved : goal.loop-number-preserved
 loop-number-preserved c =
     let at = c.loop-number in
-    let lines = c.in_ok-lines.lines.items in
+    let counters = c.in_ok-counters.counters.items in
     let seat = c.in_ok-new.field-0 in
-    let P = λ (s : DeskSeat). IsDeskSeat c.args.n lines s.number s.passed s.places.items s.numbers.items × (c.args.n ≤ vec_capacity s.numbers) × (seat_given s ≡ []) × (s.passed ≡ 0) in
+    let P = λ (s : DeskSeat). IsDeskSeat c.args.n counters s.number s.passed s.handles.items s.numbers.items × (c.args.n ≤ vec_capacity s.numbers) × (seat_given s ≡ []) × (s.passed ≡ 0) in
     let made = c.in_ok-new.ensures in
-    let places = ap (λ v. v.items) made.2 in
-    let desks = c.in_ok-lines.ensures.lines.0 in
-    let here : seat.number < length lines = (let e = made.0 in omega arith) in (
-      c.in_ok-places.ensures.rows.0,
-      subst (λ (k : ℕ). AreUncut k lines c.cut_row.new.rest.items) (omega arith) (one_less (c.args.seats - at.number) lines at.rest.items c.cut_row.new.rest.items at.invariant.1 c.in_ok-places.ensures.rest),
+    let handles = ap (λ v. v.items) made.2 in
+    let desks = c.in_ok-counters.ensures.counters.0 in
+    let here : seat.number < length counters = (let e = made.0 in omega arith) in (
+      c.in_ok-handles.ensures.rows.0,
+      subst (λ (k : ℕ). AreUncut k counters c.cut_row.new.rest.items) (omega arith) (one_less (c.args.seats - at.number) counters at.rest.items c.cut_row.new.rest.items at.invariant.1 c.in_ok-handles.ensures.rest),
       rw c.push_reserved.ensures.items (numbered_more seat_number at.row.items seat at.number _ at.invariant.2 made.0 (omega arith)),
       rw c.push_reserved.ensures.items
           (All-push P at.row.items seat at.invariant.3 (
-            rw places (fresh c.args.n lines seat.number seat.passed c.in_ok-places.places.items seat.numbers.items c.in_ok-places.ensures.rows.1 here
-                (cut_off (c.args.seats - at.number) lines at.rest.items c.in_ok-places.places.items at.invariant.1 c.in_ok-places.ensures.row) made.1 made.3),
+            rw handles (fresh c.args.n counters seat.number seat.passed c.in_ok-handles.handles.items seat.numbers.items c.in_ok-handles.ensures.rows.1 here
+                (cut_off (c.args.seats - at.number) counters at.rest.items c.in_ok-handles.handles.items at.invariant.1 c.in_ok-handles.ensures.row) made.1 made.3),
             made.4,
             made.3,
             made.1,
@@ -49,20 +49,20 @@ returns-clause-seats c =
 pub returns-clause-fresh : goal.returns-clause-fresh
 returns-clause-fresh c =
     let at = c.loop-number in
-    let lines = c.in_ok-lines.lines.items in
+    let counters = c.in_ok-counters.counters.items in
     let seat = c.in_ok-new-2.field-0 in
-    let P = λ (s : DeskSeat). IsDeskSeat c.args.n lines s.number s.passed s.places.items s.numbers.items × (c.args.n ≤ vec_capacity s.numbers) × (seat_given s ≡ []) × (s.passed ≡ 0) in
-    let Q = λ (s : DeskSeat). (IsDeskSeat c.args.n lines s.number s.passed s.places.items s.numbers.items × (c.args.n ≤ vec_capacity s.numbers)) × (seat_given s ≡ []) × (seat_ended s ≡ false) in
+    let P = λ (s : DeskSeat). IsDeskSeat c.args.n counters s.number s.passed s.handles.items s.numbers.items × (c.args.n ≤ vec_capacity s.numbers) × (seat_given s ≡ []) × (s.passed ≡ 0) in
+    let Q = λ (s : DeskSeat). (IsDeskSeat c.args.n counters s.number s.passed s.handles.items s.numbers.items × (c.args.n ≤ vec_capacity s.numbers)) × (seat_given s ≡ []) × (seat_ended s ≡ false) in
     let made = c.in_ok-new-2.ensures in
-    let places = ap (λ v. v.items) made.2 in
-    let desks = c.in_ok-lines.ensures.lines.0 in
-    let here : seat.number < length lines = (let e = made.0 in omega arith) in
+    let handles = ap (λ v. v.items) made.2 in
+    let desks = c.in_ok-counters.ensures.counters.0 in
+    let here : seat.number < length counters = (let e = made.0 in omega arith) in
     let last : c.args.seats - at.number ≡ 1 = omega arith in
     rw c.push_reserved-2.ensures.items
     (All-weaker P Q (λ s h. let len = h.0.row.0 in let none = h.3 in ((h.0, h.1), h.2, grind (arith, nat_tests))) _
     (All-push P at.row.items seat at.invariant.3 (
-      rw places (fresh c.args.n lines seat.number seat.passed at.rest.items seat.numbers.items at.invariant.0 here
-          (subst (λ (k : ℕ). AreUncut k lines at.rest.items) last at.invariant.1) made.1 made.3),
+      rw handles (fresh c.args.n counters seat.number seat.passed at.rest.items seat.numbers.items at.invariant.0 here
+          (subst (λ (k : ℕ). AreUncut k counters at.rest.items) last at.invariant.1) made.1 made.3),
       made.4,
       made.3,
       made.1,
