@@ -1,0 +1,10 @@
+pub mod Bits
+pub mod Boxes
+pub mod Cut
+pub mod Flat
+pub mod Places
+pub mod Ends
+pub mod PixelColours
+pub mod Masks
+pub mod DrawnIds
+pub mod Mapped

@@ -1,0 +1,6 @@
+pub mod Layout
+pub mod Drawing
+pub mod Colours
+pub mod Reach
+pub mod Ids
+pub mod Indexed
