@@ -3,7 +3,7 @@ use Rattle.std.proofs.Common.{◌≡◌, ◌≢◌, ◌∙◌, inl, inr, refl, s
 use Rattle.std.proofs.lemmas.Bool.{cases_lt}
 use Rattle.std.proofs.Math.Seq.{take-add}
 use Rattle.std.proofs.lemmas.List.{take_all}
-use Rattle.grid.specs.declared.pixels.TileSide.TheVariants.{T32}
+use Rattle.grid.specs.declared.pixels.TileSide.TheVariants.{T64}
 use Rattle.grid.specs.declared.sample_count.SampleCount.{SampleCount}
 use Rattle.shade.specs.declared.sample.Sample.{Sample}
 use Rattle.lanes.specs.declared.block_samples.BlockSamples.{BlockSamples}
@@ -39,8 +39,8 @@ tile_ends ts tile n old new past h = rw (take_all n ts past) at h
 module _ (ts : List Placed) (c : Canvas) (row : ℕ) where
   -- the tiles before this column have been drawn, and the others stand as they were
   pub record AreTilesDrawn (column : ℕ) (old new : List BlockSamples) : Type 0 where
-    pub drawn : (i j s : ℕ) → HasSample c row (row + 1) i j s → i / 32 < column → Ends ts c.count i j s (stored c row old i j s) (stored c row new i j s)
-    pub kept : (i j s : ℕ) → HasSample c row (row + 1) i j s → column ≤ i / 32 → stored c row new i j s ≡ stored c row old i j s
+    pub drawn : (i j s : ℕ) → HasSample c row (row + 1) i j s → i / 64 < column → Ends ts c.count i j s (stored c row old i j s) (stored c row new i j s)
+    pub kept : (i j s : ℕ) → HasSample c row (row + 1) i j s → column ≤ i / 64 → stored c row new i j s ≡ stored c row old i j s
 
   pub no_tile_drawn : (xs : List BlockSamples) → AreTilesDrawn 0 xs xs
   no_tile_drawn xs = record { drawn = λ i j s h l. absurd (omega arith); kept = λ i j s h l. refl }
@@ -49,26 +49,26 @@ module _ (ts : List Placed) (c : Canvas) (row : ℕ) where
   all_tiles_drawn column old new past d i j s h = d.drawn i j s h (omega (arith, past, h.column))
 
   module _ (column : ℕ) (old middle part : List BlockSamples) (n a : ℕ) (room : a + n ≤ length middle) (long : length part ≡ n) (many : n ≡ planes_of_tile c.count) (at : a ≡ column * planes_of_tile c.count)
-      (tile : Tile) (is : (tile.bx ≡ 4 * column) × (tile.by ≡ 4 * row) × (tile.side ≡ T32) × (tile.count ≡ c.count)) (before : AreTilesDrawn column old middle) (draws : TileHasEnds ts tile (take n (drop a middle)) part) where
+      (tile : Tile) (is : (tile.bx ≡ 8 * column) × (tile.by ≡ 8 * row) × (tile.side ≡ T64) × (tile.count ≡ c.count)) (before : AreTilesDrawn column old middle) (draws : TileHasEnds ts tile (take n (drop a middle)) part) where
     module _ (i j s : ℕ) (h : HasSample c row (row + 1) i j s) where
-      in_row : j / 32 ≡ row
+      in_row : j / 64 ≡ row
       in_row = omega (arith, h.from, h.below)
 
-      sample_kept : i / 32 ≢ column → stored c row (put middle part a n) i j s ≡ stored c row middle i j s
+      sample_kept : i / 64 ≢ column → stored c row (put middle part a n) i j s ≡ stored c row middle i j s
       sample_kept other = tile_kept c i j s middle part n a room long row in_row column many at h.is_sample other
 
-      sample_drawn : i / 32 ≡ column → Ends ts c.count i j s (stored c row middle i j s) (stored c row (put middle part a n) i j s)
+      sample_drawn : i / 64 ≡ column → Ends ts c.count i j s (stored c row middle i j s) (stored c row (put middle part a n) i j s)
       sample_drawn same =
-          let in_tile_here : IsSampleOf tile (j % 32) (i % 32) s = record { high = rw is.2 (omega arith); wide = rw is.2 (omega arith); is_sample = rw is.3 h.is_sample } in
-          let across : 8 * tile.bx + i % 32 ≡ i = omega (arith, is.0, same) in
-          let down : 8 * tile.by + j % 32 ≡ j = omega (arith, is.1, in_row) in
-          let old_is : in_tile tile (take n (drop a middle)) (j % 32) (i % 32) s ≡ stored c row middle i j s = (tile_of c i j s tile is.2 is.3 row middle n a in_row many (at ∙ ap (λ k. k * planes_of_tile c.count) (sym same)) h.is_sample) in
-          let new_is : in_tile tile part (j % 32) (i % 32) s ≡ stored c row (put middle part a n) i j s = sym (tile_put c i j s middle part n a room long row in_row column many at h.is_sample tile is.2 is.3 same) in
-          ends_at ts _ _ _ _ _ _ s _ _ _ _ is.3 across down old_is new_is (draws (j % 32) (i % 32) s in_tile_here)
+          let in_tile_here : IsSampleOf tile (j % 64) (i % 64) s = record { high = rw is.2 (omega arith); wide = rw is.2 (omega arith); is_sample = rw is.3 h.is_sample } in
+          let across : 8 * tile.bx + i % 64 ≡ i = omega (arith, is.0, same) in
+          let down : 8 * tile.by + j % 64 ≡ j = omega (arith, is.1, in_row) in
+          let old_is : in_tile tile (take n (drop a middle)) (j % 64) (i % 64) s ≡ stored c row middle i j s = (tile_of c i j s tile is.2 is.3 row middle n a in_row many (at ∙ ap (λ k. k * planes_of_tile c.count) (sym same)) h.is_sample) in
+          let new_is : in_tile tile part (j % 64) (i % 64) s ≡ stored c row (put middle part a n) i j s = sym (tile_put c i j s middle part n a room long row in_row column many at h.is_sample tile is.2 is.3 same) in
+          ends_at ts _ _ _ _ _ _ s _ _ _ _ is.3 across down old_is new_is (draws (j % 64) (i % 64) s in_tile_here)
 
     pub one_tile_drawn : AreTilesDrawn (column + 1) old (put middle part a n)
     one_tile_drawn = record {
-      drawn = λ i j s h l. elim (cases_lt (i / 32) column) [
+      drawn = λ i j s h l. elim (cases_lt (i / 64) column) [
         | inl less ↦ subst (λ x. Ends ts c.count i j s (stored c row old i j s) x) (sym (sample_kept i j s h (λ e. omega (arith, e, less)))) (before.drawn i j s h less)
         | inr more ↦ subst (λ x. Ends ts c.count i j s x (stored c row (put middle part a n) i j s)) (before.kept i j s h more) (sample_drawn i j s h (omega (arith, l, more)))
       ];
@@ -79,8 +79,8 @@ module _ (ts : List Placed) (c : Canvas) (row : ℕ) where
 module _ (ts : List Placed) (c : Canvas) (first end : ℕ) where
   -- the rows before this one have been drawn, and the others stand as they were
   pub record AreRowsDrawn (row : ℕ) (old new : List BlockSamples) : Type 0 where
-    pub drawn : (i j s : ℕ) → HasSample c first end i j s → j / 32 < row → Ends ts c.count i j s (stored c first old i j s) (stored c first new i j s)
-    pub kept : (i j s : ℕ) → HasSample c first end i j s → row ≤ j / 32 → stored c first new i j s ≡ stored c first old i j s
+    pub drawn : (i j s : ℕ) → HasSample c first end i j s → j / 64 < row → Ends ts c.count i j s (stored c first old i j s) (stored c first new i j s)
+    pub kept : (i j s : ℕ) → HasSample c first end i j s → row ≤ j / 64 → stored c first new i j s ≡ stored c first old i j s
 
   pub no_row_drawn : (xs : List BlockSamples) → AreRowsDrawn first xs xs
   no_row_drawn xs = record { drawn = λ i j s h l. absurd (omega (arith, h.from, l)); kept = λ i j s h l. refl }
@@ -91,10 +91,10 @@ module _ (ts : List Placed) (c : Canvas) (first end : ℕ) where
   module _ (row : ℕ) (from : first ≤ row) (old middle part : List BlockSamples) (n a : ℕ) (room : a + n ≤ length middle) (long : length part ≡ n) (many : n ≡ planes_of_row c) (at : a ≡ (row - first) * planes_of_row c)
       (before : AreRowsDrawn row old middle) (draws : HaveEnds ts c row (row + 1) (take n (drop a middle)) part) where
     module _ (i j s : ℕ) (h : HasSample c first end i j s) where
-      sample_stays : j / 32 ≢ row → stored c first (put middle part a n) i j s ≡ stored c first middle i j s
+      sample_stays : j / 64 ≢ row → stored c first (put middle part a n) i j s ≡ stored c first middle i j s
       sample_stays other = row_kept c i j s middle part n a room long first row many at from h.from h.column h.is_sample other
 
-      sample_ends : j / 32 ≡ row → Ends ts c.count i j s (stored c first middle i j s) (stored c first (put middle part a n) i j s)
+      sample_ends : j / 64 ≡ row → Ends ts c.count i j s (stored c first middle i j s) (stored c first (put middle part a n) i j s)
       sample_ends same =
           let in_row : HasSample c row (row + 1) i j s = record { column = h.column; from = omega (arith, same); below = omega (arith, same); is_sample = h.is_sample } in
           let old_is : stored c row (take n (drop a middle)) i j s ≡ stored c first middle i j s = (row_of c i j s row first middle n a same many (at ∙ ap (λ k. (k - first) * planes_of_row c) (sym same)) h.column h.is_sample) in
@@ -103,7 +103,7 @@ module _ (ts : List Placed) (c : Canvas) (first end : ℕ) where
 
     pub one_row_drawn : AreRowsDrawn (row + 1) old (put middle part a n)
     one_row_drawn = record {
-      drawn = λ i j s h l. elim (cases_lt (j / 32) row) [
+      drawn = λ i j s h l. elim (cases_lt (j / 64) row) [
         | inl less ↦ subst (λ x. Ends ts c.count i j s (stored c first old i j s) x) (sym (sample_stays i j s h (λ e. omega (arith, e, less)))) (before.drawn i j s h less)
         | inr more ↦ subst (λ x. Ends ts c.count i j s x (stored c first (put middle part a n) i j s)) (before.kept i j s h more) (sample_ends i j s h (omega (arith, l, more)))
       ];

@@ -5,7 +5,7 @@ use Rattle.std.proofs.lemmas.Option.{get_or_from_slice_get, slice_get_cases, sli
 use Rattle.std.proofs.lemmas.Nat.{shr-shr}
 use Rattle.canvas.proofs.Ends.{tile_ends}
 use Rattle.std.proofs.lemmas.Nat.Bits.{bit_at-zero, bit_at_or, bit_at-lt, bit_at-pow_same}
-use Rattle.grid.specs.declared.pixels.TileSide.TheVariants.{T32}
+use Rattle.grid.specs.declared.pixels.TileSide.TheVariants.{T64}
 use Rattle.lanes.specs.declared.block_samples.BlockSamples.{BlockSamples}
 use Rattle.shade.specs.declared.placed.Placed.{Placed}
 use Rattle.shade.specs.Placed.{Meets}
@@ -46,13 +46,13 @@ tile_past ts tile n t old new below is missed before row column s h =
     (record { met = λ m. absurd (missed row column s h m); missed = λ _. refl })
 
 -- the bits that a column and a row have in common
-pub mask_of_tile : (c : Canvas) (ts : List Placed) (r : Reached) (column row : ℕ) (tile : Tile) → (tile.bx ≡ 4 * column) × (tile.by ≡ 4 * row) × (tile.side ≡ T32) × (tile.count ≡ c.count)
+pub mask_of_tile : (c : Canvas) (ts : List Placed) (r : Reached) (column row : ℕ) (tile : Tile) → (tile.bx ≡ 8 * column) × (tile.by ≡ 8 * row) × (tile.side ≡ T64) × (tile.count ≡ c.count)
     → column < columns_of c → row < rows_of c → AreReached ts r → IsMaskOf ts tile (bit_and (slice_index r.columns column) (slice_index r.rows row))
 mask_of_tile c ts r column row tile is wide high reached k t found unset tile_row tile_column s h m =
-    let sample_wide : tile_column < 32 = rw is.2 at h.wide in
-    let sample_high : tile_row < 32 = rw is.2 at h.high in
-    let across : (8 * tile.bx + tile_column) / 32 ≡ column = omega (arith, is.0, sample_wide) in
-    let down : (8 * tile.by + tile_row) / 32 ≡ row = omega (arith, is.1, sample_high) in
+    let sample_wide : tile_column < 64 = rw is.2 at h.wide in
+    let sample_high : tile_row < 64 = rw is.2 at h.high in
+    let across : (8 * tile.bx + tile_column) / 64 ≡ column = omega (arith, is.0, sample_wide) in
+    let down : (8 * tile.by + tile_row) / 64 ≡ row = omega (arith, is.1, sample_high) in
     let width = c.width_fits in
     let height = c.height_fits in
     let on_screen : MeetsOnScreen t tile.count (8 * tile.bx + tile_column) (8 * tile.by + tile_row) s =

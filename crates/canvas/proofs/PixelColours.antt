@@ -37,22 +37,22 @@ colour_of_same c first samples i j r g b r' g' b' red green blue h = rw (red, gr
 
 module _ (c : Canvas) (i j r g b : ℕ) where
   -- from a tile to its row of tiles
-  pub colour_in_row : (tile : Tile) (xs part : List BlockSamples) → tile.count ≡ c.count → ((s : ℕ) → s < count_of c.count → in_tile tile part (j % 32) (i % 32) s ≡ stored c (j / 32) xs i j s)
-      → IsColourAt tile part (j % 32) (i % 32) r g b → IsColourOf c (j / 32) xs i j r g b
+  pub colour_in_row : (tile : Tile) (xs part : List BlockSamples) → tile.count ≡ c.count → ((s : ℕ) → s < count_of c.count → in_tile tile part (j % 64) (i % 64) s ≡ stored c (j / 64) xs i j s)
+      → IsColourAt tile part (j % 64) (i % 64) r g b → IsColourOf c (j / 64) xs i j r g b
   colour_in_row tile xs part count same h =
-      let at : (s : ℕ) → Sample = λ s. in_tile tile part (j % 32) (i % 32) s in
+      let at : (s : ℕ) → Sample = λ s. in_tile tile part (j % 64) (i % 64) s in
       let red : IsResolved c.count (λ s. (at s).r) r = subst (λ n. IsResolved n (λ s. (at s).r) r) count h.red in
       let green : IsResolved c.count (λ s. (at s).g) g = subst (λ n. IsResolved n (λ s. (at s).g) g) count h.green in
       let blue : IsResolved c.count (λ s. (at s).b) b = subst (λ n. IsResolved n (λ s. (at s).b) b) count h.blue in
       record {
-        red = resolved_same c.count _ (λ s. (stored c (j / 32) xs i j s).r) r (λ s l. ap (λ (x : Sample). x.r) (same s l)) red;
-        green = resolved_same c.count _ (λ s. (stored c (j / 32) xs i j s).g) g (λ s l. ap (λ (x : Sample). x.g) (same s l)) green;
-        blue = resolved_same c.count _ (λ s. (stored c (j / 32) xs i j s).b) b (λ s l. ap (λ (x : Sample). x.b) (same s l)) blue;
+        red = resolved_same c.count _ (λ s. (stored c (j / 64) xs i j s).r) r (λ s l. ap (λ (x : Sample). x.r) (same s l)) red;
+        green = resolved_same c.count _ (λ s. (stored c (j / 64) xs i j s).g) g (λ s l. ap (λ (x : Sample). x.g) (same s l)) green;
+        blue = resolved_same c.count _ (λ s. (stored c (j / 64) xs i j s).b) b (λ s l. ap (λ (x : Sample). x.b) (same s l)) blue;
       }
 
   -- and from there to a strip
-  pub colour_in_rows : (first : ℕ) (xs part : List BlockSamples) → ((s : ℕ) → s < count_of c.count → stored c (j / 32) part i j s ≡ stored c first xs i j s)
-      → IsColourOf c (j / 32) part i j r g b → IsColourOf c first xs i j r g b
+  pub colour_in_rows : (first : ℕ) (xs part : List BlockSamples) → ((s : ℕ) → s < count_of c.count → stored c (j / 64) part i j s ≡ stored c first xs i j s)
+      → IsColourOf c (j / 64) part i j r g b → IsColourOf c first xs i j r g b
   colour_in_rows first xs part same h = record {
     red = resolved_same c.count _ (λ s. (stored c first xs i j s).r) r (λ s l. ap (λ (x : Sample). x.r) (same s l)) h.red;
     green = resolved_same c.count _ (λ s. (stored c first xs i j s).g) g (λ s l. ap (λ (x : Sample). x.g) (same s l)) h.green;
@@ -80,21 +80,21 @@ whole_colours tile samples row column many run new rest whole long is h i l =
 module _ (c : Canvas) (j : ℕ) (xs : List BlockSamples) where
   -- the colours of the first pixels of the row
   pub AreColours : ℕ → List ℕ → Type 0
-  AreColours n bytes = (i : ℕ) → i < n → IsColourOf c (j / 32) xs i j (slice_index bytes (3 * i)) (slice_index bytes (3 * i + 1)) (slice_index bytes (3 * i + 2))
+  AreColours n bytes = (i : ℕ) → i < n → IsColourOf c (j / 64) xs i j (slice_index bytes (3 * i)) (slice_index bytes (3 * i + 1)) (slice_index bytes (3 * i + 2))
 
   pub no_colours : (bytes : List ℕ) → AreColours 0 bytes
   unfolding AreColours
   no_colours bytes i l = absurd (omega arith)
 
-  pub all_colours : (n m : ℕ) (bytes : List ℕ) → m ≤ n → AreColours n bytes → (i : ℕ) → i < m → IsColourOf c (j / 32) xs i j (slice_index bytes (3 * i)) (slice_index bytes (3 * i + 1)) (slice_index bytes (3 * i + 2))
+  pub all_colours : (n m : ℕ) (bytes : List ℕ) → m ≤ n → AreColours n bytes → (i : ℕ) → i < m → IsColourOf c (j / 64) xs i j (slice_index bytes (3 * i)) (slice_index bytes (3 * i + 1)) (slice_index bytes (3 * i + 2))
   unfolding AreColours
   all_colours n m bytes past h i l = h i (omega arith)
 
   -- eight pixels more
   module _ (block many n : ℕ) (bytes run : List ℕ) (at : n ≡ 8 * block) (few : many ≤ 8) (room : 24 * block + 3 * many ≤ length bytes) (long : length run ≡ 3 * many) (before : AreColours n bytes)
       (tile : Tile) (part : List BlockSamples) (count : tile.count ≡ c.count)
-      (same : (i s : ℕ) → i / 8 ≡ block → s < count_of c.count → in_tile tile part (j % 32) (i % 32) s ≡ stored c (j / 32) xs i j s)
-      (colours : (i : ℕ) → i < many → IsColourAt tile part (j % 32) (8 * (block % 4) + i) (slice_index run (3 * i)) (slice_index run (3 * i + 1)) (slice_index run (3 * i + 2))) where
+      (same : (i s : ℕ) → i / 8 ≡ block → s < count_of c.count → in_tile tile part (j % 64) (i % 64) s ≡ stored c (j / 64) xs i j s)
+      (colours : (i : ℕ) → i < many → IsColourAt tile part (j % 64) (8 * (block % 8) + i) (slice_index run (3 * i)) (slice_index run (3 * i + 1)) (slice_index run (3 * i + 2))) where
     new : List ℕ
     new = put bytes run (24 * block) (3 * many)
 
@@ -106,15 +106,15 @@ module _ (c : Canvas) (j : ℕ) (xs : List BlockSamples) where
     unfolding new
     later k l = put_here bytes run (24 * block) (3 * many) 0 room long k l
 
-    one_earlier : (i : ℕ) → i < n → IsColourOf c (j / 32) xs i j (slice_index new (3 * i)) (slice_index new (3 * i + 1)) (slice_index new (3 * i + 2))
+    one_earlier : (i : ℕ) → i < n → IsColourOf c (j / 64) xs i j (slice_index new (3 * i)) (slice_index new (3 * i + 1)) (slice_index new (3 * i + 2))
     unfolding AreColours
     one_earlier i l =
-        colour_of_same c (j / 32) xs i j _ _ _ _ _ _ (earlier (3 * i) (omega arith)) (earlier (3 * i + 1) (omega arith)) (earlier (3 * i + 2) (omega arith)) (before i l)
+        colour_of_same c (j / 64) xs i j _ _ _ _ _ _ (earlier (3 * i) (omega arith)) (earlier (3 * i + 1) (omega arith)) (earlier (3 * i + 2) (omega arith)) (before i l)
 
-    one_later : (i : ℕ) → i < many → IsColourOf c (j / 32) xs (8 * block + i) j (slice_index new (24 * block + 3 * i)) (slice_index new (24 * block + (3 * i + 1))) (slice_index new (24 * block + (3 * i + 2)))
+    one_later : (i : ℕ) → i < many → IsColourOf c (j / 64) xs (8 * block + i) j (slice_index new (24 * block + 3 * i)) (slice_index new (24 * block + (3 * i + 1))) (slice_index new (24 * block + (3 * i + 2)))
     one_later i l =
-        let across : 8 * (block % 4) + i ≡ (8 * block + i) % 32 = omega arith in
-        colour_of_same c (j / 32) xs (8 * block + i) j _ _ _ _ _ _ (later (3 * i) (omega arith)) (later (3 * i + 1) (omega arith)) (later (3 * i + 2) (omega arith))
+        let across : 8 * (block % 8) + i ≡ (8 * block + i) % 64 = omega arith in
+        colour_of_same c (j / 64) xs (8 * block + i) j _ _ _ _ _ _ (later (3 * i) (omega arith)) (later (3 * i + 1) (omega arith)) (later (3 * i + 2) (omega arith))
         (colour_in_row c (8 * block + i) j _ _ _ tile xs part count (λ s h. same (8 * block + i) s (omega arith) h) (rw across at (colours i l)))
 
     pub more_colours : (m : ℕ) → m ≡ n + many → AreColours m (put bytes run (24 * block) (3 * many))
@@ -134,25 +134,25 @@ module _ (c : Canvas) (j : ℕ) (xs : List BlockSamples) where
 module _ (c : Canvas) (first end : ℕ) (xs : List BlockSamples) (stride : ℕ) where
   -- the rows before this one have been written, and nothing else
   pub record AreRowsResolved (row : ℕ) (old new : List ℕ) : Type 0 where
-    pub colours : (i j : ℕ) → HasPixel c first end i j → j < 32 * first + row
+    pub colours : (i j : ℕ) → HasPixel c first end i j → j < 64 * first + row
         → IsColourOf c first xs i j (slice_index new (byte_of first stride i j)) (slice_index new (byte_of first stride i j + 1)) (slice_index new (byte_of first stride i j + 2))
-    pub others : (k : ℕ) → ((i j channel : ℕ) → HasPixel c first end i j → j < 32 * first + row → channel < 3 → k ≢ byte_of first stride i j + channel) → slice_index new k ≡ slice_index old k
+    pub others : (k : ℕ) → ((i j channel : ℕ) → HasPixel c first end i j → j < 64 * first + row → channel < 3 → k ≢ byte_of first stride i j + channel) → slice_index new k ≡ slice_index old k
 
   pub no_row_resolved : (bytes : List ℕ) → AreRowsResolved 0 bytes bytes
   no_row_resolved bytes = record { colours = λ i j h l. let from = h.from in absurd (omega arith); others = λ k n. refl }
 
   pub all_rows_resolved : (row : ℕ) (old new : List ℕ) → shown_rows c first end ≤ row → AreRowsResolved row old new → AreResolved c first end xs stride old new
   all_rows_resolved row old new past d =
-      let shown : (i j : ℕ) → HasPixel c first end i j → j < 32 * first + row = λ i j h. let from = h.from in let below = h.below in let high = h.row in omega arith in
+      let shown : (i j : ℕ) → HasPixel c first end i j → j < 64 * first + row = λ i j h. let from = h.from in let below = h.below in let high = h.row in omega arith in
       record {
         colours = λ i j h. d.colours i j h (shown i j h);
         others = λ k n. d.others k (λ i j channel h l few. n i j channel h few);
       }
 
   module _ (row n a : ℕ) (old middle out : List ℕ) (part : List BlockSamples) (wide : 3 * c.width ≤ stride) (many : n ≡ 3 * c.width) (at : a ≡ row * stride) (room : a + n ≤ length middle) (long : length out ≡ n)
-      (before : AreRowsResolved row old middle) (high : 32 * first + row < c.height) (below : (32 * first + row) / 32 < end)
-      (same : (i s : ℕ) → i < c.width → s < count_of c.count → stored c ((32 * first + row) / 32) part i (32 * first + row) s ≡ stored c first xs i (32 * first + row) s)
-      (written : (i : ℕ) → i < c.width → IsColourOf c ((32 * first + row) / 32) part i (32 * first + row) (slice_index out (3 * i)) (slice_index out (3 * i + 1)) (slice_index out (3 * i + 2))) where
+      (before : AreRowsResolved row old middle) (high : 64 * first + row < c.height) (below : (64 * first + row) / 64 < end)
+      (same : (i s : ℕ) → i < c.width → s < count_of c.count → stored c ((64 * first + row) / 64) part i (64 * first + row) s ≡ stored c first xs i (64 * first + row) s)
+      (written : (i : ℕ) → i < c.width → IsColourOf c ((64 * first + row) / 64) part i (64 * first + row) (slice_index out (3 * i)) (slice_index out (3 * i + 1)) (slice_index out (3 * i + 2))) where
     bytes : List ℕ
     bytes = put middle out a n
 
@@ -164,31 +164,31 @@ module _ (c : Canvas) (first end : ℕ) (xs : List BlockSamples) (stride : ℕ) 
     unfolding bytes
     elsewhere k other = put_elsewhere middle out a n 0 room long k other
 
-    this_row : (i : ℕ) → i < c.width → IsColourOf c first xs i (32 * first + row) (slice_index bytes (a + 3 * i)) (slice_index bytes (a + (3 * i + 1))) (slice_index bytes (a + (3 * i + 2)))
+    this_row : (i : ℕ) → i < c.width → IsColourOf c first xs i (64 * first + row) (slice_index bytes (a + 3 * i)) (slice_index bytes (a + (3 * i + 1))) (slice_index bytes (a + (3 * i + 2)))
     this_row i l =
-        colour_of_same c first xs i (32 * first + row) _ _ _ _ _ _ (here (3 * i) (omega (arith, many, l))) (here (3 * i + 1) (omega (arith, many, l))) (here (3 * i + 2) (omega (arith, many, l)))
-        (colour_in_rows c i (32 * first + row) _ _ _ first xs part (λ s h. same i s l h) (written i l))
+        colour_of_same c first xs i (64 * first + row) _ _ _ _ _ _ (here (3 * i) (omega (arith, many, l))) (here (3 * i + 1) (omega (arith, many, l))) (here (3 * i + 2) (omega (arith, many, l)))
+        (colour_in_rows c i (64 * first + row) _ _ _ first xs part (λ s h. same i s l h) (written i l))
 
     -- a row above ends before this one begins
-    above : (i j channel : ℕ) → i < c.width → j < 32 * first + row → first ≤ j / 32 → channel < 3 → byte_of first stride i j + channel < a
+    above : (i j channel : ℕ) → i < c.width → j < 64 * first + row → first ≤ j / 64 → channel < 3 → byte_of first stride i j + channel < a
     above i j channel l before from few =
-        let least : (j - 32 * first + 1) * stride ≤ row * stride = mul-le-mul_right stride (omega arith) in
+        let least : (j - 64 * first + 1) * stride ≤ row * stride = mul-le-mul_right stride (omega arith) in
         omega (arith, least, at, wide)
 
-    row_above : (i j channel : ℕ) → i < c.width → j < 32 * first + row → first ≤ j / 32 → channel < 3 → slice_index bytes (byte_of first stride i j + channel) ≡ slice_index middle (byte_of first stride i j + channel)
+    row_above : (i j channel : ℕ) → i < c.width → j < 64 * first + row → first ≤ j / 64 → channel < 3 → slice_index bytes (byte_of first stride i j + channel) ≡ slice_index middle (byte_of first stride i j + channel)
     row_above i j channel l before from few = let less = above i j channel l before from few in elsewhere (byte_of first stride i j + channel) (λ s h e. omega (arith, less, e))
 
     pub one_row_resolved : AreRowsResolved (row + 1) old (put middle out a n)
     unfolding bytes
     one_row_resolved = record {
-      colours = λ i j h l. elim (cases_lt j (32 * first + row)) [
+      colours = λ i j h l. elim (cases_lt j (64 * first + row)) [
         | inl less ↦
             let zero : byte_of first stride i j + 0 ≡ byte_of first stride i j = omega arith in
             colour_of_same c first xs i j _ _ _ _ _ _ (rw zero at (row_above i j 0 h.column less h.from (omega arith))) (row_above i j 1 h.column less h.from (omega arith)) (row_above i j 2 h.column less h.from (omega arith)) (before.colours i j h less)
         | inr more ↦
-            let line : 32 * first + row ≡ j = omega arith in
-            let distance : j - 32 * first ≡ row = omega arith in
-            let start : (j - 32 * first) * stride ≡ a = rw distance (sym at) in
+            let line : 64 * first + row ≡ j = omega arith in
+            let distance : j - 64 * first ≡ row = omega arith in
+            let start : (j - 64 * first) * stride ≡ a = rw distance (sym at) in
             let red : a + 3 * i ≡ byte_of first stride i j = omega (arith, start) in
             let green : a + (3 * i + 1) ≡ byte_of first stride i j + 1 = omega (arith, start) in
             let blue : a + (3 * i + 2) ≡ byte_of first stride i j + 2 = omega (arith, start) in
@@ -197,9 +197,9 @@ module _ (c : Canvas) (first end : ℕ) (xs : List BlockSamples) (stride : ℕ) 
       others = λ k other.
           let apart : (s : ℕ) → s < n → k ≢ a + s =
           λ s l e.
-          let pixel : HasPixel c first end (s / 3) (32 * first + row) = record { column = omega (arith, many, l); row = high; from = omega arith; below = below } in
-          let distance : 32 * first + row - 32 * first ≡ row = omega arith in
-          let start : (32 * first + row - 32 * first) * stride ≡ a = rw distance (sym at) in
-          other (s / 3) (32 * first + row) (s % 3) pixel (omega arith) (omega arith) (omega (arith, start, e)) in
+          let pixel : HasPixel c first end (s / 3) (64 * first + row) = record { column = omega (arith, many, l); row = high; from = omega arith; below = below } in
+          let distance : 64 * first + row - 64 * first ≡ row = omega arith in
+          let start : (64 * first + row - 64 * first) * stride ≡ a = rw distance (sym at) in
+          other (s / 3) (64 * first + row) (s % 3) pixel (omega arith) (omega arith) (omega (arith, start, e)) in
           elsewhere k apart ∙ before.others k (λ i j channel h l few. other i j channel h (omega arith) few);
     }

@@ -13,7 +13,7 @@ pub record IsColourOf (c : Canvas) (first : ℕ) (samples : List BlockSamples) (
 
 -- How many rows of pixels of the picture stand in these rows of tiles.
 abbrev pub shown_rows : Canvas → ℕ → ℕ → ℕ
-shown_rows c first end = min (32 * end) c.height - 32 * first
+shown_rows c first end = min (64 * end) c.height - 64 * first
 
 -- A row of pixels fits between the starts of two rows, and the last row ends before the bytes do.
 pub record IsLargeEnough (c : Canvas) (first end : ℕ) (stride size : ℕ) : Type 0 where
@@ -22,7 +22,7 @@ pub record IsLargeEnough (c : Canvas) (first end : ℕ) (stride size : ℕ) : Ty
 
 -- Where the red of pixel (i, j) stands; green and blue follow it.
 abbrev pub byte_of : ℕ → ℕ → ℕ → ℕ → ℕ
-byte_of first stride i j = (j - 32 * first) * stride + 3 * i
+byte_of first stride i j = (j - 64 * first) * stride + 3 * i
 
 -- The bytes have the colour of each pixel of the picture in these rows of tiles, and elsewhere they are as they were.
 pub record AreResolved (c : Canvas) (first end : ℕ) (samples : List BlockSamples) (stride : ℕ) (old new : List ℕ) : Type 0 where

@@ -22,13 +22,13 @@ pub record MeetsOnScreen (t : Placed) (count : SampleCount) (i j s : ℕ) : Type
 
 -- The tiles of each sample that the triangle meets are in these columns and rows of tiles.
 abbrev pub HaveMet : Placed → Span → Span → Type 0
-HaveMet t columns rows = (count : SampleCount) (i j s : ℕ) → MeetsOnScreen t count i j s → IsIn columns (i / 32) × IsIn rows (j / 32)
+HaveMet t columns rows = (count : SampleCount) (i j s : ℕ) → MeetsOnScreen t count i j s → IsIn columns (i / 64) × IsIn rows (j / 64)
 
 -- Bit k of a column and of a row of tiles is set where triangle k meets a sample in them.
 abbrev pub AreReached : List Placed → Reached → Type 0
 AreReached ts r =
     (k : ℕ) (t : Placed) → slice_get ts k ≡ Some t → (count : SampleCount) (i j s : ℕ) → MeetsOnScreen t count i j s
-    → IsBitSet (slice_index r.columns (i / 32)) k × IsBitSet (slice_index r.rows (j / 32)) k
+    → IsBitSet (slice_index r.columns (i / 64)) k × IsBitSet (slice_index r.rows (j / 64)) k
 
 -- A triangle whose bit is not set meets no sample of the tile.
 abbrev pub IsMaskOf : List Placed → Tile → ℕ → Type 0

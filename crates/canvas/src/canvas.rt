@@ -5,7 +5,7 @@ use crate::tile_rows::TileRows;
 use grid::{SampleCount, TileSide};
 use raster::Tile;
 
-/// A picture by its size. Its samples lie in tiles of 32 by 32 pixels.
+/// A picture by its size. Its samples lie in tiles of 64 by 64 pixels.
 #[derive(Clone, Copy, Debug)]
 pub struct Canvas {
     /// How many pixels a row has, from 1 to 4096.
@@ -21,7 +21,7 @@ pub struct Canvas {
 }
 
 impl Canvas {
-    ghost use Rattle.grid.specs.declared.pixels.TileSide.TheVariants.{T32};
+    ghost use Rattle.grid.specs.declared.pixels.TileSide.TheVariants.{T64};
     ghost use Rattle.canvas.specs.Layout.{IsWithinLimits, columns_of, rows_of, planes_of_tile, planes_of_row};
 
     /// The picture of this size, or none where it has no pixels or more than 4096 in a row or a column.
@@ -44,32 +44,32 @@ impl Canvas {
     pub fn column_count(&self) -> u32
         ensures value { result ≡ columns_of self.now }
         ensures some { 1 ≤ result }
-        ensures few { result ≤ 128 }
+        ensures few { result ≤ 64 }
     {
-        (self.width + 31) / 32
+        (self.width + 63) / 64
     }
 
     /// How many rows of tiles there are.
     pub fn row_count(&self) -> u32
         ensures value { result ≡ rows_of self.now }
         ensures some { 1 ≤ result }
-        ensures few { result ≤ 128 }
+        ensures few { result ≤ 64 }
     {
-        (self.height + 31) / 32
+        (self.height + 63) / 64
     }
 
     /// How many planes of samples a tile has.
     pub(crate) fn planes_of_tile(&self) -> usize
         ensures value { result ≡ planes_of_tile self.now.count }
-        ensures few { result ≤ 64 }
+        ensures few { result ≤ 256 }
     {
-        16 * self.count.count() as usize
+        64 * self.count.count() as usize
     }
 
     /// How many planes of samples a row of tiles has.
     pub fn planes_of_row(&self) -> usize
         ensures value { result ≡ planes_of_row self.now }
-        ensures few { result ≤ 8192 }
+        ensures few { result ≤ 16384 }
     {
         self.column_count() as usize * self.planes_of_tile()
     }
@@ -78,12 +78,12 @@ impl Canvas {
     pub(crate) fn tile(&self, column: u32, row: u32) -> Tile
         requires column { column < columns_of self.now }
         requires row { row < rows_of self.now }
-        ensures { (result.bx ≡ 4 * column) × (result.by ≡ 4 * row) × (result.side ≡ T32) × (result.count ≡ self.now.count) }
+        ensures { (result.bx ≡ 8 * column) × (result.by ≡ 8 * row) × (result.side ≡ T64) × (result.count ≡ self.now.count) }
     {
         Tile {
-            bx: 4 * column,
-            by: 4 * row,
-            side: TileSide::T32,
+            bx: 8 * column,
+            by: 8 * row,
+            side: TileSide::T64,
             count: self.count,
         }
     }

@@ -11,14 +11,14 @@ pub(crate) const CHUNK: usize = 64;
 /// For each column and each row of tiles a word, whose bit k says that triangle k of a chunk may meet a sample there.
 #[derive(Drop)]
 pub(crate) struct Reached {
-    pub(crate) columns: [u64; 128],
-    pub(crate) rows: [u64; 128],
+    pub(crate) columns: [u64; 64],
+    pub(crate) rows: [u64; 64],
 }
 
 /// Sets bit `k` of the words of a span.
-fn mark(words: &mut [u64; 128], span: Span, k: usize)
+fn mark(words: &mut [u64; 64], span: Span, k: usize)
     requires bit { k < 64 }
-    requires few { span.end ≤ 128 }
+    requires few { span.end ≤ 64 }
     ensures set { (n : ℕ) → IsIn span n → IsBitSet (slice_index words.new n) k }
     ensures kept { (n bit : ℕ) → IsBitSet (slice_index words.old n) bit → IsBitSet (slice_index words.new n) bit }
 {
@@ -32,8 +32,8 @@ pub(crate) fn reach_of(chunk: &[Placed]) -> Reached
     requires { length chunk.now ≤ 64 }
     ensures { AreReached chunk.now result }
 {
-    let mut columns = [0; 128];
-    let mut rows = [0; 128];
+    let mut columns = [0; 64];
+    let mut rows = [0; 64];
     for k in 0..chunk.len() {
         let (across, down) = tiles_met(&chunk[k]);
         mark(&mut columns, across, k);

@@ -5,8 +5,8 @@ ghost use Rattle.canvas.specs.Drawing.{AreCleared};
 
 use crate::misfit::Misfit;
 use crate::tile_rows::TileRows;
-use raster::clear;
 use lanes::BlockSamples;
+use raster::clear;
 use shade::Sample;
 
 impl TileRows {

@@ -9,8 +9,8 @@ ghost use Rattle.canvas.specs.Colours.{IsColourOf, IsLargeEnough, AreResolved, s
 use crate::canvas::Canvas;
 use crate::misfit::Misfit;
 use crate::tile_rows::TileRows;
-use raster::{Tile, colours};
 use lanes::BlockSamples;
+use raster::{Tile, colours};
 
 /// Writes the colours of the first pixels of eight, so many of them: those in a row of the tile and in a column of its blocks. The
 /// length of a whole run is known where this is inlined, so that it is copied without a call.
@@ -46,19 +46,19 @@ impl Canvas {
         requires samples { length samples.now ≡ planes_of_row self.now }
         requires bytes { length bytes.old ≡ 3 * self.now.width }
         ensures { (i : ℕ) → i < self.now.width
-            → IsColourOf self.now (j / 32) samples.now i j (slice_index bytes.new (3 * i)) (slice_index bytes.new (3 * i + 1)) (slice_index bytes.new (3 * i + 2)) }
+            → IsColourOf self.now (j / 64) samples.now i j (slice_index bytes.new (3 * i)) (slice_index bytes.new (3 * i + 1)) (slice_index bytes.new (3 * i + 2)) }
     {
         let each = self.planes_of_tile();
         for block in 0..(self.width + 7) / 8 {
             let many = (self.width - 8 * block).min(8);
-            let tile = self.tile(block / 4, j / 32);
-            let from = (block / 4) as usize * each;
+            let tile = self.tile(block / 8, j / 64);
+            let from = (block / 8) as usize * each;
             let at = 24 * block as usize;
             resolve_run(
                 &tile,
                 &samples[from..from + each],
-                j % 32,
-                block % 4,
+                j % 64,
+                block % 8,
                 many,
                 &mut bytes[at..at + 3 * many as usize],
             );
@@ -72,9 +72,9 @@ impl TileRows {
         ensures value { result ≡ shown_rows self.now.canvas self.now.first self.now.end }
         ensures few { result ≤ 4096 }
     {
-        (32 * self.end)
+        (64 * self.end)
             .min(self.canvas.height)
-            .saturating_sub(32 * self.first)
+            .saturating_sub(64 * self.first)
     }
 
     /// Whether rows of pixels that begin so far from each other fit.
@@ -112,10 +112,10 @@ impl TileRows {
         let each = self.canvas.planes_of_row();
         let width = 3 * self.canvas.width as usize;
         for row in 0..self.shown_rows() {
-            let from = (row / 32) as usize * each;
+            let from = (row / 64) as usize * each;
             let at = row as usize * stride as usize;
             self.canvas.resolve_row(
-                32 * self.first + row,
+                64 * self.first + row,
                 &samples[from..from + each],
                 &mut bytes[at..at + width],
             );

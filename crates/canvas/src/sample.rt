@@ -15,9 +15,9 @@ impl TileRows {
         ensures within { result < planes_of_rows self.now.canvas self.now.first self.now.end }
     {
         let canvas = self.canvas;
-        let above = (j / 32 - self.first) as usize * canvas.planes_of_row();
-        let before = (i / 32) as usize * canvas.planes_of_tile();
-        let block = j % 32 / 8 * 4 + i % 32 / 8;
+        let above = (j / 64 - self.first) as usize * canvas.planes_of_row();
+        let before = (i / 64) as usize * canvas.planes_of_tile();
+        let block = j % 64 / 8 * 8 + i % 64 / 8;
         above + (before + (block * canvas.count.count() + s) as usize)
     }
 
@@ -25,7 +25,7 @@ impl TileRows {
     fn has_pixel(&self, i: u32, j: u32) -> bool
         ensures { IsTrue result ↔ HasPixel self.now.canvas self.now.first self.now.end i j }
     {
-        i < self.canvas.width && j < self.canvas.height && self.first <= j / 32 && j / 32 < self.end
+        i < self.canvas.width && j < self.canvas.height && self.first <= j / 64 && j / 64 < self.end
     }
 
     /// Sample `s` of pixel (i, j), or none where the pixel is not in the picture or its tile not in the strip, where a pixel has no

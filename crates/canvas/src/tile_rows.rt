@@ -13,7 +13,7 @@ pub struct TileRows {
     /// The row of tiles after the last one.
     pub end: u32,
     pub ghost rising: { first ≤ end },
-    pub ghost within: { end ≤ (canvas.height + 31) / 32 },
+    pub ghost within: { end ≤ (canvas.height + 63) / 64 },
 }
 
 impl TileRows {

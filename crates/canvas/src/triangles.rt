@@ -5,12 +5,12 @@ ghost use Rattle.canvas.specs.Layout.{rows_of, planes_of_row, planes_of_rows};
 ghost use Rattle.canvas.specs.Drawing.{HaveEnds, TileHasEnds};
 ghost use Rattle.canvas.specs.Reach.{AreReached, IsMaskOf};
 
-use crate::chunk::{CHUNK, Reached, reach_of};
 use crate::canvas::Canvas;
+use crate::chunk::{CHUNK, Reached, reach_of};
 use crate::misfit::Misfit;
 use crate::tile_rows::TileRows;
-use raster::{Tile, draw_triangle};
 use lanes::BlockSamples;
+use raster::{Tile, draw_triangle};
 use shade::Placed;
 
 /// Draws the triangles at the samples of a tile, one after another, but those whose bit is not set.

@@ -7,4 +7,4 @@ use Rattle.canvas.proofs.chunk.reach_of.Given as goal
 abbrev pub invariant-loop-k : goal.invariant-loop-k
 invariant-loop-k l =
     (k : ℕ) (t : Placed) → k < l.k → slice_get l.chunk k ≡ Some t → (count : SampleCount) (i j s : ℕ) → MeetsOnScreen t count i j s
-    → IsBitSet (slice_index l.columns (i / 32)) k × IsBitSet (slice_index l.rows (j / 32)) k
+    → IsBitSet (slice_index l.columns (i / 64)) k × IsBitSet (slice_index l.rows (j / 64)) k

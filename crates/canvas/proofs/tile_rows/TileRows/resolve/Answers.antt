@@ -15,7 +15,7 @@ loop-row-preserved c =
     let stride : ℕ = c.args.stride in
     let row : ℕ = c.loop-row.row in
     let each : ℕ = c.planes_of_row-each.result in
-    let from : ℕ = row / 32 * each in
+    let from : ℕ = row / 64 * each in
     let n : ℕ = from + each - from in
     let size : n ≡ planes_of_row canvas = omega (arith, c.planes_of_row-each.ensures.value) in
     let fits : IsLargeEnough canvas self.first self.end stride (length c.args.bytes.now) = c.is_large_enough.ensures.0 c.if-not-is_large_enough.false in
@@ -27,11 +27,11 @@ loop-row-preserved c =
     let wide : 3 * canvas.width ≤ stride = fits.wide in
     let high = fits.high in
     let room : a + many ≤ length c.loop-row.bytes = omega (arith, high, next, long) in
-    let same : (i s : ℕ) → i < canvas.width → s < count_of canvas.count → stored canvas ((32 * self.first + row) / 32) (take n (drop from xs)) i (32 * self.first + row) s ≡ stored canvas self.first xs i (32 * self.first + row) s =
+    let same : (i s : ℕ) → i < canvas.width → s < count_of canvas.count → stored canvas ((64 * self.first + row) / 64) (take n (drop from xs)) i (64 * self.first + row) s ≡ stored canvas self.first xs i (64 * self.first + row) s =
     λ i s l h.
-    let line : row / 32 ≡ (32 * self.first + row) / 32 - self.first = omega arith in
-    let at : from ≡ ((32 * self.first + row) / 32 - self.first) * planes_of_row canvas = rw (line, c.planes_of_row-each.ensures.value) (omega arith) in
-    row_of canvas i (32 * self.first + row) s ((32 * self.first + row) / 32) self.first xs n from refl size at (omega (arith, l)) h in
+    let line : row / 64 ≡ (64 * self.first + row) / 64 - self.first = omega arith in
+    let at : from ≡ ((64 * self.first + row) / 64 - self.first) * planes_of_row canvas = rw (line, c.planes_of_row-each.ensures.value) (omega arith) in
+    row_of canvas i (64 * self.first + row) s ((64 * self.first + row) / 64) self.first xs n from refl size at (omega (arith, l)) h in
     one_row_resolved canvas self.first self.end xs stride row many a c.args.bytes.now c.loop-row.bytes c.resolve_row.new.bytes (take n (drop from xs)) wide (omega arith) refl room (omega (arith, c.resolve_row.auto.bytes, room)) c.loop-row.invariant
     (omega (arith, inside)) (omega (arith, inside)) same c.resolve_row.ensures
 
