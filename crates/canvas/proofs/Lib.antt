@@ -4,6 +4,8 @@ pub mod Cut
 pub mod Flat
 pub mod Places
 pub mod Ends
+pub mod Units
+pub mod Arranged
 pub mod PixelColours
 pub mod Masks
 pub mod DrawnIds

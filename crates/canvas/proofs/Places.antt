@@ -1,5 +1,5 @@
 -- Each sample has a place of its own.
-use Rattle.std.proofs.Common.{◌≡◌, ◌≢◌, ◌∙◌, ap, sym, ℕ, ◌+◌, ◌-◌, ◌*◌, ◌/◌, ◌%◌, ◌<◌, ◌≤◌, List, [], ◌++◌, length, take, drop, get_or-append-add, arith}
+use Rattle.std.proofs.Common.{◌≡◌, ◌≢◌, ◌∙◌, refl, ap, sym, ℕ, ◌+◌, ◌-◌, ◌*◌, ◌/◌, ◌%◌, ◌<◌, ◌≤◌, List, [], ◌++◌, length, take, drop, get_or-append-add, arith}
 use Rattle.std.specs.Prelude.{slice_index_or}
 use Rattle.std.proofs.Math.Nat.{mul_comm, add-mul}
 use Rattle.std.proofs.lemmas.List.{get_or_append_left}
@@ -50,6 +50,10 @@ module _ (c : Canvas) (i j s : ℕ) where
   in_first row e =
       let same : j / 64 - row ≡ 0 = omega (arith, e) in
       rw same (omega arith)
+
+  -- found by its place in its row of tiles
+  pub found_in_row : (xs : List BlockSamples) (place : ℕ) → place ≡ place_in_row c i j s → stored_at (slice_index_or xs place none) pixel ≡ stored c (j / 64) xs i j s
+  found_in_row xs place at = ap (λ k. stored_at (slice_index_or xs k none) pixel) (at ∙ sym (in_first (j / 64) refl))
 
   -- in the part of the planes that are those of its row of tiles
   pub row_of : (row first : ℕ) (xs : List BlockSamples) (n a : ℕ) → j / 64 ≡ row → n ≡ planes_of_row c → a ≡ (j / 64 - first) * planes_of_row c → i / 64 < columns_of c → s < count_of c.count

@@ -1,5 +1,6 @@
 pub mod Layout
 pub mod Drawing
+pub mod Pixels
 pub mod Colours
 pub mod Reach
 pub mod Ids

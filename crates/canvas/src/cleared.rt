@@ -10,15 +10,15 @@ use raster::clear;
 use shade::Sample;
 
 impl TileRows {
-    /// Makes each sample of the strip the given one.
+    /// Makes each sample of these tile rows the given one.
     pub fn clear(&self, samples: &mut [BlockSamples], sample: Sample) -> Result<(), Misfit>
         ensures fits { IsOk result ↔ (length samples.old ≡ planes_of_rows self.now.canvas self.now.first self.now.end) }
         ensures cleared { OnOk result (AreCleared self.now.canvas self.now.first self.now.end sample samples.new) }
         ensures unfit { OnErr result (samples.new ≡ samples.old) }
-        ensures samples { IfErr result (λ misfit. misfit ≡ Misfit.Samples) }
+        ensures reason { IfErr result (λ misfit. misfit ≡ Misfit.Planes) }
     {
         if samples.len() != self.planes() {
-            return Err(Misfit::Samples);
+            return Err(Misfit::Planes);
         }
         clear(samples, sample);
         Ok(())

@@ -1,122 +1,120 @@
-//! The colours of the pixels of a strip.
-ghost use Rattle.std.specs.Prelude.{◌≡◌, ◌≢◌, ◌↔◌, ℕ, ◌+◌, ◌-◌, ◌*◌, ◌/◌, ◌<◌, ◌≤◌, length, slice_index, IsOk, IsTrue, OnOk, OnErr};
+//! The colours of pixels, written to the caller's memory.
+ghost use Rattle.std.specs.Prelude.{◌≡◌, ◌≢◌, ◌↔◌, ◌⊎◌, ℕ, ◌+◌, ◌-◌, ◌*◌, ◌/◌, ◌<◌, ◌≤◌, length, take, slice_index, IsOk, IsTrue, OnOk, OnErr, IfErr};
 ghost use Rattle.grid.specs.Pixels.{side_of};
 ghost use Rattle.raster.specs.Samples.{planes_of};
-ghost use Rattle.raster.specs.Colours.{IsColourAt};
 ghost use Rattle.canvas.specs.Layout.{planes_of_row, planes_of_rows};
-ghost use Rattle.canvas.specs.Colours.{IsColourOf, IsLargeEnough, AreResolved, shown_rows};
+ghost use Rattle.canvas.specs.Pixels.{pixel_bytes, IsLargeEnough};
+ghost use Rattle.canvas.specs.Colours.{IsPixelOf, IsTilePixel, AreResolved};
 
 use crate::canvas::Canvas;
+use crate::format::{Format, arranged};
 use crate::misfit::Misfit;
 use crate::tile_rows::TileRows;
 use lanes::BlockSamples;
 use raster::{Tile, colours};
 
-/// Writes the colours of the first pixels of eight, so many of them: those in a row of the tile and in a column of its blocks. The
-/// length of a whole run is known where this is inlined, so that it is copied without a call.
+/// Copies the first bytes of `run` to all of `bytes`. Where this is inlined, the lengths of eight whole pixels are known, so that these
+/// are copied without a call.
+#[inline(always)]
+fn copy_first(run: &[u8; 32], bytes: &mut [u8])
+    requires { length bytes.old ≤ 32 }
+    ensures { bytes.new ≡ take (length bytes.old) run.now }
+{
+    if bytes.len() == 32 {
+        bytes.copy_from_slice(&run[..32]);
+    } else if bytes.len() == 24 {
+        bytes.copy_from_slice(&run[..24]);
+    } else {
+        let length = bytes.len();
+        bytes.copy_from_slice(&run[..length]);
+    }
+}
+
+/// Writes the first `count` of the eight pixels in a row of the tile and in a column of its blocks.
 #[inline(always)]
 fn resolve_run(
     tile: &Tile,
     samples: &[BlockSamples],
     row: u32,
     column: u32,
-    many: u32,
+    format: Format,
+    count: u32,
     bytes: &mut [u8],
 )
     requires samples { length samples.now ≡ planes_of tile.now.side tile.now.count }
     requires row { row < side_of tile.now.side }
     requires column { column < side_of tile.now.side / 8 }
-    requires many { many ≤ 8 }
-    requires bytes { length bytes.old ≡ 3 * many }
-    ensures { (i : ℕ) → i < many
-        → IsColourAt tile.now samples.now row (8 * column + i) (slice_index bytes.new (3 * i)) (slice_index bytes.new (3 * i + 1)) (slice_index bytes.new (3 * i + 2)) }
+    requires count { count ≤ 8 }
+    requires bytes { length bytes.old ≡ count * pixel_bytes format }
+    ensures { (i : ℕ) → i < count → IsTilePixel tile.now samples.now format row (8 * column + i) (λ k. slice_index bytes.new (i * pixel_bytes format + k)) }
 {
-    let run = colours(tile, samples, row, column);
-    if many == 8 {
-        bytes[..24].copy_from_slice(&run[..24]);
-    } else {
-        bytes.copy_from_slice(&run[..3 * many as usize]);
-    }
+    let run = arranged(format, colours(tile, samples, row, column));
+    copy_first(&run, bytes);
 }
 
 impl Canvas {
-    /// Writes the colours of row `j` of pixels, from the samples of its row of tiles.
-    fn resolve_row(&self, j: u32, samples: &[BlockSamples], bytes: &mut [u8])
+    /// Writes row `j` of pixels, from the samples of its row of tiles.
+    fn resolve_row(&self, j: u32, samples: &[BlockSamples], format: Format, bytes: &mut [u8])
         requires row { j < self.now.height }
         requires samples { length samples.now ≡ planes_of_row self.now }
-        requires bytes { length bytes.old ≡ 3 * self.now.width }
-        ensures { (i : ℕ) → i < self.now.width
-            → IsColourOf self.now (j / 64) samples.now i j (slice_index bytes.new (3 * i)) (slice_index bytes.new (3 * i + 1)) (slice_index bytes.new (3 * i + 2)) }
+        requires bytes { length bytes.old ≡ self.now.width * pixel_bytes format }
+        ensures { (i : ℕ) → i < self.now.width → IsPixelOf self.now (j / 64) samples.now format i j (λ k. slice_index bytes.new (i * pixel_bytes format + k)) }
     {
         let each = self.planes_of_tile();
+        let unit = format.pixel_bytes();
         for block in 0..(self.width + 7) / 8 {
-            let many = (self.width - 8 * block).min(8);
+            let count = (self.width - 8 * block).min(8);
             let tile = self.tile(block / 8, j / 64);
             let from = (block / 8) as usize * each;
-            let at = 24 * block as usize;
+            let at = 8 * block as usize * unit;
             resolve_run(
                 &tile,
                 &samples[from..from + each],
                 j % 64,
                 block % 8,
-                many,
-                &mut bytes[at..at + 3 * many as usize],
+                format,
+                count,
+                &mut bytes[at..at + count as usize * unit],
             );
         }
     }
 }
 
 impl TileRows {
-    /// How many rows of pixels of the picture stand in the strip.
-    fn shown_rows(&self) -> u32
-        ensures value { result ≡ shown_rows self.now.canvas self.now.first self.now.end }
-        ensures few { result ≤ 4096 }
-    {
-        (64 * self.end)
-            .min(self.canvas.height)
-            .saturating_sub(64 * self.first)
-    }
-
-    /// Whether rows of pixels that begin so far from each other fit.
-    fn is_large_enough(&self, stride: u32, size: usize) -> bool
-        ensures { IsTrue result ↔ IsLargeEnough self.now.canvas self.now.first self.now.end stride size }
-    {
-        let width = 3 * self.canvas.width;
-        let rows = u64::from(self.shown_rows()) * u64::from(stride);
-        let unused = u64::from(stride).saturating_sub(u64::from(width));
-        width <= stride && rows <= unused.saturating_add(size as u64)
-    }
-
-    /// Writes red, green and blue of each pixel of the picture in the strip, a byte each: the rows of pixels from top to bottom, each
-    /// `stride` bytes behind the one above, the pixels of a row from left to right. Bytes that are of no pixel stay as they are.
+    /// Writes the colour of each pixel of the picture in these tile rows, in the format, with alpha 255: the rows of pixels from top to
+    /// bottom, each `stride` bytes behind the one above, the pixels of a row from left to right. The bytes begin with the first pixel of
+    /// the first row. Bytes that are of no pixel stay unchanged.
     pub fn resolve(
         &self,
         samples: &[BlockSamples],
         bytes: &mut [u8],
-        stride: u32,
+        format: Format,
+        stride: usize,
     ) -> Result<(), Misfit>
         ensures fits { IsOk result ↔ ((length samples.now ≡ planes_of_rows self.now.canvas self.now.first self.now.end)
-            × IsLargeEnough self.now.canvas self.now.first self.now.end stride (length bytes.old)) }
-        ensures resolved { OnOk result (AreResolved self.now.canvas self.now.first self.now.end samples.now stride bytes.old bytes.new) }
+            × IsLargeEnough self.now.canvas self.now.first self.now.end (pixel_bytes format) stride (length bytes.old)) }
+        ensures resolved { OnOk result (AreResolved self.now.canvas self.now.first self.now.end samples.now format stride bytes.old bytes.new) }
         ensures unfit { OnErr result (bytes.new ≡ bytes.old) }
-        ensures samples { result ≡ Err Misfit.Samples → length samples.now ≢ planes_of_rows self.now.canvas self.now.first self.now.end }
-        ensures bytes { result ≡ Err Misfit.Bytes → ¬ IsLargeEnough self.now.canvas self.now.first self.now.end stride (length bytes.old) }
-        ensures only { (result ≢ Err Misfit.Ids) × (result ≢ Err Misfit.Indices) }
+        ensures reason { IfErr result (λ misfit.
+            ((misfit ≡ Misfit.Planes) × (length samples.now ≢ planes_of_rows self.now.canvas self.now.first self.now.end))
+            ⊎ ((misfit ≡ Misfit.Pixels) × ¬ IsLargeEnough self.now.canvas self.now.first self.now.end (pixel_bytes format) stride (length bytes.old))) }
     {
+        let unit = format.pixel_bytes();
         if samples.len() != self.planes() {
-            return Err(Misfit::Samples);
+            return Err(Misfit::Planes);
         }
-        if !self.is_large_enough(stride, bytes.len()) {
-            return Err(Misfit::Bytes);
+        if !self.is_large_enough(unit, stride, bytes.len()) {
+            return Err(Misfit::Pixels);
         }
         let each = self.canvas.planes_of_row();
-        let width = 3 * self.canvas.width as usize;
+        let width = self.canvas.width as usize * unit;
         for row in 0..self.shown_rows() {
             let from = (row / 64) as usize * each;
-            let at = row as usize * stride as usize;
+            let at = row as usize * stride;
             self.canvas.resolve_row(
                 64 * self.first + row,
                 &samples[from..from + each],
+                format,
                 &mut bytes[at..at + width],
             );
         }

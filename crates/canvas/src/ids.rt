@@ -1,5 +1,5 @@
 //! Triangles that are drawn in their ids in place of their colours.
-ghost use Rattle.std.specs.Prelude.{◌≡◌, ◌≢◌, ◌↔◌, ◌+◌, ◌<◌, ◌≤◌, length, IsOk, OnOk, OnErr};
+ghost use Rattle.std.specs.Prelude.{◌≡◌, ◌≢◌, ◌↔◌, ◌+◌, ◌<◌, ◌≤◌, length, ◌⊎◌, IsOk, OnOk, OnErr, IfErr};
 ghost use Rattle.canvas.specs.Layout.{planes_of_rows};
 ghost use Rattle.canvas.specs.Drawing.{HaveEnds};
 ghost use Rattle.canvas.specs.Ids.{with_id as with_id_of, with_ids};
@@ -70,12 +70,12 @@ impl TileRows {
         ensures fits { IsOk result ↔ ((length samples.old ≡ planes_of_rows self.now.canvas self.now.first self.now.end) × (first_id + length triangles.now ≤ 16777216)) }
         ensures drawn { OnOk result (HaveEnds (with_ids triangles.now first_id) self.now.canvas self.now.first self.now.end samples.old samples.new) }
         ensures unfit { OnErr result (samples.new ≡ samples.old) }
-        ensures samples { result ≡ Err Misfit.Samples → length samples.old ≢ planes_of_rows self.now.canvas self.now.first self.now.end }
-        ensures ids { result ≡ Err Misfit.Ids → 16777216 < first_id + length triangles.now }
-        ensures only { (result ≢ Err Misfit.Bytes) × (result ≢ Err Misfit.Indices) }
+        ensures reason { IfErr result (λ misfit.
+            ((misfit ≡ Misfit.Planes) × (length samples.old ≢ planes_of_rows self.now.canvas self.now.first self.now.end))
+            ⊎ ((misfit ≡ Misfit.Ids) × (16777216 < first_id + length triangles.now))) }
     {
         if samples.len() != self.planes() {
-            return Err(Misfit::Samples);
+            return Err(Misfit::Planes);
         }
         let first = first_id as usize;
         if ID_COUNT < first || ID_COUNT - first < triangles.len() {

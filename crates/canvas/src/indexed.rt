@@ -1,5 +1,5 @@
 //! Triangles that are drawn by the places of their indices in a list of vertices.
-ghost use Rattle.std.specs.Prelude.{◌≡◌, ◌≢◌, ◌↔◌, ◌<◌, ◌≤◌, map, length, IsOk, IsTrue, OnOk, OnErr};
+ghost use Rattle.std.specs.Prelude.{◌≡◌, ◌≢◌, ◌↔◌, ◌<◌, ◌≤◌, map, length, ◌⊎◌, IsOk, IsTrue, OnOk, OnErr, IfErr};
 ghost use Rattle.std.specs.List.{All};
 ghost use Rattle.canvas.specs.Layout.{planes_of_rows};
 ghost use Rattle.canvas.specs.Drawing.{HaveEnds};
@@ -80,12 +80,12 @@ impl TileRows {
         ensures fits { IsOk result ↔ ((length samples.old ≡ planes_of_rows self.now.canvas self.now.first self.now.end) × All (AreIndices (length vertices.now)) triangles.now) }
         ensures drawn { OnOk result (HaveEnds (map (placed_by vertices.now state.now) triangles.now) self.now.canvas self.now.first self.now.end samples.old samples.new) }
         ensures unfit { OnErr result (samples.new ≡ samples.old) }
-        ensures samples { result ≡ Err Misfit.Samples → length samples.old ≢ planes_of_rows self.now.canvas self.now.first self.now.end }
-        ensures indices { result ≡ Err Misfit.Indices → ¬ All (AreIndices (length vertices.now)) triangles.now }
-        ensures only { (result ≢ Err Misfit.Bytes) × (result ≢ Err Misfit.Ids) }
+        ensures reason { IfErr result (λ misfit.
+            ((misfit ≡ Misfit.Planes) × (length samples.old ≢ planes_of_rows self.now.canvas self.now.first self.now.end))
+            ⊎ ((misfit ≡ Misfit.Indices) × ¬ All (AreIndices (length vertices.now)) triangles.now)) }
     {
         if samples.len() != self.planes() {
-            return Err(Misfit::Samples);
+            return Err(Misfit::Planes);
         }
         if !all_are_indices(vertices, triangles) {
             return Err(Misfit::Indices);

@@ -1,4 +1,4 @@
-//! Triangles, drawn at the samples of a strip.
+//! Triangles, drawn at the samples of tile rows.
 ghost use Rattle.std.specs.Prelude.{◌≡◌, ◌↔◌, ◌+◌, ◌<◌, ◌≤◌, length, IsOk, OnOk, OnErr, IfErr};
 ghost use Rattle.raster.specs.Samples.{planes_of};
 ghost use Rattle.canvas.specs.Layout.{rows_of, planes_of_row, planes_of_rows};
@@ -55,7 +55,7 @@ impl Canvas {
 }
 
 impl TileRows {
-    /// Draws as many triangles as a word has bits at each sample of the strip.
+    /// Draws as many triangles as a word has bits at each sample of these tile rows.
     pub(crate) fn draw_chunk(&self, chunk: &[Placed], samples: &mut [BlockSamples])
         requires few { length chunk.now ≤ 64 }
         requires samples { length samples.old ≡ planes_of_rows self.now.canvas self.now.first self.now.end }
@@ -70,16 +70,16 @@ impl TileRows {
         }
     }
 
-    /// Draws the triangles at each sample of the strip, one after another: what stood there is what they begin with. So the picture of
+    /// Draws the triangles at each sample of these tile rows, one after another: what stood there is what they begin with. So the picture of
     /// many calls is that of all their triangles in the order of the calls (`joins_batches`).
     pub fn draw(&self, triangles: &[Placed], samples: &mut [BlockSamples]) -> Result<(), Misfit>
         ensures fits { IsOk result ↔ (length samples.old ≡ planes_of_rows self.now.canvas self.now.first self.now.end) }
         ensures drawn { OnOk result (HaveEnds triangles.now self.now.canvas self.now.first self.now.end samples.old samples.new) }
         ensures unfit { OnErr result (samples.new ≡ samples.old) }
-        ensures samples { IfErr result (λ misfit. misfit ≡ Misfit.Samples) }
+        ensures reason { IfErr result (λ misfit. misfit ≡ Misfit.Planes) }
     {
         if samples.len() != self.planes() {
-            return Err(Misfit::Samples);
+            return Err(Misfit::Planes);
         }
         let mut done = 0;
         while done < triangles.len() {

@@ -1,13 +1,12 @@
-use Rattle.std.proofs.Common.{◌≡◌, length, length-take, arith}
-use Rattle.canvas.proofs.PixelColours.{whole_colours}
+use Rattle.std.proofs.Common.{◌≡◌, ◌∙◌, ap, ℕ, ◌+◌, ◌*◌, List, take, slice_index}
+use Rattle.canvas.specs.Pixels.{pixel_bytes}
+use Rattle.canvas.proofs.PixelColours.{tile_pixel_same, first_pixels}
 use Rattle.canvas.proofs.colours.resolve_run.Goals as goal
 
-pub copy_from_slice-requires : goal.copy_from_slice-requires
-copy_from_slice-requires c =
-    let long : length c.colours-run.result ≡ 32 = omega arith in
-    omega (arith, length-take 24 c.args.bytes.now, length-take 24 c.colours-run.result, long, c.requires.bytes, c.if-many-eq8.true)
-
-pub returns-then-many-eq8 : goal.returns-then-many-eq8
-returns-then-many-eq8 c = λ i l.
-    whole_colours c.args.tile.now c.args.samples.now c.args.row c.args.column c.args.many c.colours-run.result c.copy_from_slice.new.self _ c.if-many-eq8.true
-    (omega (arith, c.copy_from_slice.ensures.len, length-take 24 c.args.bytes.now, c.requires.bytes, c.if-many-eq8.true)) c.copy_from_slice.ensures.after c.colours-run.ensures i l
+pub returns : goal.returns
+returns c = λ i l.
+    let run : List ℕ = c.arranged-run.result in
+    let w : ℕ = pixel_bytes c.args.format in
+    tile_pixel_same c.args.tile.now c.args.samples.now c.args.format c.args.row (8 * c.args.column + i) _ _
+    (λ k small. ap (λ xs. slice_index xs (i * w + k)) (c.copy_first.ensures ∙ ap (λ n. take n run) c.requires.bytes))
+    (first_pixels c.args.tile.now c.args.samples.now c.args.format c.args.row c.args.column c.args.count c.colours.result run c.requires.count c.colours.ensures c.arranged-run.ensures i l)
