@@ -10,3 +10,4 @@ pub mod PixelColours
 pub mod Masks
 pub mod DrawnIds
 pub mod Mapped
+pub mod Changes

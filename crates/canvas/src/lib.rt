@@ -12,6 +12,7 @@ mod ids;
 mod image;
 mod indexed;
 mod laws;
+mod loaded;
 mod misfit;
 mod place;
 mod reach;
