@@ -11,3 +11,4 @@ pub mod Masks
 pub mod DrawnIds
 pub mod Mapped
 pub mod Changes
+pub mod Moved

@@ -6,3 +6,4 @@ pub mod Reach
 pub mod Loaded
 pub mod Ids
 pub mod Indexed
+pub mod Window

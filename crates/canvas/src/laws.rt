@@ -1,5 +1,5 @@
 //! Laws of what is drawn. Their functions do nothing.
-ghost use Rattle.std.specs.Prelude.{◌≡◌, ℕ, List, ◌++◌, Option as Maybe, None as Nothing};
+ghost use Rattle.std.specs.Prelude.{◌≡◌, ◌↔◌, ◌<◌, ℕ, ℤ, pos, ◌+ℤ◌, map, List, ◌++◌, Option as Maybe, None as Nothing};
 ghost use Rattle.grid.specs.declared.sample_count.SampleCount.{SampleCount};
 ghost use Rattle.lanes.specs.declared.block_samples.BlockSamples.{BlockSamples};
 ghost use Rattle.shade.specs.declared.sample.Sample.{Sample};
@@ -8,6 +8,7 @@ ghost use Rattle.shade.specs.Ending.{Ends};
 ghost use Rattle.canvas.specs.declared.canvas.Canvas.{Canvas};
 ghost use Rattle.canvas.specs.Layout.{HasSample, stored};
 ghost use Rattle.canvas.specs.Drawing.{HaveEnds};
+ghost use Rattle.canvas.specs.Window.{moved};
 ghost use Rattle.canvas.specs.Ids.{with_ids, IsLast, HasId};
 
 /// Triangles that are drawn in two calls make of each sample what all of them make of it in one call, and of a sample there is only one
@@ -25,4 +26,11 @@ pub fn joins_batches()
 pub fn tells_last()
     ensures { (ts : List Placed) (n : ℕ) (count : SampleCount) (i j s : ℕ) (start end : Sample) → Ends (with_ids ts n) count i j s start end
         → (last : Maybe ℕ) × IsLast ts n count i j s start Nothing last × HasId start end last }
+{}
+
+/// Triangles as seen from the corner of pixel (x, y) make of sample s of pixel (i, j) what the triangles themselves make of sample s of
+/// pixel (i + x, j + y) of the screen.
+pub fn moves_by_pixels()
+    ensures { (x y : ℤ) (ts : List Placed) (count : SampleCount) (i j column row s : ℕ) (start end : Sample) → i < 4096 → j < 4096 → pos column ≡ pos i +ℤ x → pos row ≡ pos j +ℤ y
+        → (Ends (map (moved x y) ts) count i j s start end ↔ Ends ts count column row s start end) }
 {}

@@ -23,7 +23,10 @@ mod vertex;
 
 pub use canvas::Canvas;
 pub use format::Format;
-pub use laws::{joins_batches, tells_last};
+pub use laws::{joins_batches, moves_by_pixels, tells_last};
 pub use misfit::Misfit;
 pub use tile_rows::TileRows;
 pub use vertex::Vertex;
+
+#[cfg(test)]
+mod tests;
