@@ -1,0 +1,14 @@
+pub mod Bits
+pub mod Boxes
+pub mod Cut
+pub mod Flat
+pub mod Places
+pub mod Ends
+pub mod Units
+pub mod Arranged
+pub mod PixelColours
+pub mod Masks
+pub mod DrawnIds
+pub mod Mapped
+pub mod Changes
+pub mod Moved

@@ -1,0 +1,99 @@
+-- The bytes of pixels.
+use Rattle.std.proofs.Common.{◌++◌, ◌≡◌, ◌≢◌, ◌∙◌, inl, inr, refl, sym, ap, subst, ℕ, ◌+◌, ◌-◌, ◌*◌, ◌/◌, ◌%◌, ◌<◌, ◌≤◌, List, length, take, slice_index, get_or-take, arith}
+use Rattle.std.proofs.Math.Nat.{mul_comm}
+use Rattle.std.proofs.lemmas.Nat.{mul-add-lt}
+use Rattle.std.proofs.lemmas.Bool.{cases_lt}
+use Rattle.std.proofs.lemmas.List.{get_or_append_left}
+use Rattle.grid.specs.Samples.{count_of}
+use Rattle.grid.specs.declared.sample_count.SampleCount.{SampleCount}
+use Rattle.grid.specs.declared.sample_count.SampleCount.TheVariants.{One, Four}
+use Rattle.shade.specs.declared.sample.Sample.{Sample}
+use Rattle.lanes.specs.declared.block_samples.BlockSamples.{BlockSamples}
+use Rattle.shade.specs.Resolve.{IsResolved}
+use Rattle.raster.specs.declared.tile.Tile.{Tile}
+use Rattle.raster.specs.Samples.{stored as in_tile}
+use Rattle.raster.specs.Colours.{IsColourAt, AreColoursAt}
+use Rattle.canvas.proofs.Cut.{put, put_here, put_elsewhere}
+use Rattle.canvas.specs.declared.canvas.Canvas.{Canvas}
+use Rattle.canvas.specs.declared.format.Format.{Format}
+use Rattle.canvas.specs.Layout.{stored}
+use Rattle.canvas.specs.Pixels.{pixel_bytes}
+use Rattle.canvas.specs.Colours.{IsColourOf, IsPixelOf, IsTilePixel, AreBytesOf, AreArranged}
+
+-- ---- colours of the same samples
+resolved_same : (count : SampleCount) (f g : ℕ → ℕ) (q : ℕ) → ((s : ℕ) → s < count_of count → f s ≡ g s) → IsResolved count f q → IsResolved count g q
+resolved_same One f g q same h = h ∙ same 0 (omega arith)
+resolved_same Four f g q same h =
+    let first : f 0 ≡ g 0 = same 0 (omega arith) in
+    let second : f 1 ≡ g 1 = same 1 (omega arith) in
+    let third : f 2 ≡ g 2 = same 2 (omega arith) in
+    let fourth : f 3 ≡ g 3 = same 3 (omega arith) in
+    let low = h.low in
+    let high = h.high in
+    record { low = omega arith; high = omega arith }
+
+module _ (c : Canvas) (i j r g b : ℕ) where
+  -- from a tile to its row of tiles
+  pub colour_in_row : (tile : Tile) (xs part : List BlockSamples) → tile.count ≡ c.count → ((s : ℕ) → s < count_of c.count → in_tile tile part (j % 64) (i % 64) s ≡ stored c (j / 64) xs i j s)
+      → IsColourAt tile part (j % 64) (i % 64) r g b → IsColourOf c (j / 64) xs i j r g b
+  colour_in_row tile xs part count same h =
+      let at : (s : ℕ) → Sample = λ s. in_tile tile part (j % 64) (i % 64) s in
+      let red : IsResolved c.count (λ s. (at s).r) r = subst (λ n. IsResolved n (λ s. (at s).r) r) count h.red in
+      let green : IsResolved c.count (λ s. (at s).g) g = subst (λ n. IsResolved n (λ s. (at s).g) g) count h.green in
+      let blue : IsResolved c.count (λ s. (at s).b) b = subst (λ n. IsResolved n (λ s. (at s).b) b) count h.blue in
+      record {
+        red = resolved_same c.count _ (λ s. (stored c (j / 64) xs i j s).r) r (λ s l. ap (λ (x : Sample). x.r) (same s l)) red;
+        green = resolved_same c.count _ (λ s. (stored c (j / 64) xs i j s).g) g (λ s l. ap (λ (x : Sample). x.g) (same s l)) green;
+        blue = resolved_same c.count _ (λ s. (stored c (j / 64) xs i j s).b) b (λ s l. ap (λ (x : Sample). x.b) (same s l)) blue;
+      }
+
+  -- and from there to a strip
+  pub colour_in_rows : (first : ℕ) (xs part : List BlockSamples) → ((s : ℕ) → s < count_of c.count → stored c (j / 64) part i j s ≡ stored c first xs i j s)
+      → IsColourOf c (j / 64) part i j r g b → IsColourOf c first xs i j r g b
+  colour_in_rows first xs part same h = record {
+    red = resolved_same c.count _ (λ s. (stored c first xs i j s).r) r (λ s l. ap (λ (x : Sample). x.r) (same s l)) h.red;
+    green = resolved_same c.count _ (λ s. (stored c first xs i j s).g) g (λ s l. ap (λ (x : Sample). x.g) (same s l)) h.green;
+    blue = resolved_same c.count _ (λ s. (stored c first xs i j s).b) b (λ s l. ap (λ (x : Sample). x.b) (same s l)) h.blue;
+  }
+
+-- ---- the bytes of a pixel
+-- bytes that are the same as these
+pub bytes_same : (format : Format) (r g b : ℕ) (f h : ℕ → ℕ) → ((k : ℕ) → k < pixel_bytes format → h k ≡ f k) → AreBytesOf format r g b f → AreBytesOf format r g b h
+bytes_same format r g b f h same order k l = same k l ∙ order k l
+
+pub pixel_same : (c : Canvas) (first : ℕ) (samples : List BlockSamples) (format : Format) (i j : ℕ) (f h : ℕ → ℕ) → ((k : ℕ) → k < pixel_bytes format → h k ≡ f k)
+    → IsPixelOf c first samples format i j f → IsPixelOf c first samples format i j h
+pixel_same c first samples format i j f h same p = record { r = p.r; g = p.g; b = p.b; colour = p.colour; order = bytes_same format p.r p.g p.b f h same p.order }
+
+pub tile_pixel_same : (tile : Tile) (samples : List BlockSamples) (format : Format) (row column : ℕ) (f h : ℕ → ℕ) → ((k : ℕ) → k < pixel_bytes format → h k ≡ f k)
+    → IsTilePixel tile samples format row column f → IsTilePixel tile samples format row column h
+tile_pixel_same tile samples format row column f h same p = record { r = p.r; g = p.g; b = p.b; colour = p.colour; order = bytes_same format p.r p.g p.b f h same p.order }
+
+-- from a tile to its row of tiles
+pub pixel_in_row : (c : Canvas) (i j : ℕ) (tile : Tile) (xs part : List BlockSamples) (format : Format) (bytes : ℕ → ℕ) → tile.count ≡ c.count
+    → ((s : ℕ) → s < count_of c.count → in_tile tile part (j % 64) (i % 64) s ≡ stored c (j / 64) xs i j s)
+    → IsTilePixel tile part format (j % 64) (i % 64) bytes → IsPixelOf c (j / 64) xs format i j bytes
+pixel_in_row c i j tile xs part format bytes count same p =
+    record { r = p.r; g = p.g; b = p.b; colour = colour_in_row c i j p.r p.g p.b tile xs part count same p.colour; order = p.order }
+
+-- and from there to tile rows
+pub pixel_in_rows : (c : Canvas) (i j first : ℕ) (xs part : List BlockSamples) (format : Format) (bytes : ℕ → ℕ)
+    → ((s : ℕ) → s < count_of c.count → stored c (j / 64) part i j s ≡ stored c first xs i j s)
+    → IsPixelOf c (j / 64) part format i j bytes → IsPixelOf c first xs format i j bytes
+pixel_in_rows c i j first xs part format bytes same p =
+    record { r = p.r; g = p.g; b = p.b; colour = colour_in_rows c i j p.r p.g p.b first xs part same p.colour; order = p.order }
+
+-- the first of eight pixels
+pub first_pixels : (tile : Tile) (samples : List BlockSamples) (format : Format) (row column count : ℕ) (rgb run : List ℕ) → count ≤ 8 → AreColoursAt tile samples row column rgb → AreArranged format rgb run
+    → (i : ℕ) → i < count → IsTilePixel tile samples format row (8 * column + i) (λ k. slice_index (take (count * pixel_bytes format) run) (i * pixel_bytes format + k))
+first_pixels tile samples format row column count rgb run few colours arranged i l = record {
+  r = slice_index rgb (3 * i);
+  g = slice_index rgb (3 * i + 1);
+  b = slice_index rgb (3 * i + 2);
+  colour = colours i (omega arith);
+  order = λ k small.
+      let inside : i * pixel_bytes format + k < count * pixel_bytes format =
+      (let below = mul-add-lt i (pixel_bytes format) k count l small in
+      omega (arith, below, mul_comm (pixel_bytes format) count)) in
+      get_or-take (count * pixel_bytes format) run (i * pixel_bytes format + k) 0 inside ∙ arranged i (omega arith) k small;
+}

@@ -1,0 +1,36 @@
+-- Pixels in the caller's memory.
+use Rattle.std.specs.Prelude.{◌≡◌, ◌≢◌, ℕ, ◌+◌, ◌-◌, ◌*◌, ◌<◌, ◌≤◌, min, List, [], ◌∷◌, slice_index}
+use Rattle.canvas.specs.declared.canvas.Canvas.{Canvas}
+use Rattle.canvas.specs.declared.format.Format.{Format}
+use Rattle.canvas.specs.declared.format.Format.TheVariants.{Rgb8, Rgba8, Bgra8}
+use Rattle.canvas.specs.Layout.{HasPixel}
+
+-- How many bytes a pixel has in a format.
+abbrev pub pixel_bytes : Format → ℕ
+pixel_bytes Rgb8 = 3
+pixel_bytes Rgba8 = 4
+pixel_bytes Bgra8 = 4
+
+-- The bytes of a pixel of this red, green and blue, which is opaque.
+abbrev pub pixel_of : Format → ℕ → ℕ → ℕ → List ℕ
+pixel_of Rgb8 r g b = r ∷ g ∷ b ∷ []
+pixel_of Rgba8 r g b = r ∷ g ∷ b ∷ 255 ∷ []
+pixel_of Bgra8 r g b = b ∷ g ∷ r ∷ 255 ∷ []
+
+-- How many rows of pixels of the picture stand in the tile rows from `first` to before `end`.
+abbrev pub shown_rows : Canvas → ℕ → ℕ → ℕ
+shown_rows c first end = min (64 * end) c.height - 64 * first
+
+-- A row of pixels, of `unit` entries each, fits between the starts of two rows, and the last row ends where the slice does or before.
+pub record IsLargeEnough (c : Canvas) (first end : ℕ) (unit stride size : ℕ) : Type 0 where
+  pub wide : c.width * unit ≤ stride
+  pub high : shown_rows c first end * stride + c.width * unit ≤ size + stride
+
+-- Where the first entry of pixel (i, j) stands. The first pixel of the first tile row stands at 0.
+abbrev pub entry_of : ℕ → ℕ → ℕ → ℕ → ℕ → ℕ
+entry_of first unit stride i j = (j - 64 * first) * stride + i * unit
+
+-- The entries of each pixel of the picture in these tile rows are as `IsPixel` says, and all other entries stay.
+pub record AreWritten (c : Canvas) (first end : ℕ) (unit stride : ℕ) (IsPixel : ℕ → ℕ → (ℕ → ℕ) → Type 0) (old new : List ℕ) : Type 0 where
+  pub pixels : (i j : ℕ) → HasPixel c first end i j → IsPixel i j (λ k. slice_index new (entry_of first unit stride i j + k))
+  pub others : (n : ℕ) → ((i j k : ℕ) → HasPixel c first end i j → k < unit → n ≢ entry_of first unit stride i j + k) → slice_index new n ≡ slice_index old n

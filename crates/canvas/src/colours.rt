@@ -1,0 +1,123 @@
+//! The colours of pixels, written to the caller's memory.
+ghost use Rattle.std.specs.Prelude.{◌≡◌, ◌≢◌, ◌↔◌, ◌⊎◌, ℕ, ◌+◌, ◌-◌, ◌*◌, ◌/◌, ◌<◌, ◌≤◌, length, take, slice_index, IsOk, IsTrue, OnOk, OnErr, IfErr};
+ghost use Rattle.grid.specs.Pixels.{side_of};
+ghost use Rattle.raster.specs.Samples.{planes_of};
+ghost use Rattle.canvas.specs.Layout.{planes_of_row, planes_of_rows};
+ghost use Rattle.canvas.specs.Pixels.{pixel_bytes, IsLargeEnough};
+ghost use Rattle.canvas.specs.Colours.{IsPixelOf, IsTilePixel, AreResolved};
+
+use crate::canvas::Canvas;
+use crate::format::{Format, arranged};
+use crate::misfit::Misfit;
+use crate::tile_rows::TileRows;
+use lanes::BlockSamples;
+use raster::{Tile, colours};
+
+/// Copies the first bytes of `run` to all of `bytes`. Where this is inlined, the lengths of eight whole pixels are known, so that these
+/// are copied without a call.
+#[inline(always)]
+fn copy_first(run: &[u8; 32], bytes: &mut [u8])
+    requires { length bytes.old ≤ 32 }
+    ensures { bytes.new ≡ take (length bytes.old) run.now }
+{
+    if bytes.len() == 32 {
+        bytes.copy_from_slice(&run[..32]);
+    } else if bytes.len() == 24 {
+        bytes.copy_from_slice(&run[..24]);
+    } else {
+        let length = bytes.len();
+        bytes.copy_from_slice(&run[..length]);
+    }
+}
+
+/// Writes the first `count` of the eight pixels in a row of the tile and in a column of its blocks.
+#[inline(always)]
+fn resolve_run(
+    tile: &Tile,
+    samples: &[BlockSamples],
+    row: u32,
+    column: u32,
+    format: Format,
+    count: u32,
+    bytes: &mut [u8],
+)
+    requires samples { length samples.now ≡ planes_of tile.now.side tile.now.count }
+    requires row { row < side_of tile.now.side }
+    requires column { column < side_of tile.now.side / 8 }
+    requires count { count ≤ 8 }
+    requires bytes { length bytes.old ≡ count * pixel_bytes format }
+    ensures { (i : ℕ) → i < count → IsTilePixel tile.now samples.now format row (8 * column + i) (λ k. slice_index bytes.new (i * pixel_bytes format + k)) }
+{
+    let run = arranged(format, colours(tile, samples, row, column));
+    copy_first(&run, bytes);
+}
+
+impl Canvas {
+    /// Writes row `j` of pixels, from the samples of its row of tiles.
+    fn resolve_row(&self, j: u32, samples: &[BlockSamples], format: Format, bytes: &mut [u8])
+        requires row { j < self.now.height }
+        requires samples { length samples.now ≡ planes_of_row self.now }
+        requires bytes { length bytes.old ≡ self.now.width * pixel_bytes format }
+        ensures { (i : ℕ) → i < self.now.width → IsPixelOf self.now (j / 64) samples.now format i j (λ k. slice_index bytes.new (i * pixel_bytes format + k)) }
+    {
+        let each = self.planes_of_tile();
+        let unit = format.pixel_bytes();
+        for block in 0..(self.width + 7) / 8 {
+            let count = (self.width - 8 * block).min(8);
+            let tile = self.tile(block / 8, j / 64);
+            let from = (block / 8) as usize * each;
+            let at = 8 * block as usize * unit;
+            resolve_run(
+                &tile,
+                &samples[from..from + each],
+                j % 64,
+                block % 8,
+                format,
+                count,
+                &mut bytes[at..at + count as usize * unit],
+            );
+        }
+    }
+}
+
+impl TileRows {
+    /// Writes the colour of each pixel of the picture in these tile rows, in the format, with alpha 255: the rows of pixels from top to
+    /// bottom, each `stride` bytes behind the one above, the pixels of a row from left to right. The bytes begin with the first pixel of
+    /// the first row. Bytes that are of no pixel stay unchanged.
+    pub fn resolve(
+        &self,
+        samples: &[BlockSamples],
+        bytes: &mut [u8],
+        format: Format,
+        stride: usize,
+    ) -> Result<(), Misfit>
+        ensures fits { IsOk result ↔ ((length samples.now ≡ planes_of_rows self.now.canvas self.now.first self.now.end)
+            × IsLargeEnough self.now.canvas self.now.first self.now.end (pixel_bytes format) stride (length bytes.old)) }
+        ensures resolved { OnOk result (AreResolved self.now.canvas self.now.first self.now.end samples.now format stride bytes.old bytes.new) }
+        ensures unfit { OnErr result (bytes.new ≡ bytes.old) }
+        ensures reason { IfErr result (λ misfit.
+            ((misfit ≡ Misfit.Planes) × (length samples.now ≢ planes_of_rows self.now.canvas self.now.first self.now.end))
+            ⊎ ((misfit ≡ Misfit.Pixels) × ¬ IsLargeEnough self.now.canvas self.now.first self.now.end (pixel_bytes format) stride (length bytes.old))) }
+    {
+        let unit = format.pixel_bytes();
+        if samples.len() != self.planes() {
+            return Err(Misfit::Planes);
+        }
+        if !self.is_large_enough(unit, stride, bytes.len()) {
+            return Err(Misfit::Pixels);
+        }
+        let each = self.canvas.planes_of_row();
+        let width = self.canvas.width as usize * unit;
+        for row in 0..self.shown_rows() {
+            let from = (row / 64) as usize * each;
+            let at = row as usize * stride;
+            self.canvas.resolve_row(
+                64 * self.first + row,
+                &samples[from..from + each],
+                format,
+                &mut bytes[at..at + width],
+            );
+        }
+        Ok(())
+    }
+}

@@ -1,0 +1,32 @@
+//! A canvas: samples that stay in the caller's memory, so that batch after batch of triangles is drawn over them, and colours, depths and
+//! ids are read back. No call takes memory. Threads share a canvas by its rows of tiles.
+#![tactic(auto)]
+
+mod canvas;
+mod chunk;
+mod cleared;
+mod colours;
+mod entries;
+mod format;
+mod ids;
+mod image;
+mod indexed;
+mod laws;
+mod loaded;
+mod misfit;
+mod place;
+mod reach;
+mod sample;
+mod tile_rows;
+mod triangles;
+mod vertex;
+
+pub use canvas::Canvas;
+pub use format::Format;
+pub use laws::{joins_batches, moves_by_pixels, tells_last};
+pub use misfit::Misfit;
+pub use tile_rows::TileRows;
+pub use vertex::Vertex;
+
+#[cfg(test)]
+mod tests;

@@ -1,0 +1,109 @@
+//! A picture in the caller's memory, loaded as the colours of samples.
+ghost use Rattle.std.specs.Prelude.{◌≡◌, ◌≢◌, ◌↔◌, ◌⊎◌, ℕ, ◌+◌, ◌*◌, ◌/◌, ◌<◌, ◌≤◌, length, slice_index, IsOk, OnOk, OnErr, IfErr};
+ghost use Rattle.lanes.specs.Block.{stored_at};
+ghost use Rattle.canvas.specs.Layout.{HasPixel, planes_of_rows};
+ghost use Rattle.canvas.specs.Pixels.{pixel_bytes, IsLargeEnough};
+ghost use Rattle.canvas.specs.Loaded.{coloured, AreChanged, AreLoaded};
+
+use crate::format::Format;
+use crate::misfit::Misfit;
+use crate::tile_rows::TileRows;
+use lanes::BlockSamples;
+
+/// Stores a colour in place of that of pixel `k` of a block.
+#[inline]
+fn set_colour(plane: &mut BlockSamples, k: usize, r: u8, g: u8, b: u8)
+    requires { k < 64 }
+    ensures stored { stored_at plane.new k ≡ record { r = r; g = g; b = b; z = (stored_at plane.old k).z } }
+    ensures kept { (n : ℕ) → n < 64 → n ≢ k → stored_at plane.new n ≡ stored_at plane.old n }
+{
+    plane.r[k] = r;
+    plane.g[k] = g;
+    plane.b[k] = b;
+}
+
+/// Stores the colour of these bytes in place of that of pixel `k` of a block.
+#[inline]
+fn recolour(plane: &mut BlockSamples, k: usize, format: Format, pixel: &[u8])
+    requires index { k < 64 }
+    requires pixel { length pixel.now ≡ pixel_bytes format }
+    ensures stored { stored_at plane.new k ≡ coloured format (λ n. slice_index pixel.now n) (stored_at plane.old k) }
+    ensures kept { (n : ℕ) → n < 64 → n ≢ k → stored_at plane.new n ≡ stored_at plane.old n }
+{
+    match format {
+        Format::Rgb8 => set_colour(plane, k, pixel[0], pixel[1], pixel[2]),
+        Format::Rgba8 => set_colour(plane, k, pixel[0], pixel[1], pixel[2]),
+        Format::Bgra8 => set_colour(plane, k, pixel[2], pixel[1], pixel[0]),
+    }
+}
+
+impl TileRows {
+    /// Stores the colour of these bytes in place of those of all samples of pixel (i, j).
+    fn load_pixel(&self, i: u32, j: u32, pixel: &[u8], format: Format, samples: &mut [BlockSamples])
+        requires pixel { HasPixel self.now.canvas self.now.first self.now.end i j }
+        requires bytes { length pixel.now ≡ pixel_bytes format }
+        requires samples { length samples.old ≡ planes_of_rows self.now.canvas self.now.first self.now.end }
+        ensures { AreChanged self.now.canvas self.now.first self.now.end (λ column row s. (column ≡ i) × (row ≡ j))
+            (λ column row sample. coloured format (λ k. slice_index pixel.now k) sample) samples.old samples.new }
+    {
+        let k = (8 * (j % 8) + i % 8) as usize;
+        for s in 0..self.canvas.count.count() {
+            let place = self.place(i, j, s);
+            recolour(&mut samples[place], k, format, pixel);
+        }
+    }
+
+    /// Stores the colours of these bytes in place of those of all samples of row `j` of pixels.
+    fn load_row(&self, j: u32, bytes: &[u8], format: Format, samples: &mut [BlockSamples])
+        requires row { j < self.now.canvas.height }
+        requires from { self.now.first ≤ j / 64 }
+        requires below { j / 64 < self.now.end }
+        requires bytes { length bytes.now ≡ self.now.canvas.width * pixel_bytes format }
+        requires samples { length samples.old ≡ planes_of_rows self.now.canvas self.now.first self.now.end }
+        ensures { AreChanged self.now.canvas self.now.first self.now.end (λ column row s. (column < self.now.canvas.width) × (row ≡ j))
+            (λ column row sample. coloured format (λ k. slice_index bytes.now (column * pixel_bytes format + k)) sample) samples.old samples.new }
+    {
+        let unit = format.pixel_bytes();
+        for i in 0..self.canvas.width {
+            let at = i as usize * unit;
+            self.load_pixel(i, j, &bytes[at..at + unit], format, samples);
+        }
+    }
+
+    /// Stores a picture in place of the colours: all samples of each pixel of the picture in these tile rows have the colour of the
+    /// pixel's bytes, which are laid out as `resolve` writes them. Depths stay unchanged, and alpha is not read.
+    pub fn load(
+        &self,
+        samples: &mut [BlockSamples],
+        bytes: &[u8],
+        format: Format,
+        stride: usize,
+    ) -> Result<(), Misfit>
+        ensures fits { IsOk result ↔ ((length samples.old ≡ planes_of_rows self.now.canvas self.now.first self.now.end)
+            × IsLargeEnough self.now.canvas self.now.first self.now.end (pixel_bytes format) stride (length bytes.now)) }
+        ensures loaded { OnOk result (AreLoaded self.now.canvas self.now.first self.now.end bytes.now format stride samples.old samples.new) }
+        ensures unfit { OnErr result (samples.new ≡ samples.old) }
+        ensures reason { IfErr result (λ misfit.
+            ((misfit ≡ Misfit.Planes) × (length samples.old ≢ planes_of_rows self.now.canvas self.now.first self.now.end))
+            ⊎ ((misfit ≡ Misfit.Pixels) × ¬ IsLargeEnough self.now.canvas self.now.first self.now.end (pixel_bytes format) stride (length bytes.now))) }
+    {
+        let unit = format.pixel_bytes();
+        if samples.len() != self.planes() {
+            return Err(Misfit::Planes);
+        }
+        if !self.is_large_enough(unit, stride, bytes.len()) {
+            return Err(Misfit::Pixels);
+        }
+        let width = self.canvas.width as usize * unit;
+        for row in 0..self.shown_rows() {
+            let at = row as usize * stride;
+            self.load_row(
+                64 * self.first + row,
+                &bytes[at..at + width],
+                format,
+                samples,
+            );
+        }
+        Ok(())
+    }
+}

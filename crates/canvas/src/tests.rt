@@ -1,0 +1,464 @@
+//! Pictures of many triangles beside the definition, drawn sample by sample: batches, pieces, formats, strides, ids, and calls that do nothing.
+use crate::{Canvas, Format, Misfit, TileRows, Vertex};
+use grid::{Cull, PixelBox, Point, SampleCount, Tri, sample_at};
+use lanes::BlockSamples;
+use shade::{DepthTest, Merge, Placed, Sample, State, apply, mean_of_four};
+use std::alloc::Global;
+use std::process::Abort;
+use std::test::Fail;
+
+/// What a canvas is cleared to.
+const CLEAR: Sample = Sample {
+    r: 10,
+    g: 20,
+    b: 30,
+    z: 60000,
+};
+
+/// A byte that no test expects to be written.
+const UNTOUCHED: u8 = 77;
+
+/// Whether pixel (i, j) is one of those that are compared, which are a fourth of all: the definition is slow.
+fn is_compared(i: u32, j: u32) -> bool {
+    i.wrapping_add(j) % 4 == 0
+}
+
+/// Numbers that look random.
+#[derive(Drop)]
+struct Numbers {
+    state: u64,
+}
+
+impl Numbers {
+    fn next(&mut self) -> u32 {
+        self.state = self
+            .state
+            .wrapping_mul(6364136223846793005)
+            .wrapping_add(1442695040888963407);
+        (self.state >> 40) as u32
+    }
+
+    fn byte(&mut self) -> u8 {
+        (self.next() % 256) as u8
+    }
+
+    /// A vertex within some pixels of the picture.
+    fn vertex(&mut self, rt: &impl Abort) -> Vertex {
+        let (x, y) = ((self.next() % 24_000) as i32, (self.next() % 24_000) as i32);
+        Vertex {
+            position: Point::new(x - 3000, y - 3000).expect(rt, "inside of the guard band"),
+            z: (self.next() % 65536) as u16,
+            rgba: [self.byte(), self.byte(), self.byte(), self.byte()],
+        }
+    }
+
+    fn depth_test(&mut self) -> DepthTest {
+        match self.next() % 3 {
+            0 => DepthTest::Always,
+            1 => DepthTest::LessEqual,
+            _ => DepthTest::Greater,
+        }
+    }
+
+    fn state(&mut self) -> State {
+        State {
+            merge: Merge {
+                test: self.depth_test(),
+                depth_write: self.next() % 2 == 0,
+                write: [self.next() % 4 != 0, true, self.next() % 4 != 0],
+                over: self.next() % 2 == 0,
+            },
+            cull: if self.next() % 4 == 0 {
+                Cull::Back
+            } else {
+                Cull::None
+            },
+            sample_mask: if self.next() % 4 == 0 { 5 } else { 15 },
+            scissor: PixelBox {
+                x0: (self.next() % 30) as i32,
+                y0: (self.next() % 30) as i32,
+                x1: 60 + (self.next() % 60) as i32,
+                y1: 60 + (self.next() % 60) as i32,
+            },
+        }
+    }
+
+    fn triangle(&mut self, rt: &impl Abort) -> Placed {
+        let (a, b, c) = (self.vertex(rt), self.vertex(rt), self.vertex(rt));
+        placed(&a, &b, &c, self.state())
+    }
+
+    fn triangles(
+        &mut self,
+        rt: &impl Abort,
+        alloc: Global,
+        count: u32,
+    ) -> Result<Vec<Placed>, Fail> {
+        let mut triangles = Vec::new(alloc);
+        for _ in 0..count {
+            triangles.push(self.triangle(rt))?;
+        }
+        Ok(triangles)
+    }
+}
+
+fn placed(a: &Vertex, b: &Vertex, c: &Vertex, state: State) -> Placed {
+    let (of_a, of_b, of_c) = (a.rgba, b.rgba, c.rgba);
+    Placed {
+        tri: Tri::new(a.position, b.position, c.position),
+        z: [a.z, b.z, c.z],
+        rgba: [of_a, of_b, of_c],
+        state,
+    }
+}
+
+/// Sample `s` of pixel (i, j) of the screen after the triangle.
+fn drawn(triangle: &Placed, count: SampleCount, i: u32, j: u32, s: u32, stored: Sample) -> Sample {
+    let state = triangle.state;
+    if i >= 4096 || j >= 4096 || s >= count.count() {
+        return stored;
+    }
+    let covered = triangle.tri.covers(sample_at(i, j, s, count));
+    let kept = !state.cull.drops(triangle.tri.area2()) && state.scissor.has(i, j);
+    if !covered || !kept || s > 3 || (state.sample_mask >> s) % 2 == 0 {
+        return stored;
+    }
+    let fragment = triangle.fragment(sample_at(i, j, s, count));
+    apply(&state.merge, &fragment, stored)
+}
+
+/// Sample `s` of pixel (i, j) of the screen after all triangles, from the clear sample on.
+fn end_at(triangles: &[Placed], count: SampleCount, i: u32, j: u32, s: u32) -> Sample {
+    let mut sample = CLEAR;
+    for triangle in triangles {
+        sample = drawn(triangle, count, i, j, s, sample);
+    }
+    sample
+}
+
+/// Whether each sample of a canvas, of the pixels that are compared, is what the triangles make of the clear sample.
+fn are_ends(rows: &TileRows, samples: &[BlockSamples], triangles: &[Placed]) -> bool {
+    for j in 0..rows.canvas.height {
+        for i in 0..rows.canvas.width {
+            let samples_compared = if is_compared(i, j) {
+                rows.canvas.count.count()
+            } else {
+                0
+            };
+            for s in 0..samples_compared {
+                let end = end_at(triangles, rows.canvas.count, i, j, s);
+                if rows.sample(samples, i, j, s) != Some(end) {
+                    return false;
+                }
+            }
+        }
+    }
+    true
+}
+
+/// The sample planes of tile rows, all samples the clear one.
+fn cleared(alloc: Global, rows: &TileRows) -> Result<Vec<BlockSamples>, Fail> {
+    let mut samples = Vec::new(alloc);
+    for _ in 0..rows.planes() {
+        samples.push(BlockSamples::filled(CLEAR))?;
+    }
+    Ok(samples)
+}
+
+fn canvas(rt: &impl Abort, count: SampleCount) -> Canvas {
+    Canvas::new(70, 66, count).expect(rt, "1 to 4096 pixels a side")
+}
+
+/// Whether the triangles, drawn in three batches of which the second is drawn by pieces, end as they are defined.
+fn draws_batches(rt: &impl Abort, alloc: Global, count: SampleCount) -> Result<bool, Fail> {
+    let rows = canvas(rt, count).all();
+    let (upper, lower) = rows.split(1).expect(rt, "two rows of tiles");
+    let triangles = Numbers { state: 1 }.triangles(rt, alloc, 110)?;
+    let mut samples = cleared(alloc, &rows)?;
+    let (first, others) = triangles.split_at(1.min(triangles.len()));
+    let (second, third) = others.split_at(80.min(others.len()));
+    let one = rows.draw(first, &mut samples);
+    let middle = upper.planes().min(samples.len());
+    let (above, below) = samples.split_at_mut(middle);
+    let two = lower.draw(second, below);
+    let three = upper.draw(second, above);
+    let four = rows.draw(third, &mut samples);
+    let drawn = one.is_ok() && two.is_ok() && three.is_ok() && four.is_ok();
+    Ok(drawn && are_ends(&rows, &samples, &triangles))
+}
+
+#[test]
+fn draws_batches_over_samples_that_stay(rt: HostRuntime) -> Result<(), Fail> {
+    assert!(rt; draws_batches(&rt, rt.alloc(), SampleCount::One)?);
+    assert!(rt; draws_batches(&rt, rt.alloc(), SampleCount::Four)?);
+    Ok(())
+}
+
+/// The mean of a pixel's samples of one channel.
+fn mean(count: SampleCount, channel: [u8; 4]) -> u8 {
+    match count {
+        SampleCount::One => channel[0],
+        SampleCount::Four => mean_of_four(channel[0], channel[1], channel[2], channel[3]),
+    }
+}
+
+/// Red, green and blue of pixel (i, j) after the triangles.
+fn colour_at(triangles: &[Placed], count: SampleCount, i: u32, j: u32) -> [u8; 3] {
+    let a = end_at(triangles, count, i, j, 0);
+    let b = end_at(triangles, count, i, j, 1);
+    let c = end_at(triangles, count, i, j, 2);
+    let d = end_at(triangles, count, i, j, 3);
+    let r = mean(count, [a.r, b.r, c.r, d.r]);
+    let g = mean(count, [a.g, b.g, c.g, d.g]);
+    [r, g, mean(count, [a.b, b.b, c.b, d.b])]
+}
+
+/// The byte of a channel of pixel (i, j), or the one that stays beside a row.
+fn byte_at(
+    triangles: &[Placed],
+    canvas: &Canvas,
+    format: Format,
+    i: u32,
+    j: u32,
+    channel: u32,
+) -> u8 {
+    if i >= canvas.width {
+        return UNTOUCHED;
+    }
+    let [r, g, b] = colour_at(triangles, canvas.count, i, j);
+    match (format, channel) {
+        (Format::Rgb8, 0) | (Format::Rgba8, 0) | (Format::Bgra8, 2) => r,
+        (Format::Rgb8, 1) | (Format::Rgba8, 1) | (Format::Bgra8, 1) => g,
+        (Format::Rgb8, 2) | (Format::Rgba8, 2) | (Format::Bgra8, 0) => b,
+        _ => 255,
+    }
+}
+
+/// Whether the bytes are the picture, row after row of 75 pixels, of which those beside the picture stayed.
+fn are_resolved(triangles: &[Placed], canvas: &Canvas, format: Format, bytes: &[u8]) -> bool {
+    let mut rest = bytes.iter();
+    for j in 0..canvas.height {
+        for i in 0..75 {
+            for channel in 0..format.pixel_bytes() as u32 {
+                let byte = rest.next();
+                let compared = i >= canvas.width || is_compared(i, j);
+                if compared && byte != Some(&byte_at(triangles, canvas, format, i, j, channel)) {
+                    return false;
+                }
+            }
+        }
+    }
+    rest.next().is_none()
+}
+
+/// So many bytes that no call has written.
+fn untouched(alloc: Global, size: usize) -> Result<Vec<u8>, Fail> {
+    let mut bytes = Vec::new(alloc);
+    for _ in 0..size {
+        bytes.push(UNTOUCHED)?;
+    }
+    Ok(bytes)
+}
+
+/// Whether a picture in the format is resolved as it is defined, and nothing beside it is written; and whether a canvas onto which that
+/// picture is loaded resolves to it.
+fn resolves(
+    rt: &impl Abort,
+    alloc: Global,
+    count: SampleCount,
+    format: Format,
+) -> Result<bool, Fail> {
+    let canvas = canvas(rt, count);
+    let rows = canvas.all();
+    let triangles = Numbers { state: 4 }.triangles(rt, alloc, 40)?;
+    let mut samples = cleared(alloc, &rows)?;
+    let drawn = rows.draw(&triangles, &mut samples);
+    let stride = 75 * format.pixel_bytes();
+    let mut bytes = untouched(alloc, stride * 66)?;
+    let resolved = rows.resolve(&samples, &mut bytes, format, stride);
+    let mut other = cleared(alloc, &rows)?;
+    let loaded = rows.load(&mut other, &bytes, format, stride);
+    let mut again = untouched(alloc, stride * 66)?;
+    let returned = rows.resolve(&other, &mut again, format, stride);
+    let done = drawn.is_ok() && resolved.is_ok() && loaded.is_ok() && returned.is_ok();
+    Ok(done && are_resolved(&triangles, &canvas, format, &bytes) && again == bytes)
+}
+
+#[test]
+fn resolves_and_loads_each_format_with_a_stride(rt: HostRuntime) -> Result<(), Fail> {
+    assert!(rt; resolves(&rt, rt.alloc(), SampleCount::One, Format::Rgb8)?);
+    assert!(rt; resolves(&rt, rt.alloc(), SampleCount::Four, Format::Rgba8)?);
+    assert!(rt; resolves(&rt, rt.alloc(), SampleCount::Four, Format::Bgra8)?);
+    Ok(())
+}
+
+/// Whether the bytes of pieces, each of them written apart, are those of the whole canvas; the last row has no padding.
+fn resolves_pieces(rt: &impl Abort, alloc: Global) -> Result<bool, Fail> {
+    let rows = canvas(rt, SampleCount::Four).all();
+    let (upper, lower) = rows.split(1).expect(rt, "two rows of tiles");
+    let triangles = Numbers { state: 5 }.triangles(rt, alloc, 40)?;
+    let mut samples = cleared(alloc, &rows)?;
+    let drawn = rows.draw(&triangles, &mut samples);
+    let size = 300 * 65 + 210;
+    let mut whole = untouched(alloc, size)?;
+    let one = rows.resolve(&samples, &mut whole, Format::Rgb8, 300);
+    let mut parts = untouched(alloc, size)?;
+    let (above, below) = samples.split_at(upper.planes().min(samples.len()));
+    let middle = (300 * 64).min(parts.len());
+    let (first, last) = parts.split_at_mut(middle);
+    let two = upper.resolve(above, first, Format::Rgb8, 300);
+    let three = lower.resolve(below, last, Format::Rgb8, 300);
+    let done = drawn.is_ok() && one.is_ok() && two.is_ok() && three.is_ok();
+    Ok(done && whole == parts)
+}
+
+#[test]
+fn resolves_pieces_to_the_bytes_of_the_whole(rt: HostRuntime) -> Result<(), Fail> {
+    assert!(rt; resolves_pieces(&rt, rt.alloc())?);
+    Ok(())
+}
+
+/// The place in the list of the last triangle that changes the sample.
+fn last_at(triangles: &[Placed], count: SampleCount, i: u32, j: u32, s: u32) -> Option<u32> {
+    let (mut sample, mut last, mut place) = (CLEAR, None, 0u32);
+    for triangle in triangles {
+        let mut marked = *triangle;
+        marked.state.merge = Merge {
+            test: triangle.state.merge.test,
+            depth_write: triangle.state.merge.depth_write,
+            write: [true; 3],
+            over: false,
+        };
+        marked.rgba = [[255, 255, 255, 255]; 3];
+        let before = Sample {
+            r: 0,
+            g: 0,
+            b: 0,
+            z: sample.z,
+        };
+        let after = drawn(&marked, count, i, j, s, before);
+        if after.r == 255 {
+            last = Some(place);
+        }
+        sample = drawn(triangle, count, i, j, s, sample);
+        place = place.wrapping_add(1);
+    }
+    last
+}
+
+/// Whether the entries are the ids of the samples 2, counted from 70,000 on, and their depths.
+fn are_ids(triangles: &[Placed], canvas: &Canvas, ids: &[u32], depths: &[u16]) -> bool {
+    let (mut ids, mut depths) = (ids.iter(), depths.iter());
+    let clear = 10 + 256 * 20 + 65536 * 30;
+    for j in 0..canvas.height {
+        for i in 0..canvas.width {
+            let (id, entry) = (ids.next(), depths.next());
+            if !is_compared(i, j) {
+                continue;
+            }
+            let expected = match last_at(triangles, canvas.count, i, j, 2) {
+                Some(place) => place.wrapping_add(70_000),
+                None => clear,
+            };
+            let depth = end_at(triangles, canvas.count, i, j, 2).z;
+            if id != Some(&expected) || entry != Some(&depth) {
+                return false;
+            }
+        }
+    }
+    true
+}
+
+/// Whether a canvas drawn by ids has the ids and the depths as they are defined.
+fn draws_ids(rt: &impl Abort, alloc: Global) -> Result<bool, Fail> {
+    let canvas = canvas(rt, SampleCount::Four);
+    let rows = canvas.all();
+    let triangles = Numbers { state: 6 }.triangles(rt, alloc, 70)?;
+    let mut samples = cleared(alloc, &rows)?;
+    let drawn = rows.draw_ids(&triangles, 70_000, &mut samples);
+    let (mut ids, mut depths) = (Vec::new(alloc), Vec::new(alloc));
+    for _ in 0..70 * 66 {
+        ids.push(0u32)?;
+        depths.push(0u16)?;
+    }
+    let one = rows.ids(&samples, 2, &mut ids, 70);
+    let two = rows.depths(&samples, 2, &mut depths, 70);
+    let done = drawn.is_ok() && one.is_ok() && two.is_ok();
+    Ok(done && are_ids(&triangles, &canvas, &ids, &depths))
+}
+
+#[test]
+fn draws_ids_and_keeps_depths(rt: HostRuntime) -> Result<(), Fail> {
+    assert!(rt; draws_ids(&rt, rt.alloc())?);
+    Ok(())
+}
+
+#[test]
+fn draws_by_indices_and_refuses_one_that_names_no_vertex(rt: HostRuntime) -> Result<(), Fail> {
+    let rows = canvas(&rt, SampleCount::One).all();
+    let mut numbers = Numbers { state: 7 };
+    let (a, b, c) = (
+        numbers.vertex(&rt),
+        numbers.vertex(&rt),
+        numbers.vertex(&rt),
+    );
+    let d = numbers.vertex(&rt);
+    let state = numbers.state();
+    let mut samples = cleared(rt.alloc(), &rows)?;
+    let vertices = [a, b, c, d];
+    let wrong = rows.draw_indexed(&vertices, &[[0, 1, 2], [0, 4, 1]], &state, &mut samples);
+    assert_eq!(rt; wrong, Err(Misfit::Indices));
+    assert!(rt; are_ends(&rows, &samples, &[]));
+    let right = rows.draw_indexed(&vertices, &[[0, 1, 2], [3, 2, 1]], &state, &mut samples);
+    assert_eq!(rt; right, Ok(()));
+    let triangles = [placed(&a, &b, &c, state), placed(&d, &c, &b, state)];
+    assert!(rt; are_ends(&rows, &samples, &triangles));
+    Ok(())
+}
+
+#[test]
+fn does_nothing_where_sizes_do_not_fit(rt: HostRuntime) -> Result<(), Fail> {
+    let rows = canvas(&rt, SampleCount::One).all();
+    let triangles = Numbers { state: 8 }.triangles(&rt, rt.alloc(), 2)?;
+    let mut samples = cleared(rt.alloc(), &rows)?;
+    let middle = 1.min(samples.len());
+    let (_, short) = samples.split_at_mut(middle);
+    assert_eq!(rt; rows.clear(short, CLEAR), Err(Misfit::Planes));
+    assert_eq!(rt; rows.draw(&triangles, short), Err(Misfit::Planes));
+    let many = rows.draw_ids(&triangles, 16_777_215, &mut samples);
+    assert_eq!(rt; many, Err(Misfit::Ids));
+    assert!(rt; are_ends(&rows, &samples, &[]));
+    let mut bytes = untouched(rt.alloc(), 210 * 66)?;
+    let narrow = rows.resolve(&samples, &mut bytes, Format::Rgb8, 209);
+    assert_eq!(rt; narrow, Err(Misfit::Pixels));
+    let long = rows.resolve(&samples, &mut bytes, Format::Rgb8, 211);
+    assert_eq!(rt; long, Err(Misfit::Pixels));
+    let wide = rows.load(&mut samples, &bytes, Format::Rgba8, 280);
+    assert_eq!(rt; wide, Err(Misfit::Pixels));
+    assert!(rt; bytes == untouched(rt.alloc(), 210 * 66)?);
+    let mut depths = [9u16; 4];
+    assert_eq!(rt;
+        rows.depths(&samples, 1, &mut depths, 70),
+        Err(Misfit::Sample)
+    );
+    assert_eq!(rt;
+        rows.depths(&samples, 0, &mut depths, 70),
+        Err(Misfit::Pixels)
+    );
+    assert_eq!(rt; depths, [9; 4]);
+    Ok(())
+}
+
+#[test]
+fn has_a_canvas_of_1_to_4096_pixels_a_side(rt: HostRuntime) {
+    assert!(rt; Canvas::new(0, 1, SampleCount::One).is_none());
+    assert!(rt; Canvas::new(1, 4097, SampleCount::Four).is_none());
+    let largest = Canvas::new(4096, 4096, SampleCount::Four).expect(&rt, "the largest canvas");
+    assert_eq!(rt; largest.all().planes(), 1_048_576);
+    assert_eq!(rt; largest.column_count(), 64);
+    assert_eq!(rt; largest.row_count(), 64);
+    assert_eq!(rt; largest.planes_of_row(), 16_384);
+    assert!(rt; largest.rows(3, 65).is_none());
+    let rows = largest.rows(3, 5).expect(&rt, "rows of tiles");
+    assert_eq!(rt; rows.planes(), 32_768);
+}

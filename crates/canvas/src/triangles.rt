@@ -1,0 +1,92 @@
+//! Triangles, drawn at the samples of tile rows.
+ghost use Rattle.std.specs.Prelude.{◌≡◌, ◌↔◌, ◌+◌, ◌<◌, ◌≤◌, length, IsOk, OnOk, OnErr, IfErr};
+ghost use Rattle.raster.specs.Samples.{planes_of};
+ghost use Rattle.canvas.specs.Layout.{rows_of, planes_of_row, planes_of_rows};
+ghost use Rattle.canvas.specs.Drawing.{HaveEnds, TileHasEnds};
+ghost use Rattle.canvas.specs.Reach.{AreReached, IsMaskOf};
+
+use crate::canvas::Canvas;
+use crate::chunk::{CHUNK, Reached, reach_of};
+use crate::misfit::Misfit;
+use crate::tile_rows::TileRows;
+use lanes::BlockSamples;
+use raster::{Tile, draw_triangle};
+use shade::Placed;
+
+/// Draws the triangles at the samples of a tile, one after another, but those whose bit is not set.
+fn draw_tile(chunk: &[Placed], mask: u64, tile: &Tile, samples: &mut [BlockSamples])
+    requires few { length chunk.now ≤ 64 }
+    requires mask { IsMaskOf chunk.now tile.now mask }
+    requires samples { length samples.old ≡ planes_of tile.now.side tile.now.count }
+    ensures { TileHasEnds chunk.now tile.now samples.old samples.new }
+{
+    let mut done = 0;
+    while done < chunk.len() {
+        let rest = mask >> done;
+        if rest == 0 {
+            return;
+        }
+        let k = done + rest.trailing_zeros() as usize;
+        if chunk.len() <= k {
+            return;
+        }
+        draw_triangle(&chunk[k], tile, samples);
+        done = k + 1;
+    }
+}
+
+impl Canvas {
+    /// Draws the triangles at the samples of a row of tiles, tile by tile.
+    fn draw_row(&self, row: u32, chunk: &[Placed], reached: &Reached, samples: &mut [BlockSamples])
+        requires row { row < rows_of self.now }
+        requires few { length chunk.now ≤ 64 }
+        requires reached { AreReached chunk.now reached.now }
+        requires samples { length samples.old ≡ planes_of_row self.now }
+        ensures { HaveEnds chunk.now self.now row (row + 1) samples.old samples.new }
+    {
+        let each = self.planes_of_tile();
+        for column in 0..self.column_count() {
+            let mask = reached.columns[column as usize] & reached.rows[row as usize];
+            let from = column as usize * each;
+            let tile = self.tile(column, row);
+            draw_tile(chunk, mask, &tile, &mut samples[from..from + each]);
+        }
+    }
+}
+
+impl TileRows {
+    /// Draws as many triangles as a word has bits at each sample of these tile rows.
+    pub(crate) fn draw_chunk(&self, chunk: &[Placed], samples: &mut [BlockSamples])
+        requires few { length chunk.now ≤ 64 }
+        requires samples { length samples.old ≡ planes_of_rows self.now.canvas self.now.first self.now.end }
+        ensures { HaveEnds chunk.now self.now.canvas self.now.first self.now.end samples.old samples.new }
+    {
+        let reached = reach_of(chunk);
+        let each = self.canvas.planes_of_row();
+        for row in self.first..self.end {
+            let from = (row - self.first) as usize * each;
+            self.canvas
+                .draw_row(row, chunk, &reached, &mut samples[from..from + each]);
+        }
+    }
+
+    /// Draws the triangles at each sample of these tile rows, one after another: what stood there is what they begin with. So the picture of
+    /// many calls is that of all their triangles in the order of the calls (`joins_batches`).
+    pub fn draw(&self, triangles: &[Placed], samples: &mut [BlockSamples]) -> Result<(), Misfit>
+        ensures fits { IsOk result ↔ (length samples.old ≡ planes_of_rows self.now.canvas self.now.first self.now.end) }
+        ensures drawn { OnOk result (HaveEnds triangles.now self.now.canvas self.now.first self.now.end samples.old samples.new) }
+        ensures unfit { OnErr result (samples.new ≡ samples.old) }
+        ensures reason { IfErr result (λ misfit. misfit ≡ Misfit.Planes) }
+    {
+        if samples.len() != self.planes() {
+            return Err(Misfit::Planes);
+        }
+        let mut done = 0;
+        while done < triangles.len() {
+            let many = (triangles.len() - done).min(CHUNK);
+            self.draw_chunk(&triangles[done..done + many], samples);
+            done += many;
+        }
+        Ok(())
+    }
+}
