@@ -17,7 +17,7 @@ import json
 import os
 import sys
 
-sys.path.insert(0, os.path.join(os.path.dirname(os.path.abspath(__file__)), "..", "..", "python"))
+sys.path.insert(0, os.path.join(os.path.dirname(os.path.abspath(__file__)), "..", "..", "python", "src"))
 
 import trirast
 
@@ -76,8 +76,8 @@ def main():
         scene = list_of(triangle, *words.size)
         try:
             picture = trirast.draw(scene)
-        except trirast.Fault as fault:
-            sys.exit(str(fault))
+        except trirast.Error as error:
+            sys.exit(str(error))
         show(triangle, masks_of(picture))
         if words.keep:
             keep(words.keep, number, scene, picture)

@@ -17,7 +17,7 @@ import math
 import os
 import sys
 
-sys.path.insert(0, os.path.join(os.path.dirname(os.path.abspath(__file__)), "..", "..", "python"))
+sys.path.insert(0, os.path.join(os.path.dirname(os.path.abspath(__file__)), "..", "..", "python", "src"))
 
 import trirast
 
@@ -180,7 +180,7 @@ def main():
         camera = Camera(points, words.turn, words.tilt, words.size)
         scene = list_of(points, triangles, camera, words.colour)
         picture = trirast.draw(scene, threads=words.threads)
-    except (Refused, trirast.Fault, OSError) as error:
+    except (Refused, trirast.Error, OSError) as error:
         sys.exit(f"{words.model}: {error}")
     if words.list:
         with open(words.list, "w", encoding="ascii") as file:
