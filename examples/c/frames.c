@@ -146,19 +146,19 @@ static void write_file(const char *folder, int frame, const char *ending, const 
     if (fclose(file) || !is_written) stop("a file cannot be written");
 }
 
-static int number(const char *word, int most) {
-    int value = word ? atoi(word) : 0;
-    if (value < 1 || value > most) stop("usage: frames [--frames NUMBER] [--threads 1 to 64] [FOLDER]");
+static int number(const char *text, int max) {
+    int value = text ? atoi(text) : 0;
+    if (value < 1 || value > max) stop("usage: frames [--frames NUMBER] [--threads 1 to 64] [FOLDER]");
     return value;
 }
 
-int main(int count, char **words) {
+int main(int count, char **arguments) {
     int frames = 8, threads = 4;
     const char *folder = NULL;
     for (int k = 1; k < count; k++) {
-        if (!strcmp(words[k], "--frames")) frames = number(words[++k], 1000000);
-        else if (!strcmp(words[k], "--threads")) threads = number(words[++k], MAX_THREADS);
-        else folder = words[k];
+        if (!strcmp(arguments[k], "--frames")) frames = number(arguments[++k], 1000000);
+        else if (!strcmp(arguments[k], "--threads")) threads = number(arguments[++k], MAX_THREADS);
+        else folder = arguments[k];
     }
     if (trirast_version() < TRIRAST_VERSION) stop("the library is older than its header");
     size_t length = (size_t)3 * WIDTH * HEIGHT;

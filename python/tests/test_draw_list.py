@@ -66,7 +66,15 @@ class Picture(unittest.TestCase):
 
     def test_has_depths(self) -> None:
         picture = trirast.draw({**DRAW_LIST, "output": "depth", "clear_depth": 258})
-        self.assertEqual((picture.pixel(2, 2), picture.pixels.shape), (258, (3, 3, 2)))
+        self.assertEqual((picture.depth(2, 2), picture.pixels.shape), (258, (3, 3, 2)))
+        with self.assertRaises(IndexError):
+            picture.depth(3, 2)
+
+    def test_has_either_colours_or_depths(self) -> None:
+        with self.assertRaises(ValueError):
+            trirast.draw({**DRAW_LIST, "output": "depth"}).pixel(0, 0)
+        with self.assertRaises(ValueError):
+            trirast.draw(DRAW_LIST).depth(0, 0)
 
     def test_offers_the_array_interface(self) -> None:
         for output, shape, kind in (("color", (3, 3, 3), "|u1"), ("depth", (3, 3), ">u2")):

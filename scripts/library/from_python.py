@@ -67,7 +67,7 @@ def check_python_errors(lists):
     must(isinstance(raised(trirast.draw, b" " * 67108865), trirast.LimitError), "a long list was drawn")
     depth = trirast.draw({**one, "output": "depth"})
     must(isinstance(raised(depth.save_ppm, os.devnull), ValueError), "depths were saved as PPM")
-    must(isinstance(raised(depth.pixel, 1, 0), IndexError) and depth.pixel(0, 0) == 65535, "another pixel")
+    must(isinstance(raised(depth.depth, 1, 0), IndexError) and depth.depth(0, 0) == 65535, "another depth")
     return f"{len(lists.refused)} lists refused"
 
 

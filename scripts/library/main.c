@@ -333,7 +333,7 @@ static void compare_stack(void) {
     report("the stack that a thread touches is less than the header's TRIRAST_STACK");
 }
 
-int main(int count, char **words) {
+int main(int count, char **arguments) {
     const struct {
         const char *name;
         void (*compare)(void);
@@ -345,14 +345,14 @@ int main(int count, char **words) {
         {"memory", compare_memory},
 #endif
     };
-    if (count != 3) stop("usage: library_test WAY MANIFEST", "two words are needed");
-    read_manifest(words[2]);
-    if (!drawn_count || !refused_count) stop("has too few cases", words[2]);
+    if (count != 3) stop("usage: library_test WAY MANIFEST", "two arguments are needed");
+    read_manifest(arguments[2]);
+    if (!drawn_count || !refused_count) stop("has too few cases", arguments[2]);
     for (size_t k = 0; k < sizeof ways / sizeof *ways; k++)
-        if (!strcmp(ways[k].name, words[1])) {
+        if (!strcmp(ways[k].name, arguments[1])) {
             ways[k].compare();
             free_cases();
             return test_status();
         }
-    stop("no such way", words[1]);
+    stop("no such way", arguments[1]);
 }

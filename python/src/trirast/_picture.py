@@ -50,14 +50,26 @@ class Picture:
         """The header of the picture's file."""
         return header_of(self.width, self.height, self.is_depth)
 
-    def pixel(self, column: int, row: int) -> Union[int, Tuple[int, ...]]:
-        """Red, green and blue of a pixel, or its depth. Columns and rows are counted from 0 at the upper left corner."""
+    def pixel(self, column: int, row: int) -> Tuple[int, int, int]:
+        """Red, green and blue of a pixel. Columns and rows are counted from 0 at the upper left corner. Raises ValueError at a
+        picture of depths."""
+        if self.is_depth:
+            raise ValueError("a picture of depths has no colours: use depth")
+        first = 3 * self._index(column, row)
+        red, green, blue = self._memory[first : first + 3]
+        return red, green, blue
+
+    def depth(self, column: int, row: int) -> int:
+        """The depth of a pixel's sample 0. Raises ValueError at a picture of colours."""
+        if not self.is_depth:
+            raise ValueError("a picture of colours has no depths: use pixel")
+        first = 2 * self._index(column, row)
+        return int.from_bytes(self._memory[first : first + 2], "big")
+
+    def _index(self, column: int, row: int) -> int:
         if not (0 <= column < self.width and 0 <= row < self.height):
             raise IndexError(f"a picture of {self.width} by {self.height} pixels has no pixel {column}, {row}")
-        size = 2 if self.is_depth else 3
-        first = (row * self.width + column) * size
-        part = self._memory[first : first + size]
-        return int.from_bytes(part, "big") if self.is_depth else tuple(part)
+        return row * self.width + column
 
     def save(self, path: Path) -> None:
         """Writes the picture's file, as the program writes it: PPM (P6) of colours, PGM (P5) of depths."""
