@@ -5,7 +5,7 @@
 #   make demo      draw every list of examples/ to out/*.pnm, and to out/*.png where pnmtopng is installed
 #   make test      the merge gate: every proof from nothing, the must-fail edits, all tests, and the checks of make checks
 #   make library   prove and build the core for other programs: lib/libtrirast.a, lib/libtrirast.so and lib/trirast.pc
-#   make check-library      run the library, its header, python/trirast.py and their examples against the program
+#   make check-library      run the library, its header, the Python package and their examples against the program
 #   make install   program, manual page, header, libraries, pkg-config file and schema below PREFIX (an absolute path,
 #                  /usr/local if not given), behind DESTDIR where that is given; make uninstall takes them away
 #   make compare   draw generated lists, and compare each byte with the reference renderer
@@ -101,7 +101,7 @@ includedir=$${prefix}/include
 libdir=$${prefix}/lib
 
 Name: trirast
-Description: lists of triangles drawn to PPM and PGM pictures, proved byte for byte
+Description: triangles drawn to PPM and PGM pictures, proved byte for byte
 Version: $(LIBRARY_VERSION)
 Cflags: -I$${includedir}
 Libs: -L$${libdir} -ltrirast

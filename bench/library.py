@@ -1,24 +1,25 @@
 #!/usr/bin/env python3
 """Times the library beside the program on the scenes of bench/scenes.py and prints one table.
 
-    bench/library.py [--runs 5] [--threads 4] [--scenes tiny mesh ..]
+    PYTHONPATH=python/src python3 -m bench.library [--runs 5] [--threads 4] [--scenes tiny mesh ..]
 
 Needs `make library`. For each scene it gives the least time of some rounds of: the program with one worker and with as many
-workers as threads, a whole process each; trirast_size, which reads the list and draws nothing; trirast_draw on one thread,
-which reads the list and draws its file into a buffer that is there; and trirast.draw of python with the threads, which asks
-for the size, makes a buffer, and has each thread read the list and draw its part. The ways take turns, so that a busy machine
-slows them all. Python 3.8 or later on Linux, standard library alone.
+workers as threads, a whole process each; trirast_read_image_info, which reads the list and draws nothing; trirast_draw on one
+thread, which reads the list and draws its file into a buffer that is there; and trirast.draw of Python with the threads, which
+reads the image info, makes a buffer, and has each thread read the list and draw its part. The ways take turns, so that a busy machine
+slows them all. Python 3.9 or later on Linux, standard library alone.
 """
 
 import argparse
 import os
-import sys
 import time
+from typing import Any, Callable
+
+import trirast
+from trirast import _ffi
 
 from bench import run, scenes
-from tools.places import BENCH_OUT, PROGRAM, TOP
-
-sys.path.insert(0, os.path.join(TOP, "python"))
+from tools.places import PROGRAM
 
 SCENES = tuple(name for name in run.SCENES if name not in run.REFUSED)
 
@@ -31,25 +32,23 @@ def seconds(call, *words):
 
 def ways(program, threads, source):
     """The ways to draw a list, by name: each gives the seconds that it took."""
-    import trirast
-
     with open(source, "rb") as file:
         data = file.read()
-    buffer, fault = bytearray(trirast.draw_file(data)), trirast._Fault()
-    part = trirast._part(buffer, 0, len(buffer))
+    buffer, error = bytearray(trirast.draw_file(data)), _ffi.CError()
+    part = _ffi.memory_of(memoryview(buffer))
 
     def process(workers):
         return run.Run([program, "--workers", str(workers)], source, os.devnull).wall
 
     def draw():
-        return seconds(trirast._library.trirast_draw, data, len(data), 32, part, len(buffer), fault)
+        return seconds(_ffi.library().trirast_draw, data, len(data), 32, part, len(buffer), error)
 
     return {
         "program, 1 worker": lambda: process(1),
         f"program, {threads} workers": lambda: process(threads),
-        "trirast_size": lambda: seconds(trirast.size, data),
+        "trirast_read_image_info": lambda: seconds(trirast.image_info, data),
         "trirast_draw": draw,
-        f"python, {threads} threads": lambda: seconds(trirast.draw, data, 32, threads),
+        f"Python, {threads} threads": lambda: seconds(trirast.draw, data, 32, threads),
     }
 
 

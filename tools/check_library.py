@@ -1,11 +1,11 @@
 #!/usr/bin/env python3
-"""Runs the library, its header, python/trirast.py and the examples of both, and compares every byte with the program's.
+"""Runs the library, its header, the Python package and the examples of both, and compares every byte with the program's.
 
     tools/check_library.py [--only WORD ..] [--seed 1]
 
 `make check-library` builds the program and the library first. It prints a line for each check, names what is not installed
 and so was skipped, and ends in `N passed, M failed`, or `N passed, M failed, K skipped`; exit status 0 only where nothing
-failed. What it builds is left in out/check-library/. Python 3.8 or later, standard library alone; gcc; g++, pkg-config, nm, valgrind and numpy where they are.
+failed. What it builds is left in out/check-library/. Python 3.9 or later, standard library alone; gcc; g++, pkg-config, nm, valgrind and numpy where they are.
 """
 
 import argparse
@@ -30,11 +30,12 @@ def check_all(tally, seed):
     tally.run("examples/python: coverage", examples.check_coverage)
     tally.run("examples/python: viewer", examples.check_viewer)
     tally.run("examples/python: what the viewer refuses", examples.check_viewer_refuses)
-    tally.run("python draws the program's bytes", from_python.check_python, lists)
-    tally.run("python raises the program's faults", from_python.check_python_faults, lists)
-    tally.run("python draws in four threads at the same time", from_python.check_python_threads, lists)
-    tally.run("python of docs/library.md", from_python.check_page)
-    tally.run("python offers numpy's array protocol", from_python.check_array_interface)
+    tally.run("Python draws the program's bytes, of lists and of arrays", from_python.check_python, lists)
+    tally.run("Python raises the program's errors", from_python.check_python_errors, lists)
+    tally.run("Python draws in four threads at the same time", from_python.check_python_threads, lists)
+    tally.run("python/tests", from_python.check_package_tests)
+    tally.run("Python of docs/library.md", from_python.check_page)
+    tally.run("Python offers numpy's array protocol", from_python.check_array_interface)
     tally.run("numpy takes a picture", from_python.check_numpy)
     tally.run("make install, pkg-config, a program outside, make uninstall", install.check_install)
     tally.run("make install with DESTDIR", install.check_staged_install)

@@ -3,7 +3,7 @@
  *     frames [--frames 8] [--threads 4] [FOLDER]
  *
  * A ring of tiles turns in perspective. Its corners are turned, projected and lit here, since a draw list holds positions
- * on the screen. Each thread draws a range of the rows of tiles into its own part of one buffer. With a folder each frame
+ * on the screen. Each thread draws some tile rows into its own part of one buffer. With a folder each frame
  * is written there as frame-N.ppm, and its list as frame-N.json; without one, the frames are drawn and forgotten.
  *
  *     cc -O2 frames.c $(pkg-config --cflags --libs trirast) -pthread -lm
@@ -17,7 +17,7 @@
 
 #include "trirast.h"
 
-enum { WIDTH = 480, HEIGHT = 320, TILE = 32, ALONG = 48, ROUND = 16, MOST_THREADS = 64 };
+enum { WIDTH = 480, HEIGHT = 320, TILE_SIZE = 32, ALONG = 48, ROUND = 16, MAX_THREADS = 64 };
 
 static const double TURN = 6.283185307179586;
 
@@ -31,14 +31,14 @@ static _Noreturn void stop(const char *why) {
 /* A text that grows. It is kept from frame to frame, so that only the first frames ask for memory. */
 typedef struct {
     char *bytes;
-    size_t length, room;
+    size_t length, size;
 } text;
 
 static void add(text *list, const char *format, ...) {
     for (;;) {
         va_list values;
         va_start(values, format);
-        size_t left = list->room - list->length;
+        size_t left = list->size - list->length;
         int count = vsnprintf(left ? list->bytes + list->length : NULL, left, format, values);
         va_end(values);
         if (count < 0) stop("a number cannot be written");
@@ -46,8 +46,8 @@ static void add(text *list, const char *format, ...) {
             list->length += (size_t)count;
             return;
         }
-        list->room = 2 * list->room + (size_t)count + 1;
-        list->bytes = realloc(list->bytes, list->room);
+        list->size = 2 * list->size + (size_t)count + 1;
+        list->bytes = realloc(list->bytes, list->size);
         if (!list->bytes) stop("out of memory");
     }
 }
@@ -87,47 +87,51 @@ static void make_list(text *list, double turn) {
 
 /* ---- Drawing with threads ---- */
 
-/* One thread's part of a picture: rows of tiles from first to before end, and where their pixels go. */
+/* One thread's part of a picture: the tile rows from first to before end, and where their pixels go. */
 typedef struct {
     const text *list;
     uint32_t first, end;
     uint8_t *pixels;
-    size_t room;
-    trirast_fault fault;
+    size_t size;
+    trirast_error error;
 } part;
 
 static void *draw_part(void *argument) {
     part *own = argument;
-    trirast_draw_rows((const uint8_t *)own->list->bytes, own->list->length, TILE, own->first, own->end, own->pixels,
-                      own->room, &own->fault);
+    trirast_draw_rows(own->list->bytes, own->list->length, TILE_SIZE, own->first, own->end, own->pixels, own->size,
+                      &own->error);
     return NULL;
 }
 
-static void stop_at(const trirast_fault *fault) {
-    uint8_t line[96];
-    size_t length = trirast_fault_line(fault, line, sizeof line);
-    if (fault->kind != TRIRAST_OK) {
-        fwrite(line, 1, length, stderr);
-        exit(1);
-    }
+static void stop_on(const trirast_error *error) {
+    char line[TRIRAST_ERROR_LINE_SIZE];
+    if (error->status == TRIRAST_STATUS_OK) return;
+    fwrite(line, 1, trirast_error_line(error, line, sizeof line), stderr);
+    exit(1);
 }
 
-/* Draws the list's pixels by so many threads, or one for each row of tiles where these are fewer. The size is the program's
- * own, so trirast_size need not be asked. */
+/* Draws the list's pixels by this number of threads, or one for each tile row if these are fewer. The width and the height are
+ * the program's own, so it does not call trirast_read_image_info. */
 static void draw(const text *list, uint8_t *pixels, int threads) {
-    part parts[MOST_THREADS];
-    pthread_t ids[MOST_THREADS];
-    uint32_t rows = (HEIGHT + TILE - 1) / TILE;
+    part parts[MAX_THREADS];
+    pthread_t ids[MAX_THREADS];
+    uint32_t rows = (HEIGHT + TILE_SIZE - 1) / TILE_SIZE;
     size_t row_bytes = 3 * WIDTH;
     if ((uint32_t)threads > rows) threads = (int)rows;
     for (int k = 0; k < threads; k++) {
         uint32_t first = rows * (uint32_t)k / (uint32_t)threads, end = rows * (uint32_t)(k + 1) / (uint32_t)threads;
-        size_t top = (size_t)first * TILE, bottom = end == rows ? HEIGHT : (size_t)end * TILE;
-        parts[k] = (part){list, first, end, pixels + top * row_bytes, (bottom - top) * row_bytes, {0, 0, 0, 0}};
+        size_t top = (size_t)first * TILE_SIZE, bottom = end == rows ? HEIGHT : (size_t)end * TILE_SIZE;
+        parts[k] = (part){
+            .list = list,
+            .first = first,
+            .end = end,
+            .pixels = pixels + top * row_bytes,
+            .size = (bottom - top) * row_bytes,
+        };
         if (pthread_create(&ids[k], NULL, draw_part, &parts[k])) stop("a thread cannot be started");
     }
     for (int k = 0; k < threads; k++) pthread_join(ids[k], NULL);
-    for (int k = 0; k < threads; k++) stop_at(&parts[k].fault);
+    for (int k = 0; k < threads; k++) stop_on(&parts[k].error);
 }
 
 /* ---- Frames ---- */
@@ -142,19 +146,19 @@ static void write_file(const char *folder, int frame, const char *ending, const 
     if (fclose(file) || !is_written) stop("a file cannot be written");
 }
 
-static int number(const char *word, int most) {
-    int value = word ? atoi(word) : 0;
-    if (value < 1 || value > most) stop("usage: frames [--frames NUMBER] [--threads 1 to 64] [FOLDER]");
+static int number(const char *text, int max) {
+    int value = text ? atoi(text) : 0;
+    if (value < 1 || value > max) stop("usage: frames [--frames NUMBER] [--threads 1 to 64] [FOLDER]");
     return value;
 }
 
-int main(int count, char **words) {
+int main(int count, char **arguments) {
     int frames = 8, threads = 4;
     const char *folder = NULL;
     for (int k = 1; k < count; k++) {
-        if (!strcmp(words[k], "--frames")) frames = number(words[++k], 1000000);
-        else if (!strcmp(words[k], "--threads")) threads = number(words[++k], MOST_THREADS);
-        else folder = words[k];
+        if (!strcmp(arguments[k], "--frames")) frames = number(arguments[++k], 1000000);
+        else if (!strcmp(arguments[k], "--threads")) threads = number(arguments[++k], MAX_THREADS);
+        else folder = arguments[k];
     }
     if (trirast_version() < TRIRAST_VERSION) stop("the library is older than its header");
     size_t length = (size_t)3 * WIDTH * HEIGHT;

@@ -10,23 +10,22 @@
 
 #include "trirast.h"
 
-// The line of a fault as an exception, without its end.
-static void check(const trirast_fault &fault) {
-    if (fault.kind == TRIRAST_OK) return;
-    std::uint8_t line[96];
-    const std::size_t length = trirast_fault_line(&fault, line, sizeof line);
+// Throws the line of an error, without its line feed.
+static void check(const trirast_error &error) {
+    if (error.status == TRIRAST_STATUS_OK) return;
+    char line[TRIRAST_ERROR_LINE_SIZE];
+    const std::size_t length = trirast_error_line(&error, line, sizeof line);
     throw std::runtime_error(std::string(line, line + length - 1));
 }
 
-static std::vector<std::uint8_t> draw(const std::string &list) {
-    const auto *bytes = reinterpret_cast<const std::uint8_t *>(list.data());
-    trirast_fault fault;
-    trirast_picture picture;
-    trirast_size(bytes, list.size(), &picture, &fault);
-    check(fault);
-    std::vector<std::uint8_t> file(picture.file_bytes);
-    trirast_draw(bytes, list.size(), 32, file.data(), file.size(), &fault);
-    check(fault);
+static std::vector<std::uint8_t> draw(const std::string &json) {
+    trirast_error error;
+    trirast_image_info info;
+    trirast_read_image_info(json.data(), json.size(), &info, &error);
+    check(error);
+    std::vector<std::uint8_t> file(info.file_bytes);
+    trirast_draw(json.data(), json.size(), 32, file.data(), file.size(), &error);
+    check(error);
     return file;
 }
 

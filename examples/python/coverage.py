@@ -4,7 +4,7 @@
     examples/python/coverage.py
     examples/python/coverage.py --triangle 128 128 1920 512 640 1900 [--triangle ..] [--size 8 8] [--keep FOLDER]
 
-A triangle is the x and y of three corners in 1/256 pixel; without any, some are drawn that look for trouble. Each pixel is
+A triangle is the x and y of three corners in 1/256 pixel; without any, some hard ones are drawn. Each pixel is
 printed as a digit from 0 to f whose bit s says that sample s is covered, or as a dot where none is. With --keep the list
 and the picture of each triangle are left in a folder.
 
@@ -16,13 +16,14 @@ import argparse
 import json
 import os
 import sys
+from typing import Any, Dict, List, Sequence
 
-sys.path.insert(0, os.path.join(os.path.dirname(os.path.abspath(__file__)), "..", "..", "python"))
+sys.path.insert(0, os.path.join(os.path.dirname(os.path.abspath(__file__)), "..", "..", "python", "src"))
 
 import trirast
 
 SAMPLES = 4
-TROUBLE = [
+HARD = [
     [0, 0, 2048, 0, 0, 2048],  # half of the picture, by its diagonal
     [2048, 0, 2048, 2048, 0, 2048],  # the other half: no sample is in both, and none in neither
     [96, 32, 1888, 416, 608, 1760],  # corners on positions of samples
@@ -32,7 +33,7 @@ TROUBLE = [
 ]
 
 
-def list_of(triangle, width, height):
+def list_of(triangle: Sequence[int], width: int, height: int) -> Dict[str, Any]:
     """The draw list of one triangle, once for each sample."""
     corners = [triangle[k : k + 2] for k in range(0, 6, 2)]
     draws = [
@@ -46,12 +47,12 @@ def list_of(triangle, width, height):
     return {"width": width, "height": height, "samples": SAMPLES, "draws": draws}
 
 
-def masks_of(picture):
+def masks_of(picture: trirast.Picture) -> List[List[int]]:
     """The masks of covered samples, row after row."""
     return [[picture.pixel(column, row)[0] for column in range(picture.width)] for row in range(picture.height)]
 
 
-def show(triangle, masks):
+def show(triangle: Sequence[int], masks: List[List[int]]) -> None:
     corners = " ".join(f"({triangle[k]}, {triangle[k + 1]})" for k in range(0, 6, 2))
     covered = sum(bin(mask).count("1") for row in masks for mask in row)
     print(f"{corners}: {covered} samples")
@@ -59,28 +60,28 @@ def show(triangle, masks):
         print("    " + " ".join(f"{mask:x}" if mask else "." for mask in row))
 
 
-def keep(folder, number, scene, picture):
+def keep(folder: str, number: int, scene: Dict[str, Any], picture: trirast.Picture) -> None:
     os.makedirs(folder, exist_ok=True)
     with open(os.path.join(folder, f"triangle-{number}.json"), "w", encoding="ascii") as file:
         json.dump(scene, file)
     picture.save_ppm(os.path.join(folder, f"triangle-{number}.ppm"))
 
 
-def main():
+def main() -> None:
     parser = argparse.ArgumentParser(description="Prints which samples triangles cover.")
     parser.add_argument("--triangle", nargs=6, type=int, action="append", metavar="N", help="x and y of three corners")
     parser.add_argument("--size", nargs=2, type=int, default=(8, 8), metavar="PIXELS", help="width and height (8 8)")
     parser.add_argument("--keep", metavar="FOLDER", help="leave lists and pictures there")
-    words = parser.parse_args()
-    for number, triangle in enumerate(words.triangle or TROUBLE):
-        scene = list_of(triangle, *words.size)
+    arguments = parser.parse_args()
+    for number, triangle in enumerate(arguments.triangle or HARD):
+        scene = list_of(triangle, *arguments.size)
         try:
             picture = trirast.draw(scene)
-        except trirast.Fault as fault:
-            sys.exit(str(fault))
+        except trirast.Error as error:
+            sys.exit(str(error))
         show(triangle, masks_of(picture))
-        if words.keep:
-            keep(words.keep, number, scene, picture)
+        if arguments.keep:
+            keep(arguments.keep, number, scene, picture)
 
 
 if __name__ == "__main__":

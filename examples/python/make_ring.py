@@ -7,18 +7,19 @@ It gives the same bytes each time. Standard library alone.
 """
 
 import math
+from typing import Tuple
 
 ALONG, ROUND = 48, 18
 
 
-def point(along, around):
+def point(along: int, around: int) -> Tuple[float, float, float]:
     turn, angle = 2 * math.pi * along / ALONG, 2 * math.pi * (around / ROUND + along / ALONG)
     tube = 0.34 + 0.05 * math.cos(3 * angle)
     distance = 1 + tube * math.cos(angle)
     return distance * math.cos(turn), tube * math.sin(angle) + 0.1 * math.sin(2 * turn), distance * math.sin(turn)
 
 
-def main():
+def main() -> None:
     print("# Written by make_ring.py.")
     for along in range(ALONG):
         for around in range(ROUND):

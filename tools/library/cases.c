@@ -1,4 +1,4 @@
-// Looks, cases and buffers: see cases.h.
+// Comparisons, cases and buffers: see cases.h.
 #include "cases.h"
 
 #include <pthread.h>
@@ -7,42 +7,42 @@
 #include <stdlib.h>
 #include <string.h>
 
-// ---- What is looked at --------------------------------------------------------------------------------------------
+// ---- Comparisons --------------------------------------------------------------------------------------------------
 
 static struct {
     char why[512];
-    long looks;
+    long count;
     int has_failed;
-} looked;
+} compared;
 
-static pthread_mutex_t looked_lock = PTHREAD_MUTEX_INITIALIZER;
+static pthread_mutex_t compared_lock = PTHREAD_MUTEX_INITIALIZER;
 static int status = 0;
 
 void expect(int holds, const char *format, ...) {
-    pthread_mutex_lock(&looked_lock);
-    looked.looks++;
-    if (!holds && !looked.has_failed) {
+    pthread_mutex_lock(&compared_lock);
+    compared.count++;
+    if (!holds && !compared.has_failed) {
         va_list values;
         va_start(values, format);
-        vsnprintf(looked.why, sizeof looked.why, format, values);
+        vsnprintf(compared.why, sizeof compared.why, format, values);
         va_end(values);
-        looked.has_failed = 1;
+        compared.has_failed = 1;
     }
-    pthread_mutex_unlock(&looked_lock);
+    pthread_mutex_unlock(&compared_lock);
 }
 
-void tell(const char *what) {
-    if (!looked.has_failed && looked.looks) printf("ok %s (%ld looks)\n", what, looked.looks);
-    else printf("failed %s: %s\n", what, looked.looks ? looked.why : "there was nothing to look at");
-    if (looked.has_failed || !looked.looks) status = 1;
-    memset(&looked, 0, sizeof looked);
+void report(const char *what) {
+    if (!compared.has_failed && compared.count) printf("ok %s (%ld comparisons)\n", what, compared.count);
+    else printf("failed %s: %s\n", what, compared.count ? compared.why : "there was nothing to compare");
+    if (compared.has_failed || !compared.count) status = 1;
+    memset(&compared, 0, sizeof compared);
 }
 
-int looks_status(void) { return status; }
+int test_status(void) { return status; }
 
 // ---- Cases --------------------------------------------------------------------------------------------------------
 
-list_case drawn[MOST_CASES], refused[MOST_CASES];
+list_case drawn[MAX_CASES], refused[MAX_CASES];
 int drawn_count = 0, refused_count = 0;
 
 _Noreturn void stop(const char *what, const char *name) {
@@ -68,17 +68,17 @@ void read_manifest(const char *path) {
     while (fscanf(file, "%15s %1023s %1023s", kind, list, wanted) == 3) {
         int is_drawn = !strcmp(kind, "drawn");
         list_case *next = is_drawn ? &drawn[drawn_count++] : &refused[refused_count++];
-        if (drawn_count == MOST_CASES || refused_count == MOST_CASES) stop("has too many cases", path);
+        if (drawn_count == MAX_CASES || refused_count == MAX_CASES) stop("has too many cases", path);
         snprintf(next->name, sizeof next->name, "%s", list);
         next->list = read_file(list);
         next->wanted = read_file(wanted);
-        trirast_fault fault;
+        trirast_error error;
         if (is_drawn) {
             // The arrays lie beside the list, as NAME.scene beside NAME.json.
             snprintf(strrchr(list, '.'), sizeof ".scene", ".scene");
             next->arrays = read_file(list);
         }
-        if (is_drawn && trirast_size(next->list.bytes, next->list.length, &next->size, &fault)) stop("refused", list);
+        if (is_drawn && trirast_read_image_info(next->list.bytes, next->list.length, &next->info, &error)) stop("refused", list);
     }
     fclose(file);
 }
@@ -90,33 +90,33 @@ void free_cases(void) {
 
 // ---- Buffers ------------------------------------------------------------------------------------------------------
 
-marked mark(size_t room) {
-    marked buffer = {malloc(room + 2 * MARGIN), NULL, room};
+marked mark(size_t size) {
+    marked buffer = {malloc(size + 2 * MARGIN), NULL, size};
     if (!buffer.all) stop("out of memory", "a buffer");
     buffer.bytes = buffer.all + MARGIN;
-    memset(buffer.all, MARK, room + 2 * MARGIN);
+    memset(buffer.all, MARK, size + 2 * MARGIN);
     return buffer;
 }
 
-int holds_just(const marked *buffer, const uint8_t *bytes, size_t length) {
-    if (length > buffer->room || (length && memcmp(buffer->bytes, bytes, length))) return 0;
+int holds_just(const marked *buffer, const void *bytes, size_t length) {
+    if (length > buffer->size || (length && memcmp(buffer->bytes, bytes, length))) return 0;
     for (size_t k = 0; k < MARGIN; k++)
         if (buffer->all[k] != MARK) return 0;
-    for (size_t k = length; k < buffer->room + MARGIN; k++)
+    for (size_t k = length; k < buffer->size + MARGIN; k++)
         if (buffer->bytes[k] != MARK) return 0;
     return 1;
 }
 
-int is_fault(const trirast_fault *fault, uint32_t answer, uint32_t kind) {
-    int is_plain = kind == TRIRAST_LIST_FAULT || (!fault->list_kind && !fault->in_draw && !fault->draw);
-    return answer == kind && fault->kind == kind && is_plain;
+int is_error(const trirast_error *error, trirast_status status, trirast_status due) {
+    int is_alone = due == TRIRAST_STATUS_BAD_LIST || (!error->list_error && !error->in_draw && !error->draw);
+    return status == due && error->status == (uint32_t)due && is_alone;
 }
 
-const trirast_fault UNSET = {99, 99, 99, 99};
+const trirast_error UNSET = {99, 99, 99, 99};
 
-uint32_t rows_of(const list_case *one, uint32_t tile) { return (one->size.height + tile - 1) / tile; }
+uint32_t rows_of(const list_case *one, uint32_t tile_size) { return (one->info.height + tile_size - 1) / tile_size; }
 
-size_t offset_of(const list_case *one, uint32_t tile, uint32_t row) {
-    uint32_t top = row * tile < one->size.height ? row * tile : one->size.height;
-    return (size_t)top * one->size.width * one->size.pixel_bytes;
+size_t offset_of(const list_case *one, uint32_t tile_size, uint32_t row) {
+    uint32_t top = row * tile_size < one->info.height ? row * tile_size : one->info.height;
+    return (size_t)top * one->info.width * one->info.pixel_bytes;
 }

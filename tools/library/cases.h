@@ -1,4 +1,4 @@
-// What the ways of the library's test share: looks, the cases of the manifest, and buffers between margins.
+// What the ways of the library's test share: comparisons, the cases of the manifest, and buffers between margins.
 #ifndef CASES_H
 #define CASES_H
 
@@ -7,10 +7,10 @@
 
 #include "trirast.h"
 
-enum { MARGIN = 64, MARK = 0xA5, MOST_CASES = 1024 };
+enum { MARGIN = 64, MARK = 0xA5, MAX_CASES = 1024 };
 
 typedef struct {
-    uint8_t *bytes;
+    char *bytes;
     size_t length;
 } blob;
 
@@ -18,55 +18,55 @@ typedef struct {
 typedef struct {
     char name[2048];
     blob list, wanted, arrays;
-    trirast_picture size;
+    trirast_image_info info;
 } list_case;
 
 // A buffer between margins, all of it marked.
 typedef struct {
     uint8_t *all, *bytes;
-    size_t room;
+    size_t size;
 } marked;
 
-extern list_case drawn[MOST_CASES], refused[MOST_CASES];
+extern list_case drawn[MAX_CASES], refused[MAX_CASES];
 extern int drawn_count, refused_count;
 
-// What a fault is before a call: no call answers so.
-extern const trirast_fault UNSET;
+// What an error is before a call: no call reports it.
+extern const trirast_error UNSET;
 
-// Counts a look, and keeps the first that fails.
+// Counts a comparison, and keeps the first that fails.
 void expect(int holds, const char *format, ...);
 
-// Prints the line of all looks since the last one.
-void tell(const char *what);
+// Prints the line of all comparisons since the last one.
+void report(const char *what);
 
 // The exit status: 1 once a line has failed.
-int looks_status(void);
+int test_status(void);
 
-// Ends the program: it cannot look at all.
+// Ends the program: nothing can be compared.
 _Noreturn void stop(const char *what, const char *name);
 
 void read_manifest(const char *path);
 void free_cases(void);
 
-marked mark(size_t room);
+marked mark(size_t size);
 
-// Whether the buffer begins with these bytes, and the rest and the margins are as they were.
-int holds_just(const marked *buffer, const uint8_t *bytes, size_t length);
+// Whether the buffer begins with these bytes, and the rest and the margins are unchanged.
+int holds_just(const marked *buffer, const void *bytes, size_t length);
 
-// Whether a call answered this kind, and wrote its fault.
-int is_fault(const trirast_fault *fault, uint32_t answer, uint32_t kind);
+// Whether a call returned the status that was due, and wrote its error.
+int is_error(const trirast_error *error, trirast_status status, trirast_status due);
 
-// How many rows of tiles of this side a case's picture has.
-uint32_t rows_of(const list_case *one, uint32_t tile);
+// The number of tile rows of a case's picture.
+uint32_t rows_of(const list_case *one, uint32_t tile_size);
 
-// Where the pixels of a row of tiles begin among the picture's.
-size_t offset_of(const list_case *one, uint32_t tile, uint32_t row);
+// The offset in bytes of a tile row's pixels among the picture's.
+size_t offset_of(const list_case *one, uint32_t tile_size, uint32_t row);
 
-// The way that refuses memory, in memory.c.
-void look_at_memory(void);
+// The way in which allocations fail, in memory.c.
+void compare_memory(void);
 
 // The way that draws from arrays, and a call on those of a case, in scenes.c.
-void look_at_scenes(void);
-uint32_t draw_arrays(const list_case *one, uint32_t tile, marked *buffer, trirast_fault *fault);
+void compare_scenes(void);
+trirast_status draw_arrays(const list_case *one, uint32_t tile_size, marked *buffer, trirast_error *error);
 
 #endif

@@ -9,7 +9,8 @@ import sys
 HERE = os.path.dirname(os.path.abspath(__file__))
 SCRIPTS = os.path.dirname(HERE)
 TOP = os.path.dirname(SCRIPTS)
-sys.path[:0] = [SCRIPTS, os.path.join(TOP, "python")]
+PACKAGE = os.path.join(TOP, "python", "src")
+sys.path[:0] = [SCRIPTS, PACKAGE]
 
 from tools import picture_file
 from tools.counts import Counts

@@ -6,9 +6,9 @@ import subprocess
 
 from .common import HERE, INCLUDE, LIB, OUT, SECONDS, SHARED, STATIC, STRICT, must, need, run
 
-WAYS = ("pictures", "rows", "buffers", "refused", "odd", "scenes", "threads", "stack", "memory")
+WAYS = ("pictures", "rows", "buffers", "refused", "lines", "odd", "scenes", "threads", "stack", "memory")
 # Not by memcheck: the lists of 64 MiB, which take minutes there, and the stack, of which valgrind keeps its own account.
-MEMCHECKED = ("pictures", "rows", "buffers", "refused", "scenes", "threads", "memory")
+MEMCHECKED = ("pictures", "rows", "buffers", "refused", "lines", "scenes", "threads", "memory")
 
 
 def check_header(compiler, language, standard):
@@ -23,7 +23,7 @@ def symbols(path, *flags):
 
 def declared():
     with open(os.path.join(INCLUDE, "trirast.h"), encoding="ascii") as file:
-        return set(re.findall(r"^(?:uint32_t|size_t) (trirast_\w+)\(", file.read(), re.MULTILINE))
+        return set(re.findall(r"^(?:trirast_status|uint32_t|size_t) (trirast_\w+)\(", file.read(), re.MULTILINE))
 
 
 def check_exports(path, *flags):

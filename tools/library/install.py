@@ -3,7 +3,7 @@
 import os
 import shutil
 
-from .common import OUT, TOP, blocks_of_the_page, drawn_by_program, must, need, run
+from .common import OUT, STRICT, TOP, blocks_of_the_page, drawn_by_program, must, need, run
 
 INSTALLED = (
     "bin/trirast", "include/trirast.h", "lib/libtrirast.a", "lib/libtrirast.so", "lib/libtrirast.so.1",
@@ -20,16 +20,16 @@ def files_below(folder):
     return tuple(sorted(os.path.relpath(path, folder) for path in found))
 
 
-def build_outside(prefix, *flags):
-    """The first program of docs/library.md, outside of the repository and by pkg-config alone; gives what it writes."""
+def build_outside(text, prefix, *flags):
+    """A program, outside of the repository and by pkg-config alone; gives what it writes."""
     folder = os.path.join(os.environ.get("TMPDIR", "/tmp"), f"trirast-outside-{os.getpid()}")
     environment = {**os.environ, "PKG_CONFIG_PATH": os.path.join(prefix, "lib", "pkgconfig")}
     os.makedirs(folder)
     try:
-        told = run([need("pkg-config"), "--cflags", "--libs", "trirast"], env=environment).decode().split()
+        found = run([need("pkg-config"), "--cflags", "--libs", "trirast"], env=environment).decode().split()
         with open(os.path.join(folder, "outside.c"), "w", encoding="ascii") as file:
-            file.write(blocks_of_the_page("c")[0])
-        run([need("gcc"), "outside.c", "-o", "outside", *flags, *told], cwd=folder)
+            file.write(text)
+        run([need("gcc"), *STRICT, "outside.c", "-o", "outside", *flags, *found], cwd=folder)
         return run([os.path.join(folder, "outside")], env={**environment, "LD_LIBRARY_PATH": os.path.join(prefix, "lib")})
     finally:
         shutil.rmtree(folder)
@@ -41,8 +41,11 @@ def check_install():
     must(files_below(prefix) == INSTALLED, f"{files_below(prefix)} were installed")
     with open(os.path.join(TOP, "examples", "triangle.json"), "rb") as file:
         wanted = drawn_by_program(file.read())[0]
-    for flags in ([], ["-static"]):
-        must(build_outside(prefix, *flags) == wanted, f"other bytes with {flags}")
+    programs = [text for text in blocks_of_the_page("c") if "int main" in text]
+    must(len(programs) == 2, f"{len(programs)} programs in docs/library.md")
+    for text in programs:
+        for flags in ([], ["-static"]):
+            must(build_outside(text, prefix, *flags) == wanted, f"other bytes with {flags}")
     make("uninstall", f"PREFIX={prefix}")
     must(not files_below(prefix), f"{files_below(prefix)} were left")
 

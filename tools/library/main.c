@@ -1,10 +1,10 @@
-// Calls libtrirast in one of several ways, and prints a line for each thing that was looked at: "ok WHAT" or
+// Calls libtrirast in one of several ways, and prints a line for each thing that was compared: "ok WHAT" or
 // "failed WHAT: WHY". tools/check_library.py builds it, makes the cases with the program, and runs it:
 //
-//     library_test pictures|rows|buffers|refused|odd|scenes|threads|stack|memory MANIFEST
+//     library_test pictures|rows|buffers|refused|lines|odd|scenes|threads|stack|memory MANIFEST
 //
 // A line of the manifest is `drawn LIST FILE`, where FILE is what the program writes for LIST, or `refused LIST LINE`,
-// where LINE is what it tells. `memory` is there with -DWRAPPED, for the static library alone: see memory.c.
+// where LINE is what it writes to the standard error. `memory` is there with -DWRAPPED, for the static library alone: see memory.c.
 #define _GNU_SOURCE
 #include <pthread.h>
 #include <stdio.h>
@@ -16,195 +16,214 @@
 
 enum { THREADS = 4, STACK_SIZE = 1 << 23 };
 
-static const uint32_t SIDES[] = {8, 16, 32, 64};
+static const uint32_t TILE_SIZES[] = {8, 16, 32, 64};
 
 // ---- Calls on a case ------------------------------------------------------------------------------------------------
 
-// Draws the whole file with this much room, and looks at the answer and at every byte.
-static void draw_case(const list_case *one, uint32_t tile, size_t room, uint32_t kind) {
-    marked buffer = mark(room);
-    trirast_fault fault = UNSET;
-    uint32_t answer = trirast_draw(one->list.bytes, one->list.length, tile, buffer.bytes, room, &fault);
-    size_t length = kind ? 0 : one->wanted.length;
-    expect(is_fault(&fault, answer, kind) && holds_just(&buffer, one->wanted.bytes, length),
-           "%s, tile %u, room %zu: answer %u where %u was due, or other bytes", one->name, tile, room, answer, kind);
+// Draws the whole file into a buffer of this size, and compares the status and every byte.
+static void draw_case(const list_case *one, uint32_t tile_size, size_t size, trirast_status due) {
+    marked buffer = mark(size);
+    trirast_error error = UNSET;
+    trirast_status status = trirast_draw(one->list.bytes, one->list.length, tile_size, buffer.bytes, size, &error);
+    size_t length = due ? 0 : one->wanted.length;
+    expect(is_error(&error, status, due) && holds_just(&buffer, one->wanted.bytes, length),
+           "%s, tile size %u, buffer size %zu: status %u where %u was due, or other bytes", one->name, tile_size, size, status,
+           due);
     free(buffer.all);
 }
 
-// The same of rows of tiles, with room for `less` bytes fewer than they take.
-static void draw_rows_case(const list_case *one, uint32_t tile, uint32_t first, uint32_t end, size_t less, uint32_t kind) {
+// The same of tile rows, into a buffer of `less` bytes fewer than they take.
+static void draw_rows_case(const list_case *one, uint32_t tile_size, uint32_t first, uint32_t end, size_t less,
+                           trirast_status due) {
     size_t begin = 0, length = 0;
-    if (kind != TRIRAST_NO_SUCH_ROWS) {
-        begin = offset_of(one, tile, first);
-        length = offset_of(one, tile, end) - begin;
+    if (due != TRIRAST_STATUS_BAD_TILE_ROWS) {
+        begin = offset_of(one, tile_size, first);
+        length = offset_of(one, tile_size, end) - begin;
     }
     marked buffer = mark(length - less);
-    trirast_fault fault = UNSET;
-    uint32_t answer =
-        trirast_draw_rows(one->list.bytes, one->list.length, tile, first, end, buffer.bytes, buffer.room, &fault);
-    const uint8_t *wanted = one->wanted.bytes + one->size.header_bytes + begin;
-    expect(is_fault(&fault, answer, kind) && holds_just(&buffer, wanted, kind ? 0 : length),
-           "%s, tile %u, rows %u to %u, room %zu: answer %u where %u was due, or other bytes", one->name, tile, first, end,
-           buffer.room, answer, kind);
+    trirast_error error = UNSET;
+    trirast_status status =
+        trirast_draw_rows(one->list.bytes, one->list.length, tile_size, first, end, buffer.bytes, buffer.size, &error);
+    const char *wanted = one->wanted.bytes + one->info.header_bytes + begin;
+    expect(is_error(&error, status, due) && holds_just(&buffer, wanted, due ? 0 : length),
+           "%s, tile size %u, rows %u to %u, buffer size %zu: status %u where %u was due, or other bytes", one->name, tile_size,
+           first, end, buffer.size, status, due);
     free(buffer.all);
 }
 
 // ---- The ways -----------------------------------------------------------------------------------------------------
 
-static void look_at_pictures(void) {
+static void compare_pictures(void) {
     expect(trirast_version() == TRIRAST_VERSION, "version %u", trirast_version());
-    tell("the version is the header's");
+    report("the version is the header's");
     for (int k = 0; k < drawn_count; k++) {
-        const trirast_picture *size = &drawn[k].size;
+        const trirast_image_info *info = &drawn[k].info;
         char header[64];
-        int count = snprintf(header, sizeof header, "P%c\n%u %u\n%s\n", size->pixel_bytes == 3 ? '6' : '5', size->width,
-                             size->height, size->pixel_bytes == 3 ? "255" : "65535");
-        uint64_t bytes = size->header_bytes + (uint64_t)size->width * size->height * size->pixel_bytes;
-        expect(size->file_bytes == drawn[k].wanted.length && bytes == size->file_bytes &&
-                   (uint32_t)count == size->header_bytes && !memcmp(header, drawn[k].wanted.bytes, size->header_bytes),
+        int count = snprintf(header, sizeof header, "P%c\n%u %u\n%s\n", info->pixel_bytes == 3 ? '6' : '5', info->width,
+                             info->height, info->pixel_bytes == 3 ? "255" : "65535");
+        uint64_t bytes = info->header_bytes + (uint64_t)info->width * info->height * info->pixel_bytes;
+        expect(info->file_bytes == drawn[k].wanted.length && bytes == info->file_bytes &&
+                   (uint32_t)count == info->header_bytes && !memcmp(header, drawn[k].wanted.bytes, info->header_bytes),
                "%s", drawn[k].name);
     }
-    tell("trirast_size tells the header, the pixels and the length of the program's file");
+    report("trirast_read_image_info gives the header, the pixels and the length of the program's file");
     for (int k = 0; k < drawn_count; k++)
-        for (int s = 0; s < 4; s++) draw_case(&drawn[k], SIDES[s], drawn[k].wanted.length, TRIRAST_OK);
-    tell("trirast_draw writes the program's file, with each side of a tile");
+        for (int s = 0; s < 4; s++) draw_case(&drawn[k], TILE_SIZES[s], drawn[k].wanted.length, TRIRAST_STATUS_OK);
+    report("trirast_draw writes the program's file, with each tile size");
 }
 
-static void look_at_rows(void) {
+static void compare_rows(void) {
     for (int k = 0; k < drawn_count; k++)
         for (int s = 0; s < 4; s++) {
-            uint32_t rows = rows_of(&drawn[k], SIDES[s]);
+            uint32_t rows = rows_of(&drawn[k], TILE_SIZES[s]);
             for (uint32_t first = 0; first < rows; first++)
                 for (uint32_t end = first + 1; end <= rows; end++)
                     if (rows <= 5 || end - first == 1 || end - first == rows)
-                        draw_rows_case(&drawn[k], SIDES[s], first, end, 0, TRIRAST_OK);
+                        draw_rows_case(&drawn[k], TILE_SIZES[s], first, end, 0, TRIRAST_STATUS_OK);
         }
-    tell("trirast_draw_rows writes the pixels of its rows of tiles and nothing else");
+    report("trirast_draw_rows writes the pixels of its tile rows and nothing else");
     for (int k = 0; k < drawn_count; k++) {
         uint32_t rows = rows_of(&drawn[k], 32);
-        draw_rows_case(&drawn[k], 32, 0, rows + 1, 0, TRIRAST_NO_SUCH_ROWS);
-        draw_rows_case(&drawn[k], 32, 1, 0, 0, TRIRAST_NO_SUCH_ROWS);
-        draw_rows_case(&drawn[k], 32, 0, 0, 0, TRIRAST_NO_SUCH_ROWS);
-        draw_rows_case(&drawn[k], 32, rows, rows, 0, TRIRAST_NO_SUCH_ROWS);
-        draw_rows_case(&drawn[k], 32, rows + 1, rows + 1, 0, TRIRAST_NO_SUCH_ROWS);
-        draw_rows_case(&drawn[k], 32, 0, UINT32_MAX, 0, TRIRAST_NO_SUCH_ROWS);
-        draw_rows_case(&drawn[k], 64, 1u << 26, 1u << 26, 0, TRIRAST_NO_SUCH_ROWS);
+        draw_rows_case(&drawn[k], 32, 0, rows + 1, 0, TRIRAST_STATUS_BAD_TILE_ROWS);
+        draw_rows_case(&drawn[k], 32, 1, 0, 0, TRIRAST_STATUS_BAD_TILE_ROWS);
+        draw_rows_case(&drawn[k], 32, 0, 0, 0, TRIRAST_STATUS_BAD_TILE_ROWS);
+        draw_rows_case(&drawn[k], 32, rows, rows, 0, TRIRAST_STATUS_BAD_TILE_ROWS);
+        draw_rows_case(&drawn[k], 32, rows + 1, rows + 1, 0, TRIRAST_STATUS_BAD_TILE_ROWS);
+        draw_rows_case(&drawn[k], 32, 0, UINT32_MAX, 0, TRIRAST_STATUS_BAD_TILE_ROWS);
+        draw_rows_case(&drawn[k], 64, 1u << 26, 1u << 26, 0, TRIRAST_STATUS_BAD_TILE_ROWS);
     }
-    tell("rows that the picture does not have are refused");
+    report("tile rows that the picture does not have are refused");
 }
 
-static void look_at_buffers(void) {
+static void compare_buffers(void) {
     for (int k = 0; k < drawn_count; k++) {
         size_t length = drawn[k].wanted.length;
-        draw_case(&drawn[k], 32, length - 1, TRIRAST_BUFFER_TOO_SHORT);
-        draw_case(&drawn[k], 8, length - drawn[k].size.header_bytes, TRIRAST_BUFFER_TOO_SHORT);
-        draw_case(&drawn[k], 64, 0, TRIRAST_BUFFER_TOO_SHORT);
-        draw_case(&drawn[k], 16, length + 1, TRIRAST_OK);
-        draw_case(&drawn[k], 32, 2 * length, TRIRAST_OK);
+        draw_case(&drawn[k], 32, length - 1, TRIRAST_STATUS_BUFFER_TOO_SMALL);
+        draw_case(&drawn[k], 8, length - drawn[k].info.header_bytes, TRIRAST_STATUS_BUFFER_TOO_SMALL);
+        draw_case(&drawn[k], 64, 0, TRIRAST_STATUS_BUFFER_TOO_SMALL);
+        draw_case(&drawn[k], 16, length + 1, TRIRAST_STATUS_OK);
+        draw_case(&drawn[k], 32, 2 * length, TRIRAST_STATUS_OK);
     }
-    for (size_t room = 0; room < drawn[0].wanted.length && room < 4096; room++)
-        draw_case(&drawn[0], 8, room, TRIRAST_BUFFER_TOO_SHORT);
-    tell("a file takes a buffer of its length: short by a byte, without the header, empty, longer");
+    for (size_t size = 0; size < drawn[0].wanted.length && size < 4096; size++)
+        draw_case(&drawn[0], 8, size, TRIRAST_STATUS_BUFFER_TOO_SMALL);
+    report("a file takes a buffer of its length: short by a byte, without the header, empty, longer");
     for (int k = 0; k < drawn_count; k++)
         for (int s = 0; s < 4; s++)
-            for (uint32_t row = 0; row < rows_of(&drawn[k], SIDES[s]) && row < 4; row++) {
-                size_t length = offset_of(&drawn[k], SIDES[s], row + 1) - offset_of(&drawn[k], SIDES[s], row);
-                draw_rows_case(&drawn[k], SIDES[s], row, row + 1, 1, TRIRAST_BUFFER_TOO_SHORT);
-                draw_rows_case(&drawn[k], SIDES[s], row, row + 1, length, TRIRAST_BUFFER_TOO_SHORT);
+            for (uint32_t row = 0; row < rows_of(&drawn[k], TILE_SIZES[s]) && row < 4; row++) {
+                size_t length = offset_of(&drawn[k], TILE_SIZES[s], row + 1) - offset_of(&drawn[k], TILE_SIZES[s], row);
+                draw_rows_case(&drawn[k], TILE_SIZES[s], row, row + 1, 1, TRIRAST_STATUS_BUFFER_TOO_SMALL);
+                draw_rows_case(&drawn[k], TILE_SIZES[s], row, row + 1, length, TRIRAST_STATUS_BUFFER_TOO_SMALL);
             }
-    tell("so do rows of tiles");
-    for (uint32_t side = 0; side < 70; side++)
-        if (side != 8 && side != 16 && side != 32 && side != 64) {
-            draw_case(&drawn[0], side, drawn[0].wanted.length, TRIRAST_NO_TILE_SIDE);
+    report("so do tile rows");
+    for (uint32_t tile_size = 0; tile_size < 70; tile_size++)
+        if (tile_size != 8 && tile_size != 16 && tile_size != 32 && tile_size != 64) {
+            draw_case(&drawn[0], tile_size, drawn[0].wanted.length, TRIRAST_STATUS_BAD_TILE_SIZE);
         }
-    draw_case(&drawn[0], UINT32_MAX, drawn[0].wanted.length, TRIRAST_NO_TILE_SIDE);
-    tell("a side that no tile has is refused");
-    trirast_fault fault = UNSET;
-    uint32_t answer = trirast_draw(drawn[0].list.bytes, drawn[0].list.length, 32, NULL, 0, &fault);
-    expect(is_fault(&fault, answer, TRIRAST_BUFFER_TOO_SHORT), "answer %u", answer);
-    answer = trirast_draw_rows(drawn[0].list.bytes, drawn[0].list.length, 32, 0, 1, NULL, 0, &fault);
-    expect(is_fault(&fault, answer, TRIRAST_BUFFER_TOO_SHORT), "rows: answer %u", answer);
-    expect(trirast_fault_line(&fault, NULL, 0) > 0, "no line");
-    tell("no buffer, NULL and 0, is too short");
+    draw_case(&drawn[0], UINT32_MAX, drawn[0].wanted.length, TRIRAST_STATUS_BAD_TILE_SIZE);
+    report("a tile size that there is not is refused");
+    trirast_error error = UNSET;
+    trirast_status status = trirast_draw(drawn[0].list.bytes, drawn[0].list.length, 32, NULL, 0, &error);
+    expect(is_error(&error, status, TRIRAST_STATUS_BUFFER_TOO_SMALL), "status %u", status);
+    status = trirast_draw_rows(drawn[0].list.bytes, drawn[0].list.length, 32, 0, 1, NULL, 0, &error);
+    expect(is_error(&error, status, TRIRAST_STATUS_BUFFER_TOO_SMALL), "rows: status %u", status);
+    expect(trirast_error_line(&error, NULL, 0) > 0, "no line");
+    report("no buffer, NULL and 0, is too small");
 }
 
 // One refused list by one of the three calls that read a list.
-static uint32_t call_refused(int call, const blob *list, marked *buffer, trirast_fault *fault) {
+static trirast_status call_refused(int call, const blob *list, marked *buffer, trirast_error *error) {
     uint8_t *bytes = buffer->bytes;
-    trirast_picture picture;
-    memset(&picture, MARK, sizeof picture);
-    if (call == 1) return trirast_draw(list->bytes, list->length, 32, bytes, buffer->room, fault);
-    if (call == 2) return trirast_draw_rows(list->bytes, list->length, 32, 0, 1, bytes, buffer->room, fault);
-    uint32_t answer = trirast_size(list->bytes, list->length, &picture, fault);
-    for (size_t k = 0; k < sizeof picture; k++) expect(((uint8_t *)&picture)[k] == MARK, "a picture was written");
-    return answer;
+    trirast_image_info info;
+    memset(&info, MARK, sizeof info);
+    if (call == 1) return trirast_draw(list->bytes, list->length, 32, bytes, buffer->size, error);
+    if (call == 2) return trirast_draw_rows(list->bytes, list->length, 32, 0, 1, bytes, buffer->size, error);
+    trirast_status status = trirast_read_image_info(list->bytes, list->length, &info, error);
+    for (size_t k = 0; k < sizeof info; k++) expect(((uint8_t *)&info)[k] == MARK, "an image info was written");
+    return status;
 }
 
-static void look_at_refused(void) {
+static void compare_refused(void) {
     for (int k = 0; k < refused_count; k++)
         for (int call = 0; call < 3; call++) {
             marked buffer = mark(4096), line = mark(256);
-            trirast_fault fault = UNSET;
-            uint32_t answer = call_refused(call, &refused[k].list, &buffer, &fault);
+            trirast_error error = UNSET;
+            trirast_status status = call_refused(call, &refused[k].list, &buffer, &error);
             size_t length = refused[k].wanted.length;
-            expect(is_fault(&fault, answer, TRIRAST_LIST_FAULT) && holds_just(&buffer, NULL, 0), "%s: answer %u",
-                   refused[k].name, answer);
-            expect(trirast_fault_line(&fault, line.bytes, line.room) == length &&
+            expect(is_error(&error, status, TRIRAST_STATUS_BAD_LIST) && holds_just(&buffer, NULL, 0), "%s: status %u",
+                   refused[k].name, status);
+            expect(trirast_error_line(&error, (char *)line.bytes, line.size) == length &&
                        holds_just(&line, refused[k].wanted.bytes, length),
                    "%s: %.*s", refused[k].name, 100, (const char *)line.bytes);
             free(buffer.all);
             free(line.all);
         }
-    tell("a refused list gives the program's line, and leaves the buffer as it was");
-    for (size_t room = 0; room < 64; room++) {
-        trirast_fault fault = {TRIRAST_LIST_FAULT, TRIRAST_BAD_INDEX, 1, 4294967295u};
-        const char *wanted = "trirast: list fault 6 BadIndex in draw 4294967295\n";
-        marked line = mark(room);
-        size_t length = strlen(wanted);
-        expect(trirast_fault_line(&fault, line.bytes, room) == length &&
-                   holds_just(&line, (const uint8_t *)wanted, room < length ? room : length),
-               "room for %zu bytes", room);
-        free(line.all);
-    }
-    tell("of a line there comes as much as there is room for");
-    for (uint32_t kind = 0; kind < 20; kind++) {
-        trirast_fault fault = {kind, kind ? 0 : TRIRAST_BAD_INDEX, 0, 0};
-        marked line = mark(96);
-        size_t length = trirast_fault_line(&fault, line.bytes, line.room);
-        int has_line = kind >= TRIRAST_TOO_LONG && kind <= TRIRAST_NO_SUCH_ROWS;
-        int is_right = has_line ? length > 10 && length <= 96 && line.bytes[length - 1] == '\n'
-                                : !length && holds_just(&line, NULL, 0);
-        expect(is_right, "kind %u: a line of %zu bytes", kind, length);
-        free(line.all);
-    }
-    tell("of what no call tells there is no line");
+    report("a refused list gives the program's line, and leaves the buffer unchanged");
 }
 
-static void look_at_odd_lists(void) {
-    uint8_t *long_list = malloc(67108865);
+static void compare_lines(void) {
+    for (size_t size = 0; size < 64; size++) {
+        trirast_error error = {TRIRAST_STATUS_BAD_LIST, TRIRAST_LIST_BAD_INDEX, 1, 4294967295u};
+        const char *wanted = "trirast: list fault 6 BadIndex in draw 4294967295\n";
+        marked line = mark(size);
+        size_t length = strlen(wanted);
+        expect(trirast_error_line(&error, (char *)line.bytes, size) == length &&
+                   holds_just(&line, wanted, size < length ? size : length),
+               "a buffer of %zu bytes", size);
+        free(line.all);
+    }
+    report("as much of a line is written as fits");
+    for (uint32_t number = 0; number < 20; number++) {
+        trirast_error error = {number, number ? 0 : TRIRAST_LIST_BAD_INDEX, 0, 0};
+        marked line = mark(TRIRAST_ERROR_LINE_SIZE);
+        size_t length = trirast_error_line(&error, (char *)line.bytes, line.size);
+        int has_line = number >= TRIRAST_STATUS_INPUT_TOO_LONG && number <= TRIRAST_STATUS_BAD_STRUCT_SIZE;
+        int is_right = has_line ? length > 10 && length <= TRIRAST_ERROR_LINE_SIZE && line.bytes[length - 1] == '\n'
+                                : !length && holds_just(&line, NULL, 0);
+        expect(is_right, "status %u: a line of %zu bytes", number, length);
+        // Behind the program's name the line is the status's string.
+        const char *name = trirast_status_string((trirast_status)number);
+        if (has_line)
+            expect(length == strlen("trirast: ") + strlen(name) + 1 && !memcmp(line.bytes + 9, name, strlen(name)),
+                   "status %u: %s", number, name);
+        free(line.all);
+    }
+    report("an error that no call reports has no line");
+    for (int number = 0; number < 16; number++) {
+        const char *name = trirast_status_string((trirast_status)number);
+        int is_known = number <= TRIRAST_STATUS_BAD_STRUCT_SIZE;
+        for (int other = 0; other < number && is_known; other++)
+            expect(strcmp(name, trirast_status_string((trirast_status)other)), "%d and %d: %s", other, number, name);
+        expect(is_known == !!strcmp(name, "unknown status"), "%d: %s", number, name);
+    }
+    report("each status has a string of its own");
+}
+
+static void compare_odd_lists(void) {
+    char *long_list = malloc(67108865);
     if (!long_list) stop("out of memory", "a long list");
     memset(long_list, ' ', 67108865);
     const struct {
         const char *what;
         blob list;
-        uint32_t kind, list_kind;
+        trirast_status due;
+        uint32_t list_error;
     } lists[] = {
-        {"a list of no bytes is no JSON", {long_list, 0}, TRIRAST_LIST_FAULT, TRIRAST_NOT_JSON},
-        {"no list, NULL and 0, is answered in the same way", {NULL, 0}, TRIRAST_LIST_FAULT, TRIRAST_NOT_JSON},
-        {"a list of 67,108,864 bytes is read", {long_list, 67108864}, TRIRAST_LIST_FAULT, TRIRAST_NOT_JSON},
-        {"a list of 67,108,865 bytes is too long", {long_list, 67108865}, TRIRAST_TOO_LONG, 0},
+        {"a list of no bytes is no JSON", {long_list, 0}, TRIRAST_STATUS_BAD_LIST, TRIRAST_LIST_NOT_JSON},
+        {"no list, NULL and 0, has the same error", {NULL, 0}, TRIRAST_STATUS_BAD_LIST, TRIRAST_LIST_NOT_JSON},
+        {"a list of 67,108,864 bytes is read", {long_list, 67108864}, TRIRAST_STATUS_BAD_LIST, TRIRAST_LIST_NOT_JSON},
+        {"a list of 67,108,865 bytes is too long", {long_list, 67108865}, TRIRAST_STATUS_INPUT_TOO_LONG, 0},
     };
     for (size_t k = 0; k < sizeof lists / sizeof *lists; k++) {
         for (int call = 0; call < 3; call++) {
             marked buffer = mark(4096);
-            trirast_fault fault = UNSET;
-            uint32_t answer = call_refused(call, &lists[k].list, &buffer, &fault);
-            expect(is_fault(&fault, answer, lists[k].kind) && fault.list_kind == lists[k].list_kind && !fault.in_draw &&
+            trirast_error error = UNSET;
+            trirast_status status = call_refused(call, &lists[k].list, &buffer, &error);
+            expect(is_error(&error, status, lists[k].due) && error.list_error == lists[k].list_error && !error.in_draw &&
                        holds_just(&buffer, NULL, 0),
-                   "answer %u, list fault %u", answer, fault.list_kind);
+                   "status %u, list error %u", status, error.list_error);
             free(buffer.all);
         }
-        tell(lists[k].what);
+        report(lists[k].what);
     }
     free(long_list);
 }
@@ -215,8 +234,8 @@ static void *draw_all(void *argument) {
     int own = *(const int *)argument;
     for (int k = 0; k < drawn_count; k++) {
         const list_case *one = &drawn[(k + own * drawn_count / THREADS) % drawn_count];
-        draw_case(one, SIDES[(k + own) % 4], one->wanted.length, TRIRAST_OK);
-        draw_case(one, SIDES[(k + own) % 4], one->wanted.length - 1, TRIRAST_BUFFER_TOO_SHORT);
+        draw_case(one, TILE_SIZES[(k + own) % 4], one->wanted.length, TRIRAST_STATUS_OK);
+        draw_case(one, TILE_SIZES[(k + own) % 4], one->wanted.length - 1, TRIRAST_STATUS_BUFFER_TOO_SMALL);
     }
     return NULL;
 }
@@ -226,7 +245,7 @@ typedef struct {
     const list_case *one;
     int number;
     uint8_t *pixels;
-    trirast_fault fault;
+    trirast_error error;
 } share;
 
 static void *draw_share(void *argument) {
@@ -234,10 +253,10 @@ static void *draw_share(void *argument) {
     uint32_t rows = rows_of(own->one, 8);
     uint32_t first = rows * (uint32_t)own->number / THREADS, end = rows * (uint32_t)(own->number + 1) / THREADS;
     size_t begin = offset_of(own->one, 8, first), stop_at = offset_of(own->one, 8, end);
-    own->fault.kind = 0;
+    own->error.status = TRIRAST_STATUS_OK;
     if (first < end)
         trirast_draw_rows(own->one->list.bytes, own->one->list.length, 8, first, end, own->pixels + begin, stop_at - begin,
-                          &own->fault);
+                          &own->error);
     return NULL;
 }
 
@@ -248,35 +267,37 @@ static void run_threads(void *(*body)(void *), void *arguments, size_t size) {
     for (size_t k = 0; k < THREADS; k++) pthread_join(threads[k], NULL);
 }
 
-static void look_at_threads(void) {
+static void compare_threads(void) {
     int numbers[THREADS] = {0, 1, 2, 3};
     run_threads(draw_all, numbers, sizeof *numbers);
-    tell("four threads draw other lists at the same time");
+    report("four threads draw other lists at the same time");
     for (int k = 0; k < drawn_count; k++) {
-        size_t length = drawn[k].wanted.length - drawn[k].size.header_bytes;
+        size_t length = drawn[k].wanted.length - drawn[k].info.header_bytes;
         marked pixels = mark(length);
         share shares[THREADS];
         for (int n = 0; n < THREADS; n++) shares[n] = (share){&drawn[k], n, pixels.bytes, UNSET};
         run_threads(draw_share, shares, sizeof *shares);
-        for (int n = 0; n < THREADS; n++) expect(shares[n].fault.kind == 0, "%s: fault", drawn[k].name);
-        expect(holds_just(&pixels, drawn[k].wanted.bytes + drawn[k].size.header_bytes, length), "%s", drawn[k].name);
+        for (int n = 0; n < THREADS; n++) expect(shares[n].error.status == TRIRAST_STATUS_OK, "%s: error", drawn[k].name);
+        expect(holds_just(&pixels, drawn[k].wanted.bytes + drawn[k].info.header_bytes, length), "%s", drawn[k].name);
         free(pixels.all);
     }
-    tell("four threads draw one picture, each a part of it");
+    report("four threads draw one picture, each a part of it");
 }
 
 // ---- The stack ----------------------------------------------------------------------------------------------------
 
 static void *draw_every_way(void *argument) {
     const list_case *one = argument;
-    trirast_fault fault;
-    trirast_picture size;
+    trirast_error error;
+    trirast_image_info info;
     uint8_t *bytes = malloc(one->wanted.length + 4096);
     if (!bytes) stop("out of memory", "a buffer");
-    trirast_size(one->list.bytes, one->list.length, &size, &fault);
-    trirast_draw(one->list.bytes, one->list.length, 64, bytes, one->wanted.length + 4096, &fault);
-    trirast_draw_rows(one->list.bytes, one->list.length, 64, 0, 1, bytes, one->wanted.length + 4096, &fault);
-    trirast_fault_line(&fault, bytes, 4096);
+    trirast_read_image_info(one->list.bytes, one->list.length, &info, &error);
+    trirast_draw(one->list.bytes, one->list.length, 64, bytes, one->wanted.length + 4096, &error);
+    trirast_draw_rows(one->list.bytes, one->list.length, 64, 0, 1, bytes, one->wanted.length + 4096, &error);
+    trirast_error_line(&error, (char *)bytes, 4096);
+    marked buffer = {bytes, bytes, one->wanted.length + 4096};
+    if (one->arrays.bytes) draw_arrays(one, 64, &buffer, &error);
     free(bytes);
     return NULL;
 }
@@ -299,7 +320,7 @@ static size_t stack_of(list_case *one) {
     return STACK_SIZE - untouched;
 }
 
-static void look_at_stack(void) {
+static void compare_stack(void) {
     size_t most = 0;
     const char *where = "";
     for (int k = 0; k < drawn_count + refused_count; k++) {
@@ -309,29 +330,29 @@ static void look_at_stack(void) {
     }
     printf("stack %zu bytes, the most of %d lists, by %s\n", most, drawn_count + refused_count, where);
     expect(most <= TRIRAST_STACK, "%zu bytes", most);
-    tell("the stack that a thread touches is less than the header's TRIRAST_STACK");
+    report("the stack that a thread touches is less than the header's TRIRAST_STACK");
 }
 
-int main(int count, char **words) {
+int main(int count, char **arguments) {
     const struct {
         const char *name;
-        void (*look)(void);
+        void (*compare)(void);
     } ways[] = {
-        {"pictures", look_at_pictures}, {"rows", look_at_rows},       {"buffers", look_at_buffers},
-        {"refused", look_at_refused},   {"odd", look_at_odd_lists},   {"threads", look_at_threads},
-        {"stack", look_at_stack},       {"scenes", look_at_scenes},
+        {"pictures", compare_pictures}, {"rows", compare_rows},       {"buffers", compare_buffers},
+        {"refused", compare_refused},   {"odd", compare_odd_lists},   {"lines", compare_lines},   {"threads", compare_threads},
+        {"stack", compare_stack},       {"scenes", compare_scenes},
 #ifdef WRAPPED
-        {"memory", look_at_memory},
+        {"memory", compare_memory},
 #endif
     };
-    if (count != 3) stop("usage: library_test WAY MANIFEST", "two words are needed");
-    read_manifest(words[2]);
-    if (!drawn_count || !refused_count) stop("has too few cases", words[2]);
+    if (count != 3) stop("usage: library_test WAY MANIFEST", "two arguments are needed");
+    read_manifest(arguments[2]);
+    if (!drawn_count || !refused_count) stop("has too few cases", arguments[2]);
     for (size_t k = 0; k < sizeof ways / sizeof *ways; k++)
-        if (!strcmp(ways[k].name, words[1])) {
-            ways[k].look();
+        if (!strcmp(ways[k].name, arguments[1])) {
+            ways[k].compare();
             free_cases();
-            return looks_status();
+            return test_status();
         }
-    stop("no such way", words[1]);
+    stop("no such way", arguments[1]);
 }

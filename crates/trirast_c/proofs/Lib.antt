@@ -1,1 +1,1 @@
-mod Rooms
+mod Buffers

@@ -1,5 +1,5 @@
--- What the library's calls did. `Means` says which draw list the caller gave, as bytes or as arrays, `tile` is the side of a tile
--- in pixels, and `room` is the length of the caller's buffer.
+-- What the library's calls did. `Means` says which draw list the caller gave, as bytes or as arrays, `tile_size` is the number of
+-- pixels along one edge of a tile, and `size` is the number of bytes of the caller's buffer.
 use Rattle.std.specs.Prelude.{◌≡◌, ℕ, ◌<◌, ◌≤◌, List, ◌++◌, length, drop, ⊤}
 use Rattle.grid.specs.Pixels.{side_of}
 use Rattle.grid.specs.declared.pixels.TileSide.{TileSide}
@@ -17,19 +17,23 @@ use Rattle.scene.specs.declared.vertex.SceneVertex.{SceneVertex}
 use Rattle.bins.specs.Grid.{tiles_over}
 use Rattle.trirast.specs.TileRow.{AreTileRows}
 use Rattle.trirast.specs.File.{header_of, IsPictureFile}
-use Rattle.trirast_c.specs.declared.fault.CallFault.{CallFault}
-use Rattle.trirast_c.specs.declared.fault.CallFault.TheVariants.{List as BadList, InputTooLong, OutOfMemory, BufferTooShort, NoSide, NoRows}
-use Rattle.trirast_c.specs.declared.size.PictureSize.{PictureSize}
+use Rattle.trirast_c.specs.declared.batch.Batch.{Batch}
+use Rattle.trirast_c.specs.declared.batch.PictureHead.{PictureHead}
+use Rattle.trirast_c.specs.declared.error.CallError.{CallError}
+use Rattle.trirast_c.specs.declared.error.CallError.TheVariants.{List as BadList, InputTooLong, OutOfMemory, BufferTooSmall, TileSize, TileRows, StructSize}
+use Rattle.trirast_c.specs.declared.image_info.ImageInfo.{ImageInfo}
 
--- There are tiles of this side.
-abbrev pub IsSide : ℕ → Type 0
-IsSide tile = (side : TileSide) × (side_of side ≡ tile)
+-- ---- the picture's bytes in the caller's buffer
 
--- Of the bytes at the beginning of a buffer, and what was behind them.
+-- There are tiles of this size.
+abbrev pub IsTileSize : ℕ → Type 0
+IsTileSize tile_size = (side : TileSide) × (side_of side ≡ tile_size)
+
+-- The buffer begins with the bytes, and holds behind them what it held before.
 abbrev pub IsPut : List ℕ → List ℕ → List ℕ → Type 0
 IsPut bytes old new = new ≡ bytes ++ drop (length bytes) old
 
--- The buffer holds the file of a list's picture, and behind it what was there.
+-- The buffer begins with the file of a list's picture, and holds behind it what it held before.
 pub record HoldsFile (list : Scene) (old new : List ℕ) : Type 0 where
   pub file : List ℕ
   pub picture : IsPictureFile list file
@@ -41,94 +45,127 @@ pub record DrawsFile (Means : Scene → Type 0) (old new : List ℕ) : Type 0 wh
   pub means : Means list
   pub holds : HoldsFile list old new
 
--- The list's picture has these rows of tiles, at least one.
+-- The list's picture has these tile rows, at least one.
 abbrev pub HasRows : Scene → TileSide → ℕ → ℕ → Type 0
 HasRows list side first end = (first < end) × (end ≤ tiles_over list.height side)
 
--- The buffer holds the bytes of the rows of pixels in these rows of tiles, and behind them what was there.
+-- The buffer begins with the bytes of the rows of pixels in these tile rows, and holds behind them what it held before.
 pub record HoldsRows (list : Scene) (side : TileSide) (first end : ℕ) (old new : List ℕ) : Type 0 where
   pub has : HasRows list side first end
   pub rows : List ℕ
   pub are : AreTileRows list side first end rows
   pub put : IsPut rows old new
 
--- The same of the list that the caller gave, and the tiles of the side that it named.
-pub record DrawsRows (Means : Scene → Type 0) (tile first end : ℕ) (old new : List ℕ) : Type 0 where
+-- The same of the list that the caller gave, and of the tile size that it named.
+pub record DrawsRows (Means : Scene → Type 0) (tile_size first end : ℕ) (old new : List ℕ) : Type 0 where
   pub list : Scene
   pub means : Means list
   pub side : TileSide
-  pub of_tile : side_of side ≡ tile
+  pub of_tile : side_of side ≡ tile_size
   pub holds : HoldsRows list side first end old new
 
--- What a picture takes: its width and height in pixels, and the bytes of a pixel, of the header and of the whole file.
-pub record IsSizeOf (list : Scene) (size : PictureSize) : Type 0 where
-  pub width : size.width ≡ list.width
-  pub height : size.height ≡ list.height
-  pub pixel : size.pixel_bytes ≡ pixel_bytes list.output
-  pub header : size.header_bytes ≡ length (header_of list.output list.width list.height)
-  pub file : (file : List ℕ) → IsPictureFile list file → size.file_bytes ≡ length file
+-- ---- the image info
 
-pub record TellsSize (Means : Scene → Type 0) (size : PictureSize) : Type 0 where
+-- The width and height of a list's picture in pixels, and the bytes of a pixel, of the header and of the whole file.
+pub record IsInfoOf (list : Scene) (info : ImageInfo) : Type 0 where
+  pub width : info.width ≡ list.width
+  pub height : info.height ≡ list.height
+  pub pixel : info.pixel_bytes ≡ pixel_bytes list.output
+  pub header : info.header_bytes ≡ length (header_of list.output list.width list.height)
+  pub file : (file : List ℕ) → IsPictureFile list file → info.file_bytes ≡ length file
+
+-- The same of the list that the caller gave.
+pub record HoldsInfo (Means : Scene → Type 0) (info : ImageInfo) : Type 0 where
   pub list : Scene
   pub means : Means list
-  pub is : IsSizeOf list size
+  pub is : IsInfoOf list info
 
--- The file is longer than the buffer.
+-- ---- why a call failed
+
+-- The file has more bytes than the buffer.
 abbrev pub IsFileLonger : Scene → ℕ → Type 0
-IsFileLonger list room = (file : List ℕ) → IsPictureFile list file → room < length file
+IsFileLonger list size = (file : List ℕ) → IsPictureFile list file → size < length file
 
--- The bytes of these rows are longer than the buffer.
+-- The rows of pixels in these tile rows have more bytes than the buffer.
 abbrev pub AreRowsLonger : Scene → TileSide → ℕ → ℕ → ℕ → Type 0
-AreRowsLonger list side first end room = (rows : List ℕ) → AreTileRows list side first end rows → room < length rows
+AreRowsLonger list side first end size = (rows : List ℕ) → AreTileRows list side first end rows → size < length rows
 
-pub record LacksRoomForFile (Means : Scene → Type 0) (room : ℕ) : Type 0 where
+-- The buffer is too small for the file of the list that the caller gave.
+pub record IsSmallForFile (Means : Scene → Type 0) (size : ℕ) : Type 0 where
   pub list : Scene
   pub means : Means list
-  pub longer : IsFileLonger list room
+  pub longer : IsFileLonger list size
 
-pub record LacksRoomForRows (Means : Scene → Type 0) (tile first end room : ℕ) : Type 0 where
-  pub list : Scene
-  pub means : Means list
-  pub side : TileSide
-  pub of_tile : side_of side ≡ tile
-  pub longer : AreRowsLonger list side first end room
-
--- The picture has no such rows of tiles.
-pub record LacksRows (Means : Scene → Type 0) (tile first end : ℕ) : Type 0 where
+-- The buffer is too small for these tile rows of the list that the caller gave.
+pub record IsSmallForRows (Means : Scene → Type 0) (tile_size first end size : ℕ) : Type 0 where
   pub list : Scene
   pub means : Means list
   pub side : TileSide
-  pub of_tile : side_of side ≡ tile
+  pub of_tile : side_of side ≡ tile_size
+  pub longer : AreRowsLonger list side first end size
+
+-- The picture of the list that the caller gave has no such tile rows.
+pub record LacksRows (Means : Scene → Type 0) (tile_size first end : ℕ) : Type 0 where
+  pub list : Scene
+  pub means : Means list
+  pub side : TileSide
+  pub of_tile : side_of side ≡ tile_size
   pub lacks : ¬ HasRows list side first end
 
--- What is known of what the caller gave: which list it means, its first fault, and that it is too long.
+-- The structs and the elements of the arrays have the sizes, in bytes, that this library knows.
+pub record HasSizes (head : PictureHead) (batch : Batch) : Type 0 where
+  pub head_size : head.struct_size ≡ 36
+  pub batch_size : batch.struct_size ≡ 64
+  pub draw_size : batch.draw_size ≡ 60
+  pub vertex_size : batch.vertex_size ≡ 28
+  pub index_size : batch.index_size ≡ 4
+
+-- What is known of the list that the caller gave: what it is, its first fault, and that it is too long.
 pub record Given : Type 1 where
   pub Means : Scene → Type 0
   pub IsFirst : ReadFault → Type 0
   pub IsTooLong : Type 0
 
--- a list as bytes
+-- A list as bytes.
 abbrev pub text : List ℕ → Given
 text bytes = record { Means = Denotes bytes; IsFirst = IsFirstFault (all_checks (json_of bytes)); IsTooLong = 67_108_864 < length bytes }
 
--- a list as arrays, which may have any length
+-- A list as arrays, which may have any length.
 abbrev pub arrays : SceneHead → List SceneDraw → List SceneVertex → List ℕ → Given
 arrays head draws vertices indices = record { Means = IsListOf head draws vertices indices; IsFirst = IsFirstOfArrays head draws vertices indices; IsTooLong = ⊥ }
 
--- What each fault says of what the caller gave, where the last three say what the call has for them.
-abbrev pub Explains : Given → Type 0 → Type 0 → Type 0 → CallFault → Type 0
-Explains given too_short no_side no_rows (BadList fault) = given.IsFirst fault
-Explains given too_short no_side no_rows InputTooLong = given.IsTooLong
-Explains given too_short no_side no_rows OutOfMemory = ⊤
-Explains given too_short no_side no_rows BufferTooShort = too_short
-Explains given too_short no_side no_rows NoSide = no_side
-Explains given too_short no_side no_rows NoRows = no_rows
+-- What each error says of what the caller gave. The last four are what the call has for them.
+abbrev pub Explains : Given → Type 0 → Type 0 → Type 0 → Type 0 → CallError → Type 0
+Explains given too_small no_tile_size no_rows no_sizes (BadList fault) = given.IsFirst fault
+Explains given too_small no_tile_size no_rows no_sizes InputTooLong = given.IsTooLong
+Explains given too_small no_tile_size no_rows no_sizes OutOfMemory = ⊤
+Explains given too_small no_tile_size no_rows no_sizes BufferTooSmall = too_small
+Explains given too_small no_tile_size no_rows no_sizes TileSize = no_tile_size
+Explains given too_small no_tile_size no_rows no_sizes TileRows = no_rows
+Explains given too_small no_tile_size no_rows no_sizes StructSize = no_sizes
 
-abbrev pub ExplainsSize : Given → CallFault → Type 0
-ExplainsSize given = Explains given ⊥ ⊥ ⊥
+-- The call reads a list alone.
+abbrev pub ExplainsRead : Given → CallError → Type 0
+ExplainsRead given = Explains given ⊥ ⊥ ⊥ ⊥
 
-abbrev pub ExplainsDraw : Given → ℕ → ℕ → CallFault → Type 0
-ExplainsDraw given tile room = Explains given (LacksRoomForFile given.Means room) (¬ IsSide tile) ⊥
+-- The call draws a file.
+abbrev pub ExplainsDraw : Given → ℕ → ℕ → CallError → Type 0
+ExplainsDraw given tile_size size = Explains given (IsSmallForFile given.Means size) (¬ IsTileSize tile_size) ⊥ ⊥
 
-abbrev pub ExplainsRows : Given → ℕ → ℕ → ℕ → ℕ → CallFault → Type 0
-ExplainsRows given tile first end room = Explains given (LacksRoomForRows given.Means tile first end room) (¬ IsSide tile) (LacksRows given.Means tile first end)
+-- The call draws tile rows.
+abbrev pub ExplainsRows : Given → ℕ → ℕ → ℕ → ℕ → CallError → Type 0
+ExplainsRows given tile_size first end size = Explains given (IsSmallForRows given.Means tile_size first end size) (¬ IsTileSize tile_size) (LacksRows given.Means tile_size first end) ⊥
+
+-- ---- a scene
+
+-- The draw list of a scene, as its head and its batch list it.
+abbrev pub IsSceneOf : PictureHead → Batch → Scene → Type 0
+IsSceneOf head batch = IsListOf head.numbers batch.draws.now batch.vertices.now batch.indices.now
+
+-- A list as a head and a batch.
+abbrev pub scene : PictureHead → Batch → Given
+scene head batch = arrays head.numbers batch.draws.now batch.vertices.now batch.indices.now
+
+-- The call draws the file of a scene.
+abbrev pub ExplainsScene : PictureHead → Batch → ℕ → ℕ → CallError → Type 0
+ExplainsScene head batch tile_size size = Explains (scene head batch) (IsSmallForFile (IsSceneOf head batch) size) (¬ IsTileSize tile_size) ⊥ (¬ HasSizes head batch)

@@ -1,23 +1,28 @@
-//! The library for programs in C, and in what calls C.
+//! The library for programs in C, and for languages that call C.
 #![tactic(auto)]
 
 ghost use Rattle.std.specs.Prelude.{◌≡◌};
 
-mod drawing;
-mod fault;
-mod reading;
-mod size;
-mod telling;
+mod batch;
+mod buffer;
+mod error;
+mod image_info;
+mod input;
+mod messages;
+mod picture;
+mod tile_rows;
 
-pub use drawing::{trirast_draw, trirast_draw_rows, trirast_draw_scene};
-pub use fault::{CallFault, LibraryFault};
-pub use size::{PictureSize, trirast_size};
-pub use telling::trirast_fault_line;
+pub use batch::{Batch, PictureHead, trirast_draw_scene};
+pub use error::{CallError, LibraryError};
+pub use image_info::{ImageInfo, trirast_read_image_info};
+pub use messages::trirast_error_line;
+pub use picture::trirast_draw;
+pub use tile_rows::trirast_draw_rows;
 
-/// The version of these calls and structures. A greater one has all that a smaller one has, in the same form.
+/// The version of these calls and structs. A greater one has all that a smaller one has, in the same form.
 pub const VERSION: u32 = 1;
 
-/// The version of these calls and structures: 1.
+/// Returns the version of these calls and structs: 1.
 #[unsafe(no_mangle)]
 pub extern "C" fn trirast_version() -> u32
     ensures { result ≡ 1 }

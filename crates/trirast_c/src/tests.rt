@@ -1,6 +1,6 @@
 use crate::{
-    LibraryFault, PictureSize, trirast_draw, trirast_draw_rows, trirast_draw_scene,
-    trirast_fault_line, trirast_size, trirast_version,
+    Batch, ImageInfo, LibraryError, PictureHead, trirast_draw, trirast_draw_rows,
+    trirast_draw_scene, trirast_error_line, trirast_read_image_info, trirast_version,
 };
 use scene::{SceneDraw, SceneHead, SceneVertex};
 use std::alloc::Global;
@@ -19,15 +19,18 @@ const LAST_ROW: &str =
     r#"{"width":2,"height":9,"output":"depth","clear_depth":258,"draws":[{"vertices":[[0,0,772,0,0,0,0],[8000,0,772,0,0,0,0],[0,8000,772,0,0,0,0]],"triangles":[[0,1,2]],"depth_write":true,"scissor":[0,8,2,9]}]}"#;
 
 /// The same triangle as arrays.
-const HEAD: SceneHead = SceneHead {
-    width: 3,
-    height: 3,
-    samples: 1,
-    output: 0,
-    clear_red: 0,
-    clear_green: 0,
-    clear_blue: 0,
-    clear_depth: 65_535,
+const HEAD: PictureHead = PictureHead {
+    struct_size: 36,
+    numbers: SceneHead {
+        width: 3,
+        height: 3,
+        samples: 1,
+        output: 0,
+        clear_red: 0,
+        clear_green: 0,
+        clear_blue: 0,
+        clear_depth: 65_535,
+    },
 };
 
 const DRAW: SceneDraw = SceneDraw {
@@ -64,46 +67,59 @@ fn vertices() -> [SceneVertex; 3] {
     [white(128, 128), white(640, 128), white(128, 640)]
 }
 
-/// What a caller's fault may hold before a call.
-const UNSET: LibraryFault = LibraryFault {
-    kind: 77,
-    list_kind: 77,
+/// The arrays with the sizes of their elements in C.
+fn batch<'a>(draws: &'a [SceneDraw], vertices: &'a [SceneVertex], indices: &'a [u32]) -> Batch<'a> {
+    Batch {
+        struct_size: 64,
+        draw_size: 60,
+        vertex_size: 28,
+        index_size: 4,
+        draws,
+        vertices,
+        indices,
+    }
+}
+
+/// What a caller's error may hold before a call.
+const UNSET: LibraryError = LibraryError {
+    status: 77,
+    list_error: 77,
     in_draw: 77,
     draw: 77,
 };
 
-/// The fault with this number alone, or none with number 0.
-fn alone(kind: u32) -> LibraryFault {
-    LibraryFault {
-        kind,
-        list_kind: 0,
+/// The error of which this status says all, or none with status 0.
+fn alone(status: u32) -> LibraryError {
+    LibraryError {
+        status,
+        list_error: 0,
         in_draw: 0,
         draw: 0,
     }
 }
 
-/// A fault of the list with this number, outside of its draws.
-fn in_list(list_kind: u32) -> LibraryFault {
-    LibraryFault {
-        list_kind,
+/// An error of the list with this number, outside of its draws.
+fn in_list(list_error: u32) -> LibraryError {
+    LibraryError {
+        list_error,
         ..alone(1)
     }
 }
 
-/// A fault of the list with this number, in this draw.
-fn in_draw(list_kind: u32, draw: u32) -> LibraryFault {
-    LibraryFault {
+/// An error of the list with this number, in this draw.
+fn in_draw(list_error: u32, draw: u32) -> LibraryError {
+    LibraryError {
         in_draw: 1,
         draw,
-        ..in_list(list_kind)
+        ..in_list(list_error)
     }
 }
 
-/// The answer of `trirast_draw`, and the fault that it wrote.
-fn drawn(alloc: Global, list: &[u8], tile: u32, buffer: &mut [u8]) -> (u32, LibraryFault) {
-    let mut fault = UNSET;
-    let answer = trirast_draw(alloc, list, tile, buffer, &mut fault);
-    (answer, fault)
+/// Asserts nothing itself: the status of `trirast_draw`, and the error that it wrote.
+fn drawn(alloc: Global, json: &[u8], tile_size: u32, buffer: &mut [u8]) -> (u32, LibraryError) {
+    let mut error = UNSET;
+    let status = trirast_draw(alloc, json, tile_size, buffer, &mut error);
+    (status, error)
 }
 
 #[test]
@@ -112,37 +128,53 @@ fn has_the_version_of_the_header(rt: HostRuntime) {
 }
 
 #[test]
-fn sizes_pictures_of_colours_and_of_depths(rt: HostRuntime) {
-    let mut size = PictureSize {
+fn reads_the_info_of_pictures_of_colours_and_of_depths(rt: HostRuntime) {
+    let mut info = ImageInfo {
         width: 0,
         height: 0,
         pixel_bytes: 0,
         header_bytes: 0,
         file_bytes: 0,
     };
-    let mut fault = UNSET;
-    let colours = trirast_size(rt.alloc(), TRIANGLE.as_bytes(), &mut size, &mut fault);
-    assert_eq!(rt; (colours, fault), (0, alone(0)));
-    assert_eq!(rt; (size.width, size.height), (3, 3));
+    let mut error = UNSET;
+    let colours = trirast_read_image_info(rt.alloc(), TRIANGLE.as_bytes(), &mut info, &mut error);
+    assert_eq!(rt; (colours, error), (0, alone(0)));
+    assert_eq!(rt; (info.width, info.height), (3, 3));
     assert_eq!(rt;
-        (size.pixel_bytes, size.header_bytes, size.file_bytes),
+        (info.pixel_bytes, info.header_bytes, info.file_bytes),
         (3, 11, 38)
     );
-    let depths = trirast_size(rt.alloc(), LAST_ROW.as_bytes(), &mut size, &mut fault);
-    assert_eq!(rt; (depths, fault), (0, alone(0)));
-    assert_eq!(rt; (size.width, size.height), (2, 9));
+    let depths = trirast_read_image_info(rt.alloc(), LAST_ROW.as_bytes(), &mut info, &mut error);
+    assert_eq!(rt; (depths, error), (0, alone(0)));
+    assert_eq!(rt; (info.width, info.height), (2, 9));
     assert_eq!(rt;
-        (size.pixel_bytes, size.header_bytes, size.file_bytes),
+        (info.pixel_bytes, info.header_bytes, info.file_bytes),
         (2, 13, 49)
     );
 }
 
-/// Whether tiles of this side draw the file into the beginning of a buffer, and leave the rest.
-fn draws_the_file_by(alloc: Global, tile: u32) -> bool {
+#[test]
+fn keeps_the_info_of_a_list_that_is_refused(rt: HostRuntime) {
+    let mut info = ImageInfo {
+        width: 7,
+        height: 7,
+        pixel_bytes: 7,
+        header_bytes: 7,
+        file_bytes: 7,
+    };
+    let before = info;
+    let mut error = UNSET;
+    let status = trirast_read_image_info(rt.alloc(), b"{}", &mut info, &mut error);
+    assert_eq!(rt; (status, error), (1, in_list(3)));
+    assert_eq!(rt; info, before);
+}
+
+/// Whether tiles of this size draw the file into the beginning of a buffer, and leave the rest.
+fn draws_the_file_by(alloc: Global, tile_size: u32) -> bool {
     let mut buffer = [7; 40];
-    let (ended, fault) = drawn(alloc, TRIANGLE.as_bytes(), tile, &mut buffer);
-    ended == 0
-        && fault == alone(0)
+    let (status, error) = drawn(alloc, TRIANGLE.as_bytes(), tile_size, &mut buffer);
+    status == 0
+        && error == alone(0)
         && buffer.get(..38) == Some(FILE.as_slice())
         && buffer.get(38..) == Some([7, 7].as_slice())
 }
@@ -158,14 +190,14 @@ fn draws_a_file_into_the_beginning_of_a_buffer(rt: HostRuntime) {
 #[test]
 fn draws_rows_without_a_header(rt: HostRuntime) {
     let mut buffer = [7; 6];
-    let mut fault = UNSET;
+    let mut error = UNSET;
     let list = LAST_ROW.as_bytes();
-    let last = trirast_draw_rows(rt.alloc(), list, 8, 1, 2, &mut buffer, &mut fault);
-    assert_eq!(rt; (last, fault), (0, alone(0)));
+    let last = trirast_draw_rows(rt.alloc(), list, 8, 1, 2, &mut buffer, &mut error);
+    assert_eq!(rt; (last, error), (0, alone(0)));
     assert_eq!(rt; buffer, [3, 4, 3, 4, 7, 7]);
     let mut buffer = [7; 36];
-    let all = trirast_draw_rows(rt.alloc(), list, 8, 0, 2, &mut buffer, &mut fault);
-    assert_eq!(rt; (all, fault), (0, alone(0)));
+    let all = trirast_draw_rows(rt.alloc(), list, 8, 0, 2, &mut buffer, &mut error);
+    assert_eq!(rt; (all, error), (0, alone(0)));
     assert_eq!(rt; &buffer[..4], [1, 2, 1, 2].as_slice());
     assert_eq!(rt; &buffer[28..], [1, 2, 1, 2, 3, 4, 3, 4].as_slice());
 }
@@ -173,25 +205,23 @@ fn draws_rows_without_a_header(rt: HostRuntime) {
 #[test]
 fn draws_a_scene_as_its_list(rt: HostRuntime) {
     let mut buffer = [7; 38];
-    let mut fault = UNSET;
-    let answer = trirast_draw_scene(
+    let mut error = UNSET;
+    let status = trirast_draw_scene(
         rt.alloc(),
         &HEAD,
-        &[DRAW],
-        &vertices(),
-        &[0, 1, 2],
+        &batch(&[DRAW], &vertices(), &[0, 1, 2]),
         32,
         &mut buffer,
-        &mut fault,
+        &mut error,
     );
-    assert_eq!(rt; (answer, fault), (0, alone(0)));
+    assert_eq!(rt; (status, error), (0, alone(0)));
     assert_eq!(rt; &buffer[..], &FILE[..]);
 }
 
 // The numbers are those of `include/trirast.h`.
 #[test]
-fn numbers_the_faults_of_lists_as_the_header(rt: HostRuntime) {
-    for (list, fault) in [
+fn numbers_the_errors_of_lists_as_the_header(rt: HostRuntime) {
+    for (list, error) in [
         ("", in_list(1)),
         (r#"{"width":1,"height":1,"draws":[],"fog":1}"#, in_list(2)),
         ("{}", in_list(3)),
@@ -211,14 +241,14 @@ fn numbers_the_faults_of_lists_as_the_header(rt: HostRuntime) {
         ),
     ] {
         let ended = drawn(rt.alloc(), list.as_bytes(), 8, &mut []);
-        assert_eq!(rt; ended, (1, fault), "{list}");
+        assert_eq!(rt; ended, (1, error), "{list}");
     }
 }
 
-// Of several faults the first is told: the side of a tile, the list, the rows, the buffer.
+// Of several errors the first is reported: the tile size, the list, the rows, the buffer.
 #[test]
-fn numbers_the_faults_of_calls_as_the_header_and_in_its_order(rt: HostRuntime) {
-    for (list, tile, first, end, fault) in [
+fn numbers_the_errors_of_calls_as_the_header_and_in_its_order(rt: HostRuntime) {
+    for (list, tile_size, first, end, due) in [
         ("[]", 12, 1, 1, alone(5)),
         ("[]", 8, 1, 1, in_list(4)),
         (TRIANGLE, 8, 1, 1, alone(6)),
@@ -226,17 +256,17 @@ fn numbers_the_faults_of_calls_as_the_header_and_in_its_order(rt: HostRuntime) {
         (TRIANGLE, 8, 0, 1, alone(4)),
     ] {
         let mut buffer = [7; 26];
-        let mut told = UNSET;
-        let answer = trirast_draw_rows(
+        let mut error = UNSET;
+        let status = trirast_draw_rows(
             rt.alloc(),
             list.as_bytes(),
-            tile,
+            tile_size,
             first,
             end,
             &mut buffer,
-            &mut told,
+            &mut error,
         );
-        assert_eq!(rt; (answer, told), (fault.kind, fault));
+        assert_eq!(rt; (status, error), (due.status, due));
         assert_eq!(rt; buffer, [7; 26]);
     }
     let ended = drawn(rt.alloc(), TRIANGLE.as_bytes(), 0, &mut []);
@@ -253,36 +283,95 @@ fn refuses_a_list_of_one_byte_too_many(rt: HostRuntime) -> Result<(), Fail> {
     Ok(())
 }
 
-/// Asserts nothing itself: the answer of `trirast_draw_scene` for these arrays, and the fault that it wrote.
-fn drawn_scene(
-    alloc: Global,
-    head: &SceneHead,
-    draws: &[SceneDraw],
-    vertices: &[SceneVertex],
-    indices: &[u32],
-) -> (u32, LibraryFault) {
-    let mut fault = UNSET;
-    let answer = trirast_draw_scene(
-        alloc,
-        head,
-        draws,
-        vertices,
-        indices,
-        8,
-        &mut [],
-        &mut fault,
-    );
-    (answer, fault)
+/// Asserts nothing itself: the status of `trirast_draw_scene` with an empty buffer, and the error that it wrote.
+fn drawn_scene(alloc: Global, head: &PictureHead, batch: &Batch<'_>) -> (u32, LibraryError) {
+    let mut error = UNSET;
+    let status = trirast_draw_scene(alloc, head, batch, 8, &mut [], &mut error);
+    (status, error)
+}
+
+/// Whether the call refuses these sizes by the status 7, also with a tile size that there is not, and leaves the buffer.
+fn refuses_sizes(alloc: Global, head: &PictureHead, batch: &Batch<'_>) -> bool {
+    let mut buffer = [7; 40];
+    let mut error = UNSET;
+    let status = trirast_draw_scene(alloc, head, batch, 8, &mut buffer, &mut error);
+    let first = status == 7 && error == alone(7) && buffer == [7; 40];
+    let status = trirast_draw_scene(alloc, head, batch, 12, &mut buffer, &mut error);
+    first && status == 7 && error == alone(7)
+}
+
+// A struct of another version of the header has another size.
+#[test]
+fn refuses_structs_and_elements_of_other_sizes(rt: HostRuntime) {
+    let alloc = rt.alloc();
+    let (draws, vertices, indices) = ([DRAW], vertices(), [0, 1, 2]);
+    let whole = batch(&draws, &vertices, &indices);
+    for struct_size in [0, 32, 35, 37, 40, 64] {
+        let head = PictureHead {
+            struct_size,
+            ..HEAD
+        };
+        assert!(rt; refuses_sizes(alloc, &head, &whole));
+    }
+    for size in [0, 1, 3, 5, 27, 29, 59, 61, 63, 65] {
+        assert!(rt;
+            refuses_sizes(
+                alloc,
+                &HEAD,
+                &Batch {
+                    struct_size: size,
+                    ..whole
+                }
+            )
+        );
+        assert!(rt;
+            refuses_sizes(
+                alloc,
+                &HEAD,
+                &Batch {
+                    draw_size: size,
+                    ..whole
+                }
+            )
+        );
+        assert!(rt;
+            refuses_sizes(
+                alloc,
+                &HEAD,
+                &Batch {
+                    vertex_size: size,
+                    ..whole
+                }
+            )
+        );
+        assert!(rt;
+            refuses_sizes(
+                alloc,
+                &HEAD,
+                &Batch {
+                    index_size: size,
+                    ..whole
+                }
+            )
+        );
+    }
 }
 
 #[test]
 fn refuses_scenes_with_bad_numbers(rt: HostRuntime) {
     let alloc = rt.alloc();
     let indices = [0, 1, 2];
-    let head = SceneHead { samples: 2, ..HEAD };
-    let ended = drawn_scene(alloc, &head, &[DRAW], &vertices(), &indices);
+    let vertices = vertices();
+    let head = PictureHead {
+        numbers: SceneHead {
+            samples: 2,
+            ..HEAD.numbers
+        },
+        ..HEAD
+    };
+    let ended = drawn_scene(alloc, &head, &batch(&[DRAW], &vertices, &indices));
     assert_eq!(rt; ended, (1, in_list(5)));
-    for (draw, list_kind) in [
+    for (draw, list_error) in [
         (
             SceneDraw {
                 primitives: 3,
@@ -335,40 +424,41 @@ fn refuses_scenes_with_bad_numbers(rt: HostRuntime) {
             6,
         ),
     ] {
-        let ended = drawn_scene(alloc, &HEAD, &[draw], &vertices(), &indices);
-        assert_eq!(rt; ended, (1, in_draw(list_kind, 0)));
+        let ended = drawn_scene(alloc, &HEAD, &batch(&[draw], &vertices, &indices));
+        assert_eq!(rt; ended, (1, in_draw(list_error, 0)));
     }
     let outside = [white(128, 128), white(640, 128), white(8_388_608, 0)];
-    let ended = drawn_scene(alloc, &HEAD, &[DRAW], &outside, &indices);
+    let ended = drawn_scene(alloc, &HEAD, &batch(&[DRAW], &outside, &indices));
     assert_eq!(rt; ended, (1, in_draw(5, 0)));
-    let left_over = drawn_scene(alloc, &HEAD, &[DRAW], &vertices(), &[0, 1, 2, 0]);
+    let left_over = drawn_scene(alloc, &HEAD, &batch(&[DRAW], &vertices, &[0, 1, 2, 0]));
     assert_eq!(rt; left_over, (1, in_list(4)));
-    let many = drawn_scene(alloc, &HEAD, &[DRAW; 1025], &vertices(), &indices);
+    let many = drawn_scene(alloc, &HEAD, &batch(&[DRAW; 1025], &vertices, &indices));
     assert_eq!(rt; many, (1, in_list(7)));
 }
 
 // An array of none is what a NULL pointer of the caller becomes.
 #[test]
 fn takes_a_scene_of_nothing(rt: HostRuntime) {
-    let ended = drawn_scene(rt.alloc(), &HEAD, &[], &[], &[]);
+    let ended = drawn_scene(rt.alloc(), &HEAD, &batch(&[], &[], &[]));
     assert_eq!(rt; ended, (4, alone(4)));
     let mut buffer = [7; 38];
-    let mut fault = UNSET;
-    let answer = trirast_draw_scene(rt.alloc(), &HEAD, &[], &[], &[], 8, &mut buffer, &mut fault);
-    assert_eq!(rt; (answer, fault), (0, alone(0)));
+    let mut error = UNSET;
+    let nothing = batch(&[], &[], &[]);
+    let status = trirast_draw_scene(rt.alloc(), &HEAD, &nothing, 8, &mut buffer, &mut error);
+    assert_eq!(rt; (status, error), (0, alone(0)));
     assert_eq!(rt; &buffer[..11], &FILE[..11]);
     assert_eq!(rt; &buffer[11..], [0; 27].as_slice());
 }
 
-/// Whether this is the line of a fault, whole.
-fn is_line_of(fault: LibraryFault, line: &str) -> bool {
+/// Whether this is the whole line of an error.
+fn is_line_of(error: LibraryError, line: &str) -> bool {
     let mut buffer = [7; 96];
-    let length = trirast_fault_line(&fault, &mut buffer);
+    let length = trirast_error_line(&error, &mut buffer);
     length == line.len() && buffer.get(..length) == Some(line.as_bytes())
 }
 
 #[test]
-fn has_the_line_of_each_fault(rt: HostRuntime) {
+fn has_the_line_of_each_error(rt: HostRuntime) {
     assert!(rt; is_line_of(in_list(1), "trirast: list fault 1 NotJson\n"));
     assert!(rt; is_line_of(in_list(2), "trirast: list fault 2 UnknownKey\n"));
     assert!(rt; is_line_of(in_list(3), "trirast: list fault 3 MissingKey\n"));
@@ -385,36 +475,37 @@ fn has_the_line_of_each_fault(rt: HostRuntime) {
     );
     assert!(rt; is_line_of(alone(2), "trirast: input too long\n"));
     assert!(rt; is_line_of(alone(3), "trirast: out of memory\n"));
-    assert!(rt; is_line_of(alone(4), "trirast: buffer too short\n"));
-    assert!(rt; is_line_of(alone(5), "trirast: no such tile side\n"));
-    assert!(rt; is_line_of(alone(6), "trirast: no such rows\n"));
+    assert!(rt; is_line_of(alone(4), "trirast: buffer too small\n"));
+    assert!(rt; is_line_of(alone(5), "trirast: no such tile size\n"));
+    assert!(rt; is_line_of(alone(6), "trirast: no such tile rows\n"));
+    assert!(rt; is_line_of(alone(7), "trirast: no such struct size\n"));
 }
 
 #[test]
 fn cuts_a_line_to_its_buffer(rt: HostRuntime) {
     let mut buffer = [7; 9];
-    assert_eq!(rt; trirast_fault_line(&alone(3), &mut buffer), 23);
+    assert_eq!(rt; trirast_error_line(&alone(3), &mut buffer), 23);
     assert_eq!(rt; buffer, *b"trirast: ");
-    assert_eq!(rt; trirast_fault_line(&alone(3), &mut []), 23);
+    assert_eq!(rt; trirast_error_line(&alone(3), &mut []), 23);
 }
 
 #[test]
-fn has_no_line_of_what_no_call_tells(rt: HostRuntime) {
-    let twice = LibraryFault {
+fn has_no_line_of_what_no_call_reports(rt: HostRuntime) {
+    let twice = LibraryError {
         in_draw: 2,
         ..in_draw(6, 1)
     };
-    let nowhere = LibraryFault {
+    let nowhere = LibraryError {
         draw: 1,
         ..in_list(6)
     };
-    let both = LibraryFault {
-        list_kind: 6,
+    let both = LibraryError {
+        list_error: 6,
         ..alone(3)
     };
-    for fault in [
+    for error in [
         alone(0),
-        alone(7),
+        alone(8),
         alone(1),
         in_list(0),
         in_list(11),
@@ -423,7 +514,7 @@ fn has_no_line_of_what_no_call_tells(rt: HostRuntime) {
         both,
     ] {
         let mut buffer = [7; 96];
-        assert_eq!(rt; trirast_fault_line(&fault, &mut buffer), 0);
+        assert_eq!(rt; trirast_error_line(&error, &mut buffer), 0);
         assert_eq!(rt; buffer, [7; 96]);
     }
 }

@@ -1,0 +1,38 @@
+//! Bytes at the beginning of the caller's buffer.
+ghost use Rattle.std.specs.Prelude.{◌≡◌, ◌≤◌, ◌<◌, ◌⊎◌, length, OnOk, OnErr, IfErr};
+ghost use Rattle.trirast_c.specs.Library.{HoldsFile, IsFileLonger, IsPut};
+ghost use Rattle.trirast_c.specs.declared.error.CallError.TheVariants as call;
+
+use crate::error::CallError;
+use crate::image_info::ImageInfo;
+use grid::TileSide;
+use list::DrawList;
+use std::alloc::Global;
+use trirast::draw;
+
+/// Writes bytes at the beginning of a buffer.
+pub(crate) fn put(bytes: &[u8], buffer: &mut [u8])
+    requires { length bytes.now ≤ length buffer.old }
+    ensures { IsPut bytes.now buffer.old buffer.new }
+{
+    buffer[..bytes.len()].copy_from_slice(bytes);
+}
+
+/// Draws the file of a list's picture into the buffer. It is drawn into memory of its own first, so that the buffer is unchanged
+/// if an allocation fails.
+pub(crate) fn file_into(
+    alloc: Global,
+    list: &DrawList,
+    side: TileSide,
+    buffer: &mut [u8],
+) -> Result<(), CallError>
+    ensures drawn { OnOk result (HoldsFile list.now buffer.old buffer.new) }
+    ensures kept { OnErr result (buffer.new ≡ buffer.old) }
+    ensures error { IfErr result (λ e. (e ≡ call.OutOfMemory) ⊎ ((e ≡ call.BufferTooSmall) × IsFileLonger list.now (length buffer.old))) }
+{
+    if ImageInfo::of(list).file_bytes > buffer.len() as u64 {
+        return Err(CallError::BufferTooSmall);
+    }
+    put(&draw(alloc, list, side)?, buffer);
+    Ok(())
+}

@@ -1,0 +1,79 @@
+//! Rows of tiles of a list's picture, as bytes in the caller's buffer.
+ghost use Rattle.std.specs.Prelude.{◌≡◌, ◌≢◌, ◌<◌, ◌≤◌, ℕ, List, length, OnOk, OnErr, IfErr};
+ghost use Rattle.model.specs.Denotes.{Denotes};
+ghost use Rattle.bins.specs.Grid.{tiles_over};
+ghost use Rattle.trirast.specs.TileRow.{AreTileRows};
+ghost use Rattle.trirast_c.specs.Errors.{no_error, number_of, reported};
+ghost use Rattle.trirast_c.specs.Library.{DrawsRows, ExplainsRows, text};
+
+use crate::buffer::put;
+use crate::error::{CallError, LibraryError, report};
+use crate::input::{list_of, side_of};
+use bins::Tiling;
+use grid::TileSide;
+use list::DrawList;
+use std::alloc::Global;
+use trirast::draw_rows;
+
+/// The number of bytes of the rows of pixels in these tile rows.
+fn bytes_of_rows(list: &DrawList, side: TileSide, first: u32, end: u32) -> u64
+    requires order { first < end }
+    requires within { end ≤ tiles_over list.now.height side }
+    ensures { (rows : List ℕ) → AreTileRows list.now side first end rows → result ≡ length rows }
+{
+    let height = list.height();
+    let top = side.pixels() * first;
+    let bottom = height.min(side.pixels() * end);
+    u64::from(list.output().pixel_bytes()) * u64::from((bottom - top) * list.width())
+}
+
+/// Draws the rows of pixels in these tile rows into the buffer. They are drawn into memory of their own first, so that the buffer is
+/// unchanged if an allocation fails.
+fn draw_rows_into(
+    alloc: Global,
+    json: &[u8],
+    tile_size: u32,
+    first: u32,
+    end: u32,
+    buffer: &mut [u8],
+) -> Result<(), CallError>
+    ensures drawn { OnOk result (DrawsRows (Denotes json.now) tile_size first end buffer.old buffer.new) }
+    ensures kept { OnErr result (buffer.new ≡ buffer.old) }
+    ensures error { IfErr result (ExplainsRows (text json.now) tile_size first end (length buffer.old)) }
+{
+    let side = side_of(tile_size)?;
+    let list = list_of(alloc, json)?;
+    if first >= end || end > Tiling::new(list.width(), list.height(), side).rows() {
+        return Err(CallError::TileRows);
+    }
+    if bytes_of_rows(&list, side, first, end) > buffer.len() as u64 {
+        return Err(CallError::BufferTooSmall);
+    }
+    put(&draw_rows(alloc, &list, side, first, end)?, buffer);
+    Ok(())
+}
+
+/// Draws the tile rows from `first` to before `end`, counted from the top, of a list's picture by tiles of this size, in pixels. The
+/// bytes of their rows of pixels go to the beginning of the buffer, without a header; bytes behind them are unchanged. Returns the
+/// status, and writes the error. If the status is not 0, the buffer is unchanged. Two calls share nothing, so several threads may
+/// each draw tile rows of one picture.
+#[unsafe(no_mangle)]
+pub extern "C" fn trirast_draw_rows(
+    alloc: Global,
+    json: &[u8],
+    tile_size: u32,
+    first: u32,
+    end: u32,
+    buffer: &mut [u8],
+    error: &mut LibraryError,
+) -> u32
+    ensures drawn { result ≡ 0 → DrawsRows (Denotes json.now) tile_size first end buffer.old buffer.new }
+    ensures no_error { result ≡ 0 → error.new ≡ no_error }
+    ensures kept { result ≢ 0 → buffer.new ≡ buffer.old }
+    ensures error { result ≢ 0 → (e : CallError) × (result ≡ number_of e) × (error.new ≡ reported e) × ExplainsRows (text json.now) tile_size first end (length buffer.old) e }
+{
+    report(
+        draw_rows_into(alloc, json, tile_size, first, end, buffer),
+        error,
+    )
+}

@@ -1,0 +1,73 @@
+"""Draw lists, which are JSON texts, and their pictures."""
+
+import json
+from concurrent.futures import ThreadPoolExecutor
+from typing import Any, Dict, List, Optional, SupportsIndex, Tuple, Union
+
+from ._ffi import CError, CImageInfo, library, memory_of, number
+from ._picture import ImageInfo, Picture, memory_for
+
+DrawList = Union[bytes, bytearray, memoryview, str, Dict[str, Any], List[Any]]
+
+
+def draw(draw_list: DrawList, tile_size: SupportsIndex = 32, threads: int = 1, out: Optional[Any] = None) -> Picture:
+    """Draws a draw list: a text or its bytes, or a value that json writes as one.
+
+    `tile_size` is the width and height of a tile in pixels, 8, 16, 32 or 64. `threads` is how many threads draw, each its own
+    part of the picture; it is what the program calls workers. Neither changes a byte. Each thread reads the whole list, so
+    several pay if drawing takes longer than reading. `out` is a buffer for the pixels, as a numpy array or a bytearray, of
+    exactly their size. Raises an Error, and ValueError if `threads` is less than 1 or `out` does not fit.
+    """
+    if threads < 1:
+        raise ValueError("threads: at least 1")
+    data, size = as_bytes(draw_list), number(tile_size, 0)
+    info = read_image_info(data)
+    picture = Picture(info.width, info.height, info.is_depth, memory_for(info.file_bytes - info.header_bytes, out))
+    ranges = tile_row_ranges(-(-info.height // max(1, size)), threads)
+    row_bytes = info.width * info.pixel_bytes
+
+    def draw_range(first: int, end: int) -> None:
+        begin, stop = (min(row * size, info.height) * row_bytes for row in (first, end))
+        part = memory_of(picture._memory[begin:stop])
+        library().trirast_draw_rows(data, len(data), size, first, end, part, stop - begin, CError())
+
+    if len(ranges) == 1:
+        draw_range(*ranges[0])
+        return picture
+    with ThreadPoolExecutor(len(ranges)) as pool:
+        for done in [pool.submit(draw_range, *each) for each in ranges]:
+            done.result()
+    return picture
+
+
+def draw_file(draw_list: DrawList, tile_size: SupportsIndex = 32) -> bytes:
+    """The whole file of a draw list's picture, PPM or PGM, header and pixels, on the calling thread. Raises an Error."""
+    data = as_bytes(draw_list)
+    file = bytearray(read_image_info(data).file_bytes)
+    library().trirast_draw(data, len(data), number(tile_size, 0), memory_of(memoryview(file)), len(file), CError())
+    return bytes(file)
+
+
+def image_info(draw_list: DrawList) -> ImageInfo:
+    """The size of a draw list's picture and of its file, without drawing it. Raises an Error."""
+    return read_image_info(as_bytes(draw_list))
+
+
+def as_bytes(draw_list: DrawList) -> bytes:
+    if isinstance(draw_list, str):
+        return draw_list.encode()
+    if isinstance(draw_list, (bytes, bytearray, memoryview)):
+        return bytes(draw_list)
+    return json.dumps(draw_list, separators=(",", ":")).encode()
+
+
+def read_image_info(data: bytes) -> ImageInfo:
+    info = CImageInfo()
+    library().trirast_read_image_info(data, len(data), info, CError())
+    return ImageInfo(info.width, info.height, info.pixel_bytes, info.header_bytes, info.file_bytes)
+
+
+def tile_row_ranges(rows: int, threads: int) -> List[Tuple[int, int]]:
+    """The tile rows as one range for each thread. None is empty, and their lengths differ by at most one."""
+    parts = min(rows, threads)
+    return [(rows * part // parts, rows * (part + 1) // parts) for part in range(parts)]

@@ -1,0 +1,58 @@
+"""The exceptions, one for each status of the library."""
+
+from typing import Dict, Optional, Type
+
+BAD_LIST = 1
+
+
+class Error(Exception):
+    """Why nothing was drawn. Its text is the line that the program would write; `status` is the number that the call returned."""
+
+    def __init__(self, status: int, line: str) -> None:
+        super().__init__(line)
+        self.status = status
+
+
+class DrawListError(Error, ValueError):
+    """What was given is no draw list. `number` and `name` are those of docs/draw-list.md, as 6 and BadIndex. `draw` is the
+    index of the draw in which the error is, or None if it is in none."""
+
+    def __init__(self, status: int, line: str, number: int, draw: Optional[int]) -> None:
+        super().__init__(status, line)
+        self.number = number
+        self.name = line.split(" ")[4]
+        self.draw = draw
+
+
+class LimitError(Error, ValueError):
+    """The draw list has more than 67,108,864 bytes."""
+
+
+class OutOfMemoryError(Error, MemoryError):
+    """An allocation failed in the library."""
+
+
+class BufferTooSmallError(Error, ValueError):
+    """A buffer has fewer bytes than the call would write. No function of this package passes such a buffer."""
+
+
+class TileSizeError(Error, ValueError):
+    """The tile size is none of 8, 16, 32 and 64."""
+
+
+class TileRowsError(Error, ValueError):
+    """The picture does not have these tile rows. No function of this package asks for such rows."""
+
+
+class StructSizeError(Error):
+    """The library has structs of other sizes than this package: it is of another version."""
+
+
+BY_STATUS: Dict[int, Type[Error]] = {
+    2: LimitError,
+    3: OutOfMemoryError,
+    4: BufferTooSmallError,
+    5: TileSizeError,
+    6: TileRowsError,
+    7: StructSizeError,
+}

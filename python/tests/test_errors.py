@@ -1,0 +1,62 @@
+"""Each error of the library is an exception with the program's line."""
+
+import ctypes
+import unittest
+from typing import Any, Callable, Tuple
+
+import trirast
+from trirast import _errors, _ffi
+
+from .common import DRAW_LIST, VERTICES
+
+
+class Errors(unittest.TestCase):
+    def test_a_draw_list_error_has_number_name_and_draw(self) -> None:
+        refused: Any = {**DRAW_LIST, "draws": DRAW_LIST["draws"] + [{"vertices": VERTICES, "triangles": [[0, 1, 3]]}]}
+        calls: Tuple[Callable[[Any], object], ...] = (trirast.draw, trirast.draw_file, trirast.image_info)
+        for call in calls:
+            with self.assertRaises(trirast.DrawListError) as raised:
+                call(refused)
+            error = raised.exception
+            self.assertEqual(str(error), "trirast: list fault 6 BadIndex in draw 1")
+            self.assertEqual((error.status, error.number, error.name, error.draw), (1, 6, "BadIndex", 1))
+        with self.assertRaises(trirast.DrawListError) as raised:
+            trirast.draw("{}")
+        self.assertEqual((raised.exception.name, raised.exception.draw), ("MissingKey", None))
+
+    def test_a_list_past_the_limit_is_a_limit_error(self) -> None:
+        with self.assertRaises(trirast.LimitError) as raised:
+            trirast.image_info(b" " * 67108865)
+        self.assertEqual((str(raised.exception), raised.exception.status), ("trirast: input too long", 2))
+
+    def test_a_bad_tile_size_is_a_tile_size_error(self) -> None:
+        calls: Tuple[Callable[[Any, int], object], ...] = (trirast.draw, trirast.draw_file)
+        for tile_size in (0, 7, -8, 33, 1 << 32, (1 << 32) + 32):
+            for call in calls:
+                with self.assertRaises(trirast.TileSizeError):
+                    call(DRAW_LIST, tile_size)
+        with self.assertRaises(TypeError):
+            trirast.draw(DRAW_LIST, tile_size=32.0)  # type: ignore[arg-type]
+
+    def test_each_status_has_its_exception(self) -> None:
+        lines = {
+            2: "input too long", 3: "out of memory", 4: "buffer too small", 5: "no such tile size", 6: "no such tile rows",
+            7: "no such struct size",
+        }
+        for status, line in lines.items():
+            with self.assertRaises(_errors.BY_STATUS[status]) as raised:
+                _ffi.raise_error(status, None, (_ffi.CError(status, 0, 0, 0),))
+            self.assertEqual(str(raised.exception), f"trirast: {line}")
+            self.assertIsInstance(raised.exception, trirast.Error)
+        self.assertTrue(issubclass(trirast.OutOfMemoryError, MemoryError))
+        self.assertTrue(issubclass(trirast.TileSizeError, ValueError))
+
+    def test_structs_of_other_sizes_are_refused(self) -> None:
+        head = _ffi.CSceneHead(ctypes.sizeof(_ffi.CSceneHead) + 4, 1, 1, 1, 0, 0, 0, 0, 0)
+        batch = _ffi.CBatch(ctypes.sizeof(_ffi.CBatch), 60, 28, 4)
+        with self.assertRaises(trirast.StructSizeError):
+            _ffi.library().trirast_draw_scene(head, batch, 8, None, 0, _ffi.CError())
+
+
+if __name__ == "__main__":
+    unittest.main()
