@@ -1,7 +1,7 @@
 use Rattle.std.proofs.Common.{◌≡◌, ℕ, List, [], ◌∙◌, ◌+◌, ◌-◌, ◌*◌, ◌%◌, ◌<◌, take, drop, get_or-take, get_or-drop, slice_index, slice_index_or, arith}
 use Rattle.lanes.specs.declared.block_samples.BlockSamples.{BlockSamples}
 use Rattle.raster.proofs.PixelRow.{one_resolved, four_resolved, four_of_sixteen}
-use Rattle.raster.proofs.eight.colours.Goals as goal
+use Rattle.raster.proofs.pixel_row.colours.Goals as goal
 
 pub returns-in-One : goal.returns-in-One
 returns-in-One c = λ i h.

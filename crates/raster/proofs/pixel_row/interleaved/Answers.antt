@@ -2,7 +2,7 @@ use Rattle.std.proofs.Common.{ℕ, List, ◌+◌, ◌++◌, ◌∙◌, ap, map, 
 use Rattle.std.proofs.lemmas.List.{get_or_append_left}
 use Rattle.std.specs.List.{range_with_len}
 use Rattle.raster.proofs.PixelRow.{interleaved_is}
-use Rattle.raster.proofs.eight.interleaved.Goals as goal
+use Rattle.raster.proofs.pixel_row.interleaved.Goals as goal
 
 pub returns : goal.returns
 returns c i h =

@@ -15,10 +15,10 @@ use grid::TileSide;
 use lanes::{BlockSamples, Interpolants};
 use shade::Placed;
 
-/// The planes of a block whose samples are all covered.
+/// The masks of a block whose samples are all covered.
 const ALL: [u64; 4] = [u64::MAX; 4];
 
-/// The planes of a block of whose samples none is covered.
+/// The masks of a block of whose samples none is covered.
 const NONE: [u64; 4] = [0; 4];
 
 /// Which samples of a block the triangle covers, or none where it covers none of them.
