@@ -66,7 +66,7 @@ fn tile_of(tiling: &Tiling, k: u32, count: SampleCount) -> Tile
     }
 }
 
-/// How many columns or rows of a tile are in a picture of so many pixels, where the tile begins at this block.
+/// How many columns or rows of a tile are in a picture that is `pixels` wide or high, if the tile begins at this block.
 fn shown(pixels: u32, block: u32, side: TileSide) -> u32
     requires pixels { pixels ≤ 4096 }
     requires begins { 8 * block < pixels }

@@ -2,8 +2,8 @@ use Rattle.std.proofs.Common.{◌≡◌, ◌∙◌, sym, ap, ◌<◌, ◌≤◌,
 use Rattle.std.proofs.lemmas.Grind.{get_or_default_zero}
 use Rattle.bins.proofs.Batches.{fetched}
 use Rattle.tile.proofs.Ends.{none_have_drawn, have_drawn_more, all_have_drawn}
-use Rattle.tile.proofs.drawing.draw_bin.Goals as goal
-use Rattle.tile.proofs.drawing.draw_bin.Goals.{then-place-first-eq-BATCH, else-place-first-eq-BATCH}
+use Rattle.tile.proofs.tile_pixels.draw_bin.Goals as goal
+use Rattle.tile.proofs.tile_pixels.draw_bin.Goals.{then-place-first-eq-BATCH, else-place-first-eq-BATCH}
 
 pub returns-in_default : goal.returns-in_default
 returns-in_default c =

@@ -1,7 +1,7 @@
 use Rattle.std.proofs.Common.{◌+◌, ◌≤◌}
 use Rattle.bins.specs.Batch.{AreFetched}
 use Rattle.tile.proofs.Ends.{HaveDrawn}
-use Rattle.tile.proofs.drawing.draw_bin.Given as goal
+use Rattle.tile.proofs.tile_pixels.draw_bin.Given as goal
 
 abbrev pub invariant-loop-place : goal.invariant-loop-place
 invariant-loop-place l =

@@ -1,7 +1,7 @@
 use Rattle.std.proofs.Common.{◌≡◌, ◌∙◌, ◌-◌, ◌*◌, min}
 use Rattle.grid.specs.Pixels.{side_of}
 use Rattle.tile.proofs.Shown.{tile_bin, begins_in_height, in_picture, picture_in}
-use Rattle.tile.proofs.drawing.render.Goals as goal
+use Rattle.tile.proofs.tile_pixels.render.Goals as goal
 
 pub draw_bin-requires-clause-bin : goal.draw_bin-requires-clause-bin
 draw_bin-requires-clause-bin c =
