@@ -37,7 +37,7 @@ pub(crate) struct AttributePlane {
 impl AttributePlane {
     ghost use Rattle.lanes.specs.AttributePlane.{IsNarrow, IsAttributePlane, AreCandidates, AreValues};
 
-    /// The plane of a slope that is level, with so many fractional bits of a candidate: 16 for depth and 24 for a channel.
+    /// The plane of a slope that is level, with `fraction` fractional bits of a candidate: 16 for depth and 24 for a channel.
     #[inline(always)]
     pub(crate) fn new(slope: &Slope, reciprocal: Reciprocal, fraction: u32) -> AttributePlane
         requires fraction { (fraction ≡ 16) ⊎ (fraction ≡ 24) }
@@ -52,25 +52,16 @@ impl AttributePlane {
         }
     }
 
-    /// The candidates at the group of sixteen samples that starts at (x, y).
+    /// The candidates at the group of sixteen samples that starts at (x, y) if the attribute is read, and else candidates that are no
+    /// reason to correct anything.
     #[inline(always)]
-    pub(crate) fn candidates(&self, x: i32, y: i32) -> u32x16
-        requires { IsGroupOnScreen (record { x = x; y = y }) }
-        ensures length { length result ≡ 16 }
-        ensures each { (k : ℕ) (a b c : Position) (values : List ℕ) → IsAttributePlane k a b c values self.now → AreCandidates k a b c values (record { x = x; y = y }) result }
-    {
-        candidates(self.lanes, self.plane.height(x, y))
-    }
-
-    /// The same where the attribute is read, and else candidates that are no reason to correct anything.
-    #[inline(always)]
-    pub(crate) fn candidates_if(&self, read: bool, x: i32, y: i32) -> u32x16
+    pub(crate) fn candidates(&self, read: bool, x: i32, y: i32) -> u32x16
         requires { IsGroupOnScreen (record { x = x; y = y }) }
         ensures length { length result ≡ 16 }
         ensures each { (k : ℕ) (a b c : Position) (values : List ℕ) → IsTrue read → IsAttributePlane k a b c values self.now → AreCandidates k a b c values (record { x = x; y = y }) result }
     {
         if read {
-            self.candidates(x, y)
+            candidates(self.lanes, self.plane.height(x, y))
         } else {
             u32x16::splat(u32::MAX)
         }
@@ -86,7 +77,7 @@ impl AttributePlane {
         ensures each { IsAttributePlane fraction t.now.a t.now.b t.now.c values self.now → AreValues t.now.a t.now.b t.now.c values (record { x = x; y = y }) result }
         ensures bytes { fraction ≡ 24 → Each1 (λ n. n ≤ 255) result }
     {
-        let candidates = self.candidates(x, y);
+        let candidates = self.candidates(true, x, y);
         let found = wholes(candidates, fraction);
         if are_sure(fractions(candidates, (1 << fraction) - 1)) {
             found

@@ -123,10 +123,10 @@ pub(crate) fn colours(
 {
     let read = channels_read(merge);
     let candidates = [
-        planes[0].candidates_if(read[0], x, y),
-        planes[1].candidates_if(read[1], x, y),
-        planes[2].candidates_if(read[2], x, y),
-        planes[3].candidates_if(read[3], x, y),
+        planes[0].candidates(read[0], x, y),
+        planes[1].candidates(read[1], x, y),
+        planes[2].candidates(read[2], x, y),
+        planes[3].candidates(read[3], x, y),
     ];
     if !are_all_sure(&candidates) {
         return colours_by_channel(planes, placed, x, y);

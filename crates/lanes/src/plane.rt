@@ -53,7 +53,7 @@ fn margin(slope: Slope, reciprocal: Reciprocal, across: i64, down: i64, bits: u3
 impl Plane {
     ghost use Rattle.lanes.specs.Plane.{IsLevel, IsPlane, IsNumeratorPlane, IsIncrement, IsHeight, IsHighPart};
 
-    /// The plane of a slope that is not steep, with so many fractional bits.
+    /// The plane of a slope that is not steep, with `bits` fractional bits.
     #[inline(always)]
     pub(crate) fn new(slope: Slope, reciprocal: Reciprocal, bits: u32) -> Plane
         requires bits { bits ≤ 56 }
@@ -88,20 +88,13 @@ impl Plane {
         }
     }
 
-    /// The growth over a distance, modulo 2^64.
-    #[inline(always)]
-    pub(crate) fn part(&self, x: i32, y: i32) -> u64
-        ensures { IsIncrement self.now x y result }
-    {
-        scaled(x, self.across).wrapping_add(scaled(y, self.down))
-    }
-
     /// The height at a point, modulo 2^64.
     #[inline(always)]
     pub(crate) fn height(&self, x: i32, y: i32) -> u64
         ensures { IsHeight self.now x y result }
     {
-        self.start.wrapping_add(self.part(x, y))
+        self.start
+            .wrapping_add(scaled(x, self.across).wrapping_add(scaled(y, self.down)))
     }
 
     /// The growth to each of sixteen pixels, eight columns by two rows, modulo 2^64.

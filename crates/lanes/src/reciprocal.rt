@@ -61,7 +61,7 @@ impl Reciprocal {
         ((number as i128 * self.value as i128) >> (127 - self.shift - bits)) as i64
     }
 
-    /// `number` without so many times the area as a gradient says, in units of the gradient's last bit.
+    /// `number` less the product of a gradient and the area, in units of the gradient's last bit.
     #[inline(always)]
     fn rest(self, number: i64, gradient: i64, bits: u32) -> i64
         requires bits { bits ≤ 56 }

@@ -91,7 +91,7 @@ impl Slope {
         }
     }
 
-    /// Whether the slope is not steep, so that it has a plane with so many fractional bits.
+    /// Whether the slope is not steep, so that it has a plane with `bits` fractional bits.
     #[inline(always)]
     pub(crate) fn is_level(&self, reciprocal: Reciprocal, bits: u32) -> bool
         requires low { 48 ≤ bits }

@@ -51,7 +51,3 @@ module _ (t : Placed) (tile : Tile) where
     drawn = λ row column s h r. d.drawn row column s h (from row column s h r);
     kept = λ row column s h n. d.kept row column s h (λ p. n (into row column s h p));
   }
-
-  -- no sample at all
-  pub no_part : (part : ℕ → ℕ → ℕ → Type 0) (xs : List BlockSamples) → ((row column s : ℕ) → IsSampleOf tile row column s → part row column s → ⊥) → DrawsPart t tile part xs xs
-  no_part part xs none = missed_part part xs (λ row column s h p. absurd (none row column s h p))

@@ -3,13 +3,13 @@
 
 mod block;
 mod cleared;
-mod eight;
+mod pixel_row;
+mod rasterize;
 mod region;
-mod scan;
 mod scissor;
 mod tile;
 
 pub use cleared::clear;
-pub use eight::colours;
-pub use scan::draw_triangle;
+pub use pixel_row::colours;
+pub use rasterize::draw_triangle;
 pub use tile::Tile;

@@ -2,9 +2,9 @@
 #![tactic(auto)]
 
 mod depths;
-mod drawing;
 mod pixels;
 mod store;
+mod tile_pixels;
 
-pub use drawing::{TilePixels, render};
 pub use store::Store;
+pub use tile_pixels::{TilePixels, render};

@@ -13,7 +13,7 @@ use model::{DrawList, Output};
 use raster::{Tile, colours};
 use std::alloc::Global;
 
-/// Appends the first pixels of eight, so many of them, with `each` bytes a pixel. The length of a whole run is known where this is
+/// Appends the first `many` pixels of eight, with `each` bytes per pixel. The length of a whole run is known where this is
 /// inlined, so that it is copied without a call.
 #[inline(always)]
 fn push_first(run: &[u8], each: u32, many: u32, bytes: &mut Vec<u8>) -> Result<(), OutOfMemory>
@@ -30,7 +30,7 @@ fn push_first(run: &[u8], each: u32, many: u32, bytes: &mut Vec<u8>) -> Result<(
     Ok(())
 }
 
-/// Appends the bytes of the first pixels, so many of them, of a row of eight: those in a row of the tile, in a column of its
+/// Appends the bytes of the first `many` pixels of a row of eight: those in a row of the tile, in a column of its
 /// blocks.
 fn push_pixel_run(
     list: &DrawList,
@@ -81,7 +81,7 @@ fn push_row(
     Ok(())
 }
 
-/// The bytes of so many columns and rows of the tile, from its first pixel on.
+/// The bytes of `width` columns and `height` rows of the tile, from its first pixel on.
 pub(crate) fn resolve(
     alloc: Global,
     list: &DrawList,

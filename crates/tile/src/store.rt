@@ -16,7 +16,7 @@ const BLANK: Sample = Sample {
     z: 0,
 };
 
-/// Room for the samples of one tile, which is used for one tile after another. What it holds between two tiles is of no account.
+/// The samples of one tile. It is used for one tile after another; between two tiles its samples are unspecified.
 #[derive(Drop)]
 pub struct Store {
     side: TileSide,
@@ -36,7 +36,7 @@ impl Model for Store {
     ghost invariant = { λ s. vec_len s.samples ≡ planes_of s.side s.count };
 }
 
-/// So many planes of samples.
+/// `number` sample planes, whose samples are unspecified.
 fn blank(alloc: Global, number: usize) -> Result<Vec<BlockSamples>, OutOfMemory>
     ensures { IfOk result (λ samples. vec_len samples ≡ number) }
 {
@@ -44,7 +44,7 @@ fn blank(alloc: Global, number: usize) -> Result<Vec<BlockSamples>, OutOfMemory>
 }
 
 impl Store {
-    /// Room for a tile of this side with so many samples a pixel.
+    /// A store for tiles of this size with `count` samples per pixel.
     pub fn new(alloc: Global, side: TileSide, count: SampleCount) -> Result<Store, OutOfMemory>
         ensures { IfOk result (λ store. store ≡ record { side = side; count = count }) }
     {

@@ -13,7 +13,7 @@ use Rattle.model.proofs.PixelPrefix.{prefix_run, part_of_rows}
 use Rattle.model.proofs.Pixels.{bytes_of_both, bytes_of_none, same_pixel, pixel_before, pixel_behind}
 use Rattle.bins.specs.Grid.{TileGrid, columns_of, rect_at, rect_of, tiles_over}
 use Rattle.tile.specs.Picture.{AddsPixelRun, IsPictureIn}
-use Rattle.tile.specs.declared.drawing.TilePixels.{TilePixels}
+use Rattle.tile.specs.declared.tile_pixels.TilePixels.{TilePixels}
 use Rattle.trirast.specs.TileRow.{AddsTileRow, IsColumn, tile_row_height, tile_row_top, column_left, column_width}
 use Rattle.trirast.proofs.Intervals.{interval_next, interval_before}
 

@@ -7,7 +7,7 @@ use Rattle.model.specs.Scene.{Scene}
 use Rattle.bins.specs.Bin.{TileBins, HasTile, AreBins}
 use Rattle.bins.specs.Grid.{TileGrid, columns_of, rect_of, rows_of}
 use Rattle.tile.specs.Picture.{IsPictureIn}
-use Rattle.tile.specs.declared.drawing.TilePixels.{TilePixels}
+use Rattle.tile.specs.declared.tile_pixels.TilePixels.{TilePixels}
 use Rattle.trirast.specs.TileRow.{AreColumns, IsColumn}
 use Rattle.trirast.specs.TileRows.{AreTiles, IsTileIn}
 use Rattle.trirast.proofs.Columns.{column_of_answer, tile_of_column}

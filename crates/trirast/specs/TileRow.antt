@@ -5,7 +5,7 @@ use Rattle.grid.specs.declared.pixels.TileSide.{TileSide}
 use Rattle.model.specs.Picture.{IsPart}
 use Rattle.model.specs.Scene.{Scene}
 use Rattle.bins.specs.Grid.{TileGrid, columns_of, rect_at}
-use Rattle.tile.specs.declared.drawing.TilePixels.{TilePixels}
+use Rattle.tile.specs.declared.tile_pixels.TilePixels.{TilePixels}
 
 -- The first row of pixels of a tile row.
 abbrev pub tile_row_top : TileGrid → ℕ → ℕ

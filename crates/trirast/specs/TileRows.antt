@@ -3,7 +3,7 @@ use Rattle.std.specs.Prelude.{◌≡◌, ℕ, ◌+◌, ◌-◌, ◌*◌, ◌/◌
 use Rattle.model.specs.Scene.{Scene}
 use Rattle.bins.specs.Bin.{TileBins, AreBins}
 use Rattle.bins.specs.Grid.{TileGrid, columns_of}
-use Rattle.tile.specs.declared.drawing.TilePixels.{TilePixels}
+use Rattle.tile.specs.declared.tile_pixels.TilePixels.{TilePixels}
 use Rattle.trirast.specs.TileRow.{AreTileRows, IsColumn}
 use Rattle.trirast.specs.declared.tile_rows.Beside.{Beside}
 use Rattle.trirast.specs.declared.tile_rows.TileRows.{TileRows}

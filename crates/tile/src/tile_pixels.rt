@@ -1,0 +1,109 @@
+//! One tile of the picture, drawn from its bin.
+ghost use Rattle.std.specs.Prelude.{◌≡◌, ◌+◌, ◌*◌, ◌/◌, ◌%◌, ◌<◌, ◌≤◌, ℕ, length, ◌-◌, min, IfOk};
+ghost use Rattle.std.specs.List.{All};
+ghost use Rattle.grid.specs.Pixels.{side_of};
+ghost use Rattle.bins.specs.Grid.{tiles_of, rect_of};
+ghost use Rattle.bins.specs.Bin.{HasTile, IsBinOf, bin_of};
+ghost use Rattle.raster.specs.Samples.{planes_of, AreAll};
+ghost use Rattle.tile.specs.Picture.{IsTileAt, IsPictureIn, IsTileBin, AreEnds};
+
+use crate::pixels::resolve;
+use crate::store::Store;
+use bins::{BATCH, Bins, Tiling, fetch};
+use grid::{OutOfMemory, PixelBox, SampleCount, TileSide};
+use lanes::BlockSamples;
+use model::DrawList;
+use raster::{Tile, clear, draw_triangle};
+use std::alloc::Global;
+
+/// A tile of the picture.
+#[derive(Debug, Drop)]
+pub struct TilePixels {
+    /// The tile's pixels, as far as they are in the picture.
+    pub rect: PixelBox,
+    /// The rows of the rectangle from top to bottom, the pixels of a row from left to right, and of a pixel either red, green and
+    /// blue or, where the list's output is its depths, the more and the less significant byte of the depth.
+    pub bytes: Vec<u8>,
+}
+
+/// Draws the triangles of the tile's bin, one after another, over cleared samples. They are fetched some at a time.
+fn draw_bin(list: &DrawList, numbers: &[u32], tile: &Tile, samples: &mut [BlockSamples])
+    requires samples { length samples.old ≡ planes_of tile.now.side tile.now.count }
+    requires count { tile.now.count ≡ list.now.count }
+    requires cleared { AreAll samples.old list.now.clear }
+    requires numbers { All (λ number. number < length list.now.triangles) numbers.now }
+    requires bin { IsTileBin list.now tile.now numbers.now }
+    ensures { AreEnds list.now tile.now samples.new }
+{
+    let Some(number) = numbers.first() else {
+        return;
+    };
+    let mut batch = [list.triangle(*number as usize); BATCH];
+    let mut first = 0;
+    fetch(list, numbers, first, &mut batch);
+    for place in 0..numbers.len() {
+        if place - first == BATCH {
+            first = place;
+            fetch(list, numbers, first, &mut batch);
+        }
+        draw_triangle(&batch[place - first], tile, samples);
+    }
+}
+
+/// Where tile `k` lies on the screen.
+fn tile_of(tiling: &Tiling, k: u32, count: SampleCount) -> Tile
+    requires { k < tiles_of tiling.now }
+    ensures place { IsTileAt tiling.now k result }
+    ensures count { result.count ≡ count }
+{
+    let columns = tiling.columns();
+    let (bx, by) = tiling.block_of(k % columns, k / columns);
+    Tile {
+        bx,
+        by,
+        side: tiling.side(),
+        count,
+    }
+}
+
+/// How many columns or rows of a tile are in a picture that is `pixels` wide or high, if the tile begins at this block.
+fn shown(pixels: u32, block: u32, side: TileSide) -> u32
+    requires pixels { pixels ≤ 4096 }
+    requires begins { 8 * block < pixels }
+    ensures { result ≡ min (pixels - 8 * block) (side_of side) }
+{
+    (pixels - 8 * block).min(side.pixels())
+}
+
+/// Tile `k` of the picture, drawn from its bin in a store for the tile's samples: each triangle of the bin in draw order at the
+/// samples that it meets, and at the end each pixel's colour from its samples (multisample
+/// resolve), or the depth of its sample 0. Only the answer takes
+/// memory, and want of memory is the only error. The store may be used again for another tile, also after an error.
+pub fn render(
+    alloc: Global,
+    list: &DrawList,
+    tiling: &Tiling,
+    bins: &Bins,
+    k: u32,
+    store: &mut Store,
+) -> Result<TilePixels, OutOfMemory>
+    requires width { tiling.now.width ≡ list.now.width }
+    requires height { tiling.now.height ≡ list.now.height }
+    requires tile { k < tiles_of tiling.now }
+    requires has_tile { HasTile bins.now k }
+    requires bin { IsBinOf list.now tiling.now k (bin_of bins.now k) }
+    requires store { store.old ≡ record { side = tiling.now.side; count = list.now.count } }
+    ensures rect { IfOk result (λ tile. tile.rect ≡ rect_of tiling.now k) }
+    ensures picture { IfOk result (λ tile. IsPictureIn list.now tile.rect tile.bytes.items) }
+    ensures store { store.new ≡ store.old }
+{
+    let rect = tiling.rect(k);
+    let tile = tile_of(tiling, k, list.count());
+    let samples = store.samples.as_mut_slice();
+    clear(samples, list.clear());
+    draw_bin(list, bins.bin(k), &tile, samples);
+    let width = shown(tiling.width(), tile.bx, tile.side);
+    let height = shown(tiling.height(), tile.by, tile.side);
+    let bytes = resolve(alloc, list, &tile, samples, width, height)?;
+    Ok(TilePixels { rect, bytes })
+}
