@@ -8,7 +8,7 @@ use Rattle.shade.specs.Quotient.{IsQuotient}
 use Rattle.shade.specs.Value.{weighted_sum}
 use Rattle.shade.specs.declared.placed.Placed.{Placed}
 use Rattle.shade.specs.Placed.{IsInterpolated}
-use Rattle.lanes.specs.Fragments.{IsFlat}
+use Rattle.lanes.specs.Sources.{IsFlat}
 use Rattle.shade.proofs.Values.{weights-sum, area_positive}
 
 equal_sum : (v x y z s : ℕ) → x + y + z ≡ s → v * x + v * y + v * z ≡ v * s

@@ -12,7 +12,7 @@ use Rattle.lanes.specs.Lanes.{IsMaskLane}
 use Rattle.shade.specs.Merging.{IsMerged, Writes}
 use Rattle.lanes.specs.Merging.{IsTested}
 use Rattle.shade.specs.Placed.{channel, IsInterpolated, IsFragmentAt, IsDrawnAt}
-use Rattle.lanes.specs.Fragments.{NeedsNoDepth}
+use Rattle.lanes.specs.Sources.{NeedsNoDepth}
 use Rattle.shade.proofs.Decided.{IsDecided, passes}
 use Rattle.shade.proofs.Drawn.{fragment, same_sample}
 use Rattle.shade.proofs.Merged.{same_blended}

@@ -1,5 +1,5 @@
 -- Sixteen lanes, operation by operation.
-use Rattle.std.proofs.Common.{◌≡◌, ◌≢◌, ◌↔◌, ℕ, zero, suc, ◌+◌, ◌/◌, ◌%◌, ◌^◌, ◌<◌, ◌≤◌, List, Bool, true, false, not, cond, eqb, leb, length, get_or, map, replicate, refl, sym, ap, ◌∙◌, arith, inl, inr, ◌⊎◌, Decides}
+use Rattle.std.proofs.Common.{◌≡◌, ◌≢◌, ◌↔◌, ℕ, zero, suc, ◌+◌, ◌*◌, ◌/◌, ◌%◌, ◌^◌, ◌<◌, ◌≤◌, List, [], ◌∷◌, Bool, true, false, not, cond, eqb, leb, length, get_or, map, replicate, refl, sym, ap, ◌∙◌, arith, inl, inr, ◌⊎◌, Decides}
 use Rattle.std.specs.Int.{bit_at}
 use Rattle.std.specs.Simd.Lanes.{zip2, sel_l, Each1, mask_l, put_chunk}
 use Rattle.std.proofs.lemmas.Simd.{length-zip2, get_or-zip2, get_or-replicate, length-replicate, length-sel_l, get_or-sel_l, Each1-from_get_or, bit_mask_l, get_or-put_chunk_at, get_or-put_chunk_below, get_or-put_chunk_above}
@@ -94,6 +94,18 @@ high_chosen m ys ns h half all le some p r s k l =
     over x y less = grind (arith, nat_tests)
 
 -- ---- some lane
+pub some_set : (p : ℕ → Bool) (xs : List ℕ) → 0 < mask_l (map p xs) → (i : ℕ) × (i < length xs) × (p (get_or xs i 0) ≡ true)
+some_set p [] h = absurd (omega (arith, h))
+some_set p (x ∷ xs) h = first (p x) refl (λ rest. some_set p xs rest)
+  where
+    first : (b : Bool) → p x ≡ b → (0 < mask_l (map p xs) → (i : ℕ) × (i < length xs) × (p (get_or xs i 0) ≡ true)) → (i : ℕ) × (i < length (x ∷ xs)) × (p (get_or (x ∷ xs) i 0) ≡ true)
+    first true e later = (0, omega arith, e)
+    first false e later =
+        let more : 0 < cond {A = ℕ} (p x) 1 0 + 2 * mask_l (map p xs) = h in
+        let rest : 0 < 0 + 2 * mask_l (map p xs) = rw e at more in
+        let found = later (omega (arith, rest)) in
+        (suc found.0, omega (arith, found.1), found.2)
+
 pub is_set : (p : ℕ → Bool) (xs : List ℕ) (i : ℕ) → i < length xs → p (get_or xs i 0) ≡ true → 0 < mask_l (map p xs)
 is_set p xs i l e =
     let bit : mask_l (map p xs) / 2 ^ i % 2 ≡ cond (get_or (map p xs) i false) 1 0 = bit_mask_l (map p xs) i in

@@ -3,7 +3,6 @@ pub mod Blocks
 pub mod LaneNumbers
 pub mod Lanes
 pub mod Blending
-pub mod Channels
 pub mod Flat
 pub mod Groups
 pub mod Certificate

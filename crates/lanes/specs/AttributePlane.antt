@@ -1,5 +1,5 @@
 -- What a triangle's vertices have, as planes.
-use Rattle.std.specs.Prelude.{◌≡◌, ◌⊎◌, ℕ, pos, ◌+◌, ◌*◌, ◌/◌, ◌%◌, ◌<◌, ◌≤◌, List, length, slice_index}
+use Rattle.std.specs.Prelude.{◌≡◌, ◌⊎◌, ℕ, true, pos, ◌+◌, ◌*◌, ◌/◌, ◌%◌, ◌<◌, ◌≤◌, List, length, slice_index}
 use Rattle.std.specs.Int.RustNames.{unsigned_abs}
 use Rattle.grid.specs.Position.{Position}
 use Rattle.grid.specs.Triangle.{doubled_area, Covers}
@@ -7,11 +7,17 @@ use Rattle.shade.specs.Value.{weighted_sum, IsValueAt}
 use Rattle.shade.specs.Row.{Are16Bit}
 use Rattle.lanes.specs.Block.{position_in}
 use Rattle.lanes.specs.Candidate.{IsCandidate, IsNear}
-use Rattle.lanes.specs.Slope.{IsSlope}
-use Rattle.lanes.specs.Plane.{IsPlane, IsHighPart}
+use Rattle.lanes.specs.Slope.{IsSlope, IsBounded}
+use Rattle.lanes.specs.Plane.{IsPlane, IsLevel, IsHighPart}
 use Rattle.lanes.specs.declared.slope.Slope.{Slope}
+use Rattle.shade.specs.Merging.{Writes}
+use Rattle.shade.specs.Placed.{channel}
+use Rattle.shade.specs.declared.placed.Placed.{Placed}
 use Rattle.lanes.specs.declared.plane.Plane.{Plane}
 use Rattle.lanes.specs.declared.attribute_plane.AttributePlane.{AttributePlane}
+use Rattle.lanes.specs.declared.depth_plane.DepthPlane.{DepthPlane}
+use Rattle.lanes.specs.declared.colour_planes.ColourPlanes.{ColourPlanes}
+use Rattle.lanes.specs.declared.colour_planes.ColourSlopes.{ColourSlopes}
 
 -- The weighted sum of three values at p.
 abbrev pub sum_at : Position → Position → Position → List ℕ → Position → ℕ
@@ -55,3 +61,41 @@ pub record IsAttributePlane (k : ℕ) (a b c : Position) (values : List ℕ) (p 
   pub is_slope : IsSlope a b c (slice_index values 0) (slice_index values 1) (slice_index values 2) slope
   pub is_plane : IsPlane (32 + k) (unsigned_abs (doubled_area a b c)) slope p.plane
   pub are_lanes : AreHighParts p.plane p.lanes
+
+-- How one attribute of a triangle grows.
+abbrev pub IsSlopeOf : Placed → List ℕ → Slope → Type 0
+IsSlopeOf t values s = IsSlope t.tri.a t.tri.b t.tri.c (slice_index values 0) (slice_index values 1) (slice_index values 2) s
+
+-- How one channel of a triangle grows.
+pub record IsChannelSlope (t : Placed) (k : ℕ) (s : Slope) : Type 0 where
+  pub slope : IsSlopeOf t (channel t k) s
+  pub bytes : AreBytes (channel t k)
+
+abbrev pub IsDepthPlane : Placed → DepthPlane → Type 0
+IsDepthPlane t p = IsAttributePlane 16 t.tri.a t.tri.b t.tri.c t.z p.depth
+
+-- A channel has a plane where the draw reads it: red, green and blue where they are written, and alpha where it is blended.
+pub record AreColourPlanes (t : Placed) (p : ColourPlanes) : Type 0 where
+  pub of_red : Writes t.state.merge 0 → IsAttributePlane 24 t.tri.a t.tri.b t.tri.c (channel t 0) p.red
+  pub of_green : Writes t.state.merge 1 → IsAttributePlane 24 t.tri.a t.tri.b t.tri.c (channel t 1) p.green
+  pub of_blue : Writes t.state.merge 2 → IsAttributePlane 24 t.tri.a t.tri.b t.tri.c (channel t 2) p.blue
+  pub of_alpha : t.state.merge.over ≡ true → IsAttributePlane 24 t.tri.a t.tri.b t.tri.c (channel t 3) p.alpha
+
+-- The slopes of a triangle's channels that the draw reads.
+pub record AreColourSlopes (t : Placed) (s : ColourSlopes) : Type 0 where
+  pub of_red : Writes t.state.merge 0 → IsChannelSlope t 0 s.red
+  pub of_green : Writes t.state.merge 1 → IsChannelSlope t 1 s.green
+  pub of_blue : Writes t.state.merge 2 → IsChannelSlope t 2 s.blue
+  pub of_alpha : t.state.merge.over ≡ true → IsChannelSlope t 3 s.alpha
+
+pub record AreBounded (s : ColourSlopes) : Type 0 where
+  pub of_red : IsBounded s.red
+  pub of_green : IsBounded s.green
+  pub of_blue : IsBounded s.blue
+  pub of_alpha : IsBounded s.alpha
+
+pub record AreLevel (area : ℕ) (s : ColourSlopes) : Type 0 where
+  pub of_red : IsLevel 56 area s.red
+  pub of_green : IsLevel 56 area s.green
+  pub of_blue : IsLevel 56 area s.blue
+  pub of_alpha : IsLevel 56 area s.alpha

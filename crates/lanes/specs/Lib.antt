@@ -1,8 +1,8 @@
 pub mod Block
 pub mod BlockMask
 pub mod Lanes
-pub mod Channels
-pub mod Fragments
+pub mod Sources
+pub mod Mode
 pub mod Candidate
 pub mod Modulo
 pub mod Reciprocal

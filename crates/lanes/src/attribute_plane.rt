@@ -25,7 +25,7 @@ use grid::Tri;
 use std::simd::prelude::*;
 
 /// One attribute of a triangle, made ready for sixteen samples at once.
-#[derive(Clone, Copy)]
+#[derive(Clone, Copy, Debug)]
 pub(crate) struct AttributePlane {
     /// The attribute in fixed point.
     plane: Plane,
@@ -37,7 +37,7 @@ pub(crate) struct AttributePlane {
 impl AttributePlane {
     ghost use Rattle.lanes.specs.AttributePlane.{IsNarrow, IsAttributePlane, AreCandidates, AreValues};
 
-    /// The plane of a slope that is level, with `fraction` fractional bits of a candidate: 16 for depth and 24 for a channel.
+    /// The plane of a slope that is level, with so many fractional bits of a candidate: 16 for depth and 24 for a channel.
     #[inline(always)]
     pub(crate) fn new(slope: &Slope, reciprocal: Reciprocal, fraction: u32) -> AttributePlane
         requires fraction { (fraction ≡ 16) ⊎ (fraction ≡ 24) }
@@ -52,16 +52,34 @@ impl AttributePlane {
         }
     }
 
-    /// The candidates at the group of sixteen samples that starts at (x, y) if the attribute is read, and else candidates that are no
-    /// reason to correct anything.
+    /// A plane that nobody reads.
     #[inline(always)]
-    pub(crate) fn candidates(&self, read: bool, x: i32, y: i32) -> u32x16
+    pub(crate) fn none() -> AttributePlane {
+        AttributePlane {
+            plane: Plane::none(),
+            lanes: u32x16::splat(0),
+        }
+    }
+
+    /// The candidates at the group of sixteen samples that starts at (x, y).
+    #[inline(always)]
+    pub(crate) fn candidates(&self, x: i32, y: i32) -> u32x16
+        requires { IsGroupOnScreen (record { x = x; y = y }) }
+        ensures length { length result ≡ 16 }
+        ensures each { (k : ℕ) (a b c : Position) (values : List ℕ) → IsAttributePlane k a b c values self.now → AreCandidates k a b c values (record { x = x; y = y }) result }
+    {
+        candidates(self.lanes, self.plane.height(x, y))
+    }
+
+    /// The same where the attribute is read, and else candidates that are no reason to correct anything.
+    #[inline(always)]
+    pub(crate) fn candidates_if(&self, read: bool, x: i32, y: i32) -> u32x16
         requires { IsGroupOnScreen (record { x = x; y = y }) }
         ensures length { length result ≡ 16 }
         ensures each { (k : ℕ) (a b c : Position) (values : List ℕ) → IsTrue read → IsAttributePlane k a b c values self.now → AreCandidates k a b c values (record { x = x; y = y }) result }
     {
         if read {
-            candidates(self.lanes, self.plane.height(x, y))
+            self.candidates(x, y)
         } else {
             u32x16::splat(u32::MAX)
         }
@@ -77,7 +95,7 @@ impl AttributePlane {
         ensures each { IsAttributePlane fraction t.now.a t.now.b t.now.c values self.now → AreValues t.now.a t.now.b t.now.c values (record { x = x; y = y }) result }
         ensures bytes { fraction ≡ 24 → Each1 (λ n. n ≤ 255) result }
     {
-        let candidates = self.candidates(true, x, y);
+        let candidates = self.candidates(x, y);
         let found = wholes(candidates, fraction);
         if are_sure(fractions(candidates, (1 << fraction) - 1)) {
             found

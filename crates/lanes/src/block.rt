@@ -5,17 +5,16 @@ ghost use Rattle.shade.specs.declared.placed.Placed.{Placed as Triangle};
 ghost use Rattle.lanes.specs.Block.{position_in, IsOnScreen, CoversMask, AreDrawn};
 ghost use Rattle.lanes.specs.BlockMask.{CoversBlock, IsBlockDrawn};
 ghost use Rattle.lanes.specs.Lanes.{IsMask};
-ghost use Rattle.lanes.specs.Fragments.{AreFragmentsOf, WritesAllChannels};
+ghost use Rattle.lanes.specs.Mode.{AreSourcesOf, WritesAllChannels};
 
 use crate::block_mask::BlockMask;
 use crate::block_samples::BlockSamples;
-use crate::colour::Colour;
-use crate::depth::Depth;
-use crate::fragments::Fragments;
 use crate::group::draw_group;
 use crate::interpolants::Interpolants;
 use crate::lane_mask::lanes_of_mask;
+use crate::mode::DrawMode;
 use crate::one_by_one::draw_each;
+use crate::sources::{ColourSource, DepthSource};
 use grid::Point;
 use shade::Merge;
 use std::simd::prelude::*;
@@ -46,7 +45,9 @@ fn lanes_of(whole: bool, mask: u64, group: u64) -> u16x16
 /// Draws two rows of a block, where the mask is set.
 #[inline(always)]
 fn draw_rows(
-    fragments: &Fragments<'_>,
+    merge: &Merge,
+    depth: &DepthSource<'_>,
+    colour: &ColourSource<'_>,
     whole: bool,
     p: Point,
     mask: u64,
@@ -56,20 +57,31 @@ fn draw_rows(
     requires group { group < 4 }
     requires on_screen { IsOnScreen p }
     requires whole { IsTrue whole → (k : ℕ) → k < 64 → IsBitSet mask k }
-    ensures { (t : Triangle) → AreFragmentsOf t fragments.now → CoversMask t p mask → AreDrawn t p mask samples.old samples.new (16 * group) 16 }
+    ensures { (t : Triangle) → AreSourcesOf t merge.now depth.now colour.now → CoversMask t p mask → AreDrawn t p mask samples.old samples.new (16 * group) 16 }
 {
     if !whole && !has_some(mask, group) {
         return;
     }
     let covered = lanes_of(whole, mask, group);
     let (x, y) = (p.x(), p.y() + 512 * group as i32);
-    draw_group(fragments, covered, x, y, samples, 16 * group as usize);
+    draw_group(
+        merge,
+        depth,
+        colour,
+        covered,
+        x,
+        y,
+        samples,
+        16 * group as usize,
+    );
 }
 
 /// Draws a block by two rows at once.
 #[inline(always)]
 fn draw_block(
-    fragments: &Fragments<'_>,
+    merge: &Merge,
+    depth: &DepthSource<'_>,
+    colour: &ColourSource<'_>,
     whole: bool,
     p: Point,
     mask: u64,
@@ -77,10 +89,10 @@ fn draw_block(
 )
     requires on_screen { IsOnScreen p }
     requires whole { IsTrue whole → (k : ℕ) → k < 64 → IsBitSet mask k }
-    ensures { (t : Triangle) → AreFragmentsOf t fragments.now → CoversMask t p mask → AreDrawn t p mask samples.old samples.new 0 64 }
+    ensures { (t : Triangle) → AreSourcesOf t merge.now depth.now colour.now → CoversMask t p mask → AreDrawn t p mask samples.old samples.new 0 64 }
 {
     for group in 0..4u64 {
-        draw_rows(fragments, whole, p, mask, group, samples);
+        draw_rows(merge, depth, colour, whole, p, mask, group, samples);
     }
 }
 
@@ -94,27 +106,47 @@ fn is_whole(mask: u64) -> bool
 
 /// The same with code of its own for a block that is drawn whole, where masks are left out, and none for one that is not drawn.
 #[inline(always)]
-fn draw_by_mask(fragments: &Fragments<'_>, p: Point, mask: u64, samples: &mut BlockSamples)
+fn draw_by_mask(
+    merge: &Merge,
+    depth: &DepthSource<'_>,
+    colour: &ColourSource<'_>,
+    p: Point,
+    mask: u64,
+    samples: &mut BlockSamples,
+)
     requires { IsOnScreen p }
-    ensures { (t : Triangle) → AreFragmentsOf t fragments.now → CoversMask t p mask → AreDrawn t p mask samples.old samples.new 0 64 }
+    ensures { (t : Triangle) → AreSourcesOf t merge.now depth.now colour.now → CoversMask t p mask → AreDrawn t p mask samples.old samples.new 0 64 }
 {
     if is_whole(mask) {
-        draw_block(fragments, true, p, mask, samples);
+        draw_block(merge, depth, colour, true, p, mask, samples);
     } else if mask != 0 {
-        draw_block(fragments, false, p, mask, samples);
+        draw_block(merge, depth, colour, false, p, mask, samples);
     }
 }
 
 /// Draws a block's samples, one sample index after another.
 #[inline(always)]
-fn draw_planes(fragments: &Fragments<'_>, mask: &BlockMask, samples: &mut [BlockSamples])
+fn draw_planes(
+    merge: &Merge,
+    depth: &DepthSource<'_>,
+    colour: &ColourSource<'_>,
+    mask: &BlockMask,
+    samples: &mut [BlockSamples],
+)
     requires { length samples.old ≡ count_of mask.now.count }
-    ensures drawn { (t : Triangle) → AreFragmentsOf t fragments.now → CoversBlock t mask.now → IsBlockDrawn t mask.now samples.old samples.new }
+    ensures drawn { (t : Triangle) → AreSourcesOf t merge.now depth.now colour.now → CoversBlock t mask.now → IsBlockDrawn t mask.now samples.old samples.new }
     ensures samples { length samples.new ≡ length samples.old }
 {
     for s in 0..mask.count.count() {
         let plane = mask.plane[s as usize];
-        draw_by_mask(fragments, mask.first(s), plane, &mut samples[s as usize]);
+        draw_by_mask(
+            merge,
+            depth,
+            colour,
+            mask.first(s),
+            plane,
+            &mut samples[s as usize],
+        );
     }
 }
 
@@ -142,66 +174,75 @@ fn known<const OVER: bool>(merge: &Merge) -> Merge
     }
 }
 
-/// The same with code of its own for each way to find the depth. A value that is made again is known where the code is inlined.
-#[inline(always)]
-fn draw_by_depth(fragments: &Fragments<'_>, mask: &BlockMask, samples: &mut [BlockSamples])
-    requires { length samples.old ≡ count_of mask.now.count }
-    ensures drawn { (t : Triangle) → AreFragmentsOf t fragments.now → CoversBlock t mask.now → IsBlockDrawn t mask.now samples.old samples.new }
-    ensures samples { length samples.new ≡ length samples.old }
-{
-    match fragments.depth {
-        Depth::Unused => draw_planes(&fragments.with_depth(Depth::Unused), mask, samples),
-        Depth::Flat(z) => draw_planes(&fragments.with_depth(Depth::Flat(z)), mask, samples),
-        Depth::Plane(plane) => {
-            draw_planes(&fragments.with_depth(Depth::Plane(plane)), mask, samples);
-        }
-    }
-}
-
-/// The same for a merge that writes all channels, with code of its own for each way to find the colour too.
+/// The same for a merge that writes all channels, with code of its own for each source of colour and of depth. A value that is
+/// made again is known where the code is inlined.
 #[inline(never)]
-fn draw_by_colour<const OVER: bool>(
-    fragments: &Fragments<'_>,
+fn draw_by_sources<const OVER: bool>(
+    merge: &Merge,
+    depth: &DepthSource<'_>,
+    colour: &ColourSource<'_>,
     mask: &BlockMask,
     samples: &mut [BlockSamples],
 )
-    requires over { fragments.now.merge.over ≡ OVER }
-    requires all { WritesAllChannels fragments.now.merge }
+    requires over { merge.now.over ≡ OVER }
+    requires all { WritesAllChannels merge.now }
     requires samples { length samples.old ≡ count_of mask.now.count }
-    ensures drawn { (t : Triangle) → AreFragmentsOf t fragments.now → CoversBlock t mask.now → IsBlockDrawn t mask.now samples.old samples.new }
+    ensures drawn { (t : Triangle) → AreSourcesOf t merge.now depth.now colour.now → CoversBlock t mask.now → IsBlockDrawn t mask.now samples.old samples.new }
     ensures samples { length samples.new ≡ length samples.old }
 {
-    let merge = known::<OVER>(&fragments.merge);
-    match fragments.colour {
-        Colour::Flat(rgba) => {
-            draw_by_depth(
-                &fragments.with_colour(merge, Colour::Flat(rgba)),
-                mask,
-                samples,
-            );
+    let merge = &known::<OVER>(merge);
+    match colour {
+        ColourSource::Flat(rgba) => {
+            let colour = &ColourSource::Flat(*rgba);
+            match depth {
+                DepthSource::Unused => {
+                    draw_planes(merge, &DepthSource::Unused, colour, mask, samples);
+                }
+                DepthSource::Flat(z) => {
+                    draw_planes(merge, &DepthSource::Flat(*z), colour, mask, samples);
+                }
+                DepthSource::Plane(placed, plane) => {
+                    let depth = &DepthSource::Plane(placed, plane);
+                    draw_planes(merge, depth, colour, mask, samples);
+                }
+            }
         }
-        Colour::Planes(planes) => {
-            draw_by_depth(
-                &fragments.with_colour(merge, Colour::Planes(planes)),
-                mask,
-                samples,
-            );
+        ColourSource::Planes(placed, planes) => {
+            let colour = &ColourSource::Planes(placed, planes);
+            match depth {
+                DepthSource::Unused => {
+                    draw_planes(merge, &DepthSource::Unused, colour, mask, samples);
+                }
+                DepthSource::Flat(z) => {
+                    draw_planes(merge, &DepthSource::Flat(*z), colour, mask, samples);
+                }
+                DepthSource::Plane(placed, plane) => {
+                    let depth = &DepthSource::Plane(placed, plane);
+                    draw_planes(merge, depth, colour, mask, samples);
+                }
+            }
         }
     }
 }
 
-/// The same with code of its own if all channels are written: blended over the stored ones, or not.
-fn draw_by_merge(fragments: &Fragments<'_>, mask: &BlockMask, samples: &mut [BlockSamples])
+/// The same with code of its own where all channels are written: blended over the stored ones, or not.
+fn draw_by_merge(
+    merge: &Merge,
+    depth: &DepthSource<'_>,
+    colour: &ColourSource<'_>,
+    mask: &BlockMask,
+    samples: &mut [BlockSamples],
+)
     requires { length samples.old ≡ count_of mask.now.count }
-    ensures drawn { (t : Triangle) → AreFragmentsOf t fragments.now → CoversBlock t mask.now → IsBlockDrawn t mask.now samples.old samples.new }
+    ensures drawn { (t : Triangle) → AreSourcesOf t merge.now depth.now colour.now → CoversBlock t mask.now → IsBlockDrawn t mask.now samples.old samples.new }
     ensures samples { length samples.new ≡ length samples.old }
 {
-    if !writes_all(&fragments.merge) {
-        draw_planes(fragments, mask, samples);
-    } else if fragments.merge.over {
-        draw_by_colour::<true>(fragments, mask, samples);
+    if !writes_all(merge) {
+        draw_planes(merge, depth, colour, mask, samples);
+    } else if merge.over {
+        draw_by_sources::<true>(merge, depth, colour, mask, samples);
     } else {
-        draw_by_colour::<false>(fragments, mask, samples);
+        draw_by_sources::<false>(merge, depth, colour, mask, samples);
     }
 }
 
@@ -214,9 +255,13 @@ impl Interpolants {
         ensures drawn { IsBlockDrawn self.now mask.now samples.old samples.new }
         ensures samples { length samples.new ≡ length samples.old }
     {
-        match &self.fast_path {
-            None => draw_each(&self.placed, mask, samples),
-            Some(path) => draw_by_merge(&path.fragments(&self.placed), mask, samples),
+        match self.mode {
+            DrawMode::Each => draw_each(&self.placed, mask, samples),
+            DrawMode::Groups(depth, colour) => {
+                let depth = depth.source(&self.placed, &self.depth);
+                let colour = colour.source(&self.placed, &self.colour);
+                draw_by_merge(&self.placed.state.merge, &depth, &colour, mask, samples);
+            }
         }
     }
 }

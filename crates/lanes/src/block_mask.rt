@@ -5,7 +5,7 @@ ghost use Rattle.lanes.specs.Block.{IsOnScreen};
 use grid::{Point, SampleCount, sample_at};
 
 /// Some samples of a block of 8 by 8 pixels, whose first pixel is (8 * bx, 8 * by).
-#[derive(Clone, Copy)]
+#[derive(Clone, Copy, Debug)]
 pub struct BlockMask {
     /// The column of blocks.
     pub bx: u32,

@@ -20,7 +20,7 @@ pub(crate) fn candidates(lanes: u32x16, height: u64) -> u32x16
     lanes + u32x16::splat((height >> 32) as u32)
 }
 
-/// The whole parts of sixteen candidates with `bits` fractional bits.
+/// The whole parts of sixteen candidates with so many fractional bits.
 #[inline(always)]
 pub(crate) fn wholes(candidates: u32x16, bits: u32) -> u16x16
     requires { (bits ≡ 16) ⊎ (bits ≡ 24) }

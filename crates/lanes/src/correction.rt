@@ -7,10 +7,17 @@ ghost use Rattle.lanes.specs.AttributePlane.{AreNear, AreValues};
 
 use crate::candidates::{lowered, rests};
 use crate::plane::Plane;
-use crate::reciprocal::area_of;
 use crate::slope::Slope;
 use grid::Tri;
 use std::simd::prelude::*;
+
+/// The size of the doubled area of a triangle.
+fn area_of(t: &Tri) -> u64
+    ensures value { result ≡ unsigned_abs (doubled_area t.now.a t.now.b t.now.c) }
+    ensures size { result ≤ 2 ^ 48 }
+{
+    t.area2().unsigned_abs()
+}
 
 /// The values at the group of sixteen samples that starts at (x, y) of what is `values` at the vertices of `t`, from the values or
 /// the numbers after them.

@@ -1,5 +1,5 @@
 //! Sixteen samples of a block drawn at once: two rows of eight pixels.
-ghost use Rattle.std.specs.Prelude.{◌≡◌, ◌⊎◌, ℕ, true, if◌then◌else◌, ◌+◌, ◌<◌, ◌≤◌, length, slice_index, slice_index_or, false};
+ghost use Rattle.std.specs.Prelude.{◌≡◌, ◌⊎◌, ℕ, true, if◌then◌else◌, ◌+◌, ◌<◌, ◌≤◌, length, slice_index};
 ghost use Rattle.std.specs.Simd.Lanes.{Each1};
 ghost use Rattle.grid.specs.Triangle.{Covers};
 ghost use Rattle.shade.specs.Blend.{IsBlended};
@@ -8,17 +8,15 @@ ghost use Rattle.shade.specs.declared.placed.Placed.{Placed as Triangle};
 ghost use Rattle.shade.specs.Placed.{IsInterpolated, IsDrawnAt};
 ghost use Rattle.lanes.specs.Block.{stored_at, position_in};
 ghost use Rattle.lanes.specs.Group.{IsGroupOnScreen};
-ghost use Rattle.lanes.specs.Channels.{lanes_of, AreBytesOfChannels};
-ghost use Rattle.lanes.specs.Fragments.{AreFragmentsOf};
+ghost use Rattle.lanes.specs.Sources.{IsDepthOf, IsColourOf};
 
 use crate::blend::over_lanes;
 use crate::block_samples::BlockSamples;
-use crate::depth::Depth;
-use crate::fragments::Fragments;
 use crate::lane_bytes::{narrow, widen};
 use crate::lane_mask::{both, choose, choose_bytes, is_clear};
 use crate::merging::passes_lanes;
-use shade::Merge;
+use crate::sources::{ColourSource, DepthSource};
+use shade::{Merge, Placed};
 use std::simd::prelude::*;
 
 /// A written channel, where the mask is set.
@@ -37,29 +35,28 @@ fn drawn_lanes(over: bool, mask: u16x16, s: u16x16, a: u16x16, d: u8x16) -> u8x1
     choose_bytes(mask, new, d)
 }
 
-/// A channel of stored samples, where the mask is set: red, green or blue, which are the channels 0 to 2.
+/// A channel of stored samples, where the mask is set.
 #[inline(always)]
 fn draw_channel(
-    merge: &Merge,
-    number: usize,
+    written: bool,
+    over: bool,
     mask: u16x16,
-    colours: &[u16x16; 4],
+    s: u16x16,
+    a: u16x16,
     stored: &mut [u8],
     at: usize,
 )
-    requires number { number < 3 }
     requires room { at + 16 ≤ length stored.old }
-    requires bytes { AreBytesOfChannels colours.now }
+    requires bytes { Each1 (λ n. n ≤ 255) s × Each1 (λ n. n ≤ 255) a }
     ensures set { (i : ℕ) → i < 16 → slice_index mask i ≡ 65535
-        → IsBlended (slice_index_or merge.now.write number false) merge.now.over (slice_index (lanes_of colours.now number) i) (slice_index (lanes_of colours.now 3) i) (slice_index stored.old (at + i)) (slice_index stored.new (at + i)) }
+        → IsBlended written over (slice_index s i) (slice_index a i) (slice_index stored.old (at + i)) (slice_index stored.new (at + i)) }
     ensures clear { (i : ℕ) → i < 16 → slice_index mask i ≡ 0 → slice_index stored.new (at + i) ≡ slice_index stored.old (at + i) }
     ensures elsewhere { (k : ℕ) → (k < at) ⊎ (at + 16 ≤ k) → slice_index stored.new k ≡ slice_index stored.old k }
     ensures room { length stored.new ≡ length stored.old }
 {
-    if merge.write[number] {
+    if written {
         let old = u8x16::from_slice(&stored[at..]);
-        let new = drawn_lanes(merge.over, mask, colours[number], colours[3], old);
-        new.copy_to_slice(&mut stored[at..]);
+        drawn_lanes(over, mask, s, a, old).copy_to_slice(&mut stored[at..]);
     }
 }
 
@@ -99,10 +96,11 @@ fn test_depths(merge: &Merge, mask: u16x16, z: u16x16, stored: &mut [u16], at: u
     passed
 }
 
-/// The same with the depths of a triangle's fragments; the first of the samples is at (x, y).
+/// The same by where the depths come from; the first of the samples is at (x, y).
 #[inline(always)]
 fn test_depths_of(
-    fragments: &Fragments<'_>,
+    source: &DepthSource<'_>,
+    merge: &Merge,
     mask: u16x16,
     x: i32,
     y: i32,
@@ -111,29 +109,32 @@ fn test_depths_of(
 ) -> u16x16
     requires room { at + 16 ≤ length stored.old }
     requires on_screen { IsGroupOnScreen (record { x = x; y = y }) }
-    ensures set { (t : Triangle) (i z : ℕ) → AreFragmentsOf t fragments.now → i < 16 → slice_index mask i ≡ 65535 → Covers t.tri.a t.tri.b t.tri.c (position_in (record { x = x; y = y }) i)
+    ensures set { (t : Triangle) (i z : ℕ) → IsDepthOf t source.now → t.state.merge ≡ merge.now → i < 16 → slice_index mask i ≡ 65535 → Covers t.tri.a t.tri.b t.tri.c (position_in (record { x = x; y = y }) i)
         → IsInterpolated t (position_in (record { x = x; y = y }) i) t.z z
-        → IsTested fragments.now.merge z (slice_index stored.old (at + i)) (slice_index stored.new (at + i)) (slice_index result i) }
+        → IsTested merge.now z (slice_index stored.old (at + i)) (slice_index stored.new (at + i)) (slice_index result i) }
     ensures clear { (i : ℕ) → i < 16 → slice_index mask i ≡ 0 → (slice_index result i ≡ 0) × (slice_index stored.new (at + i) ≡ slice_index stored.old (at + i)) }
     ensures elsewhere { (k : ℕ) → (k < at) ⊎ (at + 16 ≤ k) → slice_index stored.new k ≡ slice_index stored.old k }
     ensures room { length stored.new ≡ length stored.old }
 {
-    let merge = &fragments.merge;
-    match fragments.depth {
-        Depth::Unused => mask,
-        Depth::Flat(z) => test_depths(merge, mask, u16x16::splat(z), stored, at),
-        Depth::Plane(plane) => {
-            let placed = fragments.placed;
-            let depths = plane.values(&placed.tri, placed.z, 16, x, y);
-            test_depths(merge, mask, depths, stored, at)
-        }
+    match source {
+        DepthSource::Unused => mask,
+        DepthSource::Flat(z) => test_depths(merge, mask, u16x16::splat(*z), stored, at),
+        DepthSource::Plane(placed, plane) => test_depths(
+            merge,
+            mask,
+            plane.values(placed, x, y),
+            stored,
+            at,
+        ),
     }
 }
 
 /// Draws the triangle at sixteen samples of a block from a place on, where the mask is set; the first of them is at (x, y).
 #[inline(always)]
 pub(crate) fn draw_group(
-    fragments: &Fragments<'_>,
+    merge: &Merge,
+    depth: &DepthSource<'_>,
+    colour: &ColourSource<'_>,
     mask: u16x16,
     x: i32,
     y: i32,
@@ -142,19 +143,42 @@ pub(crate) fn draw_group(
 )
     requires room { at + 16 ≤ 64 }
     requires on_screen { IsGroupOnScreen (record { x = x; y = y }) }
-    ensures set { (t : Triangle) (i : ℕ) → AreFragmentsOf t fragments.now → i < 16 → slice_index mask i ≡ 65535
+    ensures set { (t : Triangle) (i : ℕ) → t.state.merge ≡ merge.now → IsDepthOf t depth.now → IsColourOf t colour.now → i < 16 → slice_index mask i ≡ 65535
         → Covers t.tri.a t.tri.b t.tri.c (position_in (record { x = x; y = y }) i)
         → IsDrawnAt t (position_in (record { x = x; y = y }) i) (stored_at samples.old (at + i)) (stored_at samples.new (at + i)) }
     ensures clear { (i : ℕ) → i < 16 → slice_index mask i ≡ 0 → stored_at samples.new (at + i) ≡ stored_at samples.old (at + i) }
     ensures elsewhere { (k : ℕ) → (k < at) ⊎ (at + 16 ≤ k) → stored_at samples.new k ≡ stored_at samples.old k }
 {
-    let merge = &fragments.merge;
-    let drawn = test_depths_of(fragments, mask, x, y, &mut samples.z, at);
+    let drawn = test_depths_of(depth, merge, mask, x, y, &mut samples.z, at);
     if is_clear(drawn) {
         return;
     }
-    let colours = fragments.colours(x, y);
-    draw_channel(merge, 0, drawn, &colours, &mut samples.r, at);
-    draw_channel(merge, 1, drawn, &colours, &mut samples.g, at);
-    draw_channel(merge, 2, drawn, &colours, &mut samples.b, at);
+    let c = colour.values(merge, x, y);
+    draw_channel(
+        merge.write[0],
+        merge.over,
+        drawn,
+        c.r,
+        c.a,
+        &mut samples.r,
+        at,
+    );
+    draw_channel(
+        merge.write[1],
+        merge.over,
+        drawn,
+        c.g,
+        c.a,
+        &mut samples.g,
+        at,
+    );
+    draw_channel(
+        merge.write[2],
+        merge.over,
+        drawn,
+        c.b,
+        c.a,
+        &mut samples.b,
+        at,
+    );
 }

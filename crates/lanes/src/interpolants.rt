@@ -1,79 +1,44 @@
-ghost use Rattle.std.specs.Prelude.{◌≡◌, pos, IfSome};
+ghost use Rattle.std.specs.Prelude.{◌≡◌, pos};
+ghost use Rattle.std.specs.Int.RustNames.{unsigned_abs};
 ghost use Rattle.grid.specs.Triangle.{doubled_area};
 
-use crate::attribute_plane::AttributePlane;
-use crate::colour::{Colour, by_planes, without_planes};
-use crate::depth::{Depth, by_plane, without_plane};
-use crate::fragments::Fragments;
-use crate::reciprocal::{Reciprocal, area_of};
+use crate::colour_planes::{ColourPlanes, ColourSlopes};
+use crate::depth_plane::DepthPlane;
+use crate::mode::{ColourMode, DepthMode, DrawMode};
+use crate::reciprocal::Reciprocal;
+use crate::slope::Slope;
 use shade::Placed;
 use std::marker::Model;
 
-/// How a triangle is drawn at sixteen samples at once.
-#[derive(Clone, Copy)]
-pub(crate) struct FastPath {
-    pub(crate) depth: Depth<AttributePlane>,
-    pub(crate) colour: Colour<[AttributePlane; 4]>,
-}
-
-/// A triangle made ready to be drawn: how its depth, its colour and its alpha change from pixel to pixel, which is found once for
-/// all its samples (attribute setup). Contracts see the triangle.
-#[derive(Drop)]
+/// A triangle made ready to be drawn: how its depth, its colour and its alpha change from pixel to pixel, and which mode of
+/// drawing suits it, which is found once for all its samples (attribute setup). Contracts see the triangle.
+#[derive(Debug, Drop)]
 pub struct Interpolants {
     pub(crate) placed: Placed,
-    /// `None` if a value changes too fast from pixel to pixel for a plane: the samples are drawn one after another.
-    pub(crate) fast_path: Option<FastPath>,
+    pub(crate) mode: DrawMode,
+    /// The depth, where the mode needs a plane of it.
+    pub(crate) depth: DepthPlane,
+    /// The colour, where the mode needs planes of it.
+    pub(crate) colour: ColourPlanes,
 }
 
 impl Model for Interpolants {
-    ghost use Rattle.std.specs.Prelude.{IfSome};
     ghost use Rattle.shade.specs.declared.placed.Placed.{Placed as Triangle};
-    ghost use Rattle.lanes.specs.Fragments.{IsFastPathOf};
+    ghost use Rattle.lanes.specs.Mode.{IsDrawModeOf};
 
     ghost Value = { Triangle };
 
     ghost view = { λ i. i.placed };
 
-    ghost invariant = { λ i. IfSome i.fast_path (IsFastPathOf i.placed) };
+    ghost invariant = { λ i. IsDrawModeOf i.placed i.mode i.depth i.colour };
 }
 
-impl FastPath {
-    ghost use Rattle.lanes.specs.Fragments.{IsFastPathOf, AreFragmentsOf};
-
-    /// How a triangle that has an area is drawn at sixteen samples at once.
-    #[inline(always)]
-    fn of(placed: &Placed) -> Option<FastPath>
-        requires { ¬ (doubled_area placed.now.tri.a placed.now.tri.b placed.now.tri.c ≡ pos 0) }
-        ensures { IfSome result (IsFastPathOf placed.now) }
-    {
-        let (flat, plain) = (without_plane(placed), without_planes(placed));
-        if let (Some(depth), Some(colour)) = (flat, plain) {
-            return Some(FastPath { depth, colour });
-        }
-        let reciprocal = Reciprocal::of(area_of(&placed.tri));
-        let depth = match flat {
-            Some(depth) => depth,
-            None => by_plane(placed, reciprocal)?,
-        };
-        let colour = match plain {
-            Some(colour) => colour,
-            None => by_planes(placed, reciprocal)?,
-        };
-        Some(FastPath { depth, colour })
-    }
-
-    /// The fragments of the triangle.
-    #[inline(always)]
-    pub(crate) fn fragments<'a>(&'a self, placed: &'a Placed) -> Fragments<'a>
-        ensures { IsFastPathOf placed.now self.now → AreFragmentsOf placed.now result }
-    {
-        Fragments {
-            placed,
-            merge: placed.state.merge,
-            depth: self.depth.as_ref(),
-            colour: self.colour.as_ref(),
-        }
-    }
+/// The doubled area of a triangle that has one, with its reciprocal.
+fn reciprocal(placed: &Placed) -> Reciprocal
+    requires { ¬ (doubled_area placed.now.tri.a placed.now.tri.b placed.now.tri.c ≡ pos 0) }
+    ensures { result.area ≡ unsigned_abs (doubled_area placed.now.tri.a placed.now.tri.b placed.now.tri.c) }
+{
+    Reciprocal::of(placed.tri.area2().unsigned_abs())
 }
 
 impl Interpolants {
@@ -82,9 +47,32 @@ impl Interpolants {
         requires { ¬ (doubled_area placed.now.tri.a placed.now.tri.b placed.now.tri.c ≡ pos 0) }
         ensures { result ≡ placed.now }
     {
+        let (depth, colour) = (DepthMode::of(placed), ColourMode::of(placed));
+        let (by_plane, by_planes) = (depth.is_by_plane(), colour.is_by_planes());
+        if !by_plane && !by_planes {
+            return Interpolants {
+                placed: *placed,
+                mode: DrawMode::Groups(depth, colour),
+                depth: DepthPlane::none(),
+                colour: ColourPlanes::none(),
+            };
+        }
+        let reciprocal = reciprocal(placed);
+        let depth_slope = Slope::of_used(by_plane, &placed.tri, placed.z);
+        let slopes = ColourSlopes::of_used(by_planes, placed);
+        if !depth_slope.is_level(reciprocal, 48) || !slopes.are_level(reciprocal) {
+            return Interpolants {
+                placed: *placed,
+                mode: DrawMode::Each,
+                depth: DepthPlane::none(),
+                colour: ColourPlanes::none(),
+            };
+        }
         Interpolants {
             placed: *placed,
-            fast_path: FastPath::of(placed),
+            mode: DrawMode::Groups(depth, colour),
+            depth: DepthPlane::new(&depth_slope, reciprocal),
+            colour: ColourPlanes::new(&slopes, reciprocal),
         }
     }
 

@@ -9,7 +9,7 @@ use crate::slope::Slope;
 use std::simd::prelude::*;
 
 /// An attribute in fixed point, modulo 2^64, as a plane over x and y.
-#[derive(Clone, Copy)]
+#[derive(Clone, Copy, Debug)]
 pub(crate) struct Plane {
     start: u64,
     across: i64,
@@ -53,7 +53,7 @@ fn margin(slope: Slope, reciprocal: Reciprocal, across: i64, down: i64, bits: u3
 impl Plane {
     ghost use Rattle.lanes.specs.Plane.{IsLevel, IsPlane, IsNumeratorPlane, IsIncrement, IsHeight, IsHighPart};
 
-    /// The plane of a slope that is not steep, with `bits` fractional bits.
+    /// The plane of a slope that is not steep, with so many fractional bits.
     #[inline(always)]
     pub(crate) fn new(slope: Slope, reciprocal: Reciprocal, bits: u32) -> Plane
         requires bits { bits ≤ 56 }
@@ -73,6 +73,16 @@ impl Plane {
         }
     }
 
+    /// A plane that nobody reads.
+    #[inline(always)]
+    pub(crate) fn none() -> Plane {
+        Plane {
+            start: 0,
+            across: 0,
+            down: 0,
+        }
+    }
+
     /// The numerator of a slope as a plane.
     pub(crate) fn of_numerator(slope: Slope, area: u64) -> Plane
         ensures { IsNumeratorPlane area slope result }
@@ -88,13 +98,20 @@ impl Plane {
         }
     }
 
+    /// The growth over a distance, modulo 2^64.
+    #[inline(always)]
+    pub(crate) fn part(&self, x: i32, y: i32) -> u64
+        ensures { IsIncrement self.now x y result }
+    {
+        scaled(x, self.across).wrapping_add(scaled(y, self.down))
+    }
+
     /// The height at a point, modulo 2^64.
     #[inline(always)]
     pub(crate) fn height(&self, x: i32, y: i32) -> u64
         ensures { IsHeight self.now x y result }
     {
-        self.start
-            .wrapping_add(scaled(x, self.across).wrapping_add(scaled(y, self.down)))
+        self.start.wrapping_add(self.part(x, y))
     }
 
     /// The growth to each of sixteen pixels, eight columns by two rows, modulo 2^64.

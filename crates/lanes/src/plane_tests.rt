@@ -2,10 +2,10 @@
 ghost use Rattle.std.specs.Prelude.{IsTrue, pos, ◌≤ℤ◌, ◌<ℤ◌};
 ghost use Rattle.lanes.specs.Group.{IsGroupOnScreen};
 
-use crate::colour::{Colour, by_planes};
-use crate::colour_planes::colours;
-use crate::depth::{Depth, by_plane};
+use crate::colour_planes::{ColourPlanes, ColourSlopes};
+use crate::depth_plane::DepthPlane;
 use crate::reciprocal::Reciprocal;
+use crate::slope::Slope;
 use crate::test_support::{GREATEST, GREATEST_TURNED, everywhere, triangle};
 use grid::Point;
 use shade::{DepthTest, Merge, Placed, floor_at};
@@ -63,16 +63,17 @@ fn agrees(rt: &impl Abort, t: &Placed, (x, y): (i32, i32)) -> Option<bool> {
     assert!(rt; is_on_screen(x, y));
     assert!(rt; t.tri.area2() != 0);
     let reciprocal = Reciprocal::of(t.tri.area2().unsigned_abs());
-    let Depth::Plane(plane) = by_plane(t, reciprocal)? else {
+    let slope = Slope::of(&t.tri, t.z);
+    let slopes = ColourSlopes::of_used(true, t);
+    if !slope.is_level(reciprocal, 48) || !slopes.are_level(reciprocal) {
         return None;
-    };
-    let Colour::Planes(planes) = by_planes(t, reciprocal)? else {
-        return None;
-    };
-    let depths = plane.values(&t.tri, t.z, 16, x, y).to_array();
-    let [red, green, blue, alpha] = colours(&planes, t, &t.state.merge, x, y);
-    let (reds, greens) = (red.to_array(), green.to_array());
-    let (blues, alphas) = (blue.to_array(), alpha.to_array());
+    }
+    let depths = DepthPlane::new(&slope, reciprocal)
+        .values(t, x, y)
+        .to_array();
+    let colours = ColourPlanes::new(&slopes, reciprocal).values(t, &t.state.merge, x, y);
+    let (reds, greens) = (colours.r.to_array(), colours.g.to_array());
+    let (blues, alphas) = (colours.b.to_array(), colours.a.to_array());
     let mut met = false;
     for i in 0..16 {
         let column = 256 * (i % 8);

@@ -1,20 +1,9 @@
 ghost use Rattle.std.specs.Prelude.{◌≡◌, ◌≤◌, ◌<◌, ◌*◌, ◌-◌, ◌^◌, ◌↔◌, ◌*ℤ◌, ◌-ℤ◌, pos, IsTrue};
 ghost use Rattle.std.specs.Int.RustNames.{unsigned_abs};
-ghost use Rattle.grid.specs.Triangle.{doubled_area};
 ghost use Rattle.lanes.specs.Reciprocal.{IsReciprocal, IsGradient, IsExactGradient};
 
-use grid::Tri;
-
-/// The absolute value of the doubled area of a triangle.
-pub(crate) fn area_of(t: &Tri) -> u64
-    ensures value { result ≡ unsigned_abs (doubled_area t.now.a t.now.b t.now.c) }
-    ensures size { result ≤ 2 ^ 48 }
-{
-    t.area2().unsigned_abs()
-}
-
 /// A doubled area with its reciprocal: `value` by 2 to the power of `127 - shift`.
-#[derive(Clone, Copy)]
+#[derive(Clone, Copy, Debug)]
 pub(crate) struct Reciprocal {
     pub(crate) area: u64,
     /// How far the area is shifted, so that it has just 64 bits.
@@ -61,7 +50,7 @@ impl Reciprocal {
         ((number as i128 * self.value as i128) >> (127 - self.shift - bits)) as i64
     }
 
-    /// `number` less the product of a gradient and the area, in units of the gradient's last bit.
+    /// `number` without so many times the area as a gradient says, in units of the gradient's last bit.
     #[inline(always)]
     fn rest(self, number: i64, gradient: i64, bits: u32) -> i64
         requires bits { bits ≤ 56 }

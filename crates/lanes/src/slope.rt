@@ -7,7 +7,7 @@ use grid::Tri;
 
 /// An attribute's numerator, which is the attribute times the size of the doubled area: `first` times that size at (x, y), growing
 /// by `across` and `down` with 1/256 pixel of x and of y.
-#[derive(Clone, Copy)]
+#[derive(Clone, Copy, Debug)]
 pub(crate) struct Slope {
     pub(crate) first: u16,
     pub(crate) x: i32,
@@ -49,8 +49,7 @@ impl Slope {
     /// The slope of what is `values` at the vertices of `t`, from the first vertex.
     #[inline(always)]
     pub(crate) fn of(t: &Tri, values: [u16; 3]) -> Slope
-        ensures slope { IsSlope t.now.a t.now.b t.now.c (slice_index values 0) (slice_index values 1) (slice_index values 2) result }
-        ensures small { Are16Bit (slice_index values 0) (slice_index values 1) (slice_index values 2) }
+        ensures { IsSlope t.now.a t.now.b t.now.c (slice_index values 0) (slice_index values 1) (slice_index values 2) result }
     {
         let (across, down) = Slope::growths(t, values);
         let (first, x, y) = (values[0], t.a.x(), t.a.y());
@@ -78,6 +77,7 @@ impl Slope {
     pub(crate) fn of_used(used: bool, t: &Tri, values: [u16; 3]) -> Slope
         ensures slope { IsTrue used → IsSlope t.now.a t.now.b t.now.c (slice_index values 0) (slice_index values 1) (slice_index values 2) result }
         ensures bounded { IsBounded result }
+        ensures small { Are16Bit (slice_index values 0) (slice_index values 1) (slice_index values 2) }
     {
         if used {
             return Slope::of(t, values);
@@ -91,7 +91,7 @@ impl Slope {
         }
     }
 
-    /// Whether the slope is not steep, so that it has a plane with `bits` fractional bits.
+    /// Whether the slope is not steep, so that it has a plane with so many fractional bits.
     #[inline(always)]
     pub(crate) fn is_level(&self, reciprocal: Reciprocal, bits: u32) -> bool
         requires low { 48 ≤ bits }

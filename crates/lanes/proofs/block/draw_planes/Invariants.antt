@@ -1,8 +1,8 @@
 use Rattle.shade.specs.declared.placed.Placed.{Placed}
 use Rattle.lanes.specs.BlockMask.{CoversBlock}
-use Rattle.lanes.specs.Fragments.{AreFragmentsOf}
+use Rattle.lanes.specs.Mode.{AreSourcesOf}
 use Rattle.lanes.proofs.BlockPlanes.{AreDoneBefore}
 use Rattle.lanes.proofs.block.draw_planes.Given as goal
 
 abbrev pub invariant-loop-s : goal.invariant-loop-s
-invariant-loop-s l = (t : Placed) → AreFragmentsOf t l.fragments → CoversBlock t l.mask → AreDoneBefore t l.mask l.fn.samples l.samples l.s
+invariant-loop-s l = (t : Placed) → AreSourcesOf t l.merge l.depth l.colour → CoversBlock t l.mask → AreDoneBefore t l.mask l.fn.samples l.samples l.s

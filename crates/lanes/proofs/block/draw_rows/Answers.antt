@@ -4,14 +4,14 @@ use Rattle.lanes.proofs.Blocks.{rows_kept, rows_drawn, group_at, drawn_from}
 use Rattle.lanes.proofs.block.draw_rows.Goals as goal
 
 pub returns-then-not-has_some : goal.returns-then-not-has_some
-returns-then-not-has_some c t fragments covers = rows_kept t c.args.p c.args.mask c.args.group c.args.samples.now (c.has_some.ensures c.if-not-has_some.true)
+returns-then-not-has_some c t sources covers = rows_kept t c.args.p c.args.mask c.args.group c.args.samples.now (c.has_some.ensures c.if-not-has_some.true)
 
 pub returns : goal.returns
-returns c t fragments covers =
+returns c t sources covers =
     rows_drawn t c.args.p c.args.mask c.args.group c.lanes_of-covered.result c.args.samples.now c.draw_group.new.samples c.requires.group covers c.lanes_of-covered.ensures
     (record {
       set = λ i l set.
-          drawn_from t _ _ (group_at c.args.p c.args.group) i _ _ (c.draw_group.ensures.set t i fragments l set)
+          drawn_from t _ _ (group_at c.args.p c.args.group) i _ _ (c.draw_group.ensures.set t i sources.merge_of sources.depth_of sources.colour_of l set)
           (omega (arith, ints, c.x-x.ensures.value)) (omega (arith, ints, c.y.ensures.value, c.requires.on_screen));
       clear = c.draw_group.ensures.clear;
       elsewhere = c.draw_group.ensures.elsewhere;

@@ -15,6 +15,6 @@ returns-clause-each c near i l covered =
     let n : ℕ = sum_at t.a t.b t.c c.args.values p in
     let same = c.area_of-area.ensures.value in
     let high = rw (to_z-of_z w32 c.args.x c.ranges.x, to_z-of_z w32 c.args.y c.ranges.y) at (c.heights.ensures.each i l) in
-    let whole = sum_modulo t.a t.b t.c p c.args.values c.of.result c.of_numerator-numerator.result _ c.of.ensures.slope (rw same at c.of_numerator-numerator.ensures) covered high in
+    let whole = sum_modulo t.a t.b t.c p c.args.values c.of.result c.of_numerator-numerator.result _ c.of.ensures (rw same at c.of_numerator-numerator.ensures) covered high in
     let rest = rw same at (c.rests.ensures.each i n l whole) in
     c.lowered.ensures.each i n (unsigned_abs (doubled_area t.a t.b t.c)) l (rw same at c.area_of-area.ensures.size) (near i l covered) rest

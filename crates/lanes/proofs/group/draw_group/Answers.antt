@@ -1,29 +1,27 @@
-use Rattle.std.proofs.Common.{refl, arith, w32}
+use Rattle.std.proofs.Common.{refl, w32}
 use Rattle.std.proofs.lemmas.Int.{to_z-of_z}
 use Rattle.lanes.specs.Block.{position_in}
 use Rattle.lanes.proofs.Groups.{combined, undrawn}
 use Rattle.lanes.proofs.group.draw_group.Goals as goal
 
 pub returns-then-is_clear-clause-set : goal.returns-then-is_clear-clause-set
-returns-then-is_clear-clause-set c t i f l set covered =
+returns-then-is_clear-clause-set c t i e depth colour l set covered =
     let x = to_z-of_z w32 c.args.x c.ranges.x in
     let y = to_z-of_z w32 c.args.y c.ranges.y in
-    undrawn t (position_in (record { x = c.args.x; y = c.args.y }) i) c.args.fragments.now.merge _ _ _ f.merge_of covered
-    (λ z value. c.test_depths_of-drawn.ensures.set t i z f l set (rw (x, y) covered) (rw (x, y) value))
+    undrawn t (position_in (record { x = c.args.x; y = c.args.y }) i) c.args.merge.now _ _ _ e covered
+    (λ z value. c.test_depths_of-drawn.ensures.set t i z depth e l set (rw (x, y) covered) (rw (x, y) value))
     (c.is_clear.ensures c.if-is_clear.true i l) refl refl refl
 
 pub returns-clause-set : goal.returns-clause-set
-returns-clause-set c t i f l set covered =
+returns-clause-set c t i e depth colour l set covered =
     let x = to_z-of_z w32 c.args.x c.ranges.x in
     let y = to_z-of_z w32 c.args.y c.ranges.y in
     let p = position_in (record { x = c.args.x; y = c.args.y }) i in
-    let v = c.colours-colours.ensures in
-    combined t p c.args.fragments.now.merge _ _ _ _ _ _ _ f.merge_of covered
-    (λ z value. c.test_depths_of-drawn.ensures.set t i z f l set (rw (x, y) covered) (rw (x, y) value))
-    (λ writes. rw (x, y) at (v.each t f 0 (omega arith) (rw f.merge_of writes) i l (rw (x, y) covered)))
-    (λ writes. rw (x, y) at (v.each t f 1 (omega arith) (rw f.merge_of writes) i l (rw (x, y) covered)))
-    (λ writes. rw (x, y) at (v.each t f 2 (omega arith) (rw f.merge_of writes) i l (rw (x, y) covered)))
-    (λ over. rw (x, y) at (v.each t f 3 (omega arith) (rw f.merge_of over) i l (rw (x, y) covered)))
+    let v = c.values-c.ensures in
+    combined t p c.args.merge.now _ _ _ _ _ _ _ e covered
+    (λ z value. c.test_depths_of-drawn.ensures.set t i z depth e l set (rw (x, y) covered) (rw (x, y) value))
+    (λ writes. rw (x, y) at (v.red t i e writes colour l (rw (x, y) covered))) (λ writes. rw (x, y) at (v.green t i e writes colour l (rw (x, y) covered)))
+    (λ writes. rw (x, y) at (v.blue t i e writes colour l (rw (x, y) covered))) (λ over. rw (x, y) at (v.alpha t i e over colour l (rw (x, y) covered)))
     (record { set = c.draw_channel.ensures.set i l; clear = c.draw_channel.ensures.clear i l })
     (record { set = c.draw_channel-2.ensures.set i l; clear = c.draw_channel-2.ensures.clear i l })
     (record { set = c.draw_channel-3.ensures.set i l; clear = c.draw_channel-3.ensures.clear i l })

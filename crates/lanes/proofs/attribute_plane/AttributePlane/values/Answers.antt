@@ -11,7 +11,7 @@ returns-clause-each c is i less covered =
     let k = c.args.fraction in
     let v = c.args.values in
     let p : Position = record { x = c.args.x; y = c.args.y } in
-    let are = (rw (to_z-of_z w32 c.args.x c.ranges.x, to_z-of_z w32 c.args.y c.ranges.y) at c.candidates-candidates.ensures.each) k t.a t.b t.c v refl is in
+    let are = (rw (to_z-of_z w32 c.args.x c.ranges.x, to_z-of_z w32 c.args.y c.ranges.y) at c.candidates-candidates.ensures.each) k t.a t.b t.c v is in
     elim c.if-are_sure.branch [
       | then-are_sure w ↦
           let sure : (j : ℕ) → j < 16 → 3 ≤ get_or c.candidates-candidates.result j 0 % 2 ^ k =

@@ -1,0 +1,58 @@
+-- How a triangle is drawn.
+use Rattle.std.specs.Prelude.{◌≡◌, true, [], ◌∷◌}
+use Rattle.shade.specs.declared.placed.Placed.{Placed}
+use Rattle.shade.specs.declared.sample.Merge.{Merge}
+use Rattle.lanes.specs.declared.sources.DepthSource.{DepthSource}
+use Rattle.lanes.specs.declared.sources.ColourSource.{ColourSource}
+use Rattle.lanes.specs.declared.depth_plane.DepthPlane.{DepthPlane}
+use Rattle.lanes.specs.declared.colour_planes.ColourPlanes.{ColourPlanes}
+use Rattle.lanes.specs.declared.mode.DepthMode.{DepthMode}
+use Rattle.lanes.specs.declared.mode.DepthMode.TheVariants.{Unused, Flat, Plane}
+use Rattle.lanes.specs.declared.mode.ColourMode.{ColourMode}
+use Rattle.lanes.specs.declared.mode.ColourMode.TheVariants as colour
+use Rattle.lanes.specs.declared.mode.DrawMode.{DrawMode}
+use Rattle.lanes.specs.declared.mode.DrawMode.TheVariants.{Each, Groups}
+use Rattle.lanes.specs.AttributePlane.{IsDepthPlane, AreColourPlanes}
+use Rattle.lanes.specs.Sources.{NeedsNoDepth, IsFlat, IsFlatColour, IsDepthOf, IsColourOf}
+
+-- What lets a triangle's depth be had in this mode.
+abbrev pub IsDepthMode : Placed → DepthMode → Type 0
+IsDepthMode t Unused = NeedsNoDepth t
+IsDepthMode t (Flat z) = IsFlat t.z z
+IsDepthMode t Plane = Unit {0}
+
+abbrev pub IsByPlane : DepthMode → Type 0
+IsByPlane mode = mode ≡ Plane
+
+-- The triangle's depth is had in this mode, by this plane where there is need of one.
+pub record IsDepthBy (t : Placed) (mode : DepthMode) (p : DepthPlane) : Type 0 where
+  pub is_mode : IsDepthMode t mode
+  pub is_plane : IsByPlane mode → IsDepthPlane t p
+
+-- The same of its colour, in the channels that the draw reads.
+abbrev pub IsColourMode : Placed → ColourMode → Type 0
+IsColourMode t (colour.Flat rgba) = IsFlatColour t rgba
+IsColourMode t colour.Planes = Unit {0}
+
+abbrev pub IsByPlanes : ColourMode → Type 0
+IsByPlanes mode = mode ≡ colour.Planes
+
+pub record IsColourBy (t : Placed) (mode : ColourMode) (p : ColourPlanes) : Type 0 where
+  pub is_mode : IsColourMode t mode
+  pub are_planes : IsByPlanes mode → AreColourPlanes t p
+
+-- The triangle is drawn in this mode: its samples one after another by the definition, or sixteen at once by its depth and its
+-- colour.
+abbrev pub IsDrawModeOf : Placed → DrawMode → DepthPlane → ColourPlanes → Type 0
+IsDrawModeOf t Each p q = Unit {0}
+IsDrawModeOf t (Groups depth colour) p q = IsDepthBy t depth p × IsColourBy t colour q
+
+-- What a triangle is drawn by: the merge of its draw, its depth and its colour.
+pub record AreSourcesOf (t : Placed) (merge : Merge) (depth : DepthSource) (colour : ColourSource) : Type 0 where
+  pub merge_of : t.state.merge ≡ merge
+  pub depth_of : IsDepthOf t depth
+  pub colour_of : IsColourOf t colour
+
+-- The merge writes red, green and blue.
+abbrev pub WritesAllChannels : Merge → Type 0
+WritesAllChannels m = m.write ≡ true ∷ true ∷ true ∷ []
