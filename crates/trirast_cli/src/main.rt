@@ -16,7 +16,10 @@ fn own_arguments(rt: &HostRuntime) -> Result<Vec<String>, LineFault> {
 }
 
 fn borrowed(alloc: Global, arguments: &[String]) -> Result<Vec<&str>, AllocError> {
-    arguments.iter().map(|argument| argument.as_str()).collect(alloc)
+    arguments
+        .iter()
+        .map(|argument| argument.as_str())
+        .collect(alloc)
 }
 
 fn main(rt: HostRuntime) -> ExitCode {
