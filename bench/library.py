@@ -5,8 +5,8 @@
 Needs `make library`. For each scene it gives the least time of some rounds of: the program with one worker and with as many
 workers as threads, a whole process each; trirast_read_image_info, which reads the list and draws nothing; trirast_draw on one
 thread, which reads the list and draws its file into a buffer that is there; and trirast.draw of Python with the threads, which
-reads the image info, makes a buffer, and has each thread read the list and draw its part. The ways take turns, so that a busy machine
-slows them all. Linux alone.
+reads the image info, makes a buffer, and has each thread read the list and draw its part. The ways take turns, so that a busy
+machine slows them all. Linux alone.
 """
 
 from __future__ import annotations
