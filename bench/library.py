@@ -1,4 +1,3 @@
-#!/usr/bin/env python3
 """Times the library beside the program on the scenes of bench/scenes.py and prints one table.
 
     PYTHONPATH=python/src python3 -m bench.library [--runs 5] [--threads 4] [--scenes tiny mesh ..]
@@ -6,12 +5,15 @@
 Needs `make library`. For each scene it gives the least time of some rounds of: the program with one worker and with as many
 workers as threads, a whole process each; trirast_read_image_info, which reads the list and draws nothing; trirast_draw on one
 thread, which reads the list and draws its file into a buffer that is there; and trirast.draw of Python with the threads, which
-reads the image info, makes a buffer, and has each thread read the list and draw its part. The ways take turns, so that a busy machine
-slows them all. Python 3.9 or later on Linux, standard library alone.
+reads the image info, makes a buffer, and has each thread read the list and draw its part. The ways take turns, so that a busy
+machine slows them all. Linux alone.
 """
+
+from __future__ import annotations
 
 import argparse
 import os
+import sys
 import time
 from typing import Any, Callable
 
@@ -19,63 +21,76 @@ import trirast
 from trirast import _ffi
 
 from bench import run, scenes
-from tools.places import PROGRAM
+from tools.places import PROGRAM, is_built
 
 SCENES = tuple(name for name in run.SCENES if name not in run.REFUSED)
+TILE_SIZE = 32
+
+# Draws a list once, and returns the seconds that it took.
+Way = Callable[[], float]
 
 
-def seconds(call, *words):
+def seconds(call: Callable[..., object], *arguments: Any) -> float:
+    """The time that a call takes."""
     begin = time.perf_counter()
-    call(*words)
+    call(*arguments)
     return time.perf_counter() - begin
 
 
-def ways(program, threads, source):
-    """The ways to draw a list, by name: each gives the seconds that it took."""
+def ways(program: str, threads: int, source: str) -> dict[str, Way]:
+    """The ways to draw a list, by name."""
     with open(source, "rb") as file:
         data = file.read()
     buffer, error = bytearray(trirast.draw_file(data)), _ffi.CError()
     part = _ffi.memory_of(memoryview(buffer))
 
-    def process(workers):
+    def process(workers: int) -> float:
         return run.Run([program, "--workers", str(workers)], source, os.devnull).wall
 
-    def draw():
-        return seconds(_ffi.library().trirast_draw, data, len(data), 32, part, len(buffer), error)
+    def draw() -> float:
+        return seconds(_ffi.library().trirast_draw, data, len(data), TILE_SIZE, part, len(buffer), error)
 
     return {
         "program, 1 worker": lambda: process(1),
         f"program, {threads} workers": lambda: process(threads),
         "trirast_read_image_info": lambda: seconds(trirast.image_info, data),
         "trirast_draw": draw,
-        f"Python, {threads} threads": lambda: seconds(trirast.draw, data, 32, threads),
+        f"Python, {threads} threads": lambda: seconds(trirast.draw, data, TILE_SIZE, threads),
     }
 
 
-def milliseconds(time_taken):
+def milliseconds(time_taken: float) -> str:
     return run.milliseconds(time_taken) if time_taken >= 0.001 else f"{1000 * time_taken:.2f}"
 
 
-def main():
+def row_of(name: str, chosen: dict[str, Way], rounds: int) -> str:
+    """The table's row of a scene: the least time of each way."""
+    times = [[way() for way in chosen.values()] for _ in range(rounds)]
+    least = [milliseconds(min(times_of_way)) for times_of_way in zip(*times)]
+    return f"| {name} | {' | '.join(least)} |"
+
+
+def main() -> int:
     parser = argparse.ArgumentParser(description="Times the library beside the program.")
     parser.add_argument("--program", default=PROGRAM, help="default bin/trirast")
     parser.add_argument("--runs", type=int, default=5, help="rounds of which the least counts (default 5)")
     parser.add_argument("--threads", type=int, default=4, help="threads and workers (default 4)")
     parser.add_argument("--scenes", nargs="+", choices=SCENES, default=SCENES, metavar="NAME", help=", ".join(SCENES))
-    words = parser.parse_args()
-    scenes.write_all(words.scenes)
+    options = parser.parse_args()
+    if not is_built(options.program):
+        return 1
+    scenes.write_all(options.scenes)
     print(f"Machine: {run.processor_name()}, {os.cpu_count()} processors; load before the run {run.load()}.")
-    print(f"Least of {words.runs} rounds, tiles of 32 pixels, milliseconds.\n")
-    for number, name in enumerate(words.scenes):
-        chosen = ways(os.path.abspath(words.program), words.threads, scenes.path_of(name))
+    print(f"Least of {options.runs} rounds, tiles of {TILE_SIZE} pixels, milliseconds.\n")
+    for number, name in enumerate(options.scenes):
+        chosen = ways(os.path.abspath(options.program), options.threads, scenes.path_of(name))
         if number == 0:
             print(f"| scene | {' | '.join(chosen)} |")
             print("|---" * (len(chosen) + 1) + "|")
-        rounds = [[way() for way in chosen.values()] for _ in range(words.runs)]
-        least = [milliseconds(min(times)) for times in zip(*rounds)]
-        print(f"| {name} | {' | '.join(least)} |", flush=True)
+        print(row_of(name, chosen, options.runs), flush=True)
     print(f"\nLoad after the run {run.load()}.")
+    return 0
 
 
 if __name__ == "__main__":
-    main()
+    sys.exit(main())

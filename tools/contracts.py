@@ -2,10 +2,10 @@
 
     python3 -m tools.contracts BEFORE [AFTER]
 
-BEFORE and AFTER are folders of checkouts, as `git worktree add out/before REVISION` makes one; AFTER is this one if it
-is left out. A public call is found by its owner and name, and a definition by its name, wherever they stand. Names of
-crates are mapped by RENAMED, words of a changed name by --rename OLD=NEW. Prints a diff of each that is not the same,
-then the counts. The exit status is 1 if some contract or definition differs or is gone.
+BEFORE and AFTER are folders of checkouts, as `git worktree add out/before REVISION` makes one. AFTER is this one if it
+is left out. A public call is found by its owner and name, and a definition by its name, in whichever file they stand. Names of
+crates are mapped by SPLIT_FROM, and other names that were changed by --rename OLD=NEW. Prints a diff of each that is not
+the same, then the counts. Exit status 1 if a contract or a definition differs or is gone.
 """
 
 from __future__ import annotations
@@ -17,20 +17,24 @@ import sys
 from pathlib import Path
 from typing import Iterator
 
-TOP = Path(__file__).resolve().parent.parent
+from tools.places import TOP
+
 HEAD = re.compile(r"(?:pub )?(impl|trait)\b(?:<(?:[^<>]|<[^<>]*>)*>)? (?:\w+(?:<[^>]*>)? for )?(\w+)")
 CALL = re.compile(r'(?P<inside> {4})?(?P<public>pub )?(?:const )?(?:extern "C" )?fn (?P<name>\w+)')
 DEFINITION = re.compile(r"(?:abbrev |unfoldable )?pub (?!mod )(?:record |data |)(\S+)")
-# Crates whose parts came out of another one: what was before, by what is now.
-RENAMED = {"lanes": "shade", "raster": "tile", "model": "list", "checking_reader": "list", "fast_reader": "list"}
-# Crates of tests and benchmarks, which promise nothing.
-OTHERS = ("acceptance", "cover_bench", "frames", "list_bench", "refused_tiles")
+# The crates that were split off from another, and that other.
+SPLIT_FROM = {"lanes": "shade", "raster": "tile", "model": "list", "checking_reader": "list", "fast_reader": "list"}
+# Crates of tests and benchmarks, which promise nothing; so do those whose name ends in _tests.
+WITHOUT_PROMISES = ("acceptance", "cover_bench", "frames", "list_bench", "refused_tiles")
+
+# The texts of each contract and definition, by its name. Those that share a name are in the order of their texts.
+Items = dict[str, list[str]]
 
 
 def crates(top: Path) -> Iterator[Path]:
     """The folders of the product's crates."""
     for folder in sorted((top / "crates").iterdir()):
-        if (folder / "src").is_dir() and folder.name not in OTHERS and not folder.name.endswith("_tests"):
+        if (folder / "src").is_dir() and folder.name not in WITHOUT_PROMISES and not folder.name.endswith("_tests"):
             yield folder
 
 
@@ -52,7 +56,7 @@ def signature(lines: list[str], first: int, indent: str) -> str:
 
 def contracts_in(path: Path) -> Iterator[tuple[str, str]]:
     """The public functions of a file and those of its traits, by owner and name."""
-    lines = path.read_text().splitlines()
+    lines = path.read_text(encoding="utf-8").splitlines()
     kind = owner = ""
     for number, line in enumerate(lines):
         head, call = HEAD.match(line), CALL.match(line)
@@ -67,15 +71,15 @@ def contracts_in(path: Path) -> Iterator[tuple[str, str]]:
 
 def definitions_in(path: Path) -> Iterator[tuple[str, str]]:
     """The definitions of a file, each without its comment."""
-    for paragraph in re.split(r"\n\s*\n", path.read_text()):
+    for paragraph in re.split(r"\n\s*\n", path.read_text(encoding="utf-8")):
         text = "\n".join(line for line in paragraph.splitlines() if not line.lstrip().startswith("--"))
         if found := DEFINITION.match(text.lstrip("\n")):
             yield found[1], text.strip("\n")
 
 
-def items(top: Path) -> dict[str, list[str]]:
-    """All contracts and definitions of a tree: those that share a name are in the order of their texts."""
-    found: dict[str, list[str]] = {}
+def items(top: Path) -> Items:
+    """All contracts and definitions of a tree."""
+    found: Items = {}
     for crate in crates(top):
         for path in crate.glob("src/**/*.rt"):
             for name, text in contracts_in(path):
@@ -87,36 +91,47 @@ def items(top: Path) -> dict[str, list[str]]:
 
 
 def mapped(text: str, words: dict[str, str]) -> str:
-    """The text by the names before, with one space wherever there is some."""
-    text = re.sub(r"\b(" + "|".join(RENAMED) + r")(?=::|\.)", lambda found: RENAMED[found[1]], text)
+    """The text with the names of the tree before, and with single spaces."""
+    text = re.sub(r"\b(" + "|".join(SPLIT_FROM) + r")(?=::|\.)", lambda found: SPLIT_FROM[found[1]], text)
     text = re.sub(r"[\w◌]+", lambda found: words.get(found[0], found[0]), text)
     return "\n".join(" ".join(line.split()) for line in text.splitlines())
 
 
-def main() -> int:
-    parser = argparse.ArgumentParser(description=__doc__, formatter_class=argparse.RawDescriptionHelpFormatter)
-    parser.add_argument("before", type=Path)
-    parser.add_argument("after", type=Path, nargs="?", default=TOP)
-    parser.add_argument("--rename", action="append", default=[], metavar="OLD=NEW")
-    options = parser.parse_args()
-    words = {new: old for old, new in (pair.split("=") for pair in options.rename)}
-    before, after = items(options.before), items(options.after)
-    after = {mapped(name, words): texts for name, texts in after.items()}
+def lines_of(texts: list[str]) -> list[str]:
+    return "\n".join(texts).split("\n")
+
+
+def compare(before: Items, after: Items, words: dict[str, str]) -> bool:
+    """Prints a diff of each item that is not the same, and the counts. Returns whether all that was before is the same."""
+    renamed: Items = {}
+    for name, texts in after.items():
+        renamed.setdefault(mapped(name, words), []).extend(mapped(text, words) for text in texts)
     same = changed = gone = 0
     for name, texts in sorted(before.items()):
-        old = sorted(mapped(text, {}) for text in texts)
-        new = sorted(mapped(text, words) for text in after.get(name, []))
-        same += old == new
-        gone += not new
-        changed += bool(new) and old != new
-        if new and old != new:
-            print(*difflib.unified_diff("\n".join(old).split("\n"), "\n".join(new).split("\n"), name, name, "", "", 1, ""), sep="\n")
-        elif not new:
+        old, new = sorted(mapped(text, {}) for text in texts), sorted(renamed.get(name, []))
+        if old == new:
+            same += 1
+        elif new:
+            changed += 1
+            print(*difflib.unified_diff(lines_of(old), lines_of(new), name, name, n=1, lineterm=""), sep="\n")
+        else:
+            gone += 1
             print(f"gone: {name}")
-    added = sorted(name for name in after if name not in before)
-    print(*(f"new: {name}" for name in added), sep="\n")
+    added = sorted(renamed.keys() - before.keys())
+    for name in added:
+        print(f"new: {name}")
     print(f"{same} the same, {changed} changed, {gone} gone, {len(added)} new")
-    return 1 if changed or gone else 0
+    return changed == gone == 0
+
+
+def main() -> int:
+    parser = argparse.ArgumentParser(description="Compares the public contracts and definitions of two trees.")
+    parser.add_argument("before", type=Path, metavar="BEFORE", help="the folder of a checkout")
+    parser.add_argument("after", type=Path, nargs="?", default=Path(TOP), metavar="AFTER", help="another (default: this one)")
+    parser.add_argument("--rename", action="append", default=[], metavar="OLD=NEW", help="a name that was changed")
+    options = parser.parse_args()
+    words = {new: old for old, new in (pair.split("=") for pair in options.rename)}
+    return 0 if compare(items(options.before), items(options.after), words) else 1
 
 
 if __name__ == "__main__":

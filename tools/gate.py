@@ -53,7 +53,7 @@ def module(name: str, package: str = "tools") -> tuple[str, ...]:
 
 CHECKS = (
     Check("the gate's counts", module("test_gate"), 2 * MINUTE, runs_program=False),
-    Check("types of the tools", ("mypy",), 10 * MINUTE, runs_program=False, needs=("mypy",)),
+    Check("types of the Python sources", ("mypy",), 10 * MINUTE, runs_program=False, needs=("mypy",)),
     Check("worked values of the reference", module("test_reference"), 5 * MINUTE, runs_program=False),
     Check("what documents name", module("test_documents"), 2 * MINUTE, runs_program=False),
     Check("the statement", module("test_statement"), 2 * MINUTE, runs_program=False),

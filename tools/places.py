@@ -18,6 +18,12 @@ READER_PROGRAM = os.path.join(TOP, "bin", "list_bench")
 FRAMES_PROGRAM = os.path.join(TOP, "crates", "frames", "out", "frames")
 BENCH_OUT = os.path.join(TOP, "bench", "out")
 MODEL_PROGRAM = os.path.join(BENCH_OUT, "model")
+# The library that `make library` builds, and its bindings.
+LIB = os.path.join(TOP, "lib")
+STATIC_LIBRARY = os.path.join(LIB, "libtrirast.a")
+SHARED_LIBRARY = os.path.join(LIB, "libtrirast.so")
+INCLUDE = os.path.join(TOP, "include")
+PYTHON_SOURCES = os.path.join(TOP, "python", "src")
 
 
 def text_of(*path: str) -> str:

@@ -2,8 +2,9 @@
 
     python3 -m tools.prove [--jobs N] CRATE
 
-It runs `rt all check` in the crate's folder. What rt prints goes to out/CRATE.log; each line here is the time so far, a
-crate and the number of its functions. The exit status is rt's, and after a failure the last line names the log.
+It runs `rt all check` in the crate's folder. What rt prints goes to out/CRATE.log. Each line here is the time so far, a crate
+and the number of its functions. The command is `rt`, or the environment's RT. The exit status is that of the command. If it is
+not 0, the last line names the log.
 """
 
 from __future__ import annotations
@@ -14,43 +15,51 @@ import re
 import subprocess
 import sys
 import time
-from pathlib import Path
 
-ROOT = Path(__file__).resolve().parent.parent
-
-
-def since(start: float) -> str:
-    """The time since then, in minutes and seconds."""
-    seconds = int(time.monotonic() - start)
-    return f"{seconds // 60}:{seconds % 60:02}"
+from tools.places import OUT, TOP
 
 
-def main() -> int:
-    parser = argparse.ArgumentParser(description=__doc__, formatter_class=argparse.RawDescriptionHelpFormatter)
-    parser.add_argument("crate", metavar="CRATE")
-    parser.add_argument("--jobs", type=int, default=os.cpu_count() or 1, metavar="N", help="crates at once")
-    options = parser.parse_args()
-    path = ROOT / "out" / f"{options.crate}.log"
-    path.parent.mkdir(exist_ok=True)
-    start = time.monotonic()
-    command = [os.environ.get("RT", "rt"), "all", "check", "--jobs", str(options.jobs)]
-    with open(path, "w") as log:
-        run = subprocess.Popen(
-            command, cwd=ROOT / "crates" / options.crate, stdout=subprocess.PIPE, stderr=subprocess.STDOUT, text=True
-        )
-        assert run.stdout
-        crate = ""
-        for line in run.stdout:
+class Clock:
+    """The time since the start, in minutes and seconds."""
+
+    def __init__(self) -> None:
+        self.start = time.monotonic()
+
+    def __str__(self) -> str:
+        seconds = int(time.monotonic() - self.start)
+        return f"{seconds // 60}:{seconds % 60:02}".rjust(6)
+
+
+def prove(crate: str, jobs: int, log_path: str) -> int:
+    """Runs rt, prints a line for each crate that is proved, and returns the status."""
+    clock = Clock()
+    command = [os.environ.get("RT", "rt"), "all", "check", "--jobs", str(jobs)]
+    folder = os.path.join(TOP, "crates", crate)
+    with open(log_path, "w", encoding="utf-8") as log, subprocess.Popen(
+        command, cwd=folder, stdout=subprocess.PIPE, stderr=subprocess.STDOUT, encoding="utf-8"
+    ) as child:
+        assert child.stdout
+        name = ""
+        for line in child.stdout:
             log.write(line)
             log.flush()
             if line.startswith("== "):
-                crate = line[3:].strip()
-            if found := re.match(r"logic=proved functions=(\d+)", line):
-                print(f"{since(start):>6}  {crate}: {found[1]} functions proved", flush=True)
-        status = run.wait()
+                name = line[3:].strip()
+            elif found := re.match(r"logic=proved functions=(\d+)", line):
+                print(f"{clock}  {name}: {found[1]} functions proved", flush=True)
+        status = child.wait()
     if status:
-        print(f"{since(start):>6}  failed: see {path.relative_to(ROOT)}")
+        print(f"{clock}  failed: see {os.path.relpath(log_path, TOP)}")
     return status
+
+
+def main() -> int:
+    parser = argparse.ArgumentParser(description="Proves a crate and the crates that it uses.")
+    parser.add_argument("crate", metavar="CRATE", help="its name in crates/")
+    parser.add_argument("--jobs", type=int, default=os.cpu_count() or 1, metavar="N", help="crates at once (one a core)")
+    options = parser.parse_args()
+    os.makedirs(OUT, exist_ok=True)
+    return prove(options.crate, options.jobs, os.path.join(OUT, f"{options.crate}.log"))
 
 
 if __name__ == "__main__":

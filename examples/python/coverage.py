@@ -1,12 +1,12 @@
 #!/usr/bin/env python3
 """Draws one triangle at a time, and prints which of the four samples of each pixel it covers.
 
-    examples/python/coverage.py
-    examples/python/coverage.py --triangle 128 128 1920 512 640 1900 [--triangle ..] [--size 8 8] [--keep FOLDER]
+    PYTHONPATH=python/src python3 examples/python/coverage.py [--triangle 128 128 1920 512 640 1900] [--triangle ..]
+                                                              [--size 8 8] [--keep FOLDER]
 
 A triangle is the x and y of three corners in 1/256 pixel; without any, some hard ones are drawn. Each pixel is
-printed as a digit from 0 to f whose bit s says that sample s is covered, or as a dot where none is. With --keep the list
-and the picture of each triangle are left in a folder.
+printed as a digit from 0 to f whose bit s says that sample s is covered, or as a dot if none is. With --keep the list
+and the picture of each triangle are left in a folder. After `pip install ./python` no PYTHONPATH is needed.
 
 A list has no way to ask for a sample. So the triangle is drawn once for each, under a sample mask of that sample alone and
 with a red of 4, 8, 16 or 32; a pixel's red is the mean of its four samples, and so 1, 2, 4 and 8 for each that is covered.
@@ -17,8 +17,6 @@ import json
 import os
 import sys
 from typing import Any, Dict, List, Sequence
-
-sys.path.insert(0, os.path.join(os.path.dirname(os.path.abspath(__file__)), "..", "..", "python", "src"))
 
 import trirast
 

@@ -1,7 +1,7 @@
 #!/usr/bin/env python3
 """Writes ring.obj: a ring of quads, wavy and twisted.
 
-    examples/python/make_ring.py > examples/python/ring.obj
+    python3 examples/python/make_ring.py > examples/python/ring.obj
 
 It gives the same bytes each time. Standard library alone.
 """

@@ -1,24 +1,21 @@
 #!/usr/bin/env python3
 """Draws a Wavefront OBJ model in perspective, with light and depth.
 
-    examples/python/obj_viewer.py examples/python/ring.obj ring.ppm [--turn 30] [--tilt 35] [--size 640 480]
-                                  [--colour 230 180 90] [--threads 4] [--list ring.json]
+    PYTHONPATH=python/src python3 examples/python/obj_viewer.py examples/python/ring.obj ring.ppm
+        [--turn 30] [--tilt 35] [--size 640 480] [--colour 230 180 90] [--threads 4] [--list ring.json]
 
 The model is moved to the middle, and the camera stands so far away that all of it is in view. Of the file the lines v and
 f count: faces of three corners or more that run counterclockwise seen from outside, each as 7, 7/1, 7//3 or 7/1/3, and by
 negative numbers; a face is drawn as a fan from its first corner. Every other line is passed over. A draw list holds at most
 65,536 triangles, and 65,536 vertices in a draw: a model with more is refused. --list leaves the draw list that was drawn.
-Standard library alone.
+After `pip install ./python` no PYTHONPATH is needed.
 """
 
 import argparse
 import json
 import math
-import os
 import sys
 from typing import Any, Dict, List, Sequence, Tuple
-
-sys.path.insert(0, os.path.join(os.path.dirname(os.path.abspath(__file__)), "..", "..", "python", "src"))
 
 import trirast
 

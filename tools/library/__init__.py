@@ -1,0 +1,1 @@
+"""The parts of the check of the library: see tools/check_library.py."""

@@ -1,87 +1,89 @@
-"""The Python package, each picture and each error against the program's."""
+"""The Python package, each picture and each error against the program's.
 
+    PYTHONPATH=python/src python3 -m tools.library.from_python [--only WORD ..]
+
+tools/check_library.py runs it, after it has written the lists. It prints a line for each check and then their counts. Exit
+status 1 if one failed.
+"""
+
+from __future__ import annotations
+
+import argparse
+import importlib
+import importlib.util
 import json
 import os
 import subprocess
 import sys
 import threading
-
-from .common import OUT, PACKAGE, SECONDS, TOP, Missing, blocks_of_the_page, must, run
+from typing import Any, Callable
 
 import trirast
 
+from tools.draw_list import Draw, DrawList
+from tools.library.commands import OUT, PACKAGE_ENVIRONMENT, blocks_of_the_page, run
+from tools.library.lists import Lists, read_lists
+from tools.library.tally import MAX_SECONDS, CheckError, MissingError, Tally, must
+from tools.places import TOP, bytes_of
 
-def check_python(lists):
-    """Each list, as bytes and as a value, with several tile sizes and threads."""
-    for number, (text, wanted) in enumerate(lists.drawn):
-        tile_size, threads = ((8, 1), (16, 2), (32, 4), (64, 100))[number % 4]
-        for given in (text, text.decode(), bytearray(text), json.loads(text)):
-            picture = trirast.draw(given, tile_size, threads)
-            must(picture.header + picture.bytes == wanted, f"other bytes for {text[:200]}")
-        must(trirast.draw_file(text, tile_size) == wanted, f"another file for {text[:200]}")
-        path = os.path.join(OUT, "picture")
-        picture.save(path)
-        with open(path, "rb") as file:
-            must(file.read() == wanted, f"another file was saved for {text[:200]}")
-        info = trirast.image_info(text)
-        must((info.width, info.height, info.file_bytes) == (picture.width, picture.height, len(wanted)), "another size")
-        must(scene_file(json.loads(text), tile_size) == wanted, f"other bytes of arrays for {text[:200]}")
-    return f"{len(lists.drawn)} lists"
+# A tile size and the threads: each list is drawn by one of these pairs.
+SIZES_AND_THREADS = ((8, 1), (16, 2), (32, 4), (64, 100))
+BAD_TILE_SIZES = (0, 7, -8, 33, 1 << 32, (1 << 32) + 32)
+MAX_LIST = 67108864
+ONE_PIXEL: DrawList = {"width": 1, "height": 1, "draws": []}
 
 
-def scene_file(scene, tile_size):
-    """The file that draw_scene draws of a draw list's arrays."""
-    kinds = ("triangles", "strip", "quads")
-    draws = []
-    for draw in scene["draws"]:
-        more = {key: value for key, value in draw.items() if key != "vertices" and key not in kinds}
-        faces = {kind: draw[kind] for kind in kinds if kind in draw}
-        draws.append(trirast.Draw(draw["vertices"], **faces, **more))
-    more = {key: value for key, value in scene.items() if key not in ("width", "height", "draws")}
-    picture = trirast.draw_scene(scene["width"], scene["height"], draws, tile_size=tile_size, **more)
+def file_of(picture: trirast.Picture) -> bytes:
     return picture.header + picture.bytes
 
 
-def raised(call, *words, **more):
-    try:
-        call(*words, **more)
-    except Exception as error:  # what was raised is what is asked for
-        return error
-    return None
+# ---- Pictures
 
 
-def check_python_errors(lists):
-    """Each refusal as an exception with the program's line, its number, name and draw."""
-    for text, line in lists.refused:
-        for threads in (1, 4):
-            error = raised(trirast.draw, text, threads=threads)
-            must(isinstance(error, trirast.DrawListError) and f"{error}\n" == line.decode(), f"{line}: {error!r}")
-        words = line.decode().split()
-        place = int(words[-1]) if "draw" in words else None
-        must((error.number, error.name, error.draw) == (int(words[3]), words[4], place), f"{line}: {vars(error)}")
-    one = {"width": 1, "height": 1, "draws": []}
-    for size in (0, 7, -8, 33, 1 << 32, (1 << 32) + 32):
-        for call in (trirast.draw, trirast.draw_file):
-            must(isinstance(raised(call, one, tile_size=size), trirast.TileSizeError), f"a tile size of {size} was drawn")
-    must(isinstance(raised(trirast.draw, one, threads=0), ValueError), "no threads drew")
-    must(isinstance(raised(trirast.draw, b" " * 67108865), trirast.LimitError), "a long list was drawn")
-    depth = trirast.draw({**one, "output": "depth"})
-    must(isinstance(raised(depth.save_ppm, os.devnull), ValueError), "depths were saved as PPM")
-    must(isinstance(raised(depth.depth, 1, 0), IndexError) and depth.depth(0, 0) == 65535, "another depth")
-    return f"{len(lists.refused)} lists refused"
+def draw_of(draw: Draw) -> trirast.Draw:
+    """A draw from the arrays of a draw list's draw."""
+    return trirast.Draw(draw["vertices"], **{key: value for key, value in draw.items() if key != "vertices"})
 
 
-def check_python_threads(lists):
+def scene_file(scene: DrawList, tile_size: int) -> bytes:
+    """The file of the picture that draw_scene draws from a draw list's arrays."""
+    draws = [draw_of(draw) for draw in scene["draws"]]
+    more = {key: value for key, value in scene.items() if key not in ("width", "height", "draws")}
+    return file_of(trirast.draw_scene(scene["width"], scene["height"], draws, tile_size=tile_size, **more))
+
+
+def check_picture(text: bytes, wanted: bytes, tile_size: int, threads: int) -> None:
+    """A list is drawn to the program's bytes from each form: bytes, a text, a value and arrays."""
+    value = json.loads(text)
+    for given in (text, text.decode(), bytearray(text), value):
+        picture = trirast.draw(given, tile_size, threads)
+        must(file_of(picture) == wanted, f"other bytes for {text[:200]!r}")
+    must(trirast.draw_file(text, tile_size) == wanted, f"another file for {text[:200]!r}")
+    must(scene_file(value, tile_size) == wanted, f"other bytes of arrays for {text[:200]!r}")
+    path = os.path.join(OUT, "picture")
+    picture.save(path)
+    must(bytes_of(path) == wanted, f"another file was saved for {text[:200]!r}")
+    info = trirast.image_info(text)
+    must((info.width, info.height, info.file_bytes) == (picture.width, picture.height, len(wanted)), "another size")
+
+
+def check_pictures(lists: Lists) -> str:
+    """Each list is drawn as the program draws it, with several tile sizes and threads."""
+    for number, (text, wanted) in enumerate(lists.drawn):
+        check_picture(text, wanted, *SIZES_AND_THREADS[number % len(SIZES_AND_THREADS)])
+    return f"{len(lists.drawn)} lists"
+
+
+def check_threads(lists: Lists) -> None:
     """Four threads draw at the same time, each with threads of its own."""
-    wrong = []
+    wrong: list[bytes] = []
 
-    def draw_all(own):
-        for text, wanted in lists.drawn[own:] + lists.drawn[:own]:
-            picture = trirast.draw(text, threads=2)
-            if picture.header + picture.bytes != wanted:
+    def draw_all(first: int) -> None:
+        for text, wanted in lists.drawn[first:] + lists.drawn[:first]:
+            if file_of(trirast.draw(text, threads=2)) != wanted:
                 wrong.append(text[:200])
 
-    threads = [threading.Thread(target=draw_all, args=(7 * own,)) for own in range(4)]
+    threads = [threading.Thread(target=draw_all, args=(7 * number,)) for number in range(4)]
     for thread in threads:
         thread.start()
     for thread in threads:
@@ -89,42 +91,107 @@ def check_python_threads(lists):
     must(not wrong, f"other bytes for {wrong[:1]}")
 
 
-def check_package_tests():
-    """The package's own tests, by the standard library alone."""
-    words = [sys.executable, "-W", "error", "-m", "unittest", "discover", "-s", "python/tests", "-t", "python"]
-    done = subprocess.run(words, cwd=TOP, env={**os.environ, "PYTHONPATH": PACKAGE}, capture_output=True, timeout=SECONDS)
+# ---- Errors
+
+
+def raised(call: Callable[..., Any], *arguments: Any, **more: Any) -> Exception | None:
+    """The error that a call raises, or `None`."""
+    try:
+        call(*arguments, **more)
+    except Exception as error:  # of any class, since the class is what is checked
+        return error
+    return None
+
+
+def check_refused(text: bytes, line: str, threads: int) -> None:
+    """A refused list raises a DrawListError with the program's line, and with its number, name and draw."""
+    error = raised(trirast.draw, text, threads=threads)
+    if not isinstance(error, trirast.DrawListError) or f"{error}\n" != line:
+        raise CheckError(f"{line}: {error!r}")
+    words = line.split()
+    draw = int(words[-1]) if "draw" in words else None
+    must((error.number, error.name, error.draw) == (int(words[3]), words[4], draw), f"{line}: {vars(error)}")
+
+
+def check_errors(lists: Lists) -> str:
+    """Each error of the program is an exception of its class."""
+    for text, line in lists.refused:
+        for threads in (1, 4):
+            check_refused(text, line.decode(), threads)
+    calls: tuple[Callable[..., Any], ...] = (trirast.draw, trirast.draw_file)
+    for size in BAD_TILE_SIZES:
+        for call in calls:
+            error = raised(call, ONE_PIXEL, tile_size=size)
+            must(isinstance(error, trirast.TileSizeError), f"a tile size of {size}: {error!r}")
+    must(isinstance(raised(trirast.draw, ONE_PIXEL, threads=0), ValueError), "no threads drew")
+    must(isinstance(raised(trirast.draw, b" " * (MAX_LIST + 1)), trirast.LimitError), "a long list was drawn")
+    depth = trirast.draw({**ONE_PIXEL, "output": "depth"})
+    must(isinstance(raised(depth.save_ppm, os.devnull), ValueError), "depths were saved as PPM")
+    must(isinstance(raised(depth.depth, 1, 0), IndexError) and depth.depth(0, 0) == 65535, "another depth")
+    return f"{len(lists.refused)} lists refused"
+
+
+# ---- The package's tests, and its page
+
+
+def check_package_tests() -> str:
+    """The package's own tests pass, by the standard library alone."""
+    command = [sys.executable, "-W", "error", "-m", "unittest", "discover", "-s", "python/tests", "-t", "python"]
+    done = subprocess.run(command, cwd=TOP, env=PACKAGE_ENVIRONMENT, capture_output=True, timeout=MAX_SECONDS)
     lines = done.stderr.decode().splitlines()
     must(done.returncode == 0, "\n".join(lines[-30:]))
     return f"{lines[-3]}, {lines[-1]}"
 
 
-def depths_and_colours():
-    one = {"width": 3, "height": 2, "clear": [1, 2, 3], "clear_depth": 258, "draws": []}
-    return trirast.draw(one), trirast.draw({**one, "output": "depth"})
-
-
-def check_page():
-    """The program in Python of docs/library.md does as its text says."""
-    environment = {**os.environ, "PYTHONPATH": PACKAGE}
+def check_page() -> None:
+    """The program in Python of docs/library.md prints and writes what its text says."""
     text = "".join(blocks_of_the_page("python"))
-    printed = run([sys.executable, "-c", text], cwd=OUT, env=environment).decode().splitlines()
+    printed = run([sys.executable, "-c", text], cwd=OUT, env=PACKAGE_ENVIRONMENT).decode().splitlines()
     wanted = ["64 64 (24, 24, 32) 12288", "trirast: list fault 3 MissingKey 3 MissingKey None", "(255, 255, 255)"]
     must(printed == wanted and os.path.exists(os.path.join(OUT, "picture.ppm")), f"it printed {printed}")
 
 
-def check_array_interface():
-    """The words of numpy's array protocol, without numpy."""
-    for picture, shape, kind in zip(depths_and_colours(), ((2, 3, 3), (2, 3)), ("|u1", ">u2")):
+# ---- numpy
+
+
+def colours_and_depths() -> tuple[trirast.Picture, trirast.Picture]:
+    scene: DrawList = {"width": 3, "height": 2, "clear": [1, 2, 3], "clear_depth": 258, "draws": []}
+    return trirast.draw(scene), trirast.draw({**scene, "output": "depth"})
+
+
+def check_array_interface() -> None:
+    """A picture has the members of numpy's array protocol, without numpy."""
+    for picture, shape, kind in zip(colours_and_depths(), ((2, 3, 3), (2, 3)), ("|u1", ">u2")):
         offered = picture.__array_interface__
         must((offered["version"], offered["shape"], offered["typestr"]) == (3, shape, kind), f"{offered}")
         must(bytes(offered["data"]) == picture.bytes, "other bytes")
 
 
-def check_numpy():
-    try:
-        import numpy
-    except ImportError:
-        raise Missing("numpy") from None
-    colours, depths = (numpy.asarray(picture) for picture in depths_and_colours())
+def check_numpy() -> None:
+    """numpy reads pictures of colours and of depths."""
+    if importlib.util.find_spec("numpy") is None:
+        raise MissingError("numpy")
+    numpy: Any = importlib.import_module("numpy")
+    colours, depths = (numpy.asarray(picture) for picture in colours_and_depths())
     must(colours.shape == (2, 3, 3) and colours[1, 2].tolist() == [1, 2, 3], "another picture of colours")
     must(depths.shape == (2, 3) and depths[1, 2] == 258, "another picture of depths")
+
+
+def main() -> int:
+    parser = argparse.ArgumentParser(description="Checks the Python package against the program.")
+    parser.add_argument("--only", nargs="+", metavar="WORD", default=(), help="checks whose name has one of these words")
+    tally = Tally(parser.parse_args().only)
+    lists = read_lists("all.txt")
+    tally.run("Python draws the program's bytes, of lists and of arrays", check_pictures, lists)
+    tally.run("Python raises the program's errors", check_errors, lists)
+    tally.run("Python draws in four threads at the same time", check_threads, lists)
+    tally.run("python/tests", check_package_tests)
+    tally.run("Python of docs/library.md", check_page)
+    tally.run("Python offers numpy's array protocol", check_array_interface)
+    tally.run("numpy takes a picture", check_numpy)
+    print(tally.counts, flush=True)
+    return 1 if tally.counts.failed else 0
+
+
+if __name__ == "__main__":
+    sys.exit(main())

@@ -1,9 +1,14 @@
-"""make install, a program outside of the repository, and make uninstall."""
+"""make install, programs outside of the repository, and make uninstall."""
+
+from __future__ import annotations
 
 import os
-import shutil
+import tempfile
 
-from .common import OUT, STRICT, TOP, blocks_of_the_page, drawn_by_program, must, need, run
+from tools import places
+from tools.library.commands import OUT, WARNINGS, blocks_of_the_page, drawn_by_program, need, run
+from tools.library.tally import must
+from tools.places import EXAMPLES, TOP
 
 INSTALLED = (
     "bin/trirast", "include/trirast.h", "lib/libtrirast.a", "lib/libtrirast.so", "lib/libtrirast.so.1",
@@ -11,50 +16,48 @@ INSTALLED = (
 )
 
 
-def make(*words):
-    run(["make", "-s", "-C", TOP, *words])
+def make(*arguments: str) -> None:
+    run(["make", "-s", "-C", TOP, *arguments])
 
 
-def files_below(folder):
+def files_below(folder: str) -> tuple[str, ...]:
     found = (os.path.join(path, name) for path, _, names in os.walk(folder) for name in names)
     return tuple(sorted(os.path.relpath(path, folder) for path in found))
 
 
-def build_outside(text, prefix, *flags):
-    """A program, outside of the repository and by pkg-config alone; gives what it writes."""
-    folder = os.path.join(os.environ.get("TMPDIR", "/tmp"), f"trirast-outside-{os.getpid()}")
+def build_outside(text: str, prefix: str, *flags: str) -> bytes:
+    """Builds and runs a program in C, outside of the repository and by pkg-config alone. Returns what it writes."""
     environment = {**os.environ, "PKG_CONFIG_PATH": os.path.join(prefix, "lib", "pkgconfig")}
-    os.makedirs(folder)
-    try:
+    with tempfile.TemporaryDirectory(prefix="trirast-outside-") as folder:
         found = run([need("pkg-config"), "--cflags", "--libs", "trirast"], env=environment).decode().split()
         with open(os.path.join(folder, "outside.c"), "w", encoding="ascii") as file:
             file.write(text)
-        run([need("gcc"), *STRICT, "outside.c", "-o", "outside", *flags, *found], cwd=folder)
-        return run([os.path.join(folder, "outside")], env={**environment, "LD_LIBRARY_PATH": os.path.join(prefix, "lib")})
-    finally:
-        shutil.rmtree(folder)
+        run([need("gcc"), *WARNINGS, "outside.c", "-o", "outside", *flags, *found], cwd=folder)
+        loads = {**environment, "LD_LIBRARY_PATH": os.path.join(prefix, "lib")}
+        return run([os.path.join(folder, "outside")], env=loads)
 
 
-def check_install():
+def check_install() -> None:
+    """The programs of docs/library.md draw the program's picture over an installation, and make uninstall removes all of it."""
     prefix = os.path.join(OUT, "prefix")
     make("install", f"PREFIX={prefix}")
     must(files_below(prefix) == INSTALLED, f"{files_below(prefix)} were installed")
-    with open(os.path.join(TOP, "examples", "triangle.json"), "rb") as file:
-        wanted = drawn_by_program(file.read())[0]
+    wanted = drawn_by_program(places.bytes_of(EXAMPLES, "triangle.json")).output
     programs = [text for text in blocks_of_the_page("c") if "int main" in text]
     must(len(programs) == 2, f"{len(programs)} programs in docs/library.md")
     for text in programs:
-        for flags in ([], ["-static"]):
+        for flags in ((), ("-static",)):
             must(build_outside(text, prefix, *flags) == wanted, f"other bytes with {flags}")
     make("uninstall", f"PREFIX={prefix}")
     must(not files_below(prefix), f"{files_below(prefix)} were left")
 
 
-def check_staged_install():
+def check_staged_install() -> None:
+    """With DESTDIR all files lie below it, and the pkg-config file names the prefix alone."""
     stage = os.path.join(OUT, "stage")
     make("install", "PREFIX=/usr", f"DESTDIR={stage}")
     must(files_below(stage) == tuple(f"usr/{name}" for name in INSTALLED), f"{files_below(stage)} were installed")
-    with open(os.path.join(stage, "usr", "lib", "pkgconfig", "trirast.pc"), encoding="ascii") as file:
-        must(file.readline() == "prefix=/usr\n", "the pkg-config file names another prefix")
+    lines = places.text_of(stage, "usr", "lib", "pkgconfig", "trirast.pc").splitlines()
+    must(lines[0] == "prefix=/usr", "the pkg-config file names another prefix")
     make("uninstall", "PREFIX=/usr", f"DESTDIR={stage}")
     must(not files_below(stage), f"{files_below(stage)} were left")

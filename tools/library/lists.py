@@ -1,93 +1,137 @@
-"""The lists on which the library is compared with the program."""
+"""The lists on which the library is compared with the program, as files below out/check-library/lists."""
 
-import glob
+from __future__ import annotations
+
 import json
 import os
 import random
 import struct
+from dataclasses import dataclass, field
+from typing import Any, Sequence
 
-from .common import OUT, TOP, drawn_by_program
-
-from tools import generated_lists
+from tools import generated_lists, places
 from tools.check_schema import REFUSED
+from tools.draw_list import Draw, DrawList
+from tools.library.commands import OUT, drawn_by_program
 
+FOLDER = os.path.join(OUT, "lists")
 SMALL_LIST = 20000
-
 
 CULLS = ("none", "front", "back")
 DEPTH_TESTS = ("never", "less", "equal", "less_equal", "greater", "not_equal", "greater_equal", "always")
+TOPOLOGIES = ("triangles", "strip", "quads")
 
 
-def arrays_of(scene):
-    """A list that is accepted as the arrays of trirast_draw_scene, one after another behind the numbers of their elements."""
-    size = [scene["width"], scene["height"]]
-    head = size + [scene.get("samples", 1), int(scene.get("output") == "depth")]
-    head += scene.get("clear", [0, 0, 0]) + [scene.get("clear_depth", 65535)]
-    draws, vertices, indices = [], [], []
-    for draw in scene["draws"]:
-        kind = next(place for place, key in enumerate(("triangles", "strip", "quads")) if key in draw)
-        faces = draw[("triangles", "strip", "quads")[kind]]
-        places = faces if kind == 1 else [index for face in faces for index in face]
-        draws += [len(draw["vertices"]), len(places), kind, CULLS.index(draw.get("cull", "none"))]
-        draws += [DEPTH_TESTS.index(draw.get("depth_test", "always")), int(draw.get("depth_write", False))]
-        draws += [int(draw.get("blend") == "over"), *map(int, draw.get("write", [1, 1, 1])), draw.get("sample_mask", 15)]
-        draws += draw.get("scissor", [0, 0] + size)
-        vertices += [number for vertex in draw["vertices"] for number in vertex]
-        indices += places
-    counts = [len(draws) // 15, len(vertices) // 7, len(indices)]
-    return struct.pack(f"={len(counts + head + draws + vertices + indices)}i", *counts, *head, *draws, *vertices, *indices)
-
-
+@dataclass
 class Lists:
-    """Lists with what the program makes of them, as files below out/check-library and as a manifest of these."""
+    """Lists, each with what the program writes for it: a picture's file, or the line of an error."""
 
-    def __init__(self, seed):
-        pick = random.Random(seed)
-        self.drawn, self.refused = [], []
-        self.folder = os.path.join(OUT, "lists")
-        os.makedirs(self.folder)
-        texts = [b'{"width":1,"height":1,"draws":[]}']
-        texts += [json.dumps(generated_lists.a_list(pick)).encode() for _ in range(24)]
-        texts += [json.dumps(value).encode() for _, value, _ in REFUSED]
-        texts += [generated_lists.a_broken_text(pick) for _ in range(40)] + [b"{", b"\xff"] + self.deep()
-        texts += self.backwards(texts)
-        self.small = self.manifest("small", [text for text in texts if len(text) < SMALL_LIST])
-        examples = sorted(glob.glob(os.path.join(TOP, "examples", "*.json")))
-        self.all = self.manifest("all", [open(path, "rb").read() for path in examples], self.small)
-        self.few = self.manifest("few", texts[:5] + texts[30:60:10] + texts[-2:])
+    drawn: list[tuple[bytes, bytes]] = field(default_factory=list)
+    refused: list[tuple[bytes, bytes]] = field(default_factory=list)
 
-    @staticmethod
-    def deep():
-        """Texts that are nested as deeply as JSON is read, and deeper: they take the most stack."""
-        pairs = [(b"[", b"]"), (b'{"a":', b"}"), (b'[{"a":', b"}]"), (b'{"a":[', b"]}")]
-        inmost = [b"0", b"1." + 90 * b"123456789" + b"e-300", b'"\\ud83d\\ude00"', b"?"]
-        depths = (63, 127, 128, 500)
-        return [begin * depth + text + end * depth for begin, end in pairs for depth in depths for text in inmost]
 
-    @staticmethod
-    def backwards(texts):
-        """Some of the lists with their keys in the other order, which are read in a second way."""
+# ---- The texts
 
-        def turned(pairs):
-            return dict(reversed(pairs))
 
-        return [json.dumps(json.loads(text, object_pairs_hook=turned)).encode() for text in texts[:8]]
+def some_texts(pick: random.Random) -> list[bytes]:
+    """Generated lists, refused lists, broken texts, deep texts, and some lists with their keys in the other order."""
+    texts = [b'{"width":1,"height":1,"draws":[]}']
+    texts += [json.dumps(generated_lists.a_list(pick)).encode() for _ in range(24)]
+    texts += [json.dumps(value).encode() for _, value, _ in REFUSED]
+    texts += [generated_lists.a_broken_text(pick) for _ in range(40)] + [b"{", b"\xff"] + deep_texts()
+    return texts + [with_keys_reversed(text) for text in texts[:8]]
 
-    def manifest(self, name, texts, before=()):
-        """Writes the lists, each with the program's answer, and the lines that name them. Gives all lines."""
-        lines = list(before)
-        for number, text in enumerate(texts):
-            file, line, status = drawn_by_program(text)
-            self.keep(f"{name}-{number}.json", text)
-            kind, ending, answer = ("drawn", "file", file) if status == 0 else ("refused", "line", line)
-            self.keep(f"{name}-{number}.{ending}", answer)
-            if status == 0:
-                self.keep(f"{name}-{number}.scene", arrays_of(json.loads(text)))
-            (self.drawn if status == 0 else self.refused).append((text, answer))
-            lines.append(f"{kind} lists/{name}-{number}.json lists/{name}-{number}.{ending}\n")
-        self.keep(f"{name}.txt", "".join(lines).encode())
-        return lines
 
-    def keep(self, name, data):
-        with open(os.path.join(self.folder, name), "wb") as file:
-            file.write(data)
+def deep_texts() -> list[bytes]:
+    """Texts that are nested as deeply as JSON is read, and deeper: they take the most stack."""
+    pairs = [(b"[", b"]"), (b'{"a":', b"}"), (b'[{"a":', b"}]"), (b'{"a":[', b"]}")]
+    inmost = [b"0", b"1." + 90 * b"123456789" + b"e-300", b'"\\ud83d\\ude00"', b"?"]
+    depths = (63, 127, 128, 500)
+    return [begin * depth + text + end * depth for begin, end in pairs for depth in depths for text in inmost]
+
+
+def with_keys_reversed(text: bytes) -> bytes:
+    """The same list with the keys of each object in the other order, which the library reads in a second way."""
+
+    def reverse(pairs: list[tuple[str, Any]]) -> dict[str, Any]:
+        return dict(reversed(pairs))
+
+    return json.dumps(json.loads(text, object_pairs_hook=reverse)).encode()
+
+
+# ---- The arrays of a list
+
+
+def topology_of(draw: Draw) -> int:
+    return next(number for number, key in enumerate(TOPOLOGIES) if key in draw)
+
+
+def indices_of(draw: Draw) -> list[int]:
+    faces = draw[TOPOLOGIES[topology_of(draw)]]
+    return list(faces) if "strip" in draw else [index for face in faces for index in face]
+
+
+def integers_of(draw: Draw, size: Sequence[int]) -> list[int]:
+    """The members of trirast_batch_draw, in their order."""
+    return [
+        len(draw["vertices"]), len(indices_of(draw)), topology_of(draw),
+        CULLS.index(draw.get("cull", "none")), DEPTH_TESTS.index(draw.get("depth_test", "always")),
+        int(draw.get("depth_write", False)), int(draw.get("blend") == "over"),
+        *map(int, draw.get("write", (1, 1, 1))), draw.get("sample_mask", 15), *draw.get("scissor", (0, 0, *size)),
+    ]
+
+
+def arrays_of(scene: DrawList) -> bytes:
+    """An accepted list as the arrays of trirast_draw_scene: how many draws, vertices and indices, the head, and then these."""
+    size = (scene["width"], scene["height"])
+    head = [*size, scene.get("samples", 1), int(scene.get("output") == "depth")]
+    head += [*scene.get("clear", (0, 0, 0)), scene.get("clear_depth", 65535)]
+    draws = scene["draws"]
+    vertices = [vertex for draw in draws for vertex in draw["vertices"]]
+    indices = [index for draw in draws for index in indices_of(draw)]
+    integers = [len(draws), len(vertices), len(indices), *head]
+    for part in [*(integers_of(draw, size) for draw in draws), *vertices, indices]:
+        integers += part
+    return struct.pack(f"={len(integers)}i", *integers)
+
+
+# ---- The files
+
+
+def keep(name: str, data: bytes) -> None:
+    with open(os.path.join(FOLDER, name), "wb") as file:
+        file.write(data)
+
+
+def keep_list(name: str, text: bytes) -> str:
+    """Writes a list and what the program writes for it. Returns its line of a manifest."""
+    answer = drawn_by_program(text)
+    keep(f"{name}.json", text)
+    if answer.status == 0:
+        keep(f"{name}.file", answer.output)
+        keep(f"{name}.scene", arrays_of(json.loads(text)))
+        return f"drawn lists/{name}.json lists/{name}.file\n"
+    keep(f"{name}.line", answer.line)
+    return f"refused lists/{name}.json lists/{name}.line\n"
+
+
+def write_lists(seed: int) -> None:
+    """Writes the lists, and two manifests: all.txt of the examples and all lists that are not large, and few.txt of a few."""
+    os.makedirs(FOLDER)
+    texts = some_texts(random.Random(seed))
+    lines = [keep_list(f"list-{number}", text) for number, text in enumerate(texts)]
+    small = [line for line, text in zip(lines, texts) if len(text) < SMALL_LIST]
+    examples = places.files("examples", "*.json")
+    small += [keep_list(f"example-{number}", places.bytes_of(path)) for number, path in enumerate(examples)]
+    keep("all.txt", "".join(small).encode())
+    keep("few.txt", "".join(lines[:5] + lines[30:60:10] + lines[-2:]).encode())
+
+
+def read_lists(manifest: str) -> Lists:
+    """Reads the lists of a manifest that `write_lists` has written."""
+    lists = Lists()
+    for line in places.text_of(FOLDER, manifest).splitlines():
+        outcome, *paths = line.split()
+        text, written = (places.bytes_of(OUT, path) for path in paths)
+        (lists.drawn if outcome == "drawn" else lists.refused).append((text, written))
+    return lists
