@@ -40,7 +40,7 @@ impl Tiling {
     ghost use Rattle.cover.specs.Square.{IsCorner};
     ghost use Rattle.bins.specs.Grid.{columns_of, rows_of, tiles_of, rect_of, IsInPicture, IsTileOf, IsWithinLimits};
 
-    /// The tiles of this side over a picture of this size in pixels.
+    /// The tiles of this size over a picture of this width and height in pixels.
     pub fn new(width: u32, height: u32, side: TileSide) -> Tiling
         requires wide { 1 ≤ width }
         requires width { width ≤ 4096 }
@@ -155,8 +155,8 @@ impl Tiling {
         (blocks * column, blocks * row)
     }
 
-    /// The tile in whose rectangle the pixel in column `px` and row `py` stands, or none outside of the picture. A pixel of
-    /// the picture stands in the rectangle of just one tile.
+    /// Returns the tile whose rectangle contains the pixel in column `px` and row `py`, or `None` outside of the picture. A pixel
+    /// of the picture lies in the rectangle of exactly one tile.
     pub fn tile_of(&self, px: u32, py: u32) -> Option<u32>
         ensures { MatchOption result (¬ IsInPicture self.now px py) (IsTileOf self.now px py) }
     {

@@ -4,7 +4,7 @@ use Rattle.shade.specs.declared.placed.Placed.{Placed}
 use Rattle.shade.specs.declared.state.State.{State}
 use Rattle.canvas.specs.declared.vertex.Vertex.{Vertex}
 
--- The places are places of vertices, of which there are so many.
+-- The first three indices are indices of vertices, of which there are `many`.
 pub record AreIndices (many : ℕ) (indices : List ℕ) : Type 0 where
   pub first : slice_index indices 0 < many
   pub second : slice_index indices 1 < many

@@ -251,7 +251,7 @@ fn are_resolved(triangles: &[Placed], canvas: &Canvas, format: Format, bytes: &[
     rest.next().is_none()
 }
 
-/// So many bytes that no call has written.
+/// `size` bytes that no call has written.
 fn untouched(alloc: Global, size: usize) -> Result<Vec<u8>, Fail> {
     let mut bytes = Vec::new(alloc);
     for _ in 0..size {

@@ -1,4 +1,5 @@
--- No check outside of vertices and primitives tells want of memory; and which checks have passed where the vertices of a draw were begun.
+-- No check outside of vertices and primitives reports out of memory. Which checks have passed before the vertices of a draw are
+-- read.
 use Rattle.std.proofs.Common.{◌≡◌, ◌≢◌, ℕ, [], ◌∷◌, ◌++◌, Bool, true, false, ◌||◌, cond, Option, Some, None, is_none, codes, refl}
 use Rattle.std.specs.List.{AllByRecursion}
 use Rattle.serde_json.specs.Data.{Data}
@@ -11,7 +12,7 @@ use Rattle.model.specs.FirstFault.{first_fault}
 use Rattle.model.specs.Checks.{Checks, where_there, word_checks, truth_checks, write_mask_checks, sample_mask_checks, scissor_checks, sample_count_checks, colour_checks, depth_checks, clear_checks, top_checks, array_checks, each, vertex_checks, positions_written, merge_checks, state_checks, vertices_checks, primitive_checks, part_checks, opening_checks, has_no_list, is_absent, draw_checks, checks_before_vertices}
 use Rattle.model.proofs.Faults.{all_pass, both_pass, both_passed}
 
--- no place tells want of memory
+-- no check reports out of memory
 abbrev NoneTellsMemory : Checks → Type 0
 NoneTellsMemory checks = AllByRecursion (λ p. p.told ≢ OutOfMemory) checks
 

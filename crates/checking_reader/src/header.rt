@@ -17,7 +17,7 @@ use model::{
 use serde_json::Value;
 use shade::Sample;
 
-/// The parts of the top object, with its draws still as they were written.
+/// The parts of the top object. Its draws are still JSON values.
 #[derive(Drop)]
 pub(crate) struct Header<'v> {
     pub target: Target,

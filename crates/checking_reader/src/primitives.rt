@@ -23,7 +23,7 @@ pub(crate) enum PrimitiveArray<'v> {
     Quads(&'v Value),
 }
 
-/// The list of primitives of a draw, which has just one.
+/// The list of primitives of a draw, which has exactly one.
 pub(crate) fn primitive_array(value: &Value) -> Result<PrimitiveArray<'_>, ReadKind>
     ensures { let seen = view value.now in
         Tells (check (has_no_list seen) MissingKey ∷ check (has_two_lists seen) TwoLists ∷ []) (IsGiven seen) result }

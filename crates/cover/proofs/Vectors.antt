@@ -28,7 +28,7 @@ high n le = grind arith
 low : (n : ℕ) → n < 2 ^ 31 → leb (2 ^ 31) n ≡ false
 low n less = grind arith
 
--- a comparison with 0 tells the highest bit
+-- a comparison with 0 yields the highest bit
 under_zero : (n : ℕ) → top 31 (below n 0) ≡ leb (2 ^ 31) n
 under_zero n =
     elim (cases_lt n (2 ^ 31)) [

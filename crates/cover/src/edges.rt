@@ -27,8 +27,7 @@ impl Edges {
     ghost use Rattle.cover.specs.Masks.{AreMasksWhere, to_column, to_row};
     ghost use Rattle.cover.specs.Setup.{AreEdgesOf};
 
-    /// The edges of a triangle whose area is not zero, each turned so that the triangle lies where its edge function is over
-    /// zero.
+    /// The edges of a triangle whose area is not zero, each turned so that its edge function is positive inside the triangle.
     #[inline(always)]
     pub(crate) fn of(t: &Tri) -> Edges
         requires { doubled_area t.now.a t.now.b t.now.c ≢ pos 0 }

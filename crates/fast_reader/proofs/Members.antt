@@ -132,7 +132,7 @@ here k d found P h = subst P (sym (get_member-put k d found)) h
 pub stays : (q k : List ℕ) (d : Data) (found : Members) (P : Option Data → Type 0) → (q ≡ k → ⊥) → P (get_member q found) → P (get_member q (put k d found))
 stays q k d found P apart h = subst P (sym (get_member-put_other q k d found apart)) h
 
--- two names that are told apart
+-- two names that compare as different are different
 pub differ : (q k : List ℕ) → bytes_eq k k ≡ true → bytes_eq q k ≡ false → q ≡ k → ⊥
 differ q k same other e = true≢false (sym same ∙ ap (λ name. bytes_eq name k) (sym e) ∙ other)
 

@@ -51,7 +51,7 @@ impl ListDraft {
         }
     }
 
-    /// All pixels of the picture, once its sides were taken.
+    /// All pixels of the picture, once its width and height were taken.
     fn picture(&self) -> Option<PixelBox>
         ensures { result ≡ picture_of self.now.width self.now.height }
     {
@@ -59,7 +59,8 @@ impl ListDraft {
         Some(picture_box(width, height))
     }
 
-    /// Takes the value of a key. The sides of the picture are taken before the draws, which all its pixels are for by default.
+    /// Takes the value of a key. The picture's width and height are taken before the draws, whose scissor is the whole picture by
+    /// default.
     fn take_value(&mut self, alloc: Global, reader: &mut Reader<'_>, key: &str) -> Option<()>
         ensures { IfSome result (λ _. Took 4 (Adds top_keys HasList key.now self.old) reader.old self.new reader.new) }
     {
