@@ -87,7 +87,7 @@ side-weighted a b c p d e =
     (side_term A B C · side_term D E P)
     (side_term B C P · side_term D E A ⊕ side_term C A P · side_term D E B ⊕ side_term A B P · side_term D E C) refl
 
--- the product that tells a left edge is the doubled area times the fall of the edge
+-- the product that decides whether an edge is a left edge is the doubled area times the fall of the edge
 pub left_excess-side : (a b c : Position) → left_excess a b c ≡ neg_ℤ ((b.y -ℤ a.y) *ℤ side a b c)
 unfolding side left_excess
 left_excess-side a b c =

@@ -25,7 +25,7 @@ impl PixelBox {
     }
 }
 
-/// The side of a square tile: 8, 16, 32 or 64 pixels.
+/// The tile size: tiles are squares of 8, 16, 32 or 64 pixels a side.
 #[derive(Clone, Copy, Debug, PartialEq, Eq)]
 pub enum TileSide {
     T8,
@@ -37,7 +37,7 @@ pub enum TileSide {
 impl TileSide {
     ghost use Rattle.grid.specs.Pixels.{side_of};
 
-    /// The side in pixels.
+    /// The tile size in pixels.
     pub fn pixels(self) -> u32
         ensures { result ≡ side_of self }
     {

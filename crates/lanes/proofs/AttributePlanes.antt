@@ -24,7 +24,7 @@ use Rattle.lanes.proofs.Certificate.{candidate_near, candidate_sure}
 use Rattle.lanes.proofs.Modulos.{modulo_through}
 
 -- ---- a covered sample of the group is near the slope's vertex
--- the numerator has room for the fraction
+-- the numerator is small enough for the fraction
 room : (n s k most : ℕ) → n ≤ most * s → most * 2 ^ (32 + k) + 2 ^ 48 ≤ 2 ^ 64 → n * 2 ^ (32 + k) + 2 ^ 48 * s ≤ 2 ^ 64 * s
 room n s k most h width =
     let first : n * 2 ^ (32 + k) ≤ most * s * 2 ^ (32 + k) = mul-le-mul_right (2 ^ (32 + k)) h in

@@ -83,7 +83,7 @@ min_first x y h = grind (arith, nat_tests)
 min_second : (x y : ℕ) → y ≤ x → min x y ≡ y
 min_second x y h = grind (arith, nat_tests)
 
--- the highest bit of what is left tells which of the two the quotient is
+-- the highest bit of what is left decides which of the two the quotient is
 pub lowered_is : (n s v r low sign : ℕ) → s ≤ 2 ^ 48 → v < 2 ^ 16 → r < 2 ^ 64 → low ≡ (v + (2 ^ 16 - sign)) % 2 ^ 16 → sign ≡ r / 2 ^ 63 → IsNear n s v → IsModulo (pos n -ℤ pos (v * s)) r
     → IsQuotient n s (min low v)
 lowered_is n s v r low sign bound few fits e f near modulo =

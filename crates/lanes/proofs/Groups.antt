@@ -39,7 +39,7 @@ untested_lane t m z old lane none e set =
       failed = λ fails. absurd (fails (rw none.passes tt));
     })
 
--- the same depth, told by two values of the triangle
+-- two depths that are interpolated at one point are equal, so what is tested of one is tested of the other
 pub tested_as : (t : Placed) (p : Position) (m : Merge) (z given old new lane : ℕ) → IsInterpolated t p t.z z → IsInterpolated t p t.z given → IsTested m given old new lane → IsTested m z old new lane
 tested_as t p m z given old new lane is has tested = subst (λ v. IsTested m v old new lane) (quotient-unique _ _ _ _ has is) tested
 

@@ -1,4 +1,4 @@
--- How depth and colour of a triangle are had at its samples.
+-- How depth and colour of a triangle are computed at its samples.
 use Rattle.std.specs.Prelude.{◌≡◌, ℕ, true, false, List, slice_index}
 use Rattle.shade.specs.declared.depth.DepthTest.TheVariants.{Always}
 use Rattle.shade.specs.declared.placed.Placed.{Placed}

@@ -251,7 +251,7 @@ fn placed(rt: &impl Abort, random: &mut Random, merge: Merge, flat: [bool; 3]) -
     }
 }
 
-/// Generated triangles, drawn by this merge, at so many samples of a pixel.
+/// Generated triangles, drawn by this merge, with `count` samples a pixel.
 fn compare_all(rt: &impl Abort, random: &mut Random, merge: Merge, count: SampleCount) {
     for flat in [
         [true, true, true],

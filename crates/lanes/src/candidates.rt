@@ -20,7 +20,7 @@ pub(crate) fn candidates(lanes: u32x16, height: u64) -> u32x16
     lanes + u32x16::splat((height >> 32) as u32)
 }
 
-/// The whole parts of sixteen candidates with so many fractional bits.
+/// The integer parts of sixteen candidates with `bits` fractional bits.
 #[inline(always)]
 pub(crate) fn wholes(candidates: u32x16, bits: u32) -> u16x16
     requires { (bits ≡ 16) ⊎ (bits ≡ 24) }
@@ -69,7 +69,7 @@ pub(crate) fn rests(numerators: u64x16, values: u16x16, area: u64) -> u64x16
     numerators - values.cast::<u64>() * u64x16::splat(area)
 }
 
-/// The highest bits of sixteen numbers, which tell whether they are under 0: 1 where they are.
+/// The highest bits of sixteen numbers: 1 if the number is negative, else 0.
 #[inline(always)]
 fn signs(numbers: u64x16) -> u16x16
     ensures length { length result ≡ 16 }

@@ -8,7 +8,7 @@ use crate::depth_plane::DepthPlane;
 use crate::sources::{ColourSource, DepthSource};
 use shade::{DepthTest, Placed};
 
-/// How the depth is had.
+/// How the depth is computed.
 #[derive(Clone, Copy, Debug)]
 pub(crate) enum DepthMode {
     /// Each depth passes and none is stored, so there is no need of it.
@@ -19,7 +19,7 @@ pub(crate) enum DepthMode {
     Plane,
 }
 
-/// How colour and alpha are had.
+/// How colour and alpha are computed.
 #[derive(Clone, Copy, Debug)]
 pub(crate) enum ColourMode {
     /// The three vertices have this in each channel that the draw reads.

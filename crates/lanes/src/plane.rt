@@ -53,7 +53,7 @@ fn margin(slope: Slope, reciprocal: Reciprocal, across: i64, down: i64, bits: u3
 impl Plane {
     ghost use Rattle.lanes.specs.Plane.{IsLevel, IsPlane, IsNumeratorPlane, IsIncrement, IsHeight, IsHighPart};
 
-    /// The plane of a slope that is not steep, with so many fractional bits.
+    /// The plane of a slope that is not steep, with `bits` fractional bits.
     #[inline(always)]
     pub(crate) fn new(slope: Slope, reciprocal: Reciprocal, bits: u32) -> Plane
         requires bits { bits ≤ 56 }

@@ -134,7 +134,7 @@ fn finds_whole_values_and_a_unit_beside_them(rt: HostRuntime) {
     }
 }
 
-// Beside the vertex a value is less than a unit of 2^-16 over or under a whole number.
+// Next to the vertex a value is less than a unit of 2^-16 above or below an integer.
 #[test]
 fn finds_values_just_over_and_under_a_whole_number(rt: HostRuntime) {
     let at = [(0, 0), (8_388_607, 1), (1, 8_388_606)];

@@ -9,7 +9,7 @@ pub(crate) fn answer(rt: &(impl Abort + AllocGlobal), text: &str) -> Result<Draw
     read(rt.alloc(), bytes)
 }
 
-/// The fault of a text, or `None` if it denotes a list.
+/// The fault of a JSON text, or `None` if it denotes a list.
 pub(crate) fn fault(rt: &(impl Abort + AllocGlobal), text: &str) -> Option<ReadFault> {
     answer(rt, text).err()
 }
@@ -86,7 +86,7 @@ pub(crate) fn quad_fault(rt: &(impl Abort + AllocGlobal), quad: &str) -> Option<
     draw_fault(rt, members.as_str())
 }
 
-/// So many copies of a part, between commas.
+/// `count` copies of a part, between commas.
 pub(crate) fn repeated(rt: &(impl Abort + AllocGlobal), part: &str, count: u32) -> String {
     let mut text = String::new(rt.alloc());
     for number in 0..count {

@@ -47,7 +47,7 @@ key_passes : {X : Type 0} (default : X) (Is : Option Data → X → Type 0) (che
 key_passes default Is checks passes None x is = refl
 key_passes default Is checks passes (Some v) x is = passes v x is
 
--- ---- numbers, words and truth values
+-- ---- numbers, words and booleans
 
 in_range : (low high z : ℤ) → low ≤ℤ z → z ≤ℤ high → is_from_to low high z ≡ true
 in_range low high z above below = search (rules, above, below)

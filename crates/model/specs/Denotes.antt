@@ -22,9 +22,9 @@ use Rattle.model.specs.Primitives.{PrimitiveListing, triangle_list, triangle_str
 use Rattle.model.specs.Listing.{DrawListing, Listing, scene_of}
 use Rattle.model.specs.Scene.{Scene}
 
--- ---- numbers, words and truth values
+-- ---- numbers, words and booleans
 
--- The value is this whole number, which lies from low to high.
+-- The value is this integer, which lies from low to high.
 abbrev pub IsWhole : ℤ → ℤ → Option Data → ℤ → Type 0
 IsWhole low high value z = (whole value ≡ Some z) × (low ≤ℤ z) × (z ≤ℤ high)
 
@@ -64,7 +64,7 @@ Each Is no_items (x ∷ xs) = ⊥
 Each Is (item value rest) [] = ⊥
 Each Is (item value rest) (x ∷ xs) = Is value x × Each Is rest xs
 
--- The value is an array of at most so many elements, each of which denotes its part.
+-- The value is an array of at most `most` elements, each of which denotes its part.
 pub record IsArrayOf {X : Type 0} (most : ℕ) (Is : Data → X → Type 0) (value : Option Data) (found : List X) : Type 0 where
   pub array : IsSome (array_of value)
   pub parts : Each Is (elements value) found

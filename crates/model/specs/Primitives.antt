@@ -18,7 +18,7 @@ pub data PrimitiveListing : Type 0 where
 abbrev pub strip_triangle : List ℕ → ℕ → List ℕ
 strip_triangle indices m = slice_index indices m ∷ slice_index indices (m + 1 + m % 2) ∷ slice_index indices (m + 2 - m % 2) ∷ []
 
--- How many triangles a strip of so many indices has.
+-- How many triangles a strip of this many indices has.
 abbrev pub strip_count : ℕ → ℕ
 strip_count indices = indices - 2
 
@@ -27,7 +27,7 @@ abbrev pub quad_triangles : List ℕ → List (List ℕ)
 quad_triangles quad =
     (slice_index quad 0 ∷ slice_index quad 1 ∷ slice_index quad 2 ∷ []) ∷ (slice_index quad 2 ∷ slice_index quad 3 ∷ slice_index quad 0 ∷ []) ∷ []
 
--- How many triangles so many quads have.
+-- How many triangles this many quads have.
 abbrev pub quads_count : ℕ → ℕ
 quads_count quads = 2 * quads
 

@@ -165,7 +165,7 @@ module _ (n : ℕ) (counters : List Counter) (number passed : ℕ) (handles : Li
       order = all_pairs_push (PrecedesInTurn (length counters) number) numbers drawn is.order after;
     }
 
-    -- there is room for it
+    -- there is capacity for it
     pub has_room : length numbers < n
     has_room =
         let all : All (λ x. x < n) (numbers ++ drawn ∷ []) = Rattle.pool.proofs.Counts.all_below (numbers ++ drawn ∷ []) n once_kept in
@@ -180,7 +180,7 @@ same_at [] i a b h = absurd (omega arith)
 same_at (x ∷ xs) zero a b h = refl
 same_at (x ∷ xs) (suc i) a b h = same_at xs i a b (omega arith)
 
--- the same in the words of the code
+-- the same in terms of the code
 module _ (n : ℕ) (counters : List Counter) (number passed : ℕ) (handles : List CounterHandle) (numbers : List ℕ) (is : IsDeskSeat n counters number passed handles numbers) (left : passed < length counters)
     (counter : Counter) (old new : CounterHandle) where
   abbrev At : ℕ → Type 0

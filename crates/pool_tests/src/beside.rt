@@ -9,8 +9,8 @@ use std::test::Fail;
 use std::thread;
 use std::thread::Threads;
 
-/// Waits in each work until the call beside was made, for at most 1,000,000 turns, and answers whether it was. The work on one
-/// number is refused after that.
+/// Waits in each work until the call `beside` was made, for at most 1,000,000 turns, and returns whether it was. After that the
+/// work on one number fails.
 #[derive(Drop)]
 struct Waiting {
     calls: AtomicU64,
@@ -18,7 +18,7 @@ struct Waiting {
 }
 
 impl Waiting {
-    /// Refuses the work on this number.
+    /// The work on this number fails.
     fn new(refused: u32) -> Waiting {
         Waiting {
             calls: AtomicU64::new(0),

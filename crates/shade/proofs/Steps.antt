@@ -21,7 +21,7 @@ pub rightward : (a b p : Position) (r : ℤ) → r ≡ pos 256 *ℤ (a.y -ℤ b.
 rightward a b p r e = side-right a b p ∙ ap (λ z. side a b p +ℤ z) (sym e)
 
 -- ---- the change of a weighted sum
--- a value times the size of a number of known sign
+-- a value times the absolute value of a number of known sign
 pub scaled_over : (u : ℕ) (x : ℤ) → pos 0 ≤ℤ x → pos (u * unsigned_abs x) ≡ pos u *ℤ x
 scaled_over u (pos n) h = omega (arith, ints)
 scaled_over u (negsuc n) h = absurd (omega (arith, ints))

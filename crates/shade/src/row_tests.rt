@@ -18,8 +18,8 @@ const LOW: [(i32, i32); 3] = [(-300, -7), (1_048_583, 128), (-301, 300)];
 /// A triangle with a side of 4,096 pixels along the first row, at some of whose pixels nothing is left of a value.
 const EVEN: [(i32, i32); 3] = [(128, 128), (1_048_704, 128), (128, 1_048_704)];
 
-/// The value at `at` and at the pixels to the right of it, with what is left of each, by steps: so many, or fewer where the
-/// next one is not covered.
+/// The value at `at` and at the pixels to the right of it, with the remainder of each, by steps: `pixels` values, or fewer if the
+/// next pixel is not covered.
 fn stepped(
     alloc: Global,
     t: &Tri,

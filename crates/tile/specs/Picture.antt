@@ -54,7 +54,7 @@ AreDepthsAt tile samples row column bytes =
     (i : ℕ) → i < 8
     → (slice_index bytes (2 * i) ≡ (stored tile samples row (8 * column + i) 0).z / 256) × (slice_index bytes (2 * i + 1) ≡ (stored tile samples row (8 * column + i) 0).z % 256)
 
--- The new bytes are the old ones, and behind them those of so many pixels of one row of the picture, from pixel (i, j) on.
+-- The new bytes are the old ones, and behind them those of `many` pixels of one row of the picture, from pixel (i, j) on.
 pub record AddsPixelRun (l : Scene) (i j many : ℕ) (old new : List ℕ) : Type 0 where
   pub run : List ℕ
   pub is : IsPixelRun l i j many run

@@ -9,7 +9,7 @@ use std::alloc::Global;
 use std::process::Abort;
 use std::test::Fail;
 
-/// The size of the pictures in pixels, which is no whole number of tiles.
+/// The size of the pictures in pixels, which is no multiple of a tile size.
 const SIZE: (u32, u32) = (12, 11);
 
 /// A scissor that holds the whole picture, one that cuts through blocks, one along blocks, and one that is empty.

@@ -34,7 +34,7 @@ each_pushed P [] x each last (suc k) y e = absurd (none-some y e)
 each_pushed P (z ∷ zs) x each last zero y e = each zero y e
 each_pushed P (z ∷ zs) x each last (suc k) y e = each_pushed (λ n. P (suc n)) zs x (λ n. each (suc n)) last k y e
 
--- The first tiles from a row of tiles on, so many of them.
+-- The first `many` tiles from a tile row on.
 pub record AreFirst (l : Scene) (g : TileGrid) (first many : ℕ) (tiles : List TilePixels) : Type 0 where
   pub number : length tiles ≡ many
   pub each : (n : ℕ) (pixels : TilePixels) → slice_get tiles n ≡ Some pixels → IsTileIn l g first n pixels

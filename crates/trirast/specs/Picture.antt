@@ -32,8 +32,8 @@ ExplainsRows l side first end before NotBegun held held_after = ⊥
 ExplainsRows l side first end before (OutOfMemory row) held held_after = (first ≤ row) × (row < end) × ((count : ℕ) × WritesRows l side first row before count held held_after)
 ExplainsRows l side first end before (WriteFailed count) held held_after = CutsRows l side first before count held held_after
 
--- What was written of a list's picture file, where this fault came: after want of memory for a tile row exactly the header and the
--- tile rows before it.
+-- What was written of a list's picture file before this fault: if memory ran out for a tile row, exactly the header and the tile
+-- rows before it.
 abbrev pub ExplainsPicture : Scene → TileSide → PictureFault → Option (List ℕ) → Option (List ℕ) → Type 0
 ExplainsPicture l side NotBegun held held_after = Keeps held held_after
 ExplainsPicture l side (OutOfMemory row) held held_after = WritesTileRows l side row held held_after

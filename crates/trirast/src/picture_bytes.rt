@@ -61,8 +61,8 @@ pub fn draw_rows(
     Ok(bytes)
 }
 
-/// The file of a list's picture, drawn on the calling thread. The whole file stands in memory, once. Want of memory is the only
-/// error.
+/// The file of a list's picture, drawn on the calling thread. The whole file stands in memory, once. Fails only if an allocation
+/// fails.
 pub fn draw(alloc: Global, list: &DrawList, tile: TileSide) -> Result<Vec<u8>, OutOfMemory>
     ensures { IfOk result (λ file. IsPictureFile list.now file.items) }
 {
