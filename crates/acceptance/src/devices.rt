@@ -51,7 +51,7 @@ impl Sink {
         sink
     }
 
-    /// Counts a call where it comes too late.
+    /// Counts a call that comes too late.
     fn count_call(&mut self) {
         if self.has_ended {
             self.late_calls = self.late_calls.wrapping_add(1);

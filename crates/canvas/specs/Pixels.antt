@@ -21,7 +21,7 @@ pixel_of Bgra8 r g b = b ∷ g ∷ r ∷ 255 ∷ []
 abbrev pub shown_rows : Canvas → ℕ → ℕ → ℕ
 shown_rows c first end = min (64 * end) c.height - 64 * first
 
--- A row of pixels, of `unit` entries each, fits between the starts of two rows, and the last row ends where the slice does or before.
+-- A row of pixels, of `unit` entries each, fits between the starts of two rows, and the last row ends within the slice.
 pub record IsLargeEnough (c : Canvas) (first end : ℕ) (unit stride size : ℕ) : Type 0 where
   pub wide : c.width * unit ≤ stride
   pub high : shown_rows c first end * stride + c.width * unit ≤ size + stride

@@ -13,8 +13,8 @@ use crate::tile_rows::TileRows;
 use lanes::BlockSamples;
 use raster::{Tile, colours};
 
-/// Copies the first bytes of `run` to all of `bytes`. Where this is inlined, the lengths of eight whole pixels are known, so that these
-/// are copied without a call.
+/// Copies the first bytes of `run` to all of `bytes`. If this is inlined, the lengths of eight whole pixels are known, so that
+/// these are copied without a call.
 #[inline(always)]
 fn copy_first(run: &[u8; 32], bytes: &mut [u8])
     requires { length bytes.old ≤ 32 }

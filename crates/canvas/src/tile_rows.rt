@@ -28,8 +28,8 @@ impl TileRows {
         (self.end - self.first) as usize * self.canvas.planes_of_row()
     }
 
-    /// The rows of tiles before row `at`, and those from there on, or none where `at` is no row of the strip nor its end. The planes of
-    /// the first part, and behind them those of the second, are those of the whole.
+    /// The tile rows before row `at`, and those from there on. Returns `None` if `at` is none of these tile rows nor their end. The
+    /// planes of the first part, and behind them those of the second, are those of the whole.
     pub fn split(&self, at: u32) -> Option<(TileRows, TileRows)>
         ensures some { IsSome result ↔ ((self.now.first ≤ at) × (at ≤ self.now.end)) }
         ensures upper { IfSome result (λ parts. (parts.0.canvas ≡ self.now.canvas) × (parts.0.first ≡ self.now.first) × (parts.0.end ≡ at)) }

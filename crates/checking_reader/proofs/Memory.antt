@@ -98,9 +98,9 @@ top_tells d =
 pub top_never : (d : Data) → first_fault (top_checks d) ≡ Some OutOfMemory → ⊥
 top_never d = never (top_checks d) (top_tells d)
 
--- ---- what has passed where vertices were begun
+-- ---- what has passed when vertices are begun
 
--- where the vertices pass, they are an array that is not too long
+-- if the vertices pass, they are an array that is not too long
 pub array_passed : (value : Option Data) → is_none value ≡ false → first_fault (where_there vertices_checks value) ≡ None → first_fault (array_checks 65536 value) ≡ None
 unfolding vertices_checks
 array_passed None there none = absurd (cc)
@@ -110,7 +110,7 @@ first_is_false : (b c : Bool) → (b || c) ≡ false → b ≡ false
 first_is_false true c e = e
 first_is_false false c e = refl
 
--- where a draw passes, so do its checks before its vertices
+-- if a draw passes, so do its checks before its vertices
 pub passed_to_vertices : (earlier : ℕ) (d : Data) → first_fault (draw_checks earlier d) ≡ None → first_fault (checks_before_vertices d) ≡ None
 passed_to_vertices earlier d none =
     let vertices = get (codes "vertices") d in

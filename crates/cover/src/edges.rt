@@ -98,7 +98,7 @@ impl Edges {
             || self.ca.passes_none(at.ca, reach)
     }
 
-    /// The samples of a block where none of the functions is negative, which are `at` at the first position of the box round the
+    /// The samples of a block at which none of the functions is negative. They are `at` at the first position of the box round the
     /// block's samples.
     #[inline(always)]
     pub(crate) fn masks(&self, at: &Values, count: SampleCount) -> Masks

@@ -18,7 +18,7 @@ const TRIANGLES: u32 = 64;
 /// How many blocks that screen has in a row.
 const COLUMNS: u32 = 128;
 
-/// How often all blocks are gone through where time is taken; the quickest time counts.
+/// How often all blocks are gone through if time is measured; the shortest time counts.
 const ROUNDS: u32 = 50;
 
 /// A triangle, and the numbers of the blocks that it neither covers nor leaves out.

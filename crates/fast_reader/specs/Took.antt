@@ -41,7 +41,7 @@ pub record TookMembers (levels : ℕ) (old : List Token) (count : ℕ) (found : 
 abbrev pub IsNumber : Data → ℤ → Type 0
 IsNumber d z = whole (Some d) ≡ Some z
 
--- What the value of a key denotes, where the key is there, and none where it is absent.
+-- What the value of a key denotes if the key is there, and `None` if it is absent.
 abbrev pub Slot : {X : Type 0} → (Data → X → Type 0) → Option Data → Option X → Type 0
 Slot Is None None = Unit {0}
 Slot Is None (Some x) = ⊥

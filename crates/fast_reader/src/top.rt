@@ -21,11 +21,11 @@ pub(crate) struct ListDraft {
     pub width: Option<u16>,
     /// The height of the picture, in pixels.
     pub height: Option<u16>,
-    /// The number of samples of a pixel; the default where no member says it.
+    /// The number of samples of a pixel; the default if no member says it.
     pub count: SampleCount,
-    /// What each sample begins with; the default where no member says it.
+    /// What each sample begins with; the default if no member says it.
     pub clear: Sample,
-    /// What the picture shows; the default where no member says it.
+    /// What the picture shows; the default if no member says it.
     pub output: Output,
     pub draws: Option<Vec<Draw>>,
 }

@@ -103,7 +103,7 @@ side-steps a b c =
     let A = point 0 in let B = point 1 in let C = point 2 in
     ring (coordinates (a ∷ b ∷ c ∷ [])) (side_term A B C) ((B.x ⊖ A.x) · (C.y ⊖ B.y) ⊖ (C.x ⊖ B.x) · (B.y ⊖ A.y)) refl
 
--- what is left of the edge function where the edge is horizontal
+-- what is left of the edge function if the edge is horizontal
 pub side-level : (a b c : Position) → side a b c ≡ (b.x -ℤ a.x) *ℤ (c.y -ℤ a.y) -ℤ (b.y -ℤ a.y) *ℤ (c.x -ℤ a.x)
 unfolding side
 side-level a b c = refl

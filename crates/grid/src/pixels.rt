@@ -1,7 +1,7 @@
 ghost use Rattle.std.specs.Prelude.{◌≡◌, ◌↔◌, IsTrue};
 
-/// A rectangle of pixels: columns `x0` to before `x1`, rows `y0` to before `y1`. It is empty where `x0` is not under `x1`, or
-/// `y0` not under `y1`.
+/// A rectangle of pixels: columns `x0` to before `x1`, rows `y0` to before `y1`. It is empty if `x0` is not below `x1`, or `y0` not
+/// below `y1`.
 #[derive(Clone, Copy, Debug, PartialEq, Eq)]
 pub struct PixelBox {
     pub x0: i32,

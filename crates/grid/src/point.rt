@@ -33,7 +33,7 @@ impl Model for Point {
 }
 
 impl Point {
-    /// The point (x, y) in 1/256 pixel, or none where a coordinate is outside of the guard band.
+    /// The point (x, y) in 1/256 pixel, or `None` if a coordinate is outside of the guard band.
     pub fn new(x: i32, y: i32) -> Option<Point>
         ensures some { IsSome result ↔ (IsInBand x × IsInBand y) }
         ensures value { IfSome result (λ p. (p.x ≡ x) × (p.y ≡ y)) }

@@ -141,7 +141,7 @@ impl Random {
         }
     }
 
-    /// The same colour three times, or three of their own; alpha may differ where only colour has to be the same.
+    /// The same colour three times, or three of their own; alpha may differ if only colour has to be the same.
     fn colours(&mut self, flat: bool, flat_alpha: bool) -> [[u8; 4]; 3] {
         let first = self.rgba();
         if !flat {

@@ -20,7 +20,7 @@ pub(crate) struct Plane {
 /// sixteenth for the gradients' errors.
 const ABOVE: u64 = (2 << 32) + (1 << 28);
 
-/// The same where the gradients have no error: three units, so that a candidate of a whole value is sure.
+/// The same if the gradients have no error: three units, so that a candidate of an integer value is sure.
 const ABOVE_EXACT: u64 = 3 << 32;
 
 /// A coordinate times a gradient, modulo 2^64.

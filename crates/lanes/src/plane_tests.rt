@@ -58,7 +58,7 @@ fn channel_at(rt: &impl Abort, t: &Placed, p: Point, number: usize) -> u16 {
     floor_at(&t.tri, p, [u16::from(a), u16::from(b), u16::from(c)])
 }
 
-/// Whether a sample of the group is covered, and all values there are those of `floor_at`. None where the triangle is too steep.
+/// Whether a sample of the group is covered, and all values there are those of `floor_at`. `None` if the triangle is too steep.
 fn agrees(rt: &impl Abort, t: &Placed, (x, y): (i32, i32)) -> Option<bool> {
     assert!(rt; is_on_screen(x, y));
     assert!(rt; t.tri.area2() != 0);

@@ -40,7 +40,7 @@ impl Reciprocal {
         number.unsigned_abs() < self.area << (63 - bits)
     }
 
-    /// `number` by the area with `bits` fractional bits, where it is not steep: off by less than two units of the last bit.
+    /// `number` by the area with `bits` fractional bits, if it is not steep: off by less than two units of the last bit.
     fn gradient(self, number: i64, bits: u32) -> i64
         requires bits { bits ≤ 56 }
         requires bound { unsigned_abs number < 2 ^ 41 }

@@ -72,7 +72,7 @@ impl Slope {
         }
     }
 
-    /// The same where it is asked for, and else a slope that does not grow.
+    /// The same if it is asked for, and else a slope that does not grow.
     #[inline(always)]
     pub(crate) fn of_used(used: bool, t: &Tri, values: [u16; 3]) -> Slope
         ensures slope { IsTrue used → IsSlope t.now.a t.now.b t.now.c (slice_index values 0) (slice_index values 1) (slice_index values 2) result }

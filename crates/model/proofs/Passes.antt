@@ -268,7 +268,7 @@ quads_pass earlier vs q xs is room =
     let passed : first_fault later ≡ None = rw (not_over 65536 (earlier + quads_count (count q)) few) each_one in
     both_pass (array_checks 32768 q) later (array_passes _ _ _ _ is) passed
 
--- what passes where it is there passes also where it may be absent
+-- what passes if it is there passes also if it may be absent
 passes_where_there : (checks : Option Data → Checks) (value : Option Data) → first_fault (checks value) ≡ None → first_fault (where_there checks value) ≡ None
 passes_where_there checks None passes = refl
 passes_where_there checks (Some v) passes = passes

@@ -55,7 +55,7 @@ sample_mask_checks value = number_checks (is_from_to (pos 0) (pos 15)) OutOfRang
 abbrev pub scissor_side_checks : Option Data → Checks
 scissor_side_checks value = number_checks (is_from_to (pos 0) (pos 4096)) OutOfRange value
 
--- a number of a vertex, where there are n
+-- an index of a vertex, if there are n of them
 abbrev pub index_checks : ℕ → Option Data → Checks
 index_checks n value = number_checks (is_from_to (pos 0) (pos n -ℤ pos 1)) BadIndex value
 

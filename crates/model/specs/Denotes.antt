@@ -50,7 +50,7 @@ IsSize value n = IsWhole (pos 1) (pos 4096) value (pos n)
 abbrev pub IsTruth : Option Data → Bool → Type 0
 IsTruth value b = truth value ≡ Some b
 
--- What the value of a key denotes, and the default where the key is absent.
+-- What the value of a key denotes, and the default if the key is absent.
 abbrev pub OrDefault : {X : Type 0} → X → (Option Data → X → Type 0) → Option Data → X → Type 0
 OrDefault default Is None x = x ≡ default
 OrDefault default Is (Some value) x = Is (Some value) x
@@ -104,8 +104,8 @@ pub record IsQuad (vertices : List Vertex) (value : Data) (quad : List ℕ) : Ty
   pub fourth : IsIndex (length vertices) (at 3 value) (slice_index quad 3)
   pub convex : IsConvexOver vertices quad
 
--- The primitives of a draw with these vertices, where its keys `triangles`, `strip` and `quads` have these values: one of
--- the three is there, and it is this triangle list, triangle strip or list of quads.
+-- The primitives of a draw with these vertices, whose keys `triangles`, `strip` and `quads` have these values: one of the three is
+-- there, and it is this triangle list, triangle strip or list of quads.
 abbrev pub IsPrimitives : List Vertex → Option Data → Option Data → Option Data → PrimitiveListing → Type 0
 IsPrimitives vertices triangles strip quads (triangle_list found) =
     IsArrayOf 65536 (IsTriangle (length vertices)) triangles found × (strip ≡ None) × (quads ≡ None)

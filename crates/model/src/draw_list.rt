@@ -169,8 +169,8 @@ impl DrawList {
         self.draws[draw].triangle(number - self.starts[draw] as usize)
     }
 
-    /// The rows of pixels of the screen from that of the least y of this triangle's vertices to that of the greatest, where a y
-    /// by 256, rounded down, is its row. They may begin and end below the picture, whose height does not cut them.
+    /// The rows of pixels of the screen from that of the least y of this triangle's vertices to that of the greatest. The row of a
+    /// y is y by 256, rounded down. The rows may begin and end below the picture, whose height does not cut them.
     pub fn rows(&self, number: usize) -> RowSpan
         requires { number < length self.now.triangles }
         ensures { IfSome (slice_get self.now.triangles number) (λ triangle. IsRowSpan triangle.tri result) }

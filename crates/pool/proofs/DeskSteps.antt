@@ -39,7 +39,7 @@ module _ (n : ℕ) (counters : List Counter) (number passed : ℕ) (handles : Li
       let z : cond {A = ℕ} (ltb (turns_to (length counters) number here) passed) 1 0 ≡ 0 = ap (λ (b : Bool). cond {A = ℕ} b 1 0) t in
       omega arith
 
-  -- a fact of each handle lasts where it holds of the new one
+  -- a fact of each handle lasts if it holds of the new one
   at_places : (P : ℕ → CounterHandle → Type 0) (new : CounterHandle) → P here new → ((d : ℕ) (p : CounterHandle) → d < length counters → d ≢ here → P d (get_or handles d p))
       → (d : ℕ) (p : CounterHandle) → d < length counters → P d (get_or (set handles here new) d p)
   at_places P new here_is others d p within = dite (ℕ_discrete d here)

@@ -14,7 +14,7 @@ use grid::SampleCount;
 use lanes::{BlockMask, BlockSamples, Interpolants};
 use shade::Placed;
 
-/// All pixels of a block where sample `s` of a pixel is drawn, and else none.
+/// All pixels of a block if sample `s` of a pixel is drawn, else none.
 #[inline]
 fn in_sample_mask(triangle: &Placed, s: u32) -> u64
     requires { s < 4 }

@@ -6,7 +6,7 @@ use Rattle.shade.specs.Quotient.{IsQuotient}
 abbrev pub IsOver : ℕ → ℕ → ℕ → ℕ → Type 0
 IsOver source alpha stored = IsQuotient (source * alpha + stored * (255 - alpha) + 127) 255
 
--- The channel that a drawn sample takes: unchanged where it is not written, else the source, or the source over it.
+-- The channel that a drawn sample takes: unchanged if it is not written, else the source, or the source over it.
 abbrev pub IsBlended : Bool → Bool → ℕ → ℕ → ℕ → ℕ → Type 0
 IsBlended false over source alpha stored new = new ≡ stored
 IsBlended true false source alpha stored new = new ≡ source

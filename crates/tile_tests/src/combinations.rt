@@ -70,7 +70,7 @@ fn combined(combination: u32) -> State {
 }
 
 impl Numbers {
-    /// A draw of a triangle that covers whole blocks and of two others; where it is flat, all vertices have one depth and colour.
+    /// A draw of a triangle that covers whole blocks and of two others; if it is flat, all vertices have one depth and colour.
     fn over_blocks(
         &mut self,
         rt: &impl Abort,

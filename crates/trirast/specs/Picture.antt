@@ -26,7 +26,7 @@ pub record CutsRows (l : Scene) (side : TileSide) (first before count : ℕ) (he
   pub within : (before ≤ count) × (count ≤ before + length rows)
   pub written : Appends held held_after (take (count - before) rows)
 
--- What was written of tile rows from `first` to before `end`, where this fault came.
+-- What was written of tile rows from `first` to before `end` before this fault.
 abbrev pub ExplainsRows : Scene → TileSide → ℕ → ℕ → ℕ → PictureFault → Option (List ℕ) → Option (List ℕ) → Type 0
 ExplainsRows l side first end before NotBegun held held_after = ⊥
 ExplainsRows l side first end before (OutOfMemory row) held held_after = (first ≤ row) × (row < end) × ((count : ℕ) × WritesRows l side first row before count held held_after)

@@ -8,7 +8,7 @@ use Rattle.trirast.specs.TileRow.{AreTileRows, IsColumn}
 use Rattle.trirast.specs.declared.tile_rows.Beside.{Beside}
 use Rattle.trirast.specs.declared.tile_rows.TileRows.{TileRows}
 
--- The pixels of the tile of this number, where the tiles are counted row by row from a first tile row on.
+-- The pixels of the tile of this number, if the tiles are counted row by row from a first tile row on.
 abbrev pub IsTileIn : Scene → TileGrid → ℕ → ℕ → TilePixels → Type 0
 IsTileIn l g first n pixels = IsColumn l g (first + n / columns_of g) (n % columns_of g) pixels
 

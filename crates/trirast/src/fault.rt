@@ -33,7 +33,7 @@ pub enum Fault {
     OutOfMemory,
 }
 
-/// Where in a list a fault is, behind its name: nothing, or the number of the draw.
+/// The draw that a fault of a list is in, written behind the fault's name: nothing, or the number of the draw.
 #[derive(Drop)]
 struct InDraw(Option<u32>);
 

@@ -42,9 +42,9 @@ fn push_tile_rows(
     Ok(())
 }
 
-/// The bytes of the rows of pixels in these rows of tiles, from `first` to before `end`, drawn on the calling thread. Each row
-/// has its pixels from left to right: red, green and blue of each, or where the list's output is its depths the more and the
-/// less significant byte of the depth. Nothing else of the picture is drawn. Out of memory is the only error.
+/// The bytes of the rows of pixels in these tile rows, from `first` to before `end`, drawn on the calling thread. Each row has its
+/// pixels from left to right: red, green and blue of each or, if the list's output is its depths, the more and the less significant
+/// byte of the depth. Nothing else of the picture is drawn. Fails only if an allocation fails.
 pub fn draw_rows(
     alloc: Global,
     list: &DrawList,

@@ -29,7 +29,7 @@ pub(crate) fn rows_together(tiling: &Tiling) -> u32
     (MAX_PIXELS / row).clamp(1, most)
 }
 
-/// The tile rows of a picture from `first` to before `end`, counted from the top; none where the two are equal.
+/// The tile rows of a picture from `first` to before `end`, counted from the top; none if the two are equal.
 #[derive(Clone, Copy)]
 pub(crate) struct TileRows<'a> {
     list: &'a DrawList,
