@@ -69,7 +69,7 @@ fn takes_no_input_of_a_byte_more(rt: HostRuntime) -> Result<(), Fail> {
     Ok(())
 }
 
-/// 1 by 33 pixels, so two rows of tiles of 32 pixels, and a triangle over the centres of rows 0 to 18.
+/// 1 by 33 pixels, so two tile rows of 32 pixels, and a triangle over the centres of rows 0 to 18.
 const COLUMN: &str =
     r#"{"width":1,"height":33,"draws":[{"vertices":[[0,0,0,255,255,255,255],[5120,0,0,255,255,255,255],[0,5120,0,255,255,255,255]],"triangles":[[0,1,2]]}]}"#;
 

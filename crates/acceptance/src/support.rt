@@ -135,7 +135,7 @@ pub(crate) fn was_cut_short<R: Abort>(
     assert_eq!(rt; sink.late_calls, 0, "{room}");
 }
 
-/// Appends the bytes of hexadecimal digits; all else in `digits` is passed over.
+/// Appends the bytes of hexadecimal digits; all else in `digits` is ignored.
 fn push_digits(digits: &str, bytes: &mut Vec<u8>) -> Result<(), Fail> {
     let mut upper = None;
     for digit in digits.chars() {

@@ -89,7 +89,7 @@ impl Tiling {
         tiles_over(self.width, self.side)
     }
 
-    /// The number of rows of tiles.
+    /// The number of tile rows.
     pub fn rows(&self) -> u32
         ensures value { result ≡ rows_of self.now }
         ensures least { 1 ≤ result }
@@ -122,7 +122,7 @@ impl Tiling {
         }
     }
 
-    /// The number of tiles of `rows` rows of tiles.
+    /// The number of tiles of `rows` tile rows.
     pub(crate) fn tiles_in(&self, rows: u32) -> u32
         requires { rows ≤ rows_of self.now }
         ensures value { result ≡ rows * columns_of self.now }
@@ -131,7 +131,7 @@ impl Tiling {
         rows * tiles_over(self.width, self.side)
     }
 
-    /// The first row of pixels of `rows` rows of tiles, and the row of pixels after them, were the picture high enough.
+    /// The first row of pixels of `rows` tile rows, and the row of pixels after them, were the picture high enough.
     pub(crate) fn pixel_rows(&self, first_row: u32, rows: u32) -> (u32, u32)
         requires { first_row + rows ≤ rows_of self.now }
         ensures top { result.0 ≡ side_of self.now.side * first_row }

@@ -75,7 +75,7 @@ module _ (ts : List Placed) (c : Canvas) (row : ℕ) where
       kept = λ i j s h l. sample_kept i j s h (λ e. omega (arith, e, l)) ∙ before.kept i j s h (omega (arith, l));
     }
 
--- ---- the rows of tiles, one after another
+-- ---- the tile rows, one after another
 module _ (ts : List Placed) (c : Canvas) (first end : ℕ) where
   -- the rows before this one have been drawn, and the others are unchanged
   pub record AreRowsDrawn (row : ℕ) (old new : List BlockSamples) : Type 0 where

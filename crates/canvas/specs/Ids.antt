@@ -39,7 +39,7 @@ IsLast (t ∷ ts) n count i j s stored before last =
     (next : Sample) × Draws t count i j s stored next
     × ((PassesAt t count i j s stored × IsLast ts (n + 1) count i j s next (Some n) last) ⊎ ((¬ PassesAt t count i j s stored) × IsLast ts (n + 1) count i j s next before last))
 
--- The sample has the id as its colour, or, where there is none, the colour that stood there.
+-- The sample has the id as its colour: red is its lowest byte.
 pub record HasColourOfId (n : ℕ) (sample : Sample) : Type 0 where
   pub red : sample.r ≡ n % 256
   pub green : sample.g ≡ n / 256 % 256

@@ -19,8 +19,8 @@ pub record AreChanged (c : Canvas) (first end : ℕ) (IsSome : ℕ → ℕ → �
   pub changed : (i j s : ℕ) → HasSample c first end i j s → IsSome i j s → stored c first new i j s ≡ end_of i j (stored c first old i j s)
   pub kept : (i j s : ℕ) → HasSample c first end i j s → ¬ IsSome i j s → stored c first new i j s ≡ stored c first old i j s
 
--- All samples of each pixel of the picture in these tile rows have the colour of the pixel's bytes. Their depths stay, and so do the
--- samples of pixels beside the picture.
+-- All samples of each pixel of the picture in these tile rows have the colour of the pixel's bytes. Their depths are unchanged, and
+-- so are the samples of pixels outside of the picture.
 abbrev pub AreLoaded : Canvas → ℕ → ℕ → List ℕ → Format → ℕ → List BlockSamples → List BlockSamples → Type 0
 AreLoaded c first end bytes format stride old new =
     AreChanged c first end (λ i j s. HasPixel c first end i j) (λ i j sample. coloured format (λ k. slice_index bytes (entry_of first (pixel_bytes format) stride i j + k)) sample) old new

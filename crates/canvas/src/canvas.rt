@@ -40,7 +40,7 @@ impl Canvas {
         }
     }
 
-    /// How many tiles a row of tiles has.
+    /// How many tiles a tile row has.
     pub fn column_count(&self) -> u32
         ensures value { result ≡ columns_of self.now }
         ensures some { 1 ≤ result }
@@ -49,7 +49,7 @@ impl Canvas {
         (self.width + 63) / 64
     }
 
-    /// How many rows of tiles there are.
+    /// How many tile rows there are.
     pub fn row_count(&self) -> u32
         ensures value { result ≡ rows_of self.now }
         ensures some { 1 ≤ result }
@@ -66,7 +66,7 @@ impl Canvas {
         64 * self.count.count() as usize
     }
 
-    /// How many planes of samples a row of tiles has.
+    /// How many planes of samples a tile row has.
     pub fn planes_of_row(&self) -> usize
         ensures value { result ≡ planes_of_row self.now }
         ensures few { result ≤ 16384 }
@@ -104,7 +104,7 @@ impl Canvas {
         }
     }
 
-    /// All rows of tiles.
+    /// All tile rows.
     pub fn all(&self) -> TileRows
         ensures { (result.canvas ≡ self.now) × (result.first ≡ 0) × (result.end ≡ rows_of self.now) }
     {

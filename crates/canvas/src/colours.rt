@@ -53,7 +53,7 @@ fn resolve_run(
 }
 
 impl Canvas {
-    /// Writes row `j` of pixels, from the samples of its row of tiles.
+    /// Writes row `j` of pixels, from the samples of its tile row.
     fn resolve_row(&self, j: u32, samples: &[BlockSamples], format: Format, bytes: &mut [u8])
         requires row { j < self.now.height }
         requires samples { length samples.now ≡ planes_of_row self.now }

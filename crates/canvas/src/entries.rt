@@ -20,7 +20,7 @@ fn id_at(plane: &BlockSamples, k: usize) -> u32
 }
 
 impl Canvas {
-    /// Writes the depths of the samples `s` of row `j` of pixels, from the samples of its row of tiles.
+    /// Writes the depths of the samples `s` of row `j` of pixels, from the samples of its tile row.
     fn depth_row(&self, j: u32, s: u32, samples: &[BlockSamples], depths: &mut [u16])
         requires sample { s < count_of self.now.count }
         requires samples { length samples.now ≡ planes_of_row self.now }
@@ -33,7 +33,7 @@ impl Canvas {
         }
     }
 
-    /// Writes the ids of the samples `s` of row `j` of pixels, from the samples of its row of tiles.
+    /// Writes the ids of the samples `s` of row `j` of pixels, from the samples of its tile row.
     fn id_row(&self, j: u32, s: u32, samples: &[BlockSamples], ids: &mut [u32])
         requires sample { s < count_of self.now.count }
         requires samples { length samples.now ≡ planes_of_row self.now }

@@ -296,7 +296,7 @@ impl Random {
         point(rt, x, self.coordinate(step))
     }
 
-    /// A triangle, which now and then is a sliver: its last corner lies right beside the one before.
+    /// A triangle, which now and then is a sliver: its last corner lies right next to the one before.
     fn triangle(&mut self, rt: &impl Abort, step: u32) -> Tri
         requires step { 0 < step }
         requires small { step < 2 ^ 8 }
@@ -419,7 +419,7 @@ fn compare_quad(rt: &impl Abort, quad: &Quad, bx: u32, by: u32)
 }
 
 impl Random {
-    /// Four corners, which may or may not make a quad: now and then a thin one, whose last two corners lie beside the first two.
+    /// Four corners, which may or may not make a quad: now and then a thin one, whose last two corners lie next to the first two.
     fn quad(&mut self, rt: &impl Abort, step: u32) -> Option<Quad>
         requires step { 0 < step }
         requires small { step < 2 ^ 8 }

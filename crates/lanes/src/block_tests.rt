@@ -1,4 +1,4 @@
-//! Blocks drawn sixteen samples at once beside the same samples drawn one by one.
+//! Blocks drawn sixteen samples at once, compared with the same samples drawn one by one.
 ghost use Rattle.std.specs.Prelude.{◌≡◌, ◌<◌, ℕ, IsTrue, IsBitSet, slice_index, pos, ◌<ℤ◌};
 ghost use Rattle.grid.specs.Triangle.{Covers};
 ghost use Rattle.grid.specs.Samples.{count_of};

@@ -60,7 +60,7 @@ pub(crate) fn are_sure(fractions: u32x16) -> bool
     fractions.simd_lt(u32x16::splat(SURE)).to_bitmask() == 0
 }
 
-/// What is left of sixteen numerators, each without its value times the area, modulo 2^64.
+/// The remainders of sixteen numerators: each without its value times the area, modulo 2^64.
 #[inline(always)]
 pub(crate) fn rests(numerators: u64x16, values: u16x16, area: u64) -> u64x16
     ensures length { length result ≡ 16 }
@@ -78,7 +78,7 @@ fn signs(numbers: u64x16) -> u16x16
     (numbers >> 63).cast::<u16>()
 }
 
-/// The quotients, from them or the numbers after them, by the signs of what is left. No lane grows.
+/// The quotients: the values or the numbers before them, by the signs of the remainders. No lane grows.
 #[inline(always)]
 pub(crate) fn lowered(values: u16x16, rests: u64x16) -> u16x16
     ensures length { length result ≡ 16 }

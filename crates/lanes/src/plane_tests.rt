@@ -1,4 +1,4 @@
-//! Values at sixteen samples at the ends of what planes can be, beside `floor_at`.
+//! Values at sixteen samples at the ends of what planes can be, compared with `floor_at`.
 ghost use Rattle.std.specs.Prelude.{IsTrue, pos, ◌≤ℤ◌, ◌<ℤ◌};
 ghost use Rattle.lanes.specs.Group.{IsGroupOnScreen};
 

@@ -50,7 +50,7 @@ impl Reciprocal {
         ((number as i128 * self.value as i128) >> (127 - self.shift - bits)) as i64
     }
 
-    /// What is left of `number` after `gradient` times the area, in units of the gradient's last bit.
+    /// The remainder of `number` after `gradient` times the area, in units of the gradient's last bit.
     #[inline(always)]
     fn rest(self, number: i64, gradient: i64, bits: u32) -> i64
         requires bits { bits ≤ 56 }

@@ -92,7 +92,7 @@ fn list(rt: &impl Abort, alloc: Global, draws: Vec<Draw>) -> DrawList {
     )
 }
 
-/// The fault of a list of a picture of this size, or none.
+/// The fault of a list of a picture of this size, or `None`.
 fn fault(alloc: Global, width: u32, height: u32, draws: Vec<Draw>) -> Option<ListFault> {
     DrawList::new(
         alloc,

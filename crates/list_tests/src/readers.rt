@@ -1,4 +1,4 @@
-//! One pass over the tokens beside the tree of values.
+//! One pass over the tokens, compared with the tree of values.
 use list::{DrawList, MOST_BYTES, read, read_by_value, read_in_one_pass};
 use std::alloc::AllocGlobal;
 use std::process::Abort;

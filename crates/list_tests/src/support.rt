@@ -25,7 +25,7 @@ pub(crate) fn in_draw(kind: ReadKind, number: u32) -> Option<ReadFault> {
     })
 }
 
-/// The fault of a list with these members beside one pixel and no draws.
+/// The fault of a list of one pixel and no draws, with these further members.
 pub(crate) fn top_fault(rt: &(impl Abort + AllocGlobal), members: &str) -> Option<ReadFault> {
     let text = format!(in rt.alloc(); r#"{{"width":1,"height":1,"draws":[]{members}}}"#).expect(
         rt, "memory",
@@ -41,7 +41,7 @@ pub(crate) fn draw_fault(rt: &(impl Abort + AllocGlobal), members: &str) -> Opti
     fault(rt, text.as_str())
 }
 
-/// The fault of a list of one draw without triangles, which has this member beside.
+/// The fault of a list of one draw without triangles, with this further member.
 pub(crate) fn state_fault(rt: &(impl Abort + AllocGlobal), member: &str) -> Option<ReadFault> {
     let members = format!(in rt.alloc(); r#"{member},"vertices":[],"triangles":[]"#).expect(
         rt, "memory",

@@ -1,4 +1,4 @@
-//! The call that the calling thread makes beside the workers.
+//! The call that the calling thread makes concurrently with the workers.
 
 use grid::OutOfMemory;
 use pool::{Desks, Job, Open, PoolFault, run_beside};
@@ -60,8 +60,8 @@ impl Job for Waiting {
     }
 }
 
-/// Has two workers do the job for three numbers, with a call beside them that is counted. The result is that of the workers, and how
-/// often the call was made before.
+/// Has two workers do the job for three numbers, and concurrently makes a call that is counted. Returns the workers' result, and
+/// how often the call was made before.
 fn run_counted<R: Threads + Wait + Sync>(
     rt: &R,
     alloc: Global,

@@ -1,4 +1,4 @@
-//! The order of desks, beside deques that seats pop from and steal from.
+//! The order of desks, compared with deques that seats pop from and steal from.
 ghost use Rattle.std.specs.Prelude.{◌<◌, ◌≤◌, All, vec_len};
 
 use crossbeam_deque::{Steal, Worker};

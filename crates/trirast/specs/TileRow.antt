@@ -1,4 +1,4 @@
--- One row of tiles, and the rows of pixels in it.
+-- One tile row, and the rows of pixels in it.
 use Rattle.std.specs.Prelude.{◌≡◌, ℕ, ◌+◌, ◌-◌, ◌*◌, List, ◌++◌, length, min, slice_get, Some}
 use Rattle.grid.specs.Pixels.{side_of}
 use Rattle.grid.specs.declared.pixels.TileSide.{TileSide}

@@ -181,7 +181,7 @@ fn write_rows<R: Threads + Wait + Sync, W: Write, G: Gate>(
     };
     let header = write_header(list.output(), list.width(), list.height(), output)?;
     let rows = TileRows::new(list, &tiling, 0, tiling.rows());
-    // Nobody would work beside one worker, or beside the one that draws a batch of one tile.
+    // With one worker, or with a batch of one tile, nothing would be drawn concurrently.
     if options.workers == 1 || tiling.columns() * together == 1 {
         let (written, _bytes) = write_alone(alloc, rows, gate, bytes, header, output)?;
         Ok(written)

@@ -21,7 +21,7 @@ fn most_bytes(list: &DrawList, tile: TileSide, rows: u32) -> usize
     (u64::from(list.output().pixel_bytes() * list.width()) * pixel_rows) as usize
 }
 
-/// Draws these rows of tiles, from `first` to before `end`, one by one, and appends the bytes of their rows of pixels.
+/// Draws these tile rows, from `first` to before `end`, one by one, and appends the bytes of their rows of pixels.
 fn push_tile_rows(
     alloc: Global,
     list: &DrawList,
