@@ -1,4 +1,4 @@
-//! Lists that are refused, and lists at their limits.
+//! Lists that are no draw lists, and lists at their limits.
 use crate::support::{PIXELS, TRIANGLE, call, draws, refuses};
 use std::alloc::{AllocError, Global};
 use std::test::Fail;

@@ -208,7 +208,7 @@ pub(crate) fn writes<R: Threads + Wait + Sync + Abort>(
     Ok(())
 }
 
-/// Asserts that the program draws this picture of the list, without a line of a fault.
+/// Asserts that the program draws this picture of the list, without a line of an error.
 pub(crate) fn draws<R: Threads + Wait + Sync + Abort>(
     rt: &R,
     alloc: Global,

@@ -15,7 +15,7 @@ use model::{MOST_TRIANGLES, MOST_VERTICES, Primitives, ReadKind, Vertex};
 use serde_json::Value;
 use std::alloc::Global;
 
-/// The one list of primitives that a draw has, still as it was written.
+/// The one list of primitives that a draw has, still as a JSON value.
 #[derive(Clone, Copy)]
 pub(crate) enum PrimitiveArray<'v> {
     Triangles(&'v Value),

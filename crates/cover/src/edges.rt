@@ -61,7 +61,7 @@ impl Edges {
         }
     }
 
-    /// The three functions so far to the right and down in 1/256 pixel.
+    /// The three functions `right` to the right of and `down` below a position where they are `at`, in 1/256 pixel.
     #[inline(always)]
     pub(crate) fn further(&self, at: &Values, right: u32, down: u32) -> Values
         requires at { AreScreenBounded at.now }

@@ -37,7 +37,7 @@ lane_is f xs m i k area n s p x y r b is long fits less plane height part reache
     let candidate : IsCandidate k n area ((m / 2 ^ 32 + part.part / 2 ^ 32) % 2 ^ 32) = candidate_is k n area s p x y r b m part.part fits part.fits plane height part.is_part reached in
     rw lane candidate
 
--- ---- whole parts
+-- ---- integer parts
 pub whole_24 : (f bits : ℕ) → f < 2 ^ 32 → bits ≡ 24 → f / 2 ^ bits ≤ 255
 whole_24 f bits h e = rw e (omega (arith, h))
 

@@ -5,7 +5,7 @@ use Rattle.std.proofs.lemmas.Nat.{mod_below, div-add-mod'}
 use Rattle.shade.specs.Quotient.{IsQuotient}
 use Rattle.lanes.specs.Candidate.{IsCandidate, IsNear}
 
--- over a whole part m and a fraction of r out of p units
+-- over an integer part m and a fraction of r out of p units
 split : (m p r s : ℕ) → (m * p + r) * s ≡ (m * s) * p + r * s
 split m p r s = omega arith
 

@@ -49,10 +49,10 @@ pub(crate) fn least(a: u32x16, b: u32x16) -> u32x16
     a.simd_lt(b).select(a, b)
 }
 
-/// The least fraction, in units of the last bit, with which the whole part of a candidate is surely the value.
+/// The least fraction, in units of the last bit, with which the integer part of a candidate is surely the value.
 const SURE: u32 = 3;
 
-/// Whether the whole parts of candidates with these fractions are surely the values.
+/// Whether the integer parts of candidates with these fractions are surely the values.
 #[inline(always)]
 pub(crate) fn are_sure(fractions: u32x16) -> bool
     ensures { IsTrue result → (i : ℕ) → i < 16 → 3 ≤ slice_index fractions i }

@@ -91,7 +91,7 @@ impl ColourSlopes {
 /// The bits of a channel's fraction.
 const FRACTION: u32 = 0xff_ffff;
 
-/// Whether the whole parts of all candidates of the four channels are surely the values.
+/// Whether the integer parts of all candidates of the four channels are surely the values.
 #[inline(always)]
 fn are_all_sure(red: u32x16, green: u32x16, blue: u32x16, alpha: u32x16) -> bool
     ensures red { IsTrue result → (i : ℕ) → i < 16 → 3 ≤ slice_index red i % 2 ^ 24 }

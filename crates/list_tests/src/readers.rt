@@ -46,7 +46,7 @@ fn assert_both(rt: &(impl Abort + AllocGlobal), text: &str) {
     assert!(rt; are_same(rt, &tokens, &value), "{text}");
 }
 
-/// One pass gives none, and what is read is what the value denotes.
+/// One pass returns `None`, and what is read is what the value denotes.
 fn assert_left_to_the_value(rt: &(impl Abort + AllocGlobal), text: &str) {
     assert!(rt; by_tokens(rt, text).is_none(), "{text}");
     let value = by_value(rt, text).expect(rt, text);

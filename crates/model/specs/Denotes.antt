@@ -39,7 +39,7 @@ IsDepthNumber value n = IsWhole (pos 0) (pos 65535) value (pos n)
 abbrev pub IsChannel : Option Data → ℕ → Type 0
 IsChannel value n = IsWhole (pos 0) (pos 255) value (pos n)
 
--- The value is the number of one of n vertices.
+-- The value is the index of one of n vertices.
 abbrev pub IsIndex : ℕ → Option Data → ℕ → Type 0
 IsIndex n value k = (whole value ≡ Some (pos k)) × (k < n)
 
@@ -82,7 +82,7 @@ pub record IsVertex (value : Data) (v : Vertex) : Type 0 where
   pub blue : IsChannel (at 5 value) (slice_index v.rgba 2)
   pub alpha : IsChannel (at 6 value) (slice_index v.rgba 3)
 
--- The value is [a, b, c], the numbers of three of n vertices.
+-- The value is [a, b, c], the indices of three of n vertices.
 pub record IsTriangle (n : ℕ) (value : Data) (triangle : List ℕ) : Type 0 where
   pub array : length_of (Some value) ≡ Some 3
   pub indices : length triangle ≡ 3
@@ -90,11 +90,11 @@ pub record IsTriangle (n : ℕ) (value : Data) (triangle : List ℕ) : Type 0 wh
   pub second : IsIndex n (at 1 value) (slice_index triangle 1)
   pub third : IsIndex n (at 2 value) (slice_index triangle 2)
 
--- The value is the number of one of n vertices in a strip.
+-- The value is the index of one of n vertices in a strip.
 abbrev pub IsStripIndex : ℕ → Data → ℕ → Type 0
 IsStripIndex n value k = IsIndex n (Some value) k
 
--- The value is [a, b, c, d], the numbers of four of the vertices, which are the corners of a strictly convex quad.
+-- The value is [a, b, c, d], the indices of four of the vertices, which are the corners of a strictly convex quad.
 pub record IsQuad (vertices : List Vertex) (value : Data) (quad : List ℕ) : Type 0 where
   pub array : length_of (Some value) ≡ Some 4
   pub indices : length quad ≡ 4

@@ -7,7 +7,7 @@ use Rattle.model.specs.declared.primitives.Primitives.{Primitives}
 use Rattle.model.specs.declared.primitives.Primitives.TheVariants.{Triangles, Strip, Quads}
 use Rattle.model.specs.declared.draw.Vertex.{Vertex}
 
--- Primitives by the numbers of their vertices, without where they lie in memory.
+-- Primitives by the indices of their vertices, without where they lie in memory.
 pub data PrimitiveListing : Type 0 where
   triangle_list : List (List ℕ) → PrimitiveListing
   triangle_strip : List ℕ → PrimitiveListing
@@ -31,7 +31,7 @@ quad_triangles quad =
 abbrev pub quads_count : ℕ → ℕ
 quads_count quads = 2 * quads
 
--- The triangles of primitives in draw order, each by the numbers of its vertices.
+-- The triangles of primitives in draw order, each by the indices of its vertices.
 abbrev pub triangles_of : PrimitiveListing → List (List ℕ)
 triangles_of (triangle_list triangles) = triangles
 triangles_of (triangle_strip indices) = map (strip_triangle indices) (range_with_len 0 (strip_count (length indices)))
@@ -43,7 +43,7 @@ count_of_triangles (triangle_list triangles) = length triangles
 count_of_triangles (triangle_strip indices) = strip_count (length indices)
 count_of_triangles (quad_list quads) = quads_count (length quads)
 
--- Where the vertex of this number lies; the origin past the end.
+-- The position of the vertex of this index; the origin past the end.
 abbrev pub position_of : List Vertex → ℕ → Position
 position_of vertices k = slice_index_or (map (λ v. v.at) vertices) k (record { x = pos 0; y = pos 0 })
 

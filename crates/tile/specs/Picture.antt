@@ -42,7 +42,7 @@ abbrev pub IsTileBin : Scene → Tile → List ℕ → Type 0
 IsTileBin l tile numbers =
     (row column s : ℕ) → IsShown l tile row column s → IsBin l (λ t. Meets t l.count (8 * tile.bx + column) (8 * tile.by + row) s) numbers
 
--- The samples whose pixels are in the picture are their ends.
+-- The samples whose pixels are in the picture have their final values.
 abbrev pub AreEnds : Scene → Tile → List BlockSamples → Type 0
 AreEnds l tile samples =
     (row column s : ℕ) → IsShown l tile row column s → IsEnd l (8 * tile.bx + column) (8 * tile.by + row) s (stored tile samples row column s)

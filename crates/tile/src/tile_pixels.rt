@@ -77,7 +77,7 @@ fn shown(pixels: u32, block: u32, side: TileSide) -> u32
 
 /// Tile `k` of the picture, drawn from its bin in a store for the tile's samples. Each triangle of the bin is drawn, in draw order,
 /// at the samples that it meets. At the end each pixel has the colour of its samples (multisample resolve), or the depth of its
-/// sample 0. Only the result takes memory. Fails only if an allocation fails. The store may be used again for another tile, also
+/// sample 0. Only the result is allocated. Fails only if an allocation fails. The store may be used again for another tile, also
 /// after an error.
 pub fn render(
     alloc: Global,

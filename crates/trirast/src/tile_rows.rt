@@ -227,8 +227,8 @@ impl<'a> TileRows<'a> {
     }
 
     /// Has the tiles drawn by this many workers, or by one for each tile if there are fewer tiles. Their bins are made if they are
-    /// not given. Meanwhile, and also if an allocation fails or a worker is not started, the calling thread sees to the tile rows
-    /// above and below.
+    /// not given. Meanwhile, and also if an allocation fails or a worker is not started, the calling thread does the work of
+    /// `beside`.
     pub(crate) fn draw<R: Threads + Wait + Sync, G: Gate>(
         &self,
         rt: &R,
