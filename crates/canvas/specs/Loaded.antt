@@ -8,13 +8,14 @@ use Rattle.canvas.specs.declared.format.Format.TheVariants.{Rgb8, Rgba8, Bgra8}
 use Rattle.canvas.specs.Layout.{HasSample, HasPixel, stored}
 use Rattle.canvas.specs.Pixels.{pixel_bytes, entry_of}
 
--- The sample in the colour of these bytes of a pixel. Its depth stays, and alpha is not read.
+-- The sample in the colour of these bytes of a pixel. Its depth is unchanged, and alpha is not read.
 abbrev pub coloured : Format → (ℕ → ℕ) → Sample → Sample
 coloured Rgb8 bytes old = record { r = bytes 0; g = bytes 1; b = bytes 2; z = old.z }
 coloured Rgba8 bytes old = record { r = bytes 0; g = bytes 1; b = bytes 2; z = old.z }
 coloured Bgra8 bytes old = record { r = bytes 2; g = bytes 1; b = bytes 0; z = old.z }
 
--- The samples of some pixels in these tile rows end as `end_of` says, by what was stored there, and all other samples stay.
+-- The samples of some pixels in these tile rows end as `end_of` says, by what was stored there, and all other samples are
+-- unchanged.
 pub record AreChanged (c : Canvas) (first end : ℕ) (IsSome : ℕ → ℕ → ℕ → Type 0) (end_of : ℕ → ℕ → Sample → Sample) (old new : List BlockSamples) : Type 0 where
   pub changed : (i j s : ℕ) → HasSample c first end i j s → IsSome i j s → stored c first new i j s ≡ end_of i j (stored c first old i j s)
   pub kept : (i j s : ℕ) → HasSample c first end i j s → ¬ IsSome i j s → stored c first new i j s ≡ stored c first old i j s

@@ -81,9 +81,9 @@ impl Canvas {
 }
 
 impl TileRows {
-    /// Writes the colour of each pixel of the picture in these tile rows, in the format, with alpha 255: the rows of pixels from top to
-    /// bottom, each `stride` bytes behind the one above, the pixels of a row from left to right. The bytes begin with the first pixel of
-    /// the first row. Bytes that are of no pixel stay unchanged.
+    /// Writes the colour of each pixel of the picture in these tile rows, in the format, with alpha 255: the rows of pixels from
+    /// top to bottom, each `stride` bytes behind the one above, the pixels of a row from left to right. The bytes begin with the
+    /// first pixel of the first row. Bytes of no pixel are unchanged.
     pub fn resolve(
         &self,
         samples: &[BlockSamples],

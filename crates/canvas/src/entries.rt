@@ -49,8 +49,8 @@ impl Canvas {
 
 impl TileRows {
     /// Writes the depth of sample `s` of each pixel of the picture in these tile rows: the rows of pixels from top to bottom, each
-    /// `stride` entries behind the one above, the pixels of a row from left to right. The entries begin with the first pixel of the first
-    /// row. Entries that are of no pixel stay unchanged.
+    /// `stride` entries behind the one above, the pixels of a row from left to right. The entries begin with the first pixel of the
+    /// first row. Entries of no pixel are unchanged.
     pub fn depths(
         &self,
         samples: &[BlockSamples],
@@ -91,8 +91,8 @@ impl TileRows {
         Ok(())
     }
 
-    /// Writes the id that is stored in place of the colour of sample `s`, red + 256 * green + 65536 * blue, of each pixel of the picture
-    /// in these tile rows, laid out as by `depths`. Entries that are of no pixel stay unchanged.
+    /// Writes the id that is stored in place of the colour of sample `s`, red + 256 * green + 65536 * blue, of each pixel of the
+    /// picture in these tile rows, laid out as by `depths`. Entries of no pixel are unchanged.
     pub fn ids(
         &self,
         samples: &[BlockSamples],

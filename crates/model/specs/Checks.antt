@@ -109,7 +109,7 @@ abbrev pub triangle_checks : ℕ → Data → Checks
 triangle_checks n value =
     length_check 3 (Some value) ∷ (index_checks n (at 0 value) ++ (index_checks n (at 1 value) ++ index_checks n (at 2 value)))
 
--- where a vertex is written to lie
+-- the position of a vertex, as it is written
 abbrev pub position_written : Data → Position
 position_written value = record { x = unwrap_or (whole (at 0 value)) (pos 0); y = unwrap_or (whole (at 1 value)) (pos 0) }
 
@@ -209,7 +209,7 @@ part_checks earlier vertices triangles strip quads =
 abbrev pub triangles_given : Option Data → Option Data → Option Data → ℕ
 triangles_given triangles strip quads = count triangles + strip_count (count strip) + quads_count (count quads)
 
--- how many triangles a draw counts
+-- how many triangles a draw has, by its values
 abbrev pub triangles_counted : Data → ℕ
 triangles_counted value = triangles_given (get (codes "triangles") value) (get (codes "strip") value) (get (codes "quads") value)
 
@@ -286,7 +286,7 @@ draws_checks number earlier (item value rest) =
 abbrev pub value_checks : Data → List (Check ReadFault)
 value_checks value = told_as outside (top_checks value) ++ draws_checks 0 0 (elements (get (codes "draws") value))
 
--- All checks of an input, in their order: first that its bytes are no JSON.
+-- All checks of an input, in their order: first whether its bytes are JSON.
 abbrev pub all_checks : Option Data → List (Check ReadFault)
 all_checks None = check true (outside NotJson) ∷ []
 all_checks (Some value) = check false (outside NotJson) ∷ value_checks value

@@ -149,7 +149,7 @@ pub record IsScissor (value : Option Data) (scissor : PixelBox) : Type 0 where
   pub right : IsScissorSide (element 2 value) scissor.x1
   pub bottom : IsScissorSide (element 3 value) scissor.y1
 
--- How the value has its fragments merged with what is stored.
+-- The value says how its fragments are merged with what is stored.
 pub record IsMerge (value : Data) (merge : Merge) : Type 0 where
   pub depth_test : OrDefault test.Always IsDepthTest (get (codes "depth_test") value) merge.test
   pub depth_write : OrDefault false IsTruth (get (codes "depth_write") value) merge.depth_write
@@ -210,7 +210,7 @@ pub record IsDrawList (value : Data) (list : Scene) : Type 0 where
   pub is : IsListing value listing
   pub scene : list ≡ scene_of listing
 
--- Of the bytes serde_json makes a value, and it is this draw list.
+-- serde_json reads the bytes as a value, which denotes this draw list.
 pub record Denotes (bytes : List ℕ) (list : Scene) : Type 0 where
   pub size : length bytes ≤ 67108864
   pub value : Data

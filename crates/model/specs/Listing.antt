@@ -1,4 +1,4 @@
--- What a draw list holds, without where it lies in memory.
+-- What a draw list holds, wherever it lies in memory.
 use Rattle.std.specs.Prelude.{ℕ, ◌≤◌, List, [], ◌∷◌, map, length, sum_by, slice_index, slice_index_or, pos}
 use Rattle.std.specs.List.{All, flat_map}
 use Rattle.grid.specs.declared.sample_count.SampleCount.{SampleCount}

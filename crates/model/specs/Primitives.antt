@@ -7,7 +7,7 @@ use Rattle.model.specs.declared.primitives.Primitives.{Primitives}
 use Rattle.model.specs.declared.primitives.Primitives.TheVariants.{Triangles, Strip, Quads}
 use Rattle.model.specs.declared.draw.Vertex.{Vertex}
 
--- Primitives by the indices of their vertices, without where they lie in memory.
+-- Primitives by the indices of their vertices, wherever they lie in memory.
 pub data PrimitiveListing : Type 0 where
   triangle_list : List (List ℕ) → PrimitiveListing
   triangle_strip : List ℕ → PrimitiveListing

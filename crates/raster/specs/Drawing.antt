@@ -22,7 +22,7 @@ DrawsAt t tile old new row column s =
 abbrev pub KeepsAt : Tile → List BlockSamples → List BlockSamples → ℕ → ℕ → ℕ → Type 0
 KeepsAt tile old new row column s = stored tile new row column s ≡ stored tile old row column s
 
--- The triangle is drawn at the samples of a part of the tile, and the others stay.
+-- The triangle is drawn at the samples of a part of the tile, and the others are unchanged.
 pub record DrawsPart (t : Placed) (tile : Tile) (part : ℕ → ℕ → ℕ → Type 0) (old new : List BlockSamples) : Type 0 where
   pub drawn : (row column s : ℕ) → IsSampleOf tile row column s → part row column s → DrawsAt t tile old new row column s
   pub kept : (row column s : ℕ) → IsSampleOf tile row column s → ¬ part row column s → KeepsAt tile old new row column s

@@ -59,7 +59,7 @@ fn holds_the_largest_triangle(rt: HostRuntime) {
         value_at(&rt, &largest, (128, 128), [65535, 65535, 65535]),
         Some(65535)
     );
-    // One less at a vertex is divided: the sum is then less by that vertex's weight, which is under the area.
+    // One less at a vertex is divided: the sum is then less by that vertex's weight, which is less than the area.
     assert_eq!(rt;
         value_at(&rt, &largest, (128, 128), [65534, 65535, 65535]),
         Some(65534)

@@ -87,7 +87,7 @@ pub record HasFault (left left_after : Option (List ℕ)) (fault : ReadFault) : 
   pub input : GivesAll left left_after bytes
   pub first : IsFirstFault (all_checks (json_of bytes)) fault
 
--- As many bytes came.
+-- The input gave exactly `count` bytes.
 pub record Gives (left left_after : Option (List ℕ)) (count : ℕ) : Type 0 where
   pub bytes : List ℕ
   pub given : Consumes left left_after bytes
