@@ -210,7 +210,7 @@ pub record IsDrawList (value : Data) (list : Scene) : Type 0 where
   pub is : IsListing value listing
   pub scene : list ≡ scene_of listing
 
--- serde_json reads the bytes as a value, which denotes this draw list.
+-- serde_json reads the bytes, at most 64 MiB, as a value, which denotes this draw list.
 pub record Denotes (bytes : List ℕ) (list : Scene) : Type 0 where
   pub size : length bytes ≤ 67108864
   pub value : Data

@@ -22,7 +22,7 @@ abbrev pub EachFrom : {X : Type 0} → (ℕ → X → Type 0) → ℕ → List X
 EachFrom fact first [] = Unit {0}
 EachFrom fact first (x ∷ xs) = fact first x × EachFrom fact (first + 1) xs
 
--- Seats as they are dealt: of this dealer, in their order, given nothing, and not more than there may be
+-- New seats of this dealer, in their order: they were given nothing, and are not more than there may be
 pub record AreDealt {D Seat : Type 0} (d : Dealer.Ghosts D Seat) (dealer : D) (seats : List Seat) : Type 0 where
   pub fresh : All (λ s. d.fits dealer s × (d.given s ≡ [])) seats
   pub numbers : map d.number seats ≡ range_with_len 0 (length seats)
@@ -47,7 +47,7 @@ module _ {D Seat : Type 0} (d : Dealer.Ghosts D Seat) {J Out Scratch : Type 0} (
   AreWorkerResults dealer job workers results = EachFrom (IsWorkerResult dealer job) 0 results × (length results ≡ workers)
 
   module _ {G : Type 0} (g : Gate.Ghosts G) where
-    -- the worker of this number can do the job for each number that is dealt, once it has entered for it
+    -- the worker of this number can do the job for each number of the dealer, once it has entered for it
     abbrev pub CanWork : D → J → G → ℕ → Type 0
     CanWork dealer job gate worker = (k : ℕ) → k < d.count dealer → g.entered gate worker k → j.can_work job k
 

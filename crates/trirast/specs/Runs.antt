@@ -14,7 +14,7 @@ use Rattle.model.specs.Json.{json_of}
 use Rattle.model.specs.FirstFault.{IsFirstFault}
 use Rattle.trirast.specs.File.{header_of, IsPictureFile}
 
--- a reader that had `left` gave these bytes, and then was at its end
+-- a reader with the bytes `left` gave these bytes, and then was at its end
 pub record GivesAll (left left_after : Option (List ℕ)) (bytes : List ℕ) : Type 0 where
   pub given : Consumes left left_after bytes
   pub ended : IsAtEnd left_after
