@@ -112,7 +112,7 @@ def spokes(samples: int) -> Scene:
 
 
 def depth() -> Scene:
-    """Three boards that run through one another, drawn with the depth test."""
+    """Four boards that run through one another, drawn with the depth test."""
     near, far = 8000, 56000
     boards = [
         (rectangle(30, 90, 290, 150, [(230, 80, 60), (250, 190, 90), (250, 190, 90), (230, 80, 60)],

@@ -28,7 +28,7 @@ static _Noreturn void stop(const char *why) {
 
 /* ---- The list of a frame ---- */
 
-/* A text that grows. It is kept from frame to frame, so that only the first frames ask for memory. */
+/* A string that grows. It is kept from frame to frame, so that only the first frames allocate. */
 typedef struct {
     char *bytes;
     size_t length, size;

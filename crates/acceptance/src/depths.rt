@@ -1,5 +1,5 @@
-//! Pictures of depths: small ones reckoned by hand, from all tile sides and numbers of workers, and what is left of one where
-//! its writer fails.
+//! Pictures of depths: small ones computed by hand, drawn with all tile sizes and several numbers of workers, and the bytes that
+//! are written if the writer fails.
 ghost use Rattle.std.specs.Prelude.{◌≤◌};
 
 use crate::devices::{End, Sink};
@@ -38,7 +38,7 @@ fn four_samples(alloc: Global, keys: &str) -> Result<String, AllocError> {
     )
 }
 
-/// Asserts that the depths of the list are these, with each tile side and several numbers of workers.
+/// Asserts that the depths of the list are these, with each tile size and several numbers of workers.
 fn shows<R: Threads + Wait + Sync + Abort>(
     rt: &R,
     alloc: Global,
@@ -104,7 +104,7 @@ fn half(alloc: Global) -> Result<Vec<u8>, AllocError> {
     Ok(bytes)
 }
 
-/// The header has 15 bytes, and each of the first two bands 32 * 65 * 2 = 4,160.
+/// The header has 15 bytes, and each of the first two tile rows 32 * 65 * 2 = 4,160.
 #[test]
 fn tells_how_many_bytes_of_depths_went_out(rt: HostRuntime) -> Result<(), Fail> {
     let expected = half(rt.alloc())?;

@@ -14,7 +14,7 @@ pub(crate) enum End {
     TakesNothing,
 }
 
-/// Takes so many bytes, so many a call, and flushes or not.
+/// A writer that takes `room` bytes, at most `a_call` a call, and can be flushed or not.
 #[derive(Drop)]
 pub(crate) struct Sink {
     pub(crate) taken: Vec<u8>,
@@ -24,13 +24,13 @@ pub(crate) struct Sink {
     pub(crate) can_flush: bool,
     /// How often it was flushed.
     pub(crate) flushes: u64,
-    /// How often a call came to it after it had taken all that it takes and said so.
+    /// How often it was called after it had taken `room` bytes and returned that it takes no more.
     pub(crate) late_calls: u64,
     has_ended: bool,
 }
 
 impl Sink {
-    /// Takes so many bytes, each call as many as there is room for, and flushes.
+    /// Takes `room` bytes, each call as many as are left of them, and can be flushed.
     pub(crate) fn new(alloc: Global, room: usize, end: End) -> Sink {
         Sink {
             taken: Vec::new(alloc),
@@ -44,14 +44,14 @@ impl Sink {
         }
     }
 
-    /// The same, taking at most so many bytes a call.
+    /// The same, taking at most `a_call` bytes a call.
     pub(crate) fn in_pieces(alloc: Global, room: usize, a_call: usize, end: End) -> Sink {
         let mut sink = Sink::new(alloc, room, end);
         sink.a_call = a_call;
         sink
     }
 
-    /// Counts a call where it comes too late.
+    /// Counts a call that comes too late.
     fn count_call(&mut self) {
         if self.has_ended {
             self.late_calls = self.late_calls.wrapping_add(1);
@@ -86,7 +86,7 @@ impl Write for Sink {
     }
 }
 
-/// Gives a text and then so many spaces, so many bytes a call, and fails at one of its calls.
+/// A reader that gives `text` and then spaces, at most `a_call` bytes a call. It fails after `calls_left` calls.
 #[derive(Drop)]
 pub(crate) struct Source<'a> {
     pub(crate) text: &'a [u8],
@@ -96,7 +96,7 @@ pub(crate) struct Source<'a> {
 }
 
 impl<'a> Source<'a> {
-    /// Gives the text and then so many spaces, a megabyte a call, and never fails.
+    /// Gives the text and then this many spaces, a megabyte a call, and never fails.
     pub(crate) fn padded(text: &'a [u8], spaces: usize) -> Source<'a> {
         Source {
             text,
@@ -106,7 +106,7 @@ impl<'a> Source<'a> {
         }
     }
 
-    /// Gives the text so many bytes a call, and fails after so many calls.
+    /// Gives the text, `a_call` bytes a call, and fails after `calls_left` calls.
     pub(crate) fn failing(text: &'a [u8], a_call: usize, calls_left: u64) -> Source<'a> {
         Source {
             text,

@@ -1,4 +1,4 @@
-//! Drawing on the calling thread gives the bytes that the workers give, whole and by rows of tiles.
+//! Drawing on the calling thread gives the bytes that the workers give, whole and by tile rows.
 use crate::support::call;
 use grid::TileSide;
 use std::test::Fail;

@@ -1,4 +1,4 @@
-//! Lists that are refused, and lists at their limits.
+//! Lists that are no draw lists, and lists at their limits.
 use crate::support::{PIXELS, TRIANGLE, call, draws, refuses};
 use std::alloc::{AllocError, Global};
 use std::test::Fail;
@@ -102,7 +102,7 @@ fn refuses_each_beginning(rt: HostRuntime) -> Result<(), Fail> {
     Ok(())
 }
 
-/// So many times the same text.
+/// The text, repeated `count` times.
 fn times(alloc: Global, text: &str, count: usize) -> Result<String, AllocError> {
     let mut all = String::new(alloc);
     for _ in 0..count {
@@ -140,7 +140,8 @@ fn refuses_brackets(rt: HostRuntime) -> Result<(), Fail> {
     Ok(())
 }
 
-/// A list of 3 by 3 pixels with draws of so many vertices, all those of the triangle over and over, and so many triangles.
+/// A list of 3 by 3 pixels. Each draw has the given numbers of vertices and of triangles; its vertices repeat those of the
+/// triangle.
 fn crowded(alloc: Global, draws: &[(usize, usize)]) -> Result<String, AllocError> {
     let mut all = String::new(alloc);
     for (number, &(vertices, triangles)) in draws.iter().enumerate() {

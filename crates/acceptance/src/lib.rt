@@ -1,5 +1,5 @@
-//! Worked pictures, refusals and hostile runs of the whole program, through `trirast::run_with` and `trirast::command`. Each
-//! expected byte was reckoned by hand from the rules.
+//! Pictures, errors and failing readers and writers of the whole program, through `trirast::run_with` and `trirast::command`. Each
+//! expected byte was computed by hand from the rules.
 #![tactic(auto)]
 
 #[cfg(test)]

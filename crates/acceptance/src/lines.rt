@@ -1,4 +1,4 @@
-//! The words of the command line, and what the program says of them.
+//! The arguments of the command line, and what the program writes for them.
 use crate::support::{TRIANGLE, call};
 use std::test::Fail;
 

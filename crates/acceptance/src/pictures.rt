@@ -1,4 +1,4 @@
-//! Small pictures whose pixels were reckoned by hand.
+//! Small pictures whose pixels were computed by hand.
 use crate::support::{draws, file, writes};
 use std::alloc::{AllocError, Global};
 use std::process::Abort;

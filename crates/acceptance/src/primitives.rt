@@ -1,4 +1,4 @@
-//! Strips and quads, with every tile side and several numbers of workers.
+//! Strips and quads, with every tile size and several numbers of workers.
 use crate::support::{call, file, refuses};
 use std::alloc::{AllocError, Global};
 use std::process::Abort;
@@ -15,7 +15,7 @@ const CORNER: &str = "FFFFFF FFFFFF 000000  FFFFFF 000000 000000  000000 000000 
 /// Pixels (0, 0), (1, 0), (0, 1) and (1, 1) in white.
 const SQUARE: &str = "FFFFFF FFFFFF 000000  FFFFFF FFFFFF 000000  000000 000000 000000";
 
-/// The same in half white: each is drawn over black just once.
+/// The same in half white: each is drawn over black exactly once.
 const GREY_SQUARE: &str = "808080 808080 000000  808080 808080 000000  000000 000000 000000";
 
 /// A draw list of 3 by 3 pixels with one draw, over the corners of a square from centre to centre: upper left, upper right,

@@ -1,4 +1,4 @@
-//! Readers and writers that fail, and what a run and the program then tell and leave.
+//! Readers and writers that fail: what a run and the program then report, and which bytes are written.
 use crate::devices::{End, Sink, Source};
 use crate::support::{
     HALF, PIXELS, TRIANGLE, call_over, file, half, refuses, run_into, was_cut_short, writes,
@@ -28,7 +28,7 @@ fn run_over<R: Threads + Wait + Sync>(
     (result, output.into_inner())
 }
 
-// The last read that fails is the one after the last byte, which would have told the end.
+// The last read that fails is the one after the last byte, which would have returned the end of the input.
 #[test]
 fn tells_of_each_read_that_fails(rt: HostRuntime) -> Result<(), Fail> {
     let bytes = TRIANGLE.as_bytes();
@@ -69,7 +69,7 @@ fn takes_no_input_of_a_byte_more(rt: HostRuntime) -> Result<(), Fail> {
     Ok(())
 }
 
-/// 1 by 33 pixels, so two bands of tiles of 32 pixels, and a triangle over the centres of rows 0 to 18.
+/// 1 by 33 pixels, so two tile rows of 32 pixels, and a triangle over the centres of rows 0 to 18.
 const COLUMN: &str =
     r#"{"width":1,"height":33,"draws":[{"vertices":[[0,0,0,255,255,255,255],[5120,0,0,255,255,255,255],[0,5120,0,255,255,255,255]],"triangles":[[0,1,2]]}]}"#;
 
@@ -113,7 +113,7 @@ fn tells_how_much_went_out_of_a_larger_picture(rt: HostRuntime) -> Result<(), Fa
     Ok(())
 }
 
-/// Where the header and the bands end, and beside these places.
+/// Numbers of bytes at which the header and the tile rows end, and numbers next to these.
 const PLACES: [usize; 12] = [
     0, 1, 5, 12, 13, 14, 6252, 6253, 6254, 12_492, 12_493, 12_687,
 ];
@@ -148,7 +148,7 @@ fn writes_in_small_pieces_and_flushes_once(rt: HostRuntime) -> Result<(), Fail> 
     Ok(())
 }
 
-/// Calls the program without words over this source, and asserts that it tells this line, with status 1, and writes nothing.
+/// Calls the program without arguments over this source. Asserts that it reports this line, with status 1, and writes no picture.
 fn tells_of_the_input<R: Threads + Wait + Sync + Abort>(
     rt: &R,
     alloc: Global,
@@ -177,19 +177,19 @@ fn tells_on_its_line_that_the_input_failed(rt: HostRuntime) -> Result<(), Fail> 
         let source = Source::failing(bytes, 1, calls_left);
         tells_of_the_input(&rt, rt.alloc(), source, line)?;
     }
-    // Where the bytes so far denote no list, that is not told.
+    // If the bytes so far denote no list, that is not reported.
     tells_of_the_input(&rt, rt.alloc(), Source::failing(b"{]", 1, 2), line)
 }
 
 #[test]
 fn tells_on_its_line_that_the_input_is_too_long(rt: HostRuntime) -> Result<(), Fail> {
-    // That the bytes denote no list is not told.
+    // It is not reported that the bytes denote no list.
     let source = Source::padded(b"{]", 67_108_863);
     tells_of_the_input(&rt, rt.alloc(), source, b"trirast: input too long\n")
 }
 
-/// Calls the program without words with a list and an output that fails, and asserts that it tells after how many bytes, with
-/// status 1, and that these went out and nothing behind them.
+/// Calls the program without arguments, with a list and an output that fails. Asserts that it reports after how many bytes the
+/// output failed, with status 1, and that exactly these bytes were written.
 fn tells_of_the_output<R: Threads + Wait + Sync + Abort>(
     rt: &R,
     alloc: Global,
@@ -229,8 +229,8 @@ fn tells_on_its_line_after_how_many_bytes_the_output_failed(rt: HostRuntime) -> 
     tells_of_the_output(&rt, rt.alloc(), sink, &expected)
 }
 
-/// Calls the program, and asserts that it tells this line with this status and output, and that neither changes where of the
-/// line no more than a beginning can be written.
+/// Calls the program, and asserts that it reports this line with this status and output. Asserts that status and output are the
+/// same if only a beginning of the line can be written.
 fn passes_over_failing_errors<R: Threads + Wait + Sync + Abort>(
     rt: &R,
     alloc: Global,

@@ -55,7 +55,7 @@ pub(crate) struct Called {
     pub(crate) errors: Vec<u8>,
 }
 
-/// Calls the program with these words behind its name, over these devices. The answer is its status, and the writers.
+/// Calls the program with these arguments after its name, over this reader and these writers. Returns its status and the writers.
 pub(crate) fn call_over<
     Rt: Threads + Wait + Sync,
     R: Read + Drop,
@@ -78,7 +78,7 @@ pub(crate) fn call_over<
     Ok((status, output.into_inner(), errors.into_inner()))
 }
 
-/// Calls the program with these words behind its name, over memory.
+/// Calls the program with these arguments after its name, over memory.
 pub(crate) fn call<R: Threads + Wait + Sync>(
     rt: &R,
     alloc: Global,
@@ -120,8 +120,8 @@ pub(crate) fn run_into<R: Threads + Wait + Sync>(
     (result, output.into_inner())
 }
 
-/// Asserts that the run ended after so many bytes of the file: that very fault is told, the writer took these bytes and no
-/// others, was never flushed, and was not called again.
+/// Asserts that the run failed after `room` bytes of the file: the fault says so, the writer took exactly these bytes, was never
+/// flushed, and was not called again.
 pub(crate) fn was_cut_short<R: Abort>(
     rt: &R,
     answer: Result<(), Fault>,
@@ -135,7 +135,7 @@ pub(crate) fn was_cut_short<R: Abort>(
     assert_eq!(rt; sink.late_calls, 0, "{room}");
 }
 
-/// Appends the bytes of hexadecimal digits; all else in `digits` is passed over.
+/// Appends the bytes of hexadecimal digits; all else in `digits` is ignored.
 fn push_digits(digits: &str, bytes: &mut Vec<u8>) -> Result<(), Fail> {
     let mut upper = None;
     for digit in digits.chars() {
@@ -192,7 +192,7 @@ pub(crate) fn always_writes<R: Threads + Wait + Sync + Abort>(
     Ok(())
 }
 
-/// Asserts that the program, called with these words, writes this file of the list, and no line of a fault.
+/// Asserts that the program, called with these arguments, writes this file of the list, and no line of an error.
 pub(crate) fn writes<R: Threads + Wait + Sync + Abort>(
     rt: &R,
     alloc: Global,
@@ -208,7 +208,7 @@ pub(crate) fn writes<R: Threads + Wait + Sync + Abort>(
     Ok(())
 }
 
-/// Asserts that the program draws this picture of the list, without a line of a fault.
+/// Asserts that the program draws this picture of the list, without a line of an error.
 pub(crate) fn draws<R: Threads + Wait + Sync + Abort>(
     rt: &R,
     alloc: Global,

@@ -1,4 +1,4 @@
-//! One picture from all tile sides and numbers of workers, and workers that are at work at once.
+//! One picture with all tile sizes and numbers of workers, and workers that run at the same time.
 ghost use Rattle.std.specs.Prelude.{◌≤◌};
 
 use crate::support::{HALF, always_writes, call, half, white_before};
@@ -82,7 +82,7 @@ fn laborious(alloc: Global) -> Result<String, AllocError> {
     )
 }
 
-/// How many threads this process has, as Linux tells.
+/// The number of threads of this process, as Linux reports it.
 fn threads_now<R: Files + AllocGlobal>(rt: &R) -> u32 {
     let Ok(status) = fs::read_to_string(rt, "/proc/self/status") else {
         return 0;
@@ -107,7 +107,7 @@ fn watch<R: Files + AllocGlobal>(rt: &R, ended: &AtomicU64) -> u32 {
     most
 }
 
-/// Draws the list by `run` with so many workers, and answers whether it was drawn.
+/// Draws the list by `run` with this many workers, and returns whether it was drawn.
 fn is_drawn_by_run<R: Threads + Wait + Sync>(
     rt: &R,
     alloc: Global,
@@ -128,7 +128,7 @@ fn is_drawn_by_run<R: Threads + Wait + Sync>(
     is_drawn
 }
 
-/// Draws the list by the program with so many workers, and answers whether it was drawn.
+/// Draws the list by the program with this many workers, and returns whether it was drawn.
 fn is_drawn_by_command<R: Threads + Wait + Sync>(
     rt: &R,
     alloc: Global,

@@ -1,4 +1,4 @@
-//! The writer of picture files, the counted devices and the options, called by themselves.
+//! The writer of picture files, the counted readers and writers, and the options, each called directly.
 use crate::devices::{End, Sink, Source};
 use grid::TileSide;
 use list::{ReadFault, ReadKind};

@@ -1,4 +1,4 @@
--- The runs of triangles, one triangle and one row of tiles after another.
+-- The runs of triangles, one triangle and one tile row after another.
 use Rattle.std.proofs.Common.{◌≡◌, ◌⊎◌, inl, inr, refl, sym, ap, ◌∙◌, subst, ℕ, zero, suc, true, cond, ◌+◌, ◌-◌, ◌*◌, ◌/◌, ◌%◌, ◌^◌, ◌<◌, ◌≤◌, List, [], ◌∷◌, ◌++◌, length, get_or, slice_get, slice_index, Some, arith}
 use Rattle.std.specs.List.{All, Contains}
 use Rattle.std.specs.List.Sorted.{IsStrictlyIncreasing}
@@ -237,7 +237,7 @@ missed_rows t count g first_row rows tile span limits is apart below meets =
     let high : side_of g.side * (row + 1) ≤ side_of g.side * (first_row + rows) = mul-le-mul_left (side_of g.side) (above row (first_row + rows) before) in
     apart meets.row least most (omega (arith, along.from)) (omega (arith, along.below))
 
--- few runs in a picture's rows of tiles
+-- few runs in a picture's tile rows
 pub few_runs : (l : Scene) (g : TileGrid) (first_row rows : ℕ) (runs : List TileRun) → IsWithinLimits g → first_row + rows ≤ rows_of g → length l.triangles ≤ 65536
     → AreTileRuns l g first_row rows (length l.triangles) 0 runs → length runs ≤ 2 ^ 25
 few_runs l g first_row rows runs limits within few are =

@@ -8,7 +8,7 @@ use Rattle.grid.specs.declared.pixels.TileSide.TheVariants.{T8, T16, T32, T64}
 use Rattle.cover.specs.Square.{IsCorner}
 use Rattle.bins.specs.Grid.{TileGrid, tiles_over, columns_of, rows_of, rect_at, rect_of, IsTileOf, IsInPicture}
 
--- pixel i of so many stands in the tile of this number
+-- pixel i, of `pixels` in a row or a column, stands in this tile
 pub record IsPixelOf (side : TileSide) (pixels tile i : ℕ) : Type 0 where
   pub from : side_of side * tile ≤ i
   pub below : i < side_of side * tile + side_of side

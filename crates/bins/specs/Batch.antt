@@ -3,6 +3,6 @@ use Rattle.std.specs.Prelude.{◌≡◌, ℕ, ◌+◌, ◌<◌, List, length, sl
 use Rattle.shade.specs.declared.placed.Placed.{Placed}
 use Rattle.model.specs.Scene.{Scene}
 
--- At each place of the batch, while there are numbers, the triangle of the number that stands so many places behind the first.
+-- Place k of the batch, while there are numbers, holds the triangle whose number stands at place first + k.
 abbrev pub AreFetched : Scene → List ℕ → ℕ → List Placed → Type 0
 AreFetched l numbers first batch = (k : ℕ) → k < length batch → first + k < length numbers → slice_get batch k ≡ slice_get l.triangles (slice_index numbers (first + k))

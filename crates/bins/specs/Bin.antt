@@ -43,7 +43,7 @@ pub record HasTile (b : TileBins) (k : ℕ) : Type 0 where
 abbrev pub bin_of : TileBins → ℕ → List ℕ
 bin_of b k = slice_index_or b.bins (k - b.first) []
 
--- The bins of these rows of tiles, each with the triangles that meet its tile.
+-- The bins of these tile rows, each with the triangles that meet its tile.
 pub record AreBins (l : Scene) (g : TileGrid) (first_row rows : ℕ) (b : TileBins) : Type 0 where
   pub first : b.first ≡ first_row * columns_of g
   pub number : length b.bins ≡ rows * columns_of g

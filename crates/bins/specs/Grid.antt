@@ -4,13 +4,13 @@ use Rattle.grid.specs.Pixels.{side_of, IsInBox}
 use Rattle.grid.specs.declared.pixels.PixelBox.{PixelBox}
 use Rattle.grid.specs.declared.pixels.TileSide.{TileSide}
 
--- A picture of so many pixels, and the side of its tiles.
+-- The width and height of a picture in pixels, and its tile size.
 pub record TileGrid : Type 0 where
   pub width : ℕ
   pub height : ℕ
   pub side : TileSide
 
--- How many tiles reach over so many pixels: the quotient by the side, rounded up.
+-- How many tiles reach over this many pixels: the quotient by the tile size, rounded up.
 abbrev pub tiles_over : ℕ → TileSide → ℕ
 tiles_over pixels side = (pixels + side_of side - 1) / side_of side
 

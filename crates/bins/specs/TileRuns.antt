@@ -15,7 +15,7 @@ has_tile tile run = nat_le run.first tile && nat_lt tile run.end
 abbrev pub triangles_at : List TileRun → ℕ → List ℕ
 triangles_at runs tile = map (λ (run : TileRun). run.number) (filter (has_tile tile) runs)
 
--- The run goes over tiles of so many.
+-- The run lies within the first `tiles` tiles.
 pub record IsTileRunOver (tiles : ℕ) (run : TileRun) : Type 0 where
   pub rising : run.first ≤ run.end
   pub within : run.end ≤ tiles
@@ -24,8 +24,8 @@ pub record IsTileRunOver (tiles : ℕ) (run : TileRun) : Type 0 where
 abbrev pub IsVisitedBefore : TileGrid → ℕ → ℕ → ℕ → ℕ → Type 0
 IsVisitedBefore g n row m tile = (m < n) ⊎ ((m ≡ n) × (tile < row * columns_of g))
 
--- The runs, over tiles of so many rows from `first_row` on, of the triangles before number n, and of that one in the first of
--- these rows. Tiles are counted from the first of these rows on.
+-- The runs, over the tiles of `rows` tile rows from `first_row` on, of the triangles before number n, and of triangle n in the
+-- first `row` of these tile rows. Tiles are counted from the first of these tile rows on.
 pub record AreTileRuns (l : Scene) (g : TileGrid) (first_row rows : ℕ) (n row : ℕ) (runs : List TileRun) : Type 0 where
   pub few : length runs ≤ n * rows + row
   pub over : All (IsTileRunOver (rows * columns_of g)) runs

@@ -1,4 +1,4 @@
-//! Which triangles can have pixels in some rows of tiles.
+//! Which triangles can have pixels in some tile rows.
 ghost use Rattle.std.specs.Prelude.{◌≡◌, ℕ, ◌+◌, ◌<◌, ◌≤◌, length, IfOk, IsTrue};
 ghost use Rattle.bins.specs.Grid.{rows_of, IsWithinLimits};
 ghost use Rattle.bins.specs.TileRuns.{AreCandidates};
@@ -17,7 +17,7 @@ fn has_row(rows: RowSpan, top: u32, bottom: u32) -> bool
     u32::from(rows.first).max(top) < u32::from(rows.end).min(bottom)
 }
 
-/// The numbers of the triangles that have rows of pixels in `rows` rows of tiles from `first_row` on, in draw order.
+/// The numbers of the triangles that have rows of pixels in `rows` tile rows from `first_row` on, in draw order.
 pub(crate) fn candidates_of(
     alloc: Global,
     list: &DrawList,

@@ -65,7 +65,7 @@ fn list(
     Ok(list.expect(rt, "within the limits"))
 }
 
-/// The bins of two tiles of 8 by 8 pixels that stand side by side, for these triangles in this state.
+/// The bins of two tiles of 8 by 8 pixels next to each other, for these triangles in this state.
 fn assert_bins(
     rt: &impl Abort,
     alloc: Global,

@@ -22,7 +22,7 @@ pub(crate) struct TileRun {
 impl TileRun {
     ghost use Rattle.bins.specs.TileRuns.{AreCandidates, AreTileRuns};
 
-    /// The runs of the triangles of these numbers, which are the candidates, in `rows` rows of tiles from `first_row` on.
+    /// The runs of the triangles of these numbers, which are the candidates, in `rows` tile rows from `first_row` on.
     pub(crate) fn of_candidates(
         alloc: Global,
         list: &DrawList,

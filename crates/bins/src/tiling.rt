@@ -40,7 +40,7 @@ impl Tiling {
     ghost use Rattle.cover.specs.Square.{IsCorner};
     ghost use Rattle.bins.specs.Grid.{columns_of, rows_of, tiles_of, rect_of, IsInPicture, IsTileOf, IsWithinLimits};
 
-    /// The tiles of this side over a picture of this size in pixels.
+    /// The tiles of this size over a picture of this width and height in pixels.
     pub fn new(width: u32, height: u32, side: TileSide) -> Tiling
         requires wide { 1 ≤ width }
         requires width { width ≤ 4096 }
@@ -89,7 +89,7 @@ impl Tiling {
         tiles_over(self.width, self.side)
     }
 
-    /// The number of rows of tiles.
+    /// The number of tile rows.
     pub fn rows(&self) -> u32
         ensures value { result ≡ rows_of self.now }
         ensures least { 1 ≤ result }
@@ -122,7 +122,7 @@ impl Tiling {
         }
     }
 
-    /// The number of tiles of `rows` rows of tiles.
+    /// The number of tiles of `rows` tile rows.
     pub(crate) fn tiles_in(&self, rows: u32) -> u32
         requires { rows ≤ rows_of self.now }
         ensures value { result ≡ rows * columns_of self.now }
@@ -131,7 +131,7 @@ impl Tiling {
         rows * tiles_over(self.width, self.side)
     }
 
-    /// The first row of pixels of `rows` rows of tiles, and the row of pixels after them, were the picture high enough.
+    /// The first row of pixels of `rows` tile rows, and the row of pixels after them, were the picture high enough.
     pub(crate) fn pixel_rows(&self, first_row: u32, rows: u32) -> (u32, u32)
         requires { first_row + rows ≤ rows_of self.now }
         ensures top { result.0 ≡ side_of self.now.side * first_row }
@@ -155,8 +155,8 @@ impl Tiling {
         (blocks * column, blocks * row)
     }
 
-    /// The tile in whose rectangle the pixel in column `px` and row `py` stands, or none outside of the picture. A pixel of
-    /// the picture stands in the rectangle of just one tile.
+    /// Returns the tile whose rectangle contains the pixel in column `px` and row `py`, or `None` outside of the picture. A pixel
+    /// of the picture lies in the rectangle of exactly one tile.
     pub fn tile_of(&self, px: u32, py: u32) -> Option<u32>
         ensures { MatchOption result (¬ IsInPicture self.now px py) (IsTileOf self.now px py) }
     {

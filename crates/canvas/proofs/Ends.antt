@@ -19,7 +19,7 @@ use Rattle.canvas.specs.Layout.{HasSample, columns_of, planes_of_tile, planes_of
 use Rattle.canvas.specs.Drawing.{AreCleared, HaveEnds, TileHasEnds}
 use Rattle.canvas.proofs.Places.{within_rows, row_of, tile_of, row_put, row_kept, tile_put, tile_kept}
 
--- the same in other words
+-- the same at equal arguments
 ends_at : (ts : List Placed) (n n' : SampleCount) (i i' j j' s : ℕ) (x x' y y' : Sample) → n ≡ n' → i ≡ i' → j ≡ j' → x ≡ x' → y ≡ y' → Ends ts n i j s x y → Ends ts n' i' j' s x' y'
 ends_at ts n n' i i' j j' s x x' y y' count across down old new h = rw (← count, ← across, ← down, ← old, ← new) h
 
@@ -37,7 +37,7 @@ tile_ends ts tile n old new past h = rw (take_all n ts past) at h
 
 -- ---- the tiles of a row, one after another
 module _ (ts : List Placed) (c : Canvas) (row : ℕ) where
-  -- the tiles before this column have been drawn, and the others stand as they were
+  -- the tiles before this column have been drawn, and the others are unchanged
   pub record AreTilesDrawn (column : ℕ) (old new : List BlockSamples) : Type 0 where
     pub drawn : (i j s : ℕ) → HasSample c row (row + 1) i j s → i / 64 < column → Ends ts c.count i j s (stored c row old i j s) (stored c row new i j s)
     pub kept : (i j s : ℕ) → HasSample c row (row + 1) i j s → column ≤ i / 64 → stored c row new i j s ≡ stored c row old i j s
@@ -75,9 +75,9 @@ module _ (ts : List Placed) (c : Canvas) (row : ℕ) where
       kept = λ i j s h l. sample_kept i j s h (λ e. omega (arith, e, l)) ∙ before.kept i j s h (omega (arith, l));
     }
 
--- ---- the rows of tiles, one after another
+-- ---- the tile rows, one after another
 module _ (ts : List Placed) (c : Canvas) (first end : ℕ) where
-  -- the rows before this one have been drawn, and the others stand as they were
+  -- the rows before this one have been drawn, and the others are unchanged
   pub record AreRowsDrawn (row : ℕ) (old new : List BlockSamples) : Type 0 where
     pub drawn : (i j s : ℕ) → HasSample c first end i j s → j / 64 < row → Ends ts c.count i j s (stored c first old i j s) (stored c first new i j s)
     pub kept : (i j s : ℕ) → HasSample c first end i j s → row ≤ j / 64 → stored c first new i j s ≡ stored c first old i j s

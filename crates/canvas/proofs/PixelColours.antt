@@ -33,7 +33,7 @@ resolved_same Four f g q same h =
     record { low = omega arith; high = omega arith }
 
 module _ (c : Canvas) (i j r g b : ℕ) where
-  -- from a tile to its row of tiles
+  -- from a tile to its tile row
   pub colour_in_row : (tile : Tile) (xs part : List BlockSamples) → tile.count ≡ c.count → ((s : ℕ) → s < count_of c.count → in_tile tile part (j % 64) (i % 64) s ≡ stored c (j / 64) xs i j s)
       → IsColourAt tile part (j % 64) (i % 64) r g b → IsColourOf c (j / 64) xs i j r g b
   colour_in_row tile xs part count same h =
@@ -47,7 +47,7 @@ module _ (c : Canvas) (i j r g b : ℕ) where
         blue = resolved_same c.count _ (λ s. (stored c (j / 64) xs i j s).b) b (λ s l. ap (λ (x : Sample). x.b) (same s l)) blue;
       }
 
-  -- and from there to a strip
+  -- and from there to tile rows
   pub colour_in_rows : (first : ℕ) (xs part : List BlockSamples) → ((s : ℕ) → s < count_of c.count → stored c (j / 64) part i j s ≡ stored c first xs i j s)
       → IsColourOf c (j / 64) part i j r g b → IsColourOf c first xs i j r g b
   colour_in_rows first xs part same h = record {
@@ -69,7 +69,7 @@ pub tile_pixel_same : (tile : Tile) (samples : List BlockSamples) (format : Form
     → IsTilePixel tile samples format row column f → IsTilePixel tile samples format row column h
 tile_pixel_same tile samples format row column f h same p = record { r = p.r; g = p.g; b = p.b; colour = p.colour; order = bytes_same format p.r p.g p.b f h same p.order }
 
--- from a tile to its row of tiles
+-- from a tile to its tile row
 pub pixel_in_row : (c : Canvas) (i j : ℕ) (tile : Tile) (xs part : List BlockSamples) (format : Format) (bytes : ℕ → ℕ) → tile.count ≡ c.count
     → ((s : ℕ) → s < count_of c.count → in_tile tile part (j % 64) (i % 64) s ≡ stored c (j / 64) xs i j s)
     → IsTilePixel tile part format (j % 64) (i % 64) bytes → IsPixelOf c (j / 64) xs format i j bytes

@@ -41,7 +41,7 @@ within_rows c first end i j s wide from to h =
 pub part_within : (k many n : ℕ) → k < many → k * n + n ≤ many * n
 part_within k many n h = grind arith
 
--- ---- a row of tiles in its strip
+-- ---- a tile row among tile rows
 module _ (c : Canvas) (i j s : ℕ) where
   abbrev pixel : ℕ
   pixel = 8 * (j % 8) + i % 8
@@ -51,11 +51,11 @@ module _ (c : Canvas) (i j s : ℕ) where
       let same : j / 64 - row ≡ 0 = omega (arith, e) in
       rw same (omega arith)
 
-  -- found by its place in its row of tiles
+  -- found by its place in its tile row
   pub found_in_row : (xs : List BlockSamples) (place : ℕ) → place ≡ place_in_row c i j s → stored_at (slice_index_or xs place none) pixel ≡ stored c (j / 64) xs i j s
   found_in_row xs place at = ap (λ k. stored_at (slice_index_or xs k none) pixel) (at ∙ sym (in_first (j / 64) refl))
 
-  -- in the part of the planes that are those of its row of tiles
+  -- in the part of the planes that are those of its tile row
   pub row_of : (row first : ℕ) (xs : List BlockSamples) (n a : ℕ) → j / 64 ≡ row → n ≡ planes_of_row c → a ≡ (j / 64 - first) * planes_of_row c → i / 64 < columns_of c → s < count_of c.count
       → stored c row (take n (drop a xs)) i j s ≡ stored c first xs i j s
   row_of row first xs n a e many at wide h =
@@ -88,7 +88,7 @@ module _ (c : Canvas) (i j s : ℕ) where
 
   -- ---- a part that is put back changed
   module _ (xs part : List BlockSamples) (n a : ℕ) (room : a + n ≤ length xs) (long : length part ≡ n) where
-    -- that of the row of tiles, or of another one
+    -- that of the tile row, or of another one
     module _ (first row : ℕ) (many : n ≡ planes_of_row c) (at : a ≡ (row - first) * planes_of_row c) (from : first ≤ row) (here : first ≤ j / 64) (wide : i / 64 < columns_of c) (h : s < count_of c.count) where
       pub row_put : j / 64 ≡ row → stored c first (put xs part a n) i j s ≡ stored c row part i j s
       row_put same =
@@ -127,7 +127,7 @@ module _ (c : Canvas) (i j s : ℕ) where
           ∙ ap (λ plane. stored_at plane pixel) (put_elsewhere xs part a n none room long (place_in_row c i j s) elsewhere)
           ∙ sym (ap (λ k. stored_at (slice_index_or xs k none) pixel) (in_first row e))
 
--- ---- a strip in two parts
+-- ---- tile rows in two parts
 pub planes_split : (c : Canvas) (first at end : ℕ) → first ≤ at → at ≤ end → (end - first) * planes_of_row c ≡ (at - first) * planes_of_row c + (end - at) * planes_of_row c
 planes_split c first at end h k =
     let sum : end - first ≡ (at - first) + (end - at) = omega arith in

@@ -41,7 +41,7 @@ abbrev pub AreArranged : Format → List ℕ → List ℕ → Type 0
 AreArranged format rgb bytes =
     (i : ℕ) → i < 8 → AreBytesOf format (slice_index rgb (3 * i)) (slice_index rgb (3 * i + 1)) (slice_index rgb (3 * i + 2)) (λ k. slice_index bytes (i * pixel_bytes format + k))
 
--- The bytes of each pixel of the picture in these tile rows are its colour in the format, and all other bytes stay.
+-- The bytes of each pixel of the picture in these tile rows are its colour in the format, and all other bytes are unchanged.
 abbrev pub AreResolved : Canvas → ℕ → ℕ → List BlockSamples → Format → ℕ → List ℕ → List ℕ → Type 0
 AreResolved c first end samples format stride old new =
     AreWritten c first end (pixel_bytes format) stride (λ i j bytes. IsPixelOf c first samples format i j bytes) old new
@@ -50,7 +50,8 @@ AreResolved c first end samples format stride old new =
 abbrev pub id_of : Sample → ℕ
 id_of sample = sample.r + 256 * sample.g + 65536 * sample.b
 
--- The entry of each pixel of the picture in these tile rows is the depth, or the id, of its sample s, and all other entries stay.
+-- The entry of each pixel of the picture in these tile rows is the depth, or the id, of its sample s, and all other entries are
+-- unchanged.
 abbrev pub AreDepths : Canvas → ℕ → ℕ → List BlockSamples → ℕ → ℕ → List ℕ → List ℕ → Type 0
 AreDepths c first end samples s stride old new =
     AreWritten c first end 1 stride (λ i j entries. entries 0 ≡ (stored c first samples i j s).z) old new

@@ -9,11 +9,11 @@ use Rattle.raster.specs.Samples.{IsSampleOf, stored as in_tile}
 use Rattle.canvas.specs.declared.canvas.Canvas.{Canvas}
 use Rattle.canvas.specs.Layout.{HasSample, stored}
 
--- Each sample of these rows of tiles is the given one.
+-- Each sample of these tile rows is the given one.
 abbrev pub AreCleared : Canvas → ℕ → ℕ → Sample → List BlockSamples → Type 0
 AreCleared c first end sample samples = (i j s : ℕ) → HasSample c first end i j s → stored c first samples i j s ≡ sample
 
--- Each sample of these rows of tiles ends as what the triangles make, one after another, of what was stored there.
+-- Each sample of these tile rows ends as what the triangles make, one after another, of what was stored there.
 abbrev pub HaveEnds : List Placed → Canvas → ℕ → ℕ → List BlockSamples → List BlockSamples → Type 0
 HaveEnds ts c first end old new =
     (i j s : ℕ) → HasSample c first end i j s → Ends ts c.count i j s (stored c first old i j s) (stored c first new i j s)

@@ -24,7 +24,7 @@ abbrev pub with_ids : List Placed → ℕ → List Placed
 with_ids [] n = []
 with_ids (t ∷ ts) n = with_id t n ∷ with_ids ts (n + 1)
 
--- The triangle passes at sample s of pixel (i, j), where `stored` stands there: it meets the sample, and its depth passes the test.
+-- The triangle passes at sample s of pixel (i, j), at which `stored` is stored: it meets the sample, and its depth passes the test.
 pub record PassesAt (t : Placed) (count : SampleCount) (i j s : ℕ) (stored : Sample) : Type 0 where
   pub meets : Meets t count i j s
   pub z : ℕ
@@ -32,14 +32,14 @@ pub record PassesAt (t : Placed) (count : SampleCount) (i j s : ℕ) (stored : S
   pub passes : Passes t.state.merge.test z stored.z
 
 -- The triangles are counted from n on and drawn one after another, in their own colours: `last` is the id of the last one that
--- passed at the sample, or `before` where none did.
+-- passed at the sample, or `before` if none did.
 abbrev pub IsLast : List Placed → ℕ → SampleCount → ℕ → ℕ → ℕ → Sample → Option ℕ → Option ℕ → Type 0
 IsLast [] n count i j s stored before last = last ≡ before
 IsLast (t ∷ ts) n count i j s stored before last =
     (next : Sample) × Draws t count i j s stored next
     × ((PassesAt t count i j s stored × IsLast ts (n + 1) count i j s next (Some n) last) ⊎ ((¬ PassesAt t count i j s stored) × IsLast ts (n + 1) count i j s next before last))
 
--- The sample has the id as its colour, or, where there is none, the colour that stood there.
+-- The sample has the id as its colour: red is its lowest byte.
 pub record HasColourOfId (n : ℕ) (sample : Sample) : Type 0 where
   pub red : sample.r ≡ n % 256
   pub green : sample.g ≡ n / 256 % 256

@@ -1,10 +1,10 @@
--- Triangles by the places of their indices in a list of vertices.
+-- Triangles by the indices of their vertices in a list.
 use Rattle.std.specs.Prelude.{ℕ, ◌<◌, List, [], ◌∷◌, pos, slice_index, slice_index_or}
 use Rattle.shade.specs.declared.placed.Placed.{Placed}
 use Rattle.shade.specs.declared.state.State.{State}
 use Rattle.canvas.specs.declared.vertex.Vertex.{Vertex}
 
--- The places are places of vertices, of which there are so many.
+-- The first three indices are indices of vertices, of which there are `many`.
 pub record AreIndices (many : ℕ) (indices : List ℕ) : Type 0 where
   pub first : slice_index indices 0 < many
   pub second : slice_index indices 1 < many
@@ -13,7 +13,7 @@ pub record AreIndices (many : ℕ) (indices : List ℕ) : Type 0 where
 abbrev pub vertex_at : List Vertex → ℕ → Vertex
 vertex_at vertices k = slice_index_or vertices k (record { position = record { x = pos 0; y = pos 0 }; z = 0; rgba = [] })
 
--- The triangle whose indices are the vertices at these places.
+-- The triangle whose vertices have these indices.
 abbrev pub placed_by : List Vertex → State → List ℕ → Placed
 placed_by vertices state indices = record {
   tri = record { a = (vertex_at vertices (slice_index indices 0)).position; b = (vertex_at vertices (slice_index indices 1)).position; c = (vertex_at vertices (slice_index indices 2)).position };

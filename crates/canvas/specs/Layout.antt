@@ -25,15 +25,15 @@ rows_of c = (c.height + 63) / 64
 abbrev pub planes_of_tile : SampleCount → ℕ
 planes_of_tile count = 64 * count_of count
 
--- Those of a row of tiles, and those of the rows of tiles from `first` to before `end`.
+-- Those of a tile row, and those of the tile rows from `first` to before `end`.
 abbrev pub planes_of_row : Canvas → ℕ
 planes_of_row c = columns_of c * planes_of_tile c.count
 
 abbrev pub planes_of_rows : Canvas → ℕ → ℕ → ℕ
 planes_of_rows c first end = (end - first) * planes_of_row c
 
--- Sample s of pixel (i, j), whose tile stands in these rows. The tiles at the right and the lower border have samples of pixels
--- beside and below the picture too.
+-- Sample s of pixel (i, j), whose tile stands in these rows. The tiles at the right and the lower border have samples of pixels to
+-- the right of the picture and below it too.
 pub record HasSample (c : Canvas) (first end : ℕ) (i j s : ℕ) : Type 0 where
   pub column : i / 64 < columns_of c
   pub from : first ≤ j / 64
@@ -48,7 +48,7 @@ pub record HasPixel (c : Canvas) (first end : ℕ) (i j : ℕ) : Type 0 where
   pub below : j / 64 < end
 
 -- Where sample s of pixel (i, j) lies among the planes of its tile, block by block, row by row, and in a block sample by sample; among
--- those of its row of tiles, tile by tile; and among those of the rows of tiles from `first` on.
+-- those of its tile row, tile by tile; and among those of the tile rows from `first` on.
 abbrev pub place_in_tile : SampleCount → ℕ → ℕ → ℕ → ℕ
 place_in_tile count i j s = (j % 64 / 8 * 8 + i % 64 / 8) * count_of count + s
 

@@ -21,7 +21,7 @@ pixel_of Bgra8 r g b = b ∷ g ∷ r ∷ 255 ∷ []
 abbrev pub shown_rows : Canvas → ℕ → ℕ → ℕ
 shown_rows c first end = min (64 * end) c.height - 64 * first
 
--- A row of pixels, of `unit` entries each, fits between the starts of two rows, and the last row ends where the slice does or before.
+-- A row of pixels, of `unit` entries each, fits between the starts of two rows, and the last row ends within the slice.
 pub record IsLargeEnough (c : Canvas) (first end : ℕ) (unit stride size : ℕ) : Type 0 where
   pub wide : c.width * unit ≤ stride
   pub high : shown_rows c first end * stride + c.width * unit ≤ size + stride
@@ -30,7 +30,7 @@ pub record IsLargeEnough (c : Canvas) (first end : ℕ) (unit stride size : ℕ)
 abbrev pub entry_of : ℕ → ℕ → ℕ → ℕ → ℕ → ℕ
 entry_of first unit stride i j = (j - 64 * first) * stride + i * unit
 
--- The entries of each pixel of the picture in these tile rows are as `IsPixel` says, and all other entries stay.
+-- The entries of each pixel of the picture in these tile rows are as `IsPixel` says, and all other entries are unchanged.
 pub record AreWritten (c : Canvas) (first end : ℕ) (unit stride : ℕ) (IsPixel : ℕ → ℕ → (ℕ → ℕ) → Type 0) (old new : List ℕ) : Type 0 where
   pub pixels : (i j : ℕ) → HasPixel c first end i j → IsPixel i j (λ k. slice_index new (entry_of first unit stride i j + k))
   pub others : (n : ℕ) → ((i j k : ℕ) → HasPixel c first end i j → k < unit → n ≢ entry_of first unit stride i j + k) → slice_index new n ≡ slice_index old n

@@ -24,7 +24,7 @@ pub record MeetsOnScreen (t : Placed) (count : SampleCount) (i j s : ℕ) : Type
 abbrev pub HaveMet : Placed → Span → Span → Type 0
 HaveMet t columns rows = (count : SampleCount) (i j s : ℕ) → MeetsOnScreen t count i j s → IsIn columns (i / 64) × IsIn rows (j / 64)
 
--- Bit k of a column and of a row of tiles is set where triangle k meets a sample in them.
+-- Bit k of a column of tiles and of a tile row is set if triangle k meets a sample in them.
 abbrev pub AreReached : List Placed → Reached → Type 0
 AreReached ts r =
     (k : ℕ) (t : Placed) → slice_get ts k ≡ Some t → (count : SampleCount) (i j s : ℕ) → MeetsOnScreen t count i j s

@@ -24,7 +24,7 @@ impl Canvas {
     ghost use Rattle.grid.specs.declared.pixels.TileSide.TheVariants.{T64};
     ghost use Rattle.canvas.specs.Layout.{IsWithinLimits, columns_of, rows_of, planes_of_tile, planes_of_row};
 
-    /// The picture of this size, or none where it has no pixels or more than 4096 in a row or a column.
+    /// The picture of this size, or `None` if it has no pixels or more than 4096 in a row or a column.
     pub fn new(width: u32, height: u32, count: SampleCount) -> Option<Canvas>
         ensures some { IsSome result ↔ IsWithinLimits width height }
         ensures size { IfSome result (λ c. (c.width ≡ width) × (c.height ≡ height) × (c.count ≡ count)) }
@@ -40,7 +40,7 @@ impl Canvas {
         }
     }
 
-    /// How many tiles a row of tiles has.
+    /// How many tiles a tile row has.
     pub fn column_count(&self) -> u32
         ensures value { result ≡ columns_of self.now }
         ensures some { 1 ≤ result }
@@ -49,7 +49,7 @@ impl Canvas {
         (self.width + 63) / 64
     }
 
-    /// How many rows of tiles there are.
+    /// How many tile rows there are.
     pub fn row_count(&self) -> u32
         ensures value { result ≡ rows_of self.now }
         ensures some { 1 ≤ result }
@@ -66,7 +66,7 @@ impl Canvas {
         64 * self.count.count() as usize
     }
 
-    /// How many planes of samples a row of tiles has.
+    /// How many planes of samples a tile row has.
     pub fn planes_of_row(&self) -> usize
         ensures value { result ≡ planes_of_row self.now }
         ensures few { result ≤ 16384 }
@@ -88,7 +88,7 @@ impl Canvas {
         }
     }
 
-    /// The rows of tiles from `first` to before `end`, or none where these are no rows of the picture.
+    /// The tile rows from `first` to before `end`, or `None` if these are no tile rows of the picture.
     pub fn rows(&self, first: u32, end: u32) -> Option<TileRows>
         ensures some { IsSome result ↔ ((first ≤ end) × (end ≤ rows_of self.now)) }
         ensures rows { IfSome result (λ strip. (strip.canvas ≡ self.now) × (strip.first ≡ first) × (strip.end ≡ end)) }
@@ -104,7 +104,7 @@ impl Canvas {
         }
     }
 
-    /// All rows of tiles.
+    /// All tile rows.
     pub fn all(&self) -> TileRows
         ensures { (result.canvas ≡ self.now) × (result.first ≡ 0) × (result.end ≡ rows_of self.now) }
     {

@@ -13,8 +13,8 @@ use crate::tile_rows::TileRows;
 use lanes::BlockSamples;
 use raster::{Tile, colours};
 
-/// Copies the first bytes of `run` to all of `bytes`. Where this is inlined, the lengths of eight whole pixels are known, so that these
-/// are copied without a call.
+/// Copies the first bytes of `run` to all of `bytes`. If this is inlined, the lengths of eight whole pixels are known, so that
+/// these are copied without a call.
 #[inline(always)]
 fn copy_first(run: &[u8; 32], bytes: &mut [u8])
     requires { length bytes.old ≤ 32 }
@@ -53,7 +53,7 @@ fn resolve_run(
 }
 
 impl Canvas {
-    /// Writes row `j` of pixels, from the samples of its row of tiles.
+    /// Writes row `j` of pixels, from the samples of its tile row.
     fn resolve_row(&self, j: u32, samples: &[BlockSamples], format: Format, bytes: &mut [u8])
         requires row { j < self.now.height }
         requires samples { length samples.now ≡ planes_of_row self.now }
@@ -81,9 +81,9 @@ impl Canvas {
 }
 
 impl TileRows {
-    /// Writes the colour of each pixel of the picture in these tile rows, in the format, with alpha 255: the rows of pixels from top to
-    /// bottom, each `stride` bytes behind the one above, the pixels of a row from left to right. The bytes begin with the first pixel of
-    /// the first row. Bytes that are of no pixel stay unchanged.
+    /// Writes the colour of each pixel of the picture in these tile rows, in the format, with alpha 255: the rows of pixels from
+    /// top to bottom, each `stride` bytes behind the one above, the pixels of a row from left to right. The bytes begin with the
+    /// first pixel of the first row. Bytes of no pixel are unchanged.
     pub fn resolve(
         &self,
         samples: &[BlockSamples],

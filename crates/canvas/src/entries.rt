@@ -20,7 +20,7 @@ fn id_at(plane: &BlockSamples, k: usize) -> u32
 }
 
 impl Canvas {
-    /// Writes the depths of the samples `s` of row `j` of pixels, from the samples of its row of tiles.
+    /// Writes the depths of the samples `s` of row `j` of pixels, from the samples of its tile row.
     fn depth_row(&self, j: u32, s: u32, samples: &[BlockSamples], depths: &mut [u16])
         requires sample { s < count_of self.now.count }
         requires samples { length samples.now ≡ planes_of_row self.now }
@@ -33,7 +33,7 @@ impl Canvas {
         }
     }
 
-    /// Writes the ids of the samples `s` of row `j` of pixels, from the samples of its row of tiles.
+    /// Writes the ids of the samples `s` of row `j` of pixels, from the samples of its tile row.
     fn id_row(&self, j: u32, s: u32, samples: &[BlockSamples], ids: &mut [u32])
         requires sample { s < count_of self.now.count }
         requires samples { length samples.now ≡ planes_of_row self.now }
@@ -49,8 +49,8 @@ impl Canvas {
 
 impl TileRows {
     /// Writes the depth of sample `s` of each pixel of the picture in these tile rows: the rows of pixels from top to bottom, each
-    /// `stride` entries behind the one above, the pixels of a row from left to right. The entries begin with the first pixel of the first
-    /// row. Entries that are of no pixel stay unchanged.
+    /// `stride` entries behind the one above, the pixels of a row from left to right. The entries begin with the first pixel of the
+    /// first row. Entries of no pixel are unchanged.
     pub fn depths(
         &self,
         samples: &[BlockSamples],
@@ -91,8 +91,8 @@ impl TileRows {
         Ok(())
     }
 
-    /// Writes the id that is stored in place of the colour of sample `s`, red + 256 * green + 65536 * blue, of each pixel of the picture
-    /// in these tile rows, laid out as by `depths`. Entries that are of no pixel stay unchanged.
+    /// Writes the id that is stored in place of the colour of sample `s`, red + 256 * green + 65536 * blue, of each pixel of the
+    /// picture in these tile rows, laid out as by `depths`. Entries of no pixel are unchanged.
     pub fn ids(
         &self,
         samples: &[BlockSamples],

@@ -1,4 +1,4 @@
-//! Triangles that are drawn by the places of their indices in a list of vertices.
+//! Triangles that are drawn by the indices of their vertices in a list.
 ghost use Rattle.std.specs.Prelude.{◌≡◌, ◌≢◌, ◌↔◌, ◌<◌, ◌≤◌, map, length, ◌⊎◌, IsOk, IsTrue, OnOk, OnErr, IfErr};
 ghost use Rattle.std.specs.List.{All};
 ghost use Rattle.canvas.specs.Layout.{planes_of_rows};
@@ -69,7 +69,7 @@ impl TileRows {
         self.draw_chunk(&chunk[..triangles.len()], samples);
     }
 
-    /// Draws triangles in one state, each by the places of its three indices among the vertices.
+    /// Draws triangles in one state, each by the indices of its three vertices.
     pub fn draw_indexed(
         &self,
         vertices: &[Vertex],

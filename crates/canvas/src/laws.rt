@@ -22,7 +22,7 @@ pub fn joins_batches()
 {}
 
 /// What triangles in the colours of their ids make of a sample: it has the id of the last one that would have passed there, drawn
-/// in its own colour, and the colour that stood there where none would have.
+/// in its own colour, and its old colour if none would have.
 pub fn tells_last()
     ensures { (ts : List Placed) (n : ℕ) (count : SampleCount) (i j s : ℕ) (start end : Sample) → Ends (with_ids ts n) count i j s start end
         → (last : Maybe ℕ) × IsLast ts n count i j s start Nothing last × HasId start end last }

@@ -1,5 +1,5 @@
-//! A canvas: samples that stay in the caller's memory, so that batch after batch of triangles is drawn over them, and colours, depths and
-//! ids are read back. No call takes memory. Threads share a canvas by its rows of tiles.
+//! A canvas: samples that stay in the caller's memory, so that batch after batch of triangles is drawn over them, and colours,
+//! depths and ids are read back. No call allocates. Threads share a canvas by its tile rows.
 #![tactic(auto)]
 
 mod canvas;

@@ -71,7 +71,7 @@ impl TileRows {
     }
 
     /// Stores a picture in place of the colours: all samples of each pixel of the picture in these tile rows have the colour of the
-    /// pixel's bytes, which are laid out as `resolve` writes them. Depths stay unchanged, and alpha is not read.
+    /// pixel's bytes, which are laid out as `resolve` writes them. Depths are unchanged, and alpha is not read.
     pub fn load(
         &self,
         samples: &mut [BlockSamples],

@@ -7,7 +7,7 @@ use crate::canvas::Canvas;
 use crate::tile_rows::TileRows;
 
 impl Canvas {
-    /// In which plane of a row of tiles sample `s` of pixel (i, j) is.
+    /// In which plane of a tile row sample `s` of pixel (i, j) is.
     #[inline]
     pub(crate) fn place_in_row(&self, i: u32, j: u32, s: u32) -> usize
         requires column { i / 64 < columns_of self.now }

@@ -1,4 +1,5 @@
-//! Pictures of many triangles beside the definition, drawn sample by sample: batches, pieces, formats, strides, ids, and calls that do nothing.
+//! Pictures of many triangles compared with the definition, drawn sample by sample: batches, pieces, formats, strides, ids, and
+//! calls that do nothing.
 use crate::{Canvas, Format, Misfit, TileRows, Vertex};
 use grid::{Cull, PixelBox, Point, SampleCount, Tri, sample_at};
 use lanes::BlockSamples;
@@ -213,7 +214,7 @@ fn colour_at(triangles: &[Placed], count: SampleCount, i: u32, j: u32) -> [u8; 3
     [r, g, mean(count, [a.b, b.b, c.b, d.b])]
 }
 
-/// The byte of a channel of pixel (i, j), or the one that stays beside a row.
+/// The byte of a channel of pixel (i, j), or the unchanged one after the end of a row.
 fn byte_at(
     triangles: &[Placed],
     canvas: &Canvas,
@@ -234,7 +235,7 @@ fn byte_at(
     }
 }
 
-/// Whether the bytes are the picture, row after row of 75 pixels, of which those beside the picture stayed.
+/// Whether the bytes are the picture, row after row of 75 pixels, of which those to the right of the picture are unchanged.
 fn are_resolved(triangles: &[Placed], canvas: &Canvas, format: Format, bytes: &[u8]) -> bool {
     let mut rest = bytes.iter();
     for j in 0..canvas.height {
@@ -251,7 +252,7 @@ fn are_resolved(triangles: &[Placed], canvas: &Canvas, format: Format, bytes: &[
     rest.next().is_none()
 }
 
-/// So many bytes that no call has written.
+/// `size` bytes that no call has written.
 fn untouched(alloc: Global, size: usize) -> Result<Vec<u8>, Fail> {
     let mut bytes = Vec::new(alloc);
     for _ in 0..size {
@@ -260,8 +261,8 @@ fn untouched(alloc: Global, size: usize) -> Result<Vec<u8>, Fail> {
     Ok(bytes)
 }
 
-/// Whether a picture in the format is resolved as it is defined, and nothing beside it is written; and whether a canvas onto which that
-/// picture is loaded resolves to it.
+/// Whether a picture in the format is resolved as it is defined, and nothing outside of it is written; and whether a canvas onto
+/// which that picture is loaded resolves to it.
 fn resolves(
     rt: &impl Abort,
     alloc: Global,

@@ -1,16 +1,16 @@
-//! Rows of tiles that are drawn together.
+//! Tile rows that are drawn together.
 ghost use Rattle.std.specs.Prelude.{◌≡◌, ◌↔◌, ℕ, ◌+◌, ◌/◌, ◌<◌, ◌≤◌, List, ◌++◌, length, IsSome, IfSome};
 
 use crate::canvas::Canvas;
 
-/// Rows of tiles of a picture, one below the other, whose planes of samples lie together. Threads share a picture by a strip each.
+/// Tile rows of a picture, one below the other, whose planes of samples lie together. Threads share a picture by its tile rows.
 #[derive(Clone, Copy, Debug)]
 pub struct TileRows {
     /// The picture.
     pub canvas: Canvas,
-    /// The first row of tiles.
+    /// The first tile row.
     pub first: u32,
-    /// The row of tiles after the last one.
+    /// The tile row after the last one.
     pub end: u32,
     pub ghost rising: { first ≤ end },
     pub ghost within: { end ≤ (canvas.height + 63) / 64 },
@@ -20,7 +20,7 @@ impl TileRows {
     ghost use Rattle.lanes.specs.declared.block_samples.BlockSamples.{BlockSamples as Planes};
     ghost use Rattle.canvas.specs.Layout.{HasSample, planes_of_rows, stored};
 
-    /// How many planes of samples the strip has.
+    /// How many planes of samples these tile rows have.
     pub fn planes(&self) -> usize
         ensures value { result ≡ planes_of_rows self.now.canvas self.now.first self.now.end }
         ensures few { result ≤ 1048576 }
@@ -28,8 +28,8 @@ impl TileRows {
         (self.end - self.first) as usize * self.canvas.planes_of_row()
     }
 
-    /// The rows of tiles before row `at`, and those from there on, or none where `at` is no row of the strip nor its end. The planes of
-    /// the first part, and behind them those of the second, are those of the whole.
+    /// The tile rows before row `at`, and those from there on. Returns `None` if `at` is none of these tile rows nor their end. The
+    /// planes of the first part, and behind them those of the second, are those of the whole.
     pub fn split(&self, at: u32) -> Option<(TileRows, TileRows)>
         ensures some { IsSome result ↔ ((self.now.first ≤ at) × (at ≤ self.now.end)) }
         ensures upper { IfSome result (λ parts. (parts.0.canvas ≡ self.now.canvas) × (parts.0.first ≡ self.now.first) × (parts.0.end ≡ at)) }

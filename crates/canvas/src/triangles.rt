@@ -36,7 +36,7 @@ fn draw_tile(chunk: &[Placed], mask: u64, tile: &Tile, samples: &mut [BlockSampl
 }
 
 impl Canvas {
-    /// Draws the triangles at the samples of a row of tiles, tile by tile.
+    /// Draws the triangles at the samples of a tile row, tile by tile.
     fn draw_row(&self, row: u32, chunk: &[Placed], reached: &Reached, samples: &mut [BlockSamples])
         requires row { row < rows_of self.now }
         requires few { length chunk.now ≤ 64 }

@@ -9,7 +9,7 @@ use Rattle.model.specs.Checks.{draw_checks, draws_checks, triangles_counted, in_
 use Rattle.checking_reader.proofs.Elements.{from_here}
 use Rattle.model.proofs.Faults.{first_fault_of_both, first_fault_told_as}
 
--- no draw before i fails, and those draws have so many triangles
+-- no draw before i fails, and those draws have `earlier` triangles
 abbrev pub DrawsPassed : List Value → ℕ → ℕ → Type 0
 DrawsPassed vs i earlier = first_fault (draws_checks i earlier (items_view (drop i vs))) ≡ first_fault (draws_checks 0 0 (items_view vs))
 

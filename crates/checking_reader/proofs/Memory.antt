@@ -1,4 +1,5 @@
--- No check outside of vertices and primitives tells want of memory; and which checks have passed where the vertices of a draw were begun.
+-- No check outside of vertices and primitives reports out of memory. Which checks have passed before the vertices of a draw are
+-- read.
 use Rattle.std.proofs.Common.{◌≡◌, ◌≢◌, ℕ, [], ◌∷◌, ◌++◌, Bool, true, false, ◌||◌, cond, Option, Some, None, is_none, codes, refl}
 use Rattle.std.specs.List.{AllByRecursion}
 use Rattle.serde_json.specs.Data.{Data}
@@ -11,7 +12,7 @@ use Rattle.model.specs.FirstFault.{first_fault}
 use Rattle.model.specs.Checks.{Checks, where_there, word_checks, truth_checks, write_mask_checks, sample_mask_checks, scissor_checks, sample_count_checks, colour_checks, depth_checks, clear_checks, top_checks, array_checks, each, vertex_checks, positions_written, merge_checks, state_checks, vertices_checks, primitive_checks, part_checks, opening_checks, has_no_list, is_absent, draw_checks, checks_before_vertices}
 use Rattle.model.proofs.Faults.{all_pass, both_pass, both_passed}
 
--- no place tells want of memory
+-- no check reports out of memory
 abbrev NoneTellsMemory : Checks → Type 0
 NoneTellsMemory checks = AllByRecursion (λ p. p.told ≢ OutOfMemory) checks
 
@@ -97,9 +98,9 @@ top_tells d =
 pub top_never : (d : Data) → first_fault (top_checks d) ≡ Some OutOfMemory → ⊥
 top_never d = never (top_checks d) (top_tells d)
 
--- ---- what has passed where vertices were begun
+-- ---- what has passed when vertices are begun
 
--- where the vertices pass, they are an array that is not too long
+-- if the vertices pass, they are an array that is not too long
 pub array_passed : (value : Option Data) → is_none value ≡ false → first_fault (where_there vertices_checks value) ≡ None → first_fault (array_checks 65536 value) ≡ None
 unfolding vertices_checks
 array_passed None there none = absurd (cc)
@@ -109,7 +110,7 @@ first_is_false : (b c : Bool) → (b || c) ≡ false → b ≡ false
 first_is_false true c e = e
 first_is_false false c e = refl
 
--- where a draw passes, so do its checks before its vertices
+-- if a draw passes, so do its checks before its vertices
 pub passed_to_vertices : (earlier : ℕ) (d : Data) → first_fault (draw_checks earlier d) ≡ None → first_fault (checks_before_vertices d) ≡ None
 passed_to_vertices earlier d none =
     let vertices = get (codes "vertices") d in

@@ -12,7 +12,7 @@ use Rattle.model.proofs.Corners.{same_places}
 use Rattle.model.proofs.Counts.{items_len_each}
 use Rattle.model.proofs.Faults.{first_fault_of_both}
 
--- the first fault of the primitives is that of the vertices and primitives, where the vertices pass
+-- the first fault of the primitives is that of the vertices and primitives, if the vertices pass
 pub parts_answer : (earlier : ℕ) (v t s q : Option Data) (vs : List Vertex) (answer : Option ReadKind) → first_fault (where_there vertices_checks v) ≡ None → IsArrayOf 65536 IsVertex v vs
     → first_fault (primitive_checks earlier (length vs) (map (λ v. v.at) vs) t s q) ≡ answer → first_fault (part_checks earlier v t s q) ≡ answer
 parts_answer earlier v t s q vs answer passed is told =

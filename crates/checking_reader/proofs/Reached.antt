@@ -1,4 +1,4 @@
--- Which checks have passed where the reading of a draw begins.
+-- Which checks have passed when the reading of a draw begins.
 use Rattle.std.proofs.Common.{◌≡◌, ℕ, ◌+◌, ◌<◌, ◌≤◌, nat_lt, List, [], ◌∷◌, ◌++◌, length, drop, get_or, false, Some, None, codes, arith, sym, ap, ◌∙◌}
 use Rattle.std.proofs.lemmas.Bool.Decides.{nat_tests}
 use Rattle.serde_json.specs.Data.{Data, Items, no_items, item}
@@ -55,7 +55,7 @@ reached_draw vs i earlier v kind lt is before memory = record {
   memory = λ e. all_pass (checks_before_vertices (view v)) (memory e);
 }
 
--- where the top object passes, what was reached among its draws is reached in the value
+-- if the top object passes, what was reached among its draws is reached in the value
 pub reaches : (d : Data) (vs : List Value) (fault : ReadFault) → items_view vs ≡ elements (get (codes "draws") d) → first_fault (top_checks d) ≡ None
     → ((n : ℕ) × (fault.draw ≡ Some n) × IsReached (items_view vs) fault.kind n) → Reaches (Some d) fault
 reaches d vs fault is top h = rw h.1 (all_pass (top_checks d) top, rw is at h.2)

@@ -1,18 +1,18 @@
--- Whether an answer of the reader is right.
+-- Whether a result of the reader is right.
 use Rattle.std.specs.Prelude.{◌≡◌, ◌≢◌, List, Some, None, Result, MatchResult}
 use Rattle.model.specs.declared.fault.ReadKind.{ReadKind}
 use Rattle.model.specs.declared.fault.ReadFault.{ReadFault}
 use Rattle.model.specs.declared.fault.ReadKind.TheVariants.{OutOfMemory}
 use Rattle.model.specs.FirstFault.{Check, first_fault}
 
--- The answer is right: no check fails, or the first that fails has this kind.
+-- The result is right: no check fails, or the first that fails has this kind.
 abbrev pub Tells : {X : Type 0} → List (Check ReadKind) → (X → Type 0) → Result X ReadKind → Type 0
 Tells checks P answer = MatchResult answer (λ x. (first_fault checks ≡ None) × P x) (λ kind. first_fault checks ≡ Some kind)
 
--- the same of an answer that may also be want of memory
+-- the same of a result that may also be out of memory
 abbrev pub Reads : {X : Type 0} → List (Check ReadKind) → (X → Type 0) → Result X ReadKind → Type 0
 Reads checks P answer = MatchResult answer (λ x. (first_fault checks ≡ None) × P x) (λ kind. kind ≢ OutOfMemory → first_fault checks ≡ Some kind)
 
--- the same of an answer that also tells the draw
+-- the same of a result whose fault also names the draw
 abbrev pub ReadsAll : {X : Type 0} → List (Check ReadFault) → (X → Type 0) → Result X ReadFault → Type 0
 ReadsAll checks P answer = MatchResult answer (λ x. (first_fault checks ≡ None) × P x) (λ fault. fault.kind ≢ OutOfMemory → first_fault checks ≡ Some fault)

@@ -1,4 +1,4 @@
--- The list of primitives that a draw has, still as it was written.
+-- The list of primitives that a draw has, still as a JSON value.
 use Rattle.std.specs.Prelude.{◌≡◌, codes, Option, Some, None}
 use Rattle.serde_json.specs.Data.{Data}
 use Rattle.serde_json.specs.Find.{get}

@@ -1,4 +1,4 @@
--- The top object, with its draws still as they were written.
+-- The top object, with its draws still as JSON values.
 use Rattle.std.specs.Prelude.{◌≡◌, ◌≤◌, length, false, codes, IsSome}
 use Rattle.serde_json.specs.Data.{Data}
 use Rattle.serde_json.specs.Find.{get, as_object}

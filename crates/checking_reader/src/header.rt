@@ -17,7 +17,7 @@ use model::{
 use serde_json::Value;
 use shade::Sample;
 
-/// The parts of the top object, with its draws still as they were written.
+/// The parts of the top object. Its draws are still JSON values.
 #[derive(Drop)]
 pub(crate) struct Header<'v> {
     pub target: Target,
@@ -47,7 +47,7 @@ fn sample_count(value: Option<&Value>) -> Result<SampleCount, ReadKind>
     }
 }
 
-/// The colour that each sample begins with, beside the default depth; the default if the key is absent.
+/// The colour that each sample begins with, apart from the default depth; the default if the key is absent.
 fn clear_colour(value: Option<&Value>) -> Result<Sample, ReadKind>
     ensures { let seen = option_map (λ v. view v.now) value.entry in
         Tells (where_there colour_checks seen) (λ found. OrDefault (0 ∷ 0 ∷ 0 ∷ []) IsClearColour seen (found.r ∷ found.g ∷ found.b ∷ [])) result }

@@ -8,7 +8,7 @@ use crate::number::whole_number;
 use model::{MOST_VERTICES, ReadKind};
 use serde_json::Value;
 
-/// The number of one of `count` vertices.
+/// The index of one of `count` vertices.
 pub(crate) fn index(value: Option<&Value>, count: usize) -> Result<u32, ReadKind>
     requires { count ≤ MOST_VERTICES }
     ensures { let seen = option_map (λ v. view v.now) value.entry in

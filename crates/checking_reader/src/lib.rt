@@ -1,4 +1,4 @@
-//! Reads a draw list over `serde_json`'s value of a text, with its keys in any order, and returns the first fault.
+//! Reads a draw list over `serde_json`'s value of a JSON text, with its keys in any order, and returns the first fault.
 #![tactic(auto)]
 
 mod array;

@@ -15,7 +15,7 @@ use model::{MOST_TRIANGLES, MOST_VERTICES, Primitives, ReadKind, Vertex};
 use serde_json::Value;
 use std::alloc::Global;
 
-/// The one list of primitives that a draw has, still as it was written.
+/// The one list of primitives that a draw has, still as a JSON value.
 #[derive(Clone, Copy)]
 pub(crate) enum PrimitiveArray<'v> {
     Triangles(&'v Value),
@@ -23,7 +23,7 @@ pub(crate) enum PrimitiveArray<'v> {
     Quads(&'v Value),
 }
 
-/// The list of primitives of a draw, which has just one.
+/// The list of primitives of a draw, which has exactly one.
 pub(crate) fn primitive_array(value: &Value) -> Result<PrimitiveArray<'_>, ReadKind>
     ensures { let seen = view value.now in
         Tells (check (has_no_list seen) MissingKey ∷ check (has_two_lists seen) TwoLists ∷ []) (IsGiven seen) result }

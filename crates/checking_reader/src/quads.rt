@@ -11,7 +11,7 @@ use model::{MOST_QUADS, MOST_TRIANGLES, MOST_VERTICES, ReadKind, Vertex, is_conv
 use serde_json::Value;
 use std::alloc::Global;
 
-/// A strictly convex quad, by the numbers of four of the vertices.
+/// A strictly convex quad, by the indices of four of the vertices.
 fn quad(value: &Value, vertices: &[Vertex]) -> Result<[u32; 4], ReadKind>
     requires { length vertices.now ≤ MOST_VERTICES }
     ensures { Tells (quad_checks_over vertices.now (view value.now)) (IsQuad vertices.now (view value.now)) result }

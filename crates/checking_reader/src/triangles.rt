@@ -10,7 +10,7 @@ use model::{MOST_TRIANGLES, MOST_VERTICES, ReadKind};
 use serde_json::Value;
 use std::alloc::Global;
 
-/// A triangle, by the numbers of three of `count` vertices.
+/// A triangle, by the indices of three of `count` vertices.
 fn triangle(value: &Value, count: usize) -> Result<[u32; 3], ReadKind>
     requires { count ≤ MOST_VERTICES }
     ensures { Tells (triangle_checks count (view value.now)) (IsTriangle count (view value.now)) result }

@@ -38,7 +38,7 @@ sides_right a b c d e ab bc cd da h p =
 across : (a b c : Position) → side a b c <ℤ pos 0 → pos 0 <ℤ side b a c
 across a b c h = rw side-reversed (omega (arith, ints))
 
--- an edge that runs the other way tells the same
+-- an edge that runs the other way has the same test
 turned_edge : (a b c p : Position) (e : Edge) → side a b c <ℤ pos 0 → IsTestOf b a e → (pos 0 ≤ℤ value_at e p) ↔ PassesEdge a b c p
 turned_edge a b c p e h test =
     let at = test c p (across a b c h) in

@@ -28,7 +28,7 @@ high n le = grind arith
 low : (n : ℕ) → n < 2 ^ 31 → leb (2 ^ 31) n ≡ false
 low n less = grind arith
 
--- a comparison with 0 tells the highest bit
+-- a comparison with 0 yields the highest bit
 under_zero : (n : ℕ) → top 31 (below n 0) ≡ leb (2 ^ 31) n
 under_zero n =
     elim (cases_lt n (2 ^ 31)) [
@@ -36,7 +36,7 @@ under_zero n =
       | inr more ↦ (let e : ltb n (2 ^ 31) ≡ false = grind arith in rw e (sym (high n more)))
     ]
 
--- a number is negative where its highest bit is set
+-- a number is negative if its highest bit is set
 negative_bits : (x : ℤ) → FitsSigned w32 x → leb (2 ^ 31) (of_z w32 x) ≡ is_negative x
 negative_bits (pos n) fits = low n (omega (arith, ints, fits))
 negative_bits (negsuc n) fits = high _ (omega (arith, ints, fits))

@@ -12,7 +12,7 @@ pub record IsInside (e : Edges) (p : Position) : Type 0 where
   pub bc : pos 0 ≤ℤ value_at e.bc p
   pub ca : pos 0 ≤ℤ value_at e.ca p
 
--- The three functions so far from a position where they are `at`.
+-- The three functions `m` to the right of and `n` below a position where they are `at`.
 pub record AreGrown (e : Edges) (at : Values) (m n : ℕ) (v : Values) : Type 0 where
   pub ab : v.ab ≡ grown e.ab at.ab m n
   pub bc : v.bc ≡ grown e.bc at.bc m n

@@ -18,7 +18,7 @@ pub record AreMasksOfQuad (q : Corners) (bx by : ℕ) (count : SampleCount) (m :
   pub covered : (s row column : ℕ) → s < count_of count → row < 8 → column < 8 → (HasSample m s row column ↔ QuadCoversInBlock q bx by count s row column)
   pub empty : (s : ℕ) → count_of count ≤ s → slice_index m.plane s ≡ 0
 
--- No sample of the block is in both parts, and a sample is in the whole exactly where it is in one of them.
+-- No sample of the block is in both parts, and a sample is in the whole if and only if it is in one of them.
 pub record AreDisjointParts (first second whole : Masks) : Type 0 where
   pub disjoint : HaveNoCommonSample first second
   pub union : (s row column : ℕ) → row < 8 → column < 8 → (HasSample whole s row column ↔ (HasSample first s row column ⊎ HasSample second s row column))

@@ -27,8 +27,7 @@ impl Edges {
     ghost use Rattle.cover.specs.Masks.{AreMasksWhere, to_column, to_row};
     ghost use Rattle.cover.specs.Setup.{AreEdgesOf};
 
-    /// The edges of a triangle whose area is not zero, each turned so that the triangle lies where its edge function is over
-    /// zero.
+    /// The edges of a triangle whose area is not zero, each turned so that its edge function is positive inside the triangle.
     #[inline(always)]
     pub(crate) fn of(t: &Tri) -> Edges
         requires { doubled_area t.now.a t.now.b t.now.c ≢ pos 0 }
@@ -62,7 +61,7 @@ impl Edges {
         }
     }
 
-    /// The three functions so far to the right and down in 1/256 pixel.
+    /// The three functions `right` to the right of and `down` below a position where they are `at`, in 1/256 pixel.
     #[inline(always)]
     pub(crate) fn further(&self, at: &Values, right: u32, down: u32) -> Values
         requires at { AreScreenBounded at.now }
@@ -99,7 +98,7 @@ impl Edges {
             || self.ca.passes_none(at.ca, reach)
     }
 
-    /// The samples of a block where none of the functions is negative, which are `at` at the first position of the box round the
+    /// The samples of a block at which none of the functions is negative. They are `at` at the first position of the box round the
     /// block's samples.
     #[inline(always)]
     pub(crate) fn masks(&self, at: &Values, count: SampleCount) -> Masks

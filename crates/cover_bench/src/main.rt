@@ -1,6 +1,6 @@
 //! The masks of the blocks on the borders of generated triangles, by `Setup::masks`, by squares that are cut into quarters down to
-//! a block, and by the plain cover test at each sample. It prints a checksum of each, and with the word `--time` how long a block
-//! took.
+//! a block, and by the reference cover test at each sample. It prints a checksum of each, and with the argument `--time` the time
+//! per block.
 #![tactic(auto)]
 
 ghost use Rattle.std.specs.Prelude.{◌≡◌, ◌<◌};
@@ -18,7 +18,7 @@ const TRIANGLES: u32 = 64;
 /// How many blocks that screen has in a row.
 const COLUMNS: u32 = 128;
 
-/// How often all blocks are gone through where time is taken; the quickest time counts.
+/// How often all blocks are gone through if time is measured; the shortest time counts.
 const ROUNDS: u32 = 50;
 
 /// A triangle, and the numbers of the blocks that it neither covers nor leaves out.
@@ -91,7 +91,7 @@ fn scenes(alloc: Global, count: SampleCount) -> Result<Vec<Scene>, AllocError> {
     Ok(all)
 }
 
-/// One plane of a block's masks, by the plain test at each sample.
+/// One plane of a block's masks, by the reference test at each sample.
 fn plain_plane(triangle: &Tri, block: u32, s: u32, count: SampleCount) -> u64 {
     let (bx, by) = place(block);
     let mut plane = 0u64;
@@ -227,7 +227,7 @@ fn blocks(all: &[Scene]) -> u64 {
     sum
 }
 
-/// Tenths of a nanosecond for each of so many blocks.
+/// The time per block, in tenths of a nanosecond.
 fn tenths(nanos: u128, blocks: u64) -> u64 {
     let whole = u64::try_from(nanos).unwrap_or(0).wrapping_mul(10);
     if blocks == 0 { 0 } else { whole / blocks }

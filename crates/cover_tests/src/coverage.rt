@@ -209,7 +209,7 @@ fn cuts_squares(rt: HostRuntime) {
     assert_eq!(rt; whole.quarter(0).class(), Class::All);
 }
 
-/// The plain cover test at each sample of a block.
+/// The reference cover test at each sample of a block.
 fn plain_masks(t: &Tri, bx: u32, by: u32, count: SampleCount) -> Masks
     requires column { bx < 512 }
     requires row { by < 512 }
@@ -227,7 +227,7 @@ fn plain_masks(t: &Tri, bx: u32, by: u32, count: SampleCount) -> Masks
     Masks { plane }
 }
 
-/// Compares a block's masks and class, and those of the square round it by its quarters, with the plain test.
+/// Compares a block's masks and class, and those of the square round it by its quarters, with the reference test.
 fn compare(rt: &impl Abort, t: &Tri, setup: &Setup, bx: u32, by: u32)
     requires column { bx < 512 }
     requires row { by < 512 }
@@ -296,7 +296,7 @@ impl Random {
         point(rt, x, self.coordinate(step))
     }
 
-    /// A triangle, which now and then is a sliver: its last corner lies right beside the one before.
+    /// A triangle, which now and then is a sliver: its last corner lies right next to the one before.
     fn triangle(&mut self, rt: &impl Abort, step: u32) -> Tri
         requires step { 0 < step }
         requires small { step < 2 ^ 8 }
@@ -369,7 +369,7 @@ fn covers_the_guard_band(rt: HostRuntime) {
     }
 }
 
-/// The plain cover test of a quad at each sample of a block.
+/// The reference cover test of a quad at each sample of a block.
 fn plain_quad_masks(quad: &Quad, bx: u32, by: u32, count: SampleCount) -> Masks
     requires column { bx < 512 }
     requires row { by < 512 }
@@ -387,7 +387,7 @@ fn plain_quad_masks(quad: &Quad, bx: u32, by: u32, count: SampleCount) -> Masks
     Masks { plane }
 }
 
-/// Compares a quad's masks with the plain test, and with those of the triangles of both diagonals.
+/// Compares a quad's masks with the reference test, and with those of the triangles of both diagonals.
 fn compare_quad(rt: &impl Abort, quad: &Quad, bx: u32, by: u32)
     requires column { bx < 512 }
     requires row { by < 512 }
@@ -419,7 +419,7 @@ fn compare_quad(rt: &impl Abort, quad: &Quad, bx: u32, by: u32)
 }
 
 impl Random {
-    /// Four corners, which may or may not make a quad: now and then a thin one, whose last two corners lie beside the first two.
+    /// Four corners, which may or may not make a quad: now and then a thin one, whose last two corners lie next to the first two.
     fn quad(&mut self, rt: &impl Abort, step: u32) -> Option<Quad>
         requires step { 0 < step }
         requires small { step < 2 ^ 8 }

@@ -1,4 +1,4 @@
--- The whole number that serde_json reads from a number's text, from what `fast_float` gives of it.
+-- The integer that serde_json reads from a number's text, from what `fast_float` returns for it.
 use Rattle.std.proofs.Common.{◌≡◌, ℕ, zero, suc, ◌<◌, ◌≤◌, ◌^◌, ℤ, pos, ◌<ℤ◌, List, [], ◌∷◌, ◌++◌, append-nil, option_map, get_or, drop, length, Bool, true, false, ◌==◌, Option, Some, None, IfSome, option_and_then, FitsSigned, SFits, w64, to_z, of_z, to_z-of_z, ◌-ℤ◌, refl, sym, ap, ◌∙◌, arith, lt-ltb, le-leb}
 use lib.Signed.{lt_z}
 use Rattle.std.proofs.lemmas.Int.{ints}

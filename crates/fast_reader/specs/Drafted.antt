@@ -62,7 +62,7 @@ IsOnlyList triangles strip quads (Quads found) = (quads ≡ Some found) × (tria
 abbrev pub HasSize : Data → ℕ → Type 0
 HasSize d n = IsSize (Some d) n
 
--- all pixels of a picture whose sides were read
+-- all pixels of a picture whose width and height were read
 abbrev pub picture_of : Option ℕ → Option ℕ → Option PixelBox
 picture_of None height = None
 picture_of (Some width) None = None
@@ -73,7 +73,7 @@ AreDraws picture d draws =
     let listed = map draw_listing draws in
     IsArrayOf 1024 (IsDraw picture) (Some d) listed × (sum_by (λ x. count_of_triangles x.primitives) listed ≤ 65536)
 
--- draws on a picture whose sides were read
+-- draws on a picture whose width and height were read
 abbrev pub AreDrawsOn : Option PixelBox → Data → Vec Draw Global → Type 0
 AreDrawsOn None d draws = ⊥
 AreDrawsOn (Some picture) d draws = AreDraws picture d draws.items

@@ -1,4 +1,4 @@
--- What a reader took of its tokens, in the words of serde_json's own reading.
+-- What a reader took of its tokens, in terms of serde_json's own reading.
 use Rattle.std.specs.Prelude.{◌≡◌, ℕ, ℤ, ◌+◌, ◌-◌, ◌≤◌, List, [], ◌∷◌, length, true, false, Option, Some, None}
 use Rattle.json.specs.Token.{Token}
 use Rattle.json.specs.Json.{parse_map, value, items, members}
@@ -31,17 +31,17 @@ pub record TookEach {X : Type 0} (levels : ℕ) (Is : Data → X → Type 0) (ol
   pub are : Each Is (items_of seen) xs
   pub took : TookItems levels old seen new
 
--- In an object the tokens `old` begin with so many members, which make `found`, and `new` is what follows them.
+-- In an object the tokens `old` begin with `count` members, which make `found`, and `new` is what follows them.
 pub record TookMembers (levels : ℕ) (old : List Token) (count : ℕ) (found : Members) (new : List Token) : Type 0 where
   pub fewer : length new + count ≤ length old
   pub read : (depth n : ℕ) → levels ≤ depth → length old ≤ n
       → converted (λ ms. of_members ms no_members) (members (value depth) n old) ≡ converted (λ ms. of_members ms found) (members (value depth) (n - count) new)
 
--- The value is this whole number, signed or unsigned, of 64 bits.
+-- The value is this integer, signed or unsigned, of 64 bits.
 abbrev pub IsNumber : Data → ℤ → Type 0
 IsNumber d z = whole (Some d) ≡ Some z
 
--- What the value of a key denotes, where the key is there, and none where it is absent.
+-- What the value of a key denotes if the key is there, and `None` if it is absent.
 abbrev pub Slot : {X : Type 0} → (Data → X → Type 0) → Option Data → Option X → Type 0
 Slot Is None None = Unit {0}
 Slot Is None (Some x) = ⊥

@@ -20,7 +20,7 @@ use std::alloc::Global;
 /// What the members of a draw that were taken so far say of it.
 #[derive(Drop)]
 pub(crate) struct DrawDraft {
-    /// How the triangles are drawn; the default where no member says it.
+    /// How the triangles are drawn; the default if no member says it.
     pub state: State,
     pub vertices: Option<Vec<Vertex>>,
     pub triangles: Option<Vec<[u32; 3]>>,

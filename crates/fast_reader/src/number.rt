@@ -94,7 +94,7 @@ pub(super) fn take_channel(reader: &mut Reader<'_>) -> Option<u8>
     Some(take_between(reader, 0, i64::from(u8::MAX))? as u8)
 }
 
-/// Takes the number of one of `count` vertices.
+/// Takes the index of one of `count` vertices.
 pub(super) fn take_index(reader: &mut Reader<'_>, count: usize) -> Option<u32>
     ensures { IfSome result (λ k. Took 0 (λ d k. IsIndex count (Some d) k) reader.old k reader.new) }
 {

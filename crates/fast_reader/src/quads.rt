@@ -9,7 +9,7 @@ use json::Reader;
 use model::{MOST_QUADS, Vertex, is_convex};
 use std::alloc::Global;
 
-/// Takes a strictly convex quad, by the numbers of four of the vertices.
+/// Takes a strictly convex quad, by the indices of four of the vertices.
 fn take_quad(reader: &mut Reader<'_>, vertices: &[Vertex]) -> Option<[u32; 4]>
     ensures { IfSome result (λ quad. Took 1 (IsQuad vertices.now) reader.old quad reader.new) }
 {

@@ -21,11 +21,11 @@ pub(crate) struct ListDraft {
     pub width: Option<u16>,
     /// The height of the picture, in pixels.
     pub height: Option<u16>,
-    /// The number of samples of a pixel; the default where no member says it.
+    /// The number of samples of a pixel; the default if no member says it.
     pub count: SampleCount,
-    /// What each sample begins with; the default where no member says it.
+    /// What each sample begins with; the default if no member says it.
     pub clear: Sample,
-    /// What the picture shows; the default where no member says it.
+    /// What the picture shows; the default if no member says it.
     pub output: Output,
     pub draws: Option<Vec<Draw>>,
 }
@@ -51,7 +51,7 @@ impl ListDraft {
         }
     }
 
-    /// All pixels of the picture, once its sides were taken.
+    /// All pixels of the picture, once its width and height were taken.
     fn picture(&self) -> Option<PixelBox>
         ensures { result ≡ picture_of self.now.width self.now.height }
     {
@@ -59,7 +59,8 @@ impl ListDraft {
         Some(picture_box(width, height))
     }
 
-    /// Takes the value of a key. The sides of the picture are taken before the draws, which all its pixels are for by default.
+    /// Takes the value of a key. The picture's width and height are taken before the draws, whose scissor is the whole picture by
+    /// default.
     fn take_value(&mut self, alloc: Global, reader: &mut Reader<'_>, key: &str) -> Option<()>
         ensures { IfSome result (λ _. Took 4 (Adds top_keys HasList key.now self.old) reader.old self.new reader.new) }
     {

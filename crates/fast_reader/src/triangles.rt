@@ -9,7 +9,7 @@ use json::Reader;
 use model::MOST_TRIANGLES;
 use std::alloc::Global;
 
-/// Takes a triangle, by the numbers of three of `count` vertices.
+/// Takes a triangle, by the indices of three of `count` vertices.
 fn take_triangle(reader: &mut Reader<'_>, count: usize) -> Option<[u32; 3]>
     ensures { IfSome result (λ t. Took 1 (IsTriangle count) reader.old t reader.new) }
 {

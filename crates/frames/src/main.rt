@@ -1,8 +1,8 @@
-//! Frames by themselves: a draw list is read once from standard input and drawn several times into a writer that keeps nothing.
-//! By default it prints a checksum of the picture's file. With `--time` it also prints the least and the middle time of a frame,
-//! so that drawing is measured without reading.
+//! Draws frames without reading: a draw list is read once from standard input and drawn several times into a writer that keeps
+//! nothing. By default it prints a checksum of the picture's file. With `--time` it also prints the least and the median time of a
+//! frame.
 //!
-//! Words: `[--frames NUMBER] [--time] [--tile SIDE] [--workers NUMBER]`; the last two are those of the program.
+//! Arguments: `[--frames NUMBER] [--time] [--tile SIDE] [--workers NUMBER]`; the last two are those of the program.
 #![tactic(auto)]
 
 ghost use Rattle.std.specs.Prelude.{◌≤◌};
@@ -34,7 +34,7 @@ impl Write for Checksum {
     }
 }
 
-/// What the words ask for.
+/// What the arguments ask for.
 #[derive(Drop)]
 struct Asked {
     frames: usize,
@@ -43,7 +43,7 @@ struct Asked {
     ghost workers: { (1 ≤ options.workers) × (options.workers ≤ 16) },
 }
 
-/// The words that this program was called with, its own name first.
+/// The arguments that this program was called with, its own name first.
 fn own_words(rt: &HostRuntime) -> io::Result<Vec<String>> {
     let mut words = Vec::new(rt.alloc());
     for word in env::args(rt)? {
@@ -52,7 +52,7 @@ fn own_words(rt: &HostRuntime) -> io::Result<Vec<String>> {
     Ok(words)
 }
 
-/// What the words ask for. The words of the program itself are read by the program's own reader of words.
+/// What the arguments ask for. The arguments of the program itself are read by the program's own reader of arguments.
 fn read_words(alloc: Global, words: &[String]) -> io::Result<Asked> {
     let mut own = Vec::new(alloc);
     let (mut frames, mut timed, mut number_follows) = (1, false, false);
@@ -108,7 +108,7 @@ fn draw_frame<R: Threads + Wait + Sync, W: Write + Drop>(
     }
 }
 
-/// The times of so many frames in nanoseconds, in ascending order.
+/// The times of the frames in nanoseconds, in ascending order.
 fn times<R: Threads + Wait + Sync + Clock>(
     rt: &R,
     alloc: Global,

@@ -87,7 +87,7 @@ side-weighted a b c p d e =
     (side_term A B C · side_term D E P)
     (side_term B C P · side_term D E A ⊕ side_term C A P · side_term D E B ⊕ side_term A B P · side_term D E C) refl
 
--- the product that tells a left edge is the doubled area times the fall of the edge
+-- the product that decides whether an edge is a left edge is the doubled area times the fall of the edge
 pub left_excess-side : (a b c : Position) → left_excess a b c ≡ neg_ℤ ((b.y -ℤ a.y) *ℤ side a b c)
 unfolding side left_excess
 left_excess-side a b c =
@@ -103,7 +103,7 @@ side-steps a b c =
     let A = point 0 in let B = point 1 in let C = point 2 in
     ring (coordinates (a ∷ b ∷ c ∷ [])) (side_term A B C) ((B.x ⊖ A.x) · (C.y ⊖ B.y) ⊖ (C.x ⊖ B.x) · (B.y ⊖ A.y)) refl
 
--- what is left of the edge function where the edge is horizontal
+-- what is left of the edge function if the edge is horizontal
 pub side-level : (a b c : Position) → side a b c ≡ (b.x -ℤ a.x) *ℤ (c.y -ℤ a.y) -ℤ (b.y -ℤ a.y) *ℤ (c.x -ℤ a.x)
 unfolding side
 side-level a b c = refl

@@ -1,7 +1,7 @@
 ghost use Rattle.std.specs.Prelude.{◌≡◌, ◌↔◌, IsTrue};
 
-/// A rectangle of pixels: columns `x0` to before `x1`, rows `y0` to before `y1`. It is empty where `x0` is not under `x1`, or
-/// `y0` not under `y1`.
+/// A rectangle of pixels: columns `x0` to before `x1`, rows `y0` to before `y1`. It is empty if `x0` is not below `x1`, or `y0` not
+/// below `y1`.
 #[derive(Clone, Copy, Debug, PartialEq, Eq)]
 pub struct PixelBox {
     pub x0: i32,
@@ -25,7 +25,7 @@ impl PixelBox {
     }
 }
 
-/// The side of a square tile: 8, 16, 32 or 64 pixels.
+/// The tile size: tiles are squares of 8, 16, 32 or 64 pixels a side.
 #[derive(Clone, Copy, Debug, PartialEq, Eq)]
 pub enum TileSide {
     T8,
@@ -37,7 +37,7 @@ pub enum TileSide {
 impl TileSide {
     ghost use Rattle.grid.specs.Pixels.{side_of};
 
-    /// The side in pixels.
+    /// The tile size in pixels.
     pub fn pixels(self) -> u32
         ensures { result ≡ side_of self }
     {

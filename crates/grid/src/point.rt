@@ -11,9 +11,9 @@ const LOWEST: i32 = -8_388_608;
 /// The greatest coordinate of the guard band, in 1/256 pixel.
 const HIGHEST: i32 = 8_388_607;
 
-/// A position on the screen in 1/256 pixel, x to the right and y downwards (Direct3D 11, fixed-point positions with 8
-/// fractional bits). Each coordinate is inside of the guard band, from -8388608 to 8388607, so that a difference of two is
-/// under 2^24 in size.
+/// A position on the screen in 1/256 pixel, x to the right and y downwards (Direct3D 11, fixed-point positions with 8 fractional
+/// bits). Each coordinate is inside of the guard band, from -8388608 to 8388607, so that the absolute value of a difference of two
+/// is below 2^24.
 #[derive(Clone, Copy, Debug, PartialEq, Eq)]
 pub struct Point {
     x: i32,
@@ -33,7 +33,7 @@ impl Model for Point {
 }
 
 impl Point {
-    /// The point (x, y) in 1/256 pixel, or none where a coordinate is outside of the guard band.
+    /// The point (x, y) in 1/256 pixel, or `None` if a coordinate is outside of the guard band.
     pub fn new(x: i32, y: i32) -> Option<Point>
         ensures some { IsSome result ↔ (IsInBand x × IsInBand y) }
         ensures value { IfSome result (λ p. (p.x ≡ x) × (p.y ≡ y)) }

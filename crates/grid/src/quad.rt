@@ -27,7 +27,7 @@ impl Model for Quad {
 }
 
 impl Quad {
-    /// The quad of these corners in order, or none where it is not strictly convex: where it has a dent, crosses itself, or has
+    /// The quad of these corners in order. Returns `None` if it is not strictly convex: if it has a dent, crosses itself, or has
     /// three corners on one line.
     pub fn new(a: Point, b: Point, c: Point, d: Point) -> Option<Quad>
         ensures some { IsSome result ↔ IsStrictlyConvex a b c d }
@@ -101,9 +101,9 @@ impl Quad {
         }
     }
 
-    /// Whether the quad covers `p` by the top-left rule at its four edges, where either corner off an edge may stand for the
-    /// third vertex. Either diagonal cuts the quad into two triangles, of which exactly one covers `p` if the quad does, and
-    /// none otherwise.
+    /// Whether the quad covers `p` by the top-left rule at its four edges. Either corner off an edge may stand for the third
+    /// vertex. Either diagonal cuts the quad into two triangles, of which exactly one covers `p` if the quad does, and none
+    /// otherwise.
     pub fn covers(&self, p: Point) -> bool
         ensures value { IsTrue result ↔ QuadCovers self.now.a self.now.b self.now.c self.now.d p }
         ensures either_corner { EitherCornerServes self.now.a self.now.b self.now.c self.now.d p }

@@ -50,8 +50,8 @@ impl Tri {
             && passes_edge(self.c, self.a, self.b, p)
     }
 
-    /// The point one pixel to the right of `p`, asked where the triangle covers it. So it is not right of all vertices, and is
-    /// inside of the guard band as they are.
+    /// The point one pixel to the right of `p`, which the triangle has to cover. So it is not right of all vertices, and is inside
+    /// of the guard band as they are.
     pub fn right_of(&self, p: Point) -> Point
         requires { Covers self.now.a self.now.b self.now.c (right_of p) }
         ensures { result ≡ right_of p }

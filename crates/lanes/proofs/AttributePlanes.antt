@@ -24,7 +24,7 @@ use Rattle.lanes.proofs.Certificate.{candidate_near, candidate_sure}
 use Rattle.lanes.proofs.Modulos.{modulo_through}
 
 -- ---- a covered sample of the group is near the slope's vertex
--- the numerator has room for the fraction
+-- the numerator is small enough for the fraction
 room : (n s k most : ℕ) → n ≤ most * s → most * 2 ^ (32 + k) + 2 ^ 48 ≤ 2 ^ 64 → n * 2 ^ (32 + k) + 2 ^ 48 * s ≤ 2 ^ 64 * s
 room n s k most h width =
     let first : n * 2 ^ (32 + k) ≤ most * s * 2 ^ (32 + k) = mul-le-mul_right (2 ^ (32 + k)) h in
@@ -65,7 +65,7 @@ candidates_are k a b c p values q height lanes is screen high each i less covere
 fraction_units : (k : ℕ) (values : List ℕ) → IsNarrow k values → 4 ≤ 2 ^ k
 fraction_units k values narrow = elim narrow [ inl h ↦ rw h.0 (omega arith) | inr h ↦ rw h.0 (omega arith) ]
 
--- the whole parts are near the values, and the values where the fractions are sure
+-- the integer parts are near the values, and are the values if the fractions are sure
 pub wholes_near : (k : ℕ) (a b c p : Position) (values candidates found : List ℕ) → IsNarrow k values → AreCandidates k a b c values p candidates
     → ((i : ℕ) → i < 16 → get_or found i 0 ≡ get_or candidates i 0 / 2 ^ k) → AreNear a b c values p found
 wholes_near k a b c p values candidates found narrow are whole i less covered =
@@ -98,7 +98,7 @@ pub bytes_kept : (after before : List ℕ) → length after ≡ 16 → length be
 bytes_kept after before long long' most bytes =
     of_each (λ n. n ≤ 255) after long (λ k l. let byte : get_or before k 0 ≤ 255 = Each1-get_or (λ n. n ≤ 255) before k 0 (omega arith) bytes in omega (arith, most k l, byte))
 
--- the least of two is at least three where both are
+-- the least of two is at least three if both are
 pub least_first : (m a b : ℕ) → m ≡ min a b → 3 ≤ m → 3 ≤ a
 least_first m a b e h = omega (arith, e, h, min-le_left a b)
 

@@ -12,7 +12,7 @@ use Rattle.lanes.specs.BlockMask.{first_of, plane_of}
 abbrev pub IsPlaneDrawn : Placed → BlockMask → ℕ → BlockSamples → BlockSamples → Type 0
 IsPlaneDrawn t m s old new = AreDrawn t (first_of m s) (slice_index m.plane s) old new 0 64
 
--- the samples of the first n sample indices are done, and the others are as they were
+-- the samples of the first n sample indices are done, and the others are unchanged
 pub record AreDoneBefore (t : Placed) (m : BlockMask) (old new : List BlockSamples) (n : ℕ) : Type 0 where
   pub long : length new ≡ length old
   pub done : (s : ℕ) → s < n → IsPlaneDrawn t m s (plane_of old s) (plane_of new s)

@@ -11,7 +11,7 @@ use Rattle.grid.specs.Triangle.{Covers}
 use Rattle.lanes.specs.Lanes.{IsMask}
 use Rattle.lanes.specs.Block.{stored_at, position_in, CoversMask, AreDrawn}
 
--- the pixels before k are done, and the others are as they were
+-- the pixels before k are done, and the others are unchanged
 pub record IsDrawnBefore (t : Placed) (p : Position) (mask : ℕ) (old new : BlockSamples) (k : ℕ) : Type 0 where
   pub drawn : (j : ℕ) → j < k → IsBitSet mask j → IsDrawnAt t (position_in p j) (stored_at old j) (stored_at new j)
   pub kept : (j : ℕ) → j < k → ¬ IsBitSet mask j → stored_at new j ≡ stored_at old j

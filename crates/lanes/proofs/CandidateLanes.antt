@@ -37,7 +37,7 @@ lane_is f xs m i k area n s p x y r b is long fits less plane height part reache
     let candidate : IsCandidate k n area ((m / 2 ^ 32 + part.part / 2 ^ 32) % 2 ^ 32) = candidate_is k n area s p x y r b m part.part fits part.fits plane height part.is_part reached in
     rw lane candidate
 
--- ---- whole parts
+-- ---- integer parts
 pub whole_24 : (f bits : ℕ) → f < 2 ^ 32 → bits ≡ 24 → f / 2 ^ bits ≤ 255
 whole_24 f bits h e = rw e (omega (arith, h))
 
@@ -51,7 +51,7 @@ high_parts m bits = zip2 (λ x k. x / 2 ^ k) m (replicate 16 bits)
 pub high_parts_are : (m : List ℕ) (bits : ℕ) → length m ≡ 16 → HasLanes (high_parts m bits) (λ k. get_or m k 0 / 2 ^ bits)
 high_parts_are m bits p = zipped (λ x k. x / 2 ^ k) m (replicate 16 bits) _ _ (itself m p) (splat bits)
 
--- ---- what is left
+-- ---- the remainders
 abbrev pub rests_of : List ℕ → List ℕ → ℕ → List ℕ
 rests_of numerators values area = zip2 (λ x y. (x + (2 ^ 64 - y)) % 2 ^ 64) numerators (zip2 (λ x y. x * y % 2 ^ 64) values (replicate 16 area))
 
@@ -83,7 +83,7 @@ min_first x y h = grind (arith, nat_tests)
 min_second : (x y : ℕ) → y ≤ x → min x y ≡ y
 min_second x y h = grind (arith, nat_tests)
 
--- the highest bit of what is left tells which of the two the quotient is
+-- the highest bit of the remainder decides which of the two the quotient is
 pub lowered_is : (n s v r low sign : ℕ) → s ≤ 2 ^ 48 → v < 2 ^ 16 → r < 2 ^ 64 → low ≡ (v + (2 ^ 16 - sign)) % 2 ^ 16 → sign ≡ r / 2 ^ 63 → IsNear n s v → IsModulo (pos n -ℤ pos (v * s)) r
     → IsQuotient n s (min low v)
 lowered_is n s v r low sign bound few fits e f near modulo =

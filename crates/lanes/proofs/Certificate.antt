@@ -1,11 +1,11 @@
--- A candidate's whole part is the quotient or the number after it, and the quotient where its fraction is at least three units.
+-- A candidate's integer part is the quotient or the number after it, and the quotient if its fraction is at least three units.
 use Rattle.std.proofs.Common.{◌≡◌, arith, ℕ, ◌+◌, ◌*◌, ◌/◌, ◌%◌, ◌<◌, ◌≤◌, ◌^◌, zero, suc, ap}
 use Rattle.std.proofs.Math.Nat.{pow-le-pow_right, lt_of_mul-lt-mul_right, mul-le-mul_right, mul-lt-mul_of_pos_right}
 use Rattle.std.proofs.lemmas.Nat.{mod_below, div-add-mod'}
 use Rattle.shade.specs.Quotient.{IsQuotient}
 use Rattle.lanes.specs.Candidate.{IsCandidate, IsNear}
 
--- over a whole part m and a fraction of r out of p units
+-- over an integer part m and a fraction of r out of p units
 split : (m p r s : ℕ) → (m * p + r) * s ≡ (m * s) * p + r * s
 split m p r s = omega arith
 
@@ -52,7 +52,7 @@ candidate_sure k n s f units some three h =
     let high : (f / p * p + f % p) * s ≤ n * p + 3 * s = rw parts h.high in
     record { low = sure n s (f / p) p (f % p) (omega (arith, units)) three high; high = (candidate_near k n s f units some h).0 }
 
--- a number near the quotient is it where it is not too high, and otherwise the number after it
+-- a number near the quotient is it if it is not too high, and otherwise the number after it
 pub near_low : (n s m : ℕ) → IsNear n s m → m * s ≤ n → IsQuotient n s m
 near_low n s m near low = record { low = low; high = near.0 }
 

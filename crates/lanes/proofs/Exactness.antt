@@ -17,7 +17,7 @@ product_is n m k fits e =
     let is : m ≡ of_z w64 n = e ∙ ap (of_z w64) (to_z-of_z w64 n fits) in
     rw is (modulo_rest (n *ℤ pos k) _ (modulo_product n (pos k) _ _ (modulo_bits n fits) (modulo_self k)))
 
--- a small number is told by what it is modulo 2^64
+-- a small number is determined by what it is modulo 2^64
 small_is : (z : ℤ) (r : ℕ) → r < 2 ^ 64 → IsWithin (2 ^ 50) z → IsModulo z r → to_z w64 r ≡ z
 small_is z r fits within h =
     let wide : FitsSigned w64 z = omega (arith, ints) in

@@ -30,7 +30,7 @@ tested_lane m z old read new lane told e (inr fail) same stored kept = record {
   failed = λ _. (same ∙ fail.0, kept (same ∙ fail.0));
 }
 
--- where the depth has no part every lane passes, and nothing is stored
+-- if the depth has no part, every lane passes, and nothing is stored
 pub untested_lane : (t : Placed) (m : Merge) (z old lane : ℕ) → NeedsNoDepth t → t.state.merge ≡ m → lane ≡ 65535 → IsTested m z old old lane
 untested_lane t m z old lane none e set =
     subst (λ n. IsTested n z old old lane) e
@@ -39,11 +39,11 @@ untested_lane t m z old lane none e set =
       failed = λ fails. absurd (fails (rw none.passes tt));
     })
 
--- the same depth, told by two values of the triangle
+-- two depths that are interpolated at one point are equal, so what is tested of one is tested of the other
 pub tested_as : (t : Placed) (p : Position) (m : Merge) (z given old new lane : ℕ) → IsInterpolated t p t.z z → IsInterpolated t p t.z given → IsTested m given old new lane → IsTested m z old new lane
 tested_as t p m z given old new lane is has tested = subst (λ v. IsTested m v old new lane) (quotient-unique _ _ _ _ has is) tested
 
--- ---- a channel that is drawn where the mask's lane is set, and stays where it is not
+-- ---- a channel that is drawn if the mask's lane is set, and unchanged if it is not
 pub record IsMasked (written over : Bool) (lane s a old new : ℕ) : Type 0 where
   pub set : lane ≡ 65535 → IsBlended written over s a old new
   pub clear : lane ≡ 0 → new ≡ old
@@ -69,7 +69,7 @@ combined_when t p m f old new lane r g b a e is (inr fail) tested er eg eb ea re
     let none = (tested.failed fail).0 in
     (f, is, rw e (record { passed = λ pass. absurd (fail pass); failed = λ _. same_sample new old (red.clear none) (green.clear none) (blue.clear none) (tested.failed fail).1 }))
 
--- the channels that are read are the triangle's where it covers the point
+-- the channels that are read are the triangle's if it covers the point
 pub combined : (t : Placed) (p : Position) (m : Merge) (old new : Sample) (lane r g b a : ℕ) → t.state.merge ≡ m → Covers t.tri.a t.tri.b t.tri.c p
     → ((z : ℕ) → IsInterpolated t p t.z z → IsTested m z old.z new.z lane)
     → (Writes m 0 → IsInterpolated t p (channel t 0) r) → (Writes m 1 → IsInterpolated t p (channel t 1) g) → (Writes m 2 → IsInterpolated t p (channel t 2) b) → (m.over ≡ true → IsInterpolated t p (channel t 3) a)

@@ -16,7 +16,7 @@ use Rattle.lanes.specs.Plane.{IsPlane, IsHeight, IsIncrement, IsReached}
 use Rattle.lanes.proofs.Gradients.{over_product}
 use Rattle.lanes.proofs.Modulos.{modulo_sum, modulo_through}
 
--- the sum of two high halves, modulo 2^32, is under the high half of the sum by one at most
+-- the sum of two high halves, modulo 2^32, is below the high half of the sum by at most one
 pub record IsHalf (z f : ℕ) : Type 0 where
   pub low : f * 2 ^ 32 ≤ z
   pub high : z < f * 2 ^ 32 + 2 ^ 33

@@ -8,7 +8,7 @@ use Rattle.std.proofs.Math.Nat.{mul-le-mul_right, zero-mul}
 use Rattle.shade.specs.Quotient.{IsQuotient}
 use Rattle.shade.specs.Blend.{IsOver}
 
--- the quotient by 255, up to where the sum would wrap
+-- the quotient by 255, up to which the sum does not wrap
 pub by_255 : (n : ℕ) → n ≤ 65152 → IsQuotient n 255 ((n + 1 + n / 256) / 256)
 by_255 n h = record { low = omega arith; high = omega arith }
 

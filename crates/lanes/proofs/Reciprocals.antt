@@ -5,7 +5,7 @@ use Rattle.std.proofs.lemmas.Nat.{leading_top, pow-add, pow_pos, mod_below, div-
 use lib.Count.{count_leading_zeros}
 use Rattle.lanes.specs.Reciprocal.{IsReciprocal}
 
--- a number shifted by its leading zeros has just 64 bits
+-- a number shifted by its leading zeros has exactly 64 bits
 pub record IsFull (a shift : ℕ) : Type 0 where
   pub below : shift < 64
   pub low : 2 ^ 63 ≤ a * 2 ^ shift

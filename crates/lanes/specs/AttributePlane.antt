@@ -23,8 +23,8 @@ use Rattle.lanes.specs.declared.colour_planes.ColourSlopes.{ColourSlopes}
 abbrev pub sum_at : Position → Position → Position → List ℕ → Position → ℕ
 sum_at a b c values p = weighted_sum a b c p (slice_index values 0) (slice_index values 1) (slice_index values 2)
 
--- Lanes at the sixteen samples of the group that starts at p: where the triangle abc covers the sample, the lane is a candidate of
--- the value there, or the value or the number after it, or the value.
+-- Lanes at the sixteen samples of the group that starts at p. If the triangle abc covers the sample, the lane is a candidate of the
+-- value there, or the value or the number after it, or the value.
 abbrev pub AreCandidates : ℕ → Position → Position → Position → List ℕ → Position → List ℕ → Type 0
 AreCandidates k a b c values p lanes =
     (i : ℕ) → i < 16 → Covers a b c (position_in p i)
@@ -74,7 +74,7 @@ pub record IsChannelSlope (t : Placed) (k : ℕ) (s : Slope) : Type 0 where
 abbrev pub IsDepthPlane : Placed → DepthPlane → Type 0
 IsDepthPlane t p = IsAttributePlane 16 t.tri.a t.tri.b t.tri.c t.z p.depth
 
--- A channel has a plane where the draw reads it: red, green and blue where they are written, and alpha where it is blended.
+-- A channel has a plane if the draw reads it: red, green and blue if they are written, and alpha if it is blended.
 pub record AreColourPlanes (t : Placed) (p : ColourPlanes) : Type 0 where
   pub of_red : Writes t.state.merge 0 → IsAttributePlane 24 t.tri.a t.tri.b t.tri.c (channel t 0) p.red
   pub of_green : Writes t.state.merge 1 → IsAttributePlane 24 t.tri.a t.tri.b t.tri.c (channel t 1) p.green

@@ -26,7 +26,7 @@ pub record IsOnScreen (p : Position) : Type 0 where
 abbrev pub CoversMask : Placed → Position → ℕ → Type 0
 CoversMask t p mask = (k : ℕ) → k < 64 → IsBitSet mask k → Covers t.tri.a t.tri.b t.tri.c (position_in p k)
 
--- Of the n samples from k on those in the mask are drawn. All other samples stay.
+-- Of the n samples from k on those in the mask are drawn. All other samples are unchanged.
 pub record AreDrawn (t : Placed) (p : Position) (mask : ℕ) (old new : BlockSamples) (k n : ℕ) : Type 0 where
   pub drawn : (j : ℕ) → k ≤ j → j < k + n → IsBitSet mask j → IsDrawnAt t (position_in p j) (stored_at old j) (stored_at new j)
   pub kept : (j : ℕ) → k ≤ j → j < k + n → ¬ IsBitSet mask j → stored_at new j ≡ stored_at old j

@@ -19,7 +19,7 @@ plane_of samples s = slice_index_or samples s (record { z = []; r = []; g = []; 
 abbrev pub CoversBlock : Placed → BlockMask → Type 0
 CoversBlock t m = (s : ℕ) → s < count_of m.count → CoversMask t (first_of m s) (slice_index m.plane s)
 
--- The samples in the mask are drawn, and the others stay.
+-- The samples in the mask are drawn, and the others are unchanged.
 abbrev pub IsBlockDrawn : Placed → BlockMask → List BlockSamples → List BlockSamples → Type 0
 IsBlockDrawn t m old new =
     (s : ℕ) → s < count_of m.count → AreDrawn t (first_of m s) (slice_index m.plane s) (plane_of old s) (plane_of new s) 0 64

@@ -6,7 +6,7 @@ pub record HasLanes (v : List ℕ) (f : ℕ → ℕ) : Type 0 where
   pub long : length v ≡ 16
   pub each : (k : ℕ) → k < 16 → slice_index v k ≡ f k
 
--- A lane of a mask says whether P holds: all its bits are set where it does, and none where it does not.
+-- A lane of a mask says whether P holds: all its bits are set if it does, and none if it does not.
 abbrev pub IsMaskLane : ℕ → Type 0 → Type 0
 IsMaskLane lane P = ((lane ≡ 65535) × P) ⊎ ((lane ≡ 0) × (¬ P))
 

@@ -15,7 +15,7 @@ use Rattle.lanes.specs.declared.mode.DrawMode.TheVariants.{Each, Groups}
 use Rattle.lanes.specs.AttributePlane.{IsDepthPlane, AreColourPlanes}
 use Rattle.lanes.specs.Sources.{NeedsNoDepth, IsFlat, IsFlatColour, IsDepthOf, IsColourOf}
 
--- What lets a triangle's depth be had in this mode.
+-- What has to hold so that a triangle's depth can be computed in this mode.
 abbrev pub IsDepthMode : Placed → DepthMode → Type 0
 IsDepthMode t Unused = NeedsNoDepth t
 IsDepthMode t (Flat z) = IsFlat t.z z
@@ -24,7 +24,7 @@ IsDepthMode t Plane = Unit {0}
 abbrev pub IsByPlane : DepthMode → Type 0
 IsByPlane mode = mode ≡ Plane
 
--- The triangle's depth is had in this mode, by this plane where there is need of one.
+-- The triangle's depth can be computed in this mode, by this plane if the mode needs one.
 pub record IsDepthBy (t : Placed) (mode : DepthMode) (p : DepthPlane) : Type 0 where
   pub is_mode : IsDepthMode t mode
   pub is_plane : IsByPlane mode → IsDepthPlane t p

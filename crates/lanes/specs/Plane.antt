@@ -7,8 +7,8 @@ use Rattle.lanes.specs.Slope.{numerator, IsBounded}
 use Rattle.lanes.specs.Reciprocal.{IsGradient, IsExactGradient}
 use Rattle.lanes.specs.Modulo.{IsModulo}
 
--- How far a plane lies above its slope: two units of 2^32 and a sixteenth, so that no error takes it under the slope, and three
--- units where its gradients have no error.
+-- How far a plane lies above its slope: two units of 2^32 and a sixteenth, so that no error takes it under the slope, or three
+-- units if its gradients have no error.
 abbrev pub IsMargin : ℕ → ℕ → Slope → ℤ → ℤ → ℕ → Type 0
 IsMargin bits area s across down above =
     (above ≡ 2 ^ 33 + 2 ^ 28) ⊎ ((above ≡ 3 * 2 ^ 32) × IsExactGradient bits area s.across across × IsExactGradient bits area s.down down)
@@ -19,8 +19,8 @@ pub record IsLevel (bits area : ℕ) (s : Slope) : Type 0 where
   pub across : unsigned_abs s.across < area * 2 ^ (63 - bits)
   pub down : unsigned_abs s.down < area * 2 ^ (63 - bits)
 
--- The plane of a slope with so many fractional bits: its gradients are near the exact ones, and it starts at the slope's vertex,
--- by its margin above the attribute there.
+-- The plane of a slope with `bits` fractional bits: its gradients are near the exact ones, and it starts at the slope's vertex, by
+-- its margin above the attribute there.
 pub record IsPlane (bits area : ℕ) (s : Slope) (p : Plane) : Type 0 where
   pub across : IsGradient bits area s.across p.across
   pub down : IsGradient bits area s.down p.down

@@ -7,7 +7,7 @@ use Rattle.grid.specs.Triangle.{doubled_area, Covers}
 use Rattle.lanes.specs.declared.slope.Slope.{Slope}
 use Rattle.shade.specs.Value.{weighted_sum}
 
--- The numerator of a slope at a point, where its attribute is the numerator by the area.
+-- The numerator of a slope at a point; the attribute there is the numerator by the area.
 abbrev pub numerator : Slope → ℕ → ℤ → ℤ → ℤ
 numerator s area x y = pos (s.first * area) +ℤ (x -ℤ s.x) *ℤ s.across +ℤ (y -ℤ s.y) *ℤ s.down
 

@@ -1,12 +1,12 @@
 //! Exact values at sixteen samples. An attribute at a covered point is N / S rounded down, where N grows evenly with x and y and S
-//! is the size of the doubled area. It is found without a division at each point:
+//! is the absolute doubled area. It is computed without a division at each point:
 //!
 //! - Bound. A plane is N / S in fixed point, modulo 2^64, and a little above it. A candidate, the sum of the high halves of the
 //!   plane's height at a group's first sample and of its growth from there, is at least N / S and at most three units of its last
 //!   bit above it (`IsCandidate`).
-//! - Certificate. So its whole part is the value or the number after it (`IsNear`), and it is the value where its fraction is at
+//! - Certificate. So its integer part is the value or the number after it (`IsNear`). It is the value if its fraction is at
 //!   least three units.
-//! - Correction. Where it is less, the sign of N - m S tells which of the two m is.
+//! - Correction. If it is less, the sign of N - m S says which of the two m is.
 ghost use Rattle.std.specs.Prelude.{ℕ, ◌≡◌, ◌⊎◌, ◌+◌, ◌<◌, ◌≤◌, ◌^◌, IfSome, IsTrue, List, length, slice_index};
 ghost use Rattle.std.specs.Int.RustNames.{unsigned_abs};
 ghost use Rattle.grid.specs.Position.{Position};
@@ -37,7 +37,7 @@ pub(crate) struct AttributePlane {
 impl AttributePlane {
     ghost use Rattle.lanes.specs.AttributePlane.{IsNarrow, IsAttributePlane, AreCandidates, AreValues};
 
-    /// The plane of a slope that is level, with so many fractional bits of a candidate: 16 for depth and 24 for a channel.
+    /// The plane of a slope that is level. Its candidates have `fraction` fractional bits: 16 for depth and 24 for a channel.
     #[inline(always)]
     pub(crate) fn new(slope: &Slope, reciprocal: Reciprocal, fraction: u32) -> AttributePlane
         requires fraction { (fraction ≡ 16) ⊎ (fraction ≡ 24) }
@@ -71,7 +71,7 @@ impl AttributePlane {
         candidates(self.lanes, self.plane.height(x, y))
     }
 
-    /// The same where the attribute is read, and else candidates that are no reason to correct anything.
+    /// The same if the attribute is read, and else candidates that are no reason to correct anything.
     #[inline(always)]
     pub(crate) fn candidates_if(&self, read: bool, x: i32, y: i32) -> u32x16
         requires { IsGroupOnScreen (record { x = x; y = y }) }

@@ -3,8 +3,8 @@ ghost use Rattle.shade.specs.Blend.{IsOver};
 
 use std::simd::prelude::*;
 
-/// `shade::over` in each lane, where the three are at most 255: no sum exceeds 65152, and up to there `(n + 1 + (n >> 8)) >> 8` is
-/// `n / 255`.
+/// `shade::over` in each lane, if the three are at most 255. No sum exceeds 65152, and up to there n / 255 is
+/// `(n + 1 + (n >> 8)) >> 8`.
 #[inline(always)]
 pub(crate) fn over_lanes(s: u16x16, a: u16x16, d: u16x16) -> u16x16
     ensures whole { length result ≡ 16 }

@@ -28,7 +28,7 @@ pub(crate) fn has_some(mask: u64, group: u64) -> bool
     (mask >> (16 * group)) % 65536 != 0
 }
 
-/// The lanes of a group in the mask; all of them where the mask is said to be whole.
+/// The lanes of a group in the mask; all of them if the mask is said to be whole.
 #[inline(always)]
 fn lanes_of(whole: bool, mask: u64, group: u64) -> u16x16
     requires group { group < 4 }
@@ -104,7 +104,7 @@ fn is_whole(mask: u64) -> bool
     mask == u64::MAX
 }
 
-/// The same with code of its own for a block that is drawn whole, where masks are left out, and none for one that is not drawn.
+/// The same with code of its own for a block that is drawn whole, without masks, and none for one that is not drawn.
 #[inline(always)]
 fn draw_by_mask(
     merge: &Merge,
@@ -159,7 +159,7 @@ fn writes_all(merge: &Merge) -> bool
     red && green && blue
 }
 
-/// The merge made again, so that what it writes and whether it blends are known where the code is inlined.
+/// The merge made again, so that what it writes and whether it blends are known if the code is inlined.
 #[inline(always)]
 fn known<const OVER: bool>(merge: &Merge) -> Merge
     requires over { merge.now.over ≡ OVER }
@@ -174,8 +174,8 @@ fn known<const OVER: bool>(merge: &Merge) -> Merge
     }
 }
 
-/// The same for a merge that writes all channels, with code of its own for each source of colour and of depth. A value that is
-/// made again is known where the code is inlined.
+/// The same for a merge that writes all channels, with code of its own for each source of colour and of depth. A value that is made
+/// again is known if the code is inlined.
 #[inline(never)]
 fn draw_by_sources<const OVER: bool>(
     merge: &Merge,
@@ -225,7 +225,7 @@ fn draw_by_sources<const OVER: bool>(
     }
 }
 
-/// The same with code of its own where all channels are written: blended over the stored ones, or not.
+/// The same with code of its own for a merge that writes all channels: blended over the stored ones, or not.
 fn draw_by_merge(
     merge: &Merge,
     depth: &DepthSource<'_>,

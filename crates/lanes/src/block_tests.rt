@@ -1,4 +1,4 @@
-//! Blocks drawn sixteen samples at once beside the same samples drawn one by one.
+//! Blocks drawn sixteen samples at once, compared with the same samples drawn one by one.
 ghost use Rattle.std.specs.Prelude.{◌≡◌, ◌<◌, ℕ, IsTrue, IsBitSet, slice_index, pos, ◌<ℤ◌};
 ghost use Rattle.grid.specs.Triangle.{Covers};
 ghost use Rattle.grid.specs.Samples.{count_of};
@@ -141,7 +141,7 @@ impl Random {
         }
     }
 
-    /// The same colour three times, or three of their own; alpha may differ where only colour has to be the same.
+    /// The same colour three times, or three of their own; alpha may differ if only colour has to be the same.
     fn colours(&mut self, flat: bool, flat_alpha: bool) -> [[u8; 4]; 3] {
         let first = self.rgba();
         if !flat {
@@ -251,7 +251,7 @@ fn placed(rt: &impl Abort, random: &mut Random, merge: Merge, flat: [bool; 3]) -
     }
 }
 
-/// Generated triangles, drawn by this merge, at so many samples of a pixel.
+/// Generated triangles, drawn by this merge, with `count` samples a pixel.
 fn compare_all(rt: &impl Abort, random: &mut Random, merge: Merge, count: SampleCount) {
     for flat in [
         [true, true, true],

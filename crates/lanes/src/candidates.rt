@@ -20,7 +20,7 @@ pub(crate) fn candidates(lanes: u32x16, height: u64) -> u32x16
     lanes + u32x16::splat((height >> 32) as u32)
 }
 
-/// The whole parts of sixteen candidates with so many fractional bits.
+/// The integer parts of sixteen candidates with `bits` fractional bits.
 #[inline(always)]
 pub(crate) fn wholes(candidates: u32x16, bits: u32) -> u16x16
     requires { (bits ≡ 16) ⊎ (bits ≡ 24) }
@@ -49,10 +49,10 @@ pub(crate) fn least(a: u32x16, b: u32x16) -> u32x16
     a.simd_lt(b).select(a, b)
 }
 
-/// The least fraction, in units of the last bit, with which the whole part of a candidate is surely the value.
+/// The least fraction, in units of the last bit, with which the integer part of a candidate is surely the value.
 const SURE: u32 = 3;
 
-/// Whether the whole parts of candidates with these fractions are surely the values.
+/// Whether the integer parts of candidates with these fractions are surely the values.
 #[inline(always)]
 pub(crate) fn are_sure(fractions: u32x16) -> bool
     ensures { IsTrue result → (i : ℕ) → i < 16 → 3 ≤ slice_index fractions i }
@@ -60,7 +60,7 @@ pub(crate) fn are_sure(fractions: u32x16) -> bool
     fractions.simd_lt(u32x16::splat(SURE)).to_bitmask() == 0
 }
 
-/// What is left of sixteen numerators, each without its value times the area, modulo 2^64.
+/// The remainders of sixteen numerators: each without its value times the area, modulo 2^64.
 #[inline(always)]
 pub(crate) fn rests(numerators: u64x16, values: u16x16, area: u64) -> u64x16
     ensures length { length result ≡ 16 }
@@ -69,7 +69,7 @@ pub(crate) fn rests(numerators: u64x16, values: u16x16, area: u64) -> u64x16
     numerators - values.cast::<u64>() * u64x16::splat(area)
 }
 
-/// The highest bits of sixteen numbers, which tell whether they are under 0: 1 where they are.
+/// The highest bits of sixteen numbers: 1 if the number is negative, else 0.
 #[inline(always)]
 fn signs(numbers: u64x16) -> u16x16
     ensures length { length result ≡ 16 }
@@ -78,7 +78,7 @@ fn signs(numbers: u64x16) -> u16x16
     (numbers >> 63).cast::<u16>()
 }
 
-/// The quotients, from them or the numbers after them, by the signs of what is left. No lane grows.
+/// The quotients: the values or the numbers before them, by the signs of the remainders. No lane grows.
 #[inline(always)]
 pub(crate) fn lowered(values: u16x16, rests: u64x16) -> u16x16
     ensures length { length result ≡ 16 }

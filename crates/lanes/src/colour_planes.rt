@@ -37,7 +37,7 @@ fn channel_values(placed: &Placed, number: usize) -> [u16; 3]
     [u16::from(a), u16::from(b), u16::from(c)]
 }
 
-/// The slope of one channel of a triangle, where it is asked for.
+/// The slope of one channel of a triangle, if it is asked for.
 #[inline(always)]
 fn channel_slope(used: bool, placed: &Placed, number: usize) -> Slope
     requires { number < 4 }
@@ -59,8 +59,8 @@ pub(crate) struct ColourSlopes {
 impl ColourSlopes {
     ghost use Rattle.lanes.specs.AttributePlane.{AreColourSlopes, AreBounded, AreLevel};
 
-    /// The slopes of a triangle's channels where they are asked for: of red, green and blue where they are written, and of alpha
-    /// where it is blended.
+    /// The slopes of a triangle's channels that are asked for: of red, green and blue if they are written, and of alpha if it is
+    /// blended.
     #[inline(always)]
     pub(crate) fn of_used(used: bool, placed: &Placed) -> ColourSlopes
         ensures slopes { IsTrue used → AreColourSlopes placed.now result }
@@ -91,7 +91,7 @@ impl ColourSlopes {
 /// The bits of a channel's fraction.
 const FRACTION: u32 = 0xff_ffff;
 
-/// Whether the whole parts of all candidates of the four channels are surely the values.
+/// Whether the integer parts of all candidates of the four channels are surely the values.
 #[inline(always)]
 fn are_all_sure(red: u32x16, green: u32x16, blue: u32x16, alpha: u32x16) -> bool
     ensures red { IsTrue result → (i : ℕ) → i < 16 → 3 ≤ slice_index red i % 2 ^ 24 }
@@ -141,7 +141,7 @@ impl ColourPlanes {
         }
     }
 
-    /// One channel of the triangle at sixteen samples by itself, from its plane, where it is read.
+    /// One channel of the triangle at sixteen samples by itself, from its plane, if it is read.
     fn channel_at(
         plane: &AttributePlane,
         placed: &Placed,
@@ -190,9 +190,9 @@ impl ColourPlanes {
         }
     }
 
-    /// The colours of the triangle at sixteen samples, two rows of eight pixels, the first of which is at (x, y): right wherever it
-    /// covers the sample. Only what the merge of its draw reads is found: red, green and blue where they are written, and alpha
-    /// where it is blended.
+    /// The colours of the triangle at sixteen samples, two rows of eight pixels, the first of which is at (x, y): right at each
+    /// sample that it covers. Only what the merge of its draw reads is computed: red, green and blue if they are written, and alpha
+    /// if it is blended.
     #[inline(always)]
     pub(crate) fn values(&self, placed: &Placed, merge: &Merge, x: i32, y: i32) -> Colours
         requires { IsGroupOnScreen (record { x = x; y = y }) }

@@ -11,7 +11,7 @@ use crate::slope::Slope;
 use grid::Tri;
 use std::simd::prelude::*;
 
-/// The size of the doubled area of a triangle.
+/// The absolute doubled area of a triangle.
 fn area_of(t: &Tri) -> u64
     ensures value { result ≡ unsigned_abs (doubled_area t.now.a t.now.b t.now.c) }
     ensures size { result ≤ 2 ^ 48 }

@@ -23,7 +23,7 @@ pub(crate) struct DepthPlane {
 }
 
 impl DepthPlane {
-    /// The depth of a triangle with this doubled area, from its slope where it is level.
+    /// The depth of a triangle with this doubled area, from its slope if it is level.
     #[inline(always)]
     pub(crate) fn new(slope: &Slope, reciprocal: Reciprocal) -> DepthPlane
         requires { IsLevel 48 reciprocal.area slope.now }

@@ -76,8 +76,8 @@ fn store_depths(written: bool, mask: u16x16, z: u16x16, old: u16x16, stored: &mu
     }
 }
 
-/// Tests depths against sixteen stored ones from a place on, where the mask is set, and stores those that pass where depth
-/// writes are on. The answer is the mask of those that pass.
+/// Tests depths against the sixteen stored ones from `at` on, where the mask is set. Stores those that pass if depth writes are on.
+/// Returns the mask of those that pass.
 #[inline(always)]
 fn test_depths(merge: &Merge, mask: u16x16, z: u16x16, stored: &mut [u16], at: usize) -> u16x16
     requires room { at + 16 ≤ length stored.old }

@@ -16,9 +16,9 @@ use std::marker::Model;
 pub struct Interpolants {
     pub(crate) placed: Placed,
     pub(crate) mode: DrawMode,
-    /// The depth, where the mode needs a plane of it.
+    /// The depth, if the mode needs a plane of it.
     pub(crate) depth: DepthPlane,
-    /// The colour, where the mode needs planes of it.
+    /// The colour, if the mode needs planes of it.
     pub(crate) colour: ColourPlanes,
 }
 

@@ -8,7 +8,7 @@ use crate::depth_plane::DepthPlane;
 use crate::sources::{ColourSource, DepthSource};
 use shade::{DepthTest, Placed};
 
-/// How the depth is had.
+/// How the depth is computed.
 #[derive(Clone, Copy, Debug)]
 pub(crate) enum DepthMode {
     /// Each depth passes and none is stored, so there is no need of it.
@@ -19,7 +19,7 @@ pub(crate) enum DepthMode {
     Plane,
 }
 
-/// How colour and alpha are had.
+/// How colour and alpha are computed.
 #[derive(Clone, Copy, Debug)]
 pub(crate) enum ColourMode {
     /// The three vertices have this in each channel that the draw reads.
@@ -67,7 +67,7 @@ impl DepthMode {
         }
     }
 
-    /// The depth in this mode, by the plane of the triangle where there is need of it.
+    /// The depth in this mode, by the plane of the triangle if the mode needs it.
     #[inline(always)]
     pub(crate) fn source<'a>(self, placed: &'a Placed, plane: &'a DepthPlane) -> DepthSource<'a>
         ensures { IsDepthBy placed.now self plane.now → IsDepthOf placed.now result }
@@ -80,8 +80,8 @@ impl DepthMode {
     }
 }
 
-/// Whether the three vertices have the same red, green, blue or alpha, which are the channels 0 to 3; it is true where it is not
-/// read.
+/// Whether the three vertices have the same red, green, blue or alpha, which are the channels 0 to 3. It is true if the channel is
+/// not read.
 #[inline(always)]
 fn is_flat_if(read: bool, placed: &Placed, number: usize) -> bool
     requires { number < 4 }
@@ -120,7 +120,7 @@ impl ColourMode {
         }
     }
 
-    /// The colour in this mode, by the planes of the triangle where there is need of them.
+    /// The colour in this mode, by the planes of the triangle if the mode needs them.
     #[inline(always)]
     pub(crate) fn source<'a>(self, placed: &'a Placed, planes: &'a ColourPlanes) -> ColourSource<'a>
         ensures { IsColourBy placed.now self planes.now → IsColourOf placed.now result }

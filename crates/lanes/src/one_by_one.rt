@@ -40,8 +40,8 @@ fn draw_rows_each(triangle: &Placed, p: Point, mask: u64, group: u64, samples: &
     }
 }
 
-/// Draws the triangle at samples of a block of one sample index, one after another: the plain way, by the definition. Bit k of
-/// `mask` tells whether pixel k is drawn, and the first pixel's sample is at `p`.
+/// Draws the triangle at samples of a block of one sample index, one after another, by the definition. Bit k of `mask` says whether
+/// pixel k is drawn, and the first pixel's sample is at `p`.
 fn draw_plane_each(triangle: &Placed, p: Point, mask: u64, samples: &mut BlockSamples)
     requires on_screen { IsOnScreen p }
     requires covered { CoversMask triangle.now p mask }

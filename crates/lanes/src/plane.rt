@@ -20,7 +20,7 @@ pub(crate) struct Plane {
 /// sixteenth for the gradients' errors.
 const ABOVE: u64 = (2 << 32) + (1 << 28);
 
-/// The same where the gradients have no error: three units, so that a candidate of a whole value is sure.
+/// The same if the gradients have no error: three units, so that a candidate of an integer value is sure.
 const ABOVE_EXACT: u64 = 3 << 32;
 
 /// A coordinate times a gradient, modulo 2^64.
@@ -53,7 +53,7 @@ fn margin(slope: Slope, reciprocal: Reciprocal, across: i64, down: i64, bits: u3
 impl Plane {
     ghost use Rattle.lanes.specs.Plane.{IsLevel, IsPlane, IsNumeratorPlane, IsIncrement, IsHeight, IsHighPart};
 
-    /// The plane of a slope that is not steep, with so many fractional bits.
+    /// The plane of a slope that is not steep, with `bits` fractional bits.
     #[inline(always)]
     pub(crate) fn new(slope: Slope, reciprocal: Reciprocal, bits: u32) -> Plane
         requires bits { bits ≤ 56 }

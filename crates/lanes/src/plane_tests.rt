@@ -1,4 +1,4 @@
-//! Values at sixteen samples at the ends of what planes can be, beside `floor_at`.
+//! Values at sixteen samples at the ends of what planes can be, compared with `floor_at`.
 ghost use Rattle.std.specs.Prelude.{IsTrue, pos, ◌≤ℤ◌, ◌<ℤ◌};
 ghost use Rattle.lanes.specs.Group.{IsGroupOnScreen};
 
@@ -58,7 +58,7 @@ fn channel_at(rt: &impl Abort, t: &Placed, p: Point, number: usize) -> u16 {
     floor_at(&t.tri, p, [u16::from(a), u16::from(b), u16::from(c)])
 }
 
-/// Whether a sample of the group is covered, and all values there are those of `floor_at`. None where the triangle is too steep.
+/// Whether a sample of the group is covered, and all values there are those of `floor_at`. `None` if the triangle is too steep.
 fn agrees(rt: &impl Abort, t: &Placed, (x, y): (i32, i32)) -> Option<bool> {
     assert!(rt; is_on_screen(x, y));
     assert!(rt; t.tri.area2() != 0);
@@ -134,7 +134,7 @@ fn finds_whole_values_and_a_unit_beside_them(rt: HostRuntime) {
     }
 }
 
-// Beside the vertex a value is less than a unit of 2^-16 over or under a whole number.
+// Next to the vertex a value is less than a unit of 2^-16 above or below an integer.
 #[test]
 fn finds_values_just_over_and_under_a_whole_number(rt: HostRuntime) {
     let at = [(0, 0), (8_388_607, 1), (1, 8_388_606)];

@@ -6,7 +6,7 @@ ghost use Rattle.lanes.specs.Reciprocal.{IsReciprocal, IsGradient, IsExactGradie
 #[derive(Clone, Copy, Debug)]
 pub(crate) struct Reciprocal {
     pub(crate) area: u64,
-    /// How far the area is shifted, so that it has just 64 bits.
+    /// How far the area is shifted, so that it has exactly 64 bits.
     shift: u32,
     /// 2^127 - 1 by the shifted area, rounded down.
     value: u64,
@@ -40,7 +40,7 @@ impl Reciprocal {
         number.unsigned_abs() < self.area << (63 - bits)
     }
 
-    /// `number` by the area with `bits` fractional bits, where it is not steep: off by less than two units of the last bit.
+    /// `number` by the area with `bits` fractional bits, if it is not steep: off by less than two units of the last bit.
     fn gradient(self, number: i64, bits: u32) -> i64
         requires bits { bits ≤ 56 }
         requires bound { unsigned_abs number < 2 ^ 41 }
@@ -50,7 +50,7 @@ impl Reciprocal {
         ((number as i128 * self.value as i128) >> (127 - self.shift - bits)) as i64
     }
 
-    /// `number` without so many times the area as a gradient says, in units of the gradient's last bit.
+    /// The remainder of `number` after `gradient` times the area, in units of the gradient's last bit.
     #[inline(always)]
     fn rest(self, number: i64, gradient: i64, bits: u32) -> i64
         requires bits { bits ≤ 56 }
@@ -72,7 +72,7 @@ impl Reciprocal {
         self.rest(number, gradient, bits) == 0
     }
 
-    /// The gradient of a number that is not steep, and the exact one where rounding down lost just one unit of it.
+    /// The gradient of a number that is not steep. It is exact if rounding down lost exactly one unit of it.
     #[inline(always)]
     pub(crate) fn settled_gradient(self, number: i64, bits: u32) -> i64
         requires bits { bits ≤ 56 }

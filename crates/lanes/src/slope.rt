@@ -5,8 +5,8 @@ ghost use Rattle.grid.specs.Position.{IsInBand};
 use crate::reciprocal::Reciprocal;
 use grid::Tri;
 
-/// An attribute's numerator, which is the attribute times the size of the doubled area: `first` times that size at (x, y), growing
-/// by `across` and `down` with 1/256 pixel of x and of y.
+/// An attribute's numerator, which is the attribute times the absolute doubled area: `first` times that area at (x, y), growing by
+/// `across` and `down` per 1/256 pixel of x and of y.
 #[derive(Clone, Copy, Debug)]
 pub(crate) struct Slope {
     pub(crate) first: u16,
@@ -72,7 +72,7 @@ impl Slope {
         }
     }
 
-    /// The same where it is asked for, and else a slope that does not grow.
+    /// The same if it is asked for, and else a slope that does not grow.
     #[inline(always)]
     pub(crate) fn of_used(used: bool, t: &Tri, values: [u16; 3]) -> Slope
         ensures slope { IsTrue used → IsSlope t.now.a t.now.b t.now.c (slice_index values 0) (slice_index values 1) (slice_index values 2) result }
@@ -91,7 +91,7 @@ impl Slope {
         }
     }
 
-    /// Whether the slope is not steep, so that it has a plane with so many fractional bits.
+    /// Whether the slope is not steep, so that it has a plane with `bits` fractional bits.
     #[inline(always)]
     pub(crate) fn is_level(&self, reciprocal: Reciprocal, bits: u32) -> bool
         requires low { 48 ≤ bits }

@@ -1,4 +1,4 @@
-//! How depth and colour of a triangle are had at sixteen samples at once: two rows of eight pixels.
+//! How depth and colour of a triangle are computed at sixteen samples at once: two rows of eight pixels.
 ghost use Rattle.std.specs.Prelude.{◌≡◌, ◌≤◌, ◌<◌, ℕ, true, length, slice_index};
 ghost use Rattle.std.specs.Simd.Lanes.{Each1};
 ghost use Rattle.grid.specs.Triangle.{Covers};
@@ -14,7 +14,7 @@ use crate::depth_plane::DepthPlane;
 use shade::{Merge, Placed};
 use std::simd::prelude::*;
 
-/// How the depth is had.
+/// How the depth is computed.
 #[derive(Clone, Copy, Debug)]
 pub(crate) enum DepthSource<'a> {
     /// Each depth passes and none is stored, so there is no need of it.
@@ -25,7 +25,7 @@ pub(crate) enum DepthSource<'a> {
     Plane(&'a Placed, &'a DepthPlane),
 }
 
-/// How colour and alpha are had.
+/// How colour and alpha are computed.
 #[derive(Clone, Copy, Debug)]
 pub(crate) enum ColourSource<'a> {
     /// The three vertices have this in each channel that the draw reads.

@@ -26,7 +26,7 @@ pub fn read(alloc: Global, bytes: &[u8]) -> Result<DrawList, ReadFault>
     requires { length bytes.now ≤ 67_108_864 }
     // What is read is denoted.
     ensures ok { IfOk result (Denotes bytes.now) }
-    // Where the bytes denote a list, that very list is read, or memory ran out.
+    // If the bytes denote a list, that very list is read, or memory ran out.
     ensures only { (list : Scene) → Denotes bytes.now list
         → MatchResult result (λ found. found ≡ list) (λ fault. fault.kind ≡ OutOfMemory) }
     // A fault is the first one, unless memory ran out.

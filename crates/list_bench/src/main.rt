@@ -36,7 +36,7 @@ fn triangles(alloc: Global, bytes: &[u8]) -> Result<usize, ReadFault>
     Ok(list.triangles())
 }
 
-/// Prints a fault of a list, with its draw where it has one.
+/// Prints a fault of a list, with its draw if it has one.
 fn print_fault(rt: &impl Print, fault: ReadFault) -> io::Result<()> {
     let (number, name) = (fault.kind.number(), fault.kind.name());
     match fault.draw {
@@ -75,7 +75,7 @@ fn least_times<R: Clock>(rt: &R, alloc: Global, bytes: &[u8]) -> io::Result<(u64
     Ok((ours, value))
 }
 
-/// Hundredths of a ratio, 0 where there is none.
+/// Hundredths of a ratio, or 0 if there is none.
 fn hundredths(part: u64, whole: u64) -> u64 {
     if whole == 0 {
         0

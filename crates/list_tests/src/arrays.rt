@@ -36,7 +36,7 @@ const TRIANGLES: SceneDraw = SceneDraw {
     scissor_bottom: 4096,
 };
 
-/// A strip of four vertices in the state that a draw of a text has by default.
+/// A strip of four vertices in the state that a draw has by default in JSON.
 const STRIP: SceneDraw = SceneDraw {
     vertices: 4,
     indices: 4,

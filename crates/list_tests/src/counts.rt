@@ -60,7 +60,7 @@ fn counts_triangles(rt: HostRuntime) {
     }
 }
 
-/// The fault of a list of two draws over the corners of a square, each with so many elements in one of the lists of primitives.
+/// The fault of a list of two draws over the corners of a square. Each has a number of elements in one of the lists of primitives.
 fn sum_fault(
     rt: &(impl Abort + AllocGlobal),
     first: (&str, &str, u32),

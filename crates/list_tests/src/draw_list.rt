@@ -92,7 +92,7 @@ fn list(rt: &impl Abort, alloc: Global, draws: Vec<Draw>) -> DrawList {
     )
 }
 
-/// The fault of a list of a picture of this size, or none.
+/// The fault of a list of a picture of this size, or `None`.
 fn fault(alloc: Global, width: u32, height: u32, draws: Vec<Draw>) -> Option<ListFault> {
     DrawList::new(
         alloc,
@@ -237,7 +237,7 @@ fn strip(alloc: Global, indices: &[u32]) -> Result<Primitives, AllocError> {
     Ok(Primitives::Strip(Vec::from_slice(alloc, indices)?))
 }
 
-/// Triangle m of a strip has the indices at m, m + 1 and m + 2, the last two in turn where m is odd.
+/// Triangle m of a strip has the indices at m, m + 1 and m + 2, with the last two swapped if m is odd.
 #[test]
 fn turns_every_other_triangle_of_a_strip(rt: HostRuntime) -> Result<(), Fail> {
     let alloc = rt.alloc();

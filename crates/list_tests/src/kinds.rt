@@ -1,4 +1,4 @@
-//! Faults of the text and of the top object.
+//! Faults of the JSON text and of the top object.
 use crate::support::{fault, in_draw, outside, top_fault};
 use list::ReadKind::{
     BadIndex, MissingKey, NotConvex, NotJson, OutOfMemory, OutOfRange, TooMany, TwoLists,

@@ -1,4 +1,4 @@
-//! Tests of `list`, and of `scene` beside it, through what they make public.
+//! Tests of `list` and of `scene`, through what they make public.
 #![tactic(auto)]
 
 #[cfg(test)]

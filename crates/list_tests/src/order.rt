@@ -1,4 +1,4 @@
-//! Which of two faults is told.
+//! Which of two faults is reported.
 use crate::support::{
     draw_fault, fault, in_draw, outside, state_fault, top_fault, triangle_fault, vertex_fault,
 };
@@ -158,7 +158,7 @@ fn tells_the_first_of_two_faults_of_a_draw(rt: HostRuntime) {
     }
 }
 
-/// An array of so many elements, which are sound but for two neighbours, the first of them at `place`.
+/// An array of `length` elements, which are sound except two neighbours, the first of them at `place`.
 fn with_two_faults(
     rt: &(impl Abort + AllocGlobal),
     length: u32,
@@ -286,7 +286,7 @@ fn checks_the_length_of_an_array_before_its_elements(rt: HostRuntime) {
     assert_eq!(rt; triangle_fault(&rt, "[0,3,0,0]"), in_draw(WrongKind, 0));
 }
 
-/// Two draws with a fault each, of which the first is told.
+/// Two draws with a fault each, of which the first is reported.
 #[test]
 fn tells_the_fault_of_the_first_of_two_draws(rt: HostRuntime) {
     let sound = r#"{"vertices":[],"triangles":[]}"#;

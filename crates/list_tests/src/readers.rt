@@ -1,4 +1,4 @@
-//! One pass over the tokens beside the tree of values.
+//! One pass over the tokens, compared with the tree of values.
 use list::{DrawList, MOST_BYTES, read, read_by_value, read_in_one_pass};
 use std::alloc::AllocGlobal;
 use std::process::Abort;
@@ -9,7 +9,7 @@ fn by_tokens(rt: &(impl Abort + AllocGlobal), text: &str) -> Option<DrawList> {
     read_in_one_pass(rt.alloc(), text.as_bytes())
 }
 
-/// The list that `serde_json`'s value of the text denotes.
+/// The list that `serde_json`'s value of the JSON text denotes.
 fn by_value(rt: &(impl Abort + AllocGlobal), text: &str) -> Option<DrawList> {
     assert!(rt; text.len() <= MOST_BYTES);
     read_by_value(rt.alloc(), text.as_bytes()).ok()
@@ -46,7 +46,7 @@ fn assert_both(rt: &(impl Abort + AllocGlobal), text: &str) {
     assert!(rt; are_same(rt, &tokens, &value), "{text}");
 }
 
-/// One pass gives none, and what is read is what the value denotes.
+/// One pass returns `None`, and what is read is what the value denotes.
 fn assert_left_to_the_value(rt: &(impl Abort + AllocGlobal), text: &str) {
     assert!(rt; by_tokens(rt, text).is_none(), "{text}");
     let value = by_value(rt, text).expect(rt, text);
@@ -243,7 +243,7 @@ fn reads_escaped_keys_and_words(rt: HostRuntime) {
     }
 }
 
-/// What is no list is left to the value, which tells why.
+/// The fast reader returns `None` if the text denotes no list; the reader by value then reports why.
 #[test]
 fn gives_none_of_a_fault(rt: HostRuntime) {
     for text in [
@@ -296,7 +296,7 @@ fn gives_none_of_numbers_past_the_ranges(rt: HostRuntime) {
     }
 }
 
-/// The draws of a list may be so many, and the triangles of all draws together.
+/// A list may have 1,024 draws, and 65,536 triangles in all draws together.
 #[test]
 fn reads_up_to_the_limits(rt: HostRuntime) {
     let draw = r#"{"vertices":[],"triangles":[]},"#;

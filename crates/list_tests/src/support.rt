@@ -9,7 +9,7 @@ pub(crate) fn answer(rt: &(impl Abort + AllocGlobal), text: &str) -> Result<Draw
     read(rt.alloc(), bytes)
 }
 
-/// The fault of a text, or `None` if it denotes a list.
+/// The fault of a JSON text, or `None` if it denotes a list.
 pub(crate) fn fault(rt: &(impl Abort + AllocGlobal), text: &str) -> Option<ReadFault> {
     answer(rt, text).err()
 }
@@ -25,7 +25,7 @@ pub(crate) fn in_draw(kind: ReadKind, number: u32) -> Option<ReadFault> {
     })
 }
 
-/// The fault of a list with these members beside one pixel and no draws.
+/// The fault of a list of one pixel and no draws, with these further members.
 pub(crate) fn top_fault(rt: &(impl Abort + AllocGlobal), members: &str) -> Option<ReadFault> {
     let text = format!(in rt.alloc(); r#"{{"width":1,"height":1,"draws":[]{members}}}"#).expect(
         rt, "memory",
@@ -41,7 +41,7 @@ pub(crate) fn draw_fault(rt: &(impl Abort + AllocGlobal), members: &str) -> Opti
     fault(rt, text.as_str())
 }
 
-/// The fault of a list of one draw without triangles, which has this member beside.
+/// The fault of a list of one draw without triangles, with this further member.
 pub(crate) fn state_fault(rt: &(impl Abort + AllocGlobal), member: &str) -> Option<ReadFault> {
     let members = format!(in rt.alloc(); r#"{member},"vertices":[],"triangles":[]"#).expect(
         rt, "memory",
@@ -86,7 +86,7 @@ pub(crate) fn quad_fault(rt: &(impl Abort + AllocGlobal), quad: &str) -> Option<
     draw_fault(rt, members.as_str())
 }
 
-/// So many copies of a part, between commas.
+/// `count` copies of a part, between commas.
 pub(crate) fn repeated(rt: &(impl Abort + AllocGlobal), part: &str, count: u32) -> String {
     let mut text = String::new(rt.alloc());
     for number in 0..count {

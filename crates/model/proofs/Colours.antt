@@ -1,4 +1,4 @@
--- The colour of a pixel from the ends of its samples.
+-- The colour of a pixel from the final values of its samples.
 use Rattle.std.proofs.Common.{◌≡◌, refl, ℕ, zero, suc, ◌+◌, ◌<◌, arith}
 use Rattle.grid.specs.declared.sample_count.SampleCount.TheVariants.{One, Four}
 use Rattle.shade.specs.declared.sample.Sample.{Sample}

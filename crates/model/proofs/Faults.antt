@@ -22,7 +22,7 @@ pub passed_here : {T : Type 0} (b : Bool) (told : T) (rest : Option T) → cond 
 passed_here true told rest none = absurd (cc)
 passed_here false told rest none = (refl, none)
 
--- no check fails where there is no first fault
+-- no check fails if there is no first fault
 pub all_pass : {T : Type 0} (ps : List (Check T)) → first_fault ps ≡ None → AllPass ps
 all_pass [] none = tt
 all_pass (p ∷ ps) none = let both = passed_here p.fails p.told (first_fault ps) none in (both.0, all_pass ps both.1)

@@ -18,7 +18,7 @@ triangles_of d = placed_all (draw_listing d)
 abbrev pub count_of : Draw → ℕ
 count_of d = count_of_triangles (primitive_listing d.primitives)
 
--- the triangles of a draw, each by the numbers of its vertices
+-- the triangles of a draw, each by the indices of its vertices
 abbrev pub indices_of_draw : Draw → List (List ℕ)
 indices_of_draw d = indices_of (primitive_listing d.primitives)
 

@@ -47,7 +47,7 @@ key_passes : {X : Type 0} (default : X) (Is : Option Data → X → Type 0) (che
 key_passes default Is checks passes None x is = refl
 key_passes default Is checks passes (Some v) x is = passes v x is
 
--- ---- numbers, words and truth values
+-- ---- numbers, words and booleans
 
 in_range : (low high z : ℤ) → low ≤ℤ z → z ≤ℤ high → is_from_to low high z ≡ true
 in_range low high z above below = search (rules, above, below)
@@ -268,7 +268,7 @@ quads_pass earlier vs q xs is room =
     let passed : first_fault later ≡ None = rw (not_over 65536 (earlier + quads_count (count q)) few) each_one in
     both_pass (array_checks 32768 q) later (array_passes _ _ _ _ is) passed
 
--- what passes where it is there passes also where it may be absent
+-- what passes if it is there passes also if it may be absent
 passes_where_there : (checks : Option Data → Checks) (value : Option Data) → first_fault (checks value) ≡ None → first_fault (where_there checks value) ≡ None
 passes_where_there checks None passes = refl
 passes_where_there checks (Some v) passes = passes

@@ -35,7 +35,7 @@ module _ (l : Scene) (x y width n i j many : ℕ) (bytes run : List ℕ) (begun 
     pixels = λ i' j' wide below. pixel i' j' wide below (cases_lt (j' * width + i') n);
   }
 
--- where the bytes of a pixel were added, the pixel was
+-- if the bytes of a pixel were added, the pixel was
 pub adds_pixel : {X E : Type 0} (r : Result X E) (l : Scene) (i j : ℕ) (pixel old new : List ℕ) → IsPixel l i j pixel → OnOk r (new ≡ old ++ pixel) → OnOk r (AddsPixel l i j old new)
 adds_pixel (Ok x) l i j pixel old new h behind = record { pixel = pixel; is = h; behind = behind }
 adds_pixel (Err e) l i j pixel old new h behind = tt

@@ -1,4 +1,4 @@
--- A draw list has just one picture.
+-- A draw list has exactly one picture.
 use Rattle.std.proofs.Common.{◌≡◌, refl, sym, ap, ◌∙◌, subst, ℕ, zero, suc, ◌+◌, ◌*◌, ◌/◌, ◌%◌, ◌<◌, List, [], ◌∷◌, arith}
 use Rattle.std.proofs.Math.Nat.{mod-lt, div-lt_iff_lt-mul, div-add-mod'}
 use Rattle.grid.specs.Samples.{count_of}

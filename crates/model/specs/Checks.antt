@@ -18,12 +18,12 @@ use Rattle.model.specs.FirstFault.{Check, AllPass, PassesBefore, check, told_as}
 abbrev pub Checks : Type 0
 Checks = List (Check ReadKind)
 
--- ---- numbers, words and truth values
+-- ---- numbers, words and booleans
 
 abbrev pub is_from_to : ℤ → ℤ → ℤ → Bool
 is_from_to low high z = int_le low z && int_le z high
 
--- a whole number, and in its range, else `outside` is told
+-- an integer, else the fault is `WrongKind`; and in its range, else it is `outside`
 abbrev pub number_checks : (ℤ → Bool) → ReadKind → Option Data → Checks
 number_checks is_inside outside value =
     check (is_none (whole value)) WrongKind
@@ -55,11 +55,11 @@ sample_mask_checks value = number_checks (is_from_to (pos 0) (pos 15)) OutOfRang
 abbrev pub scissor_side_checks : Option Data → Checks
 scissor_side_checks value = number_checks (is_from_to (pos 0) (pos 4096)) OutOfRange value
 
--- a number of a vertex, where there are n
+-- an index of a vertex, if there are n of them
 abbrev pub index_checks : ℕ → Option Data → Checks
 index_checks n value = number_checks (is_from_to (pos 0) (pos n -ℤ pos 1)) BadIndex value
 
--- a text, and one of the words
+-- a string, and one of the words
 abbrev pub word_checks : List (List ℕ) → Option Data → Checks
 word_checks words value =
     check (is_none (text value)) WrongKind
@@ -79,14 +79,14 @@ is_absent name value = is_none (get name value)
 
 -- ---- arrays
 
--- an array of just so many elements
+-- an array of exactly n elements
 abbrev pub has_length : ℕ → Option Data → Bool
 has_length n value = option_map_or (λ m. m == n) (length_of value) false
 
 abbrev pub length_check : ℕ → Option Data → Check ReadKind
 length_check n value = check (not (has_length n value)) WrongKind
 
--- an array of at most so many elements
+-- an array of at most `most` elements
 abbrev pub array_checks : ℕ → Option Data → Checks
 array_checks most value = check (is_none (array_of value)) WrongKind ∷ check (nat_lt most (count value)) TooMany ∷ []
 
@@ -109,7 +109,7 @@ abbrev pub triangle_checks : ℕ → Data → Checks
 triangle_checks n value =
     length_check 3 (Some value) ∷ (index_checks n (at 0 value) ++ (index_checks n (at 1 value) ++ index_checks n (at 2 value)))
 
--- where a vertex is written to lie
+-- the position of a vertex, as it is written
 abbrev pub position_written : Data → Position
 position_written value = record { x = unwrap_or (whole (at 0 value)) (pos 0); y = unwrap_or (whole (at 1 value)) (pos 0) }
 
@@ -177,11 +177,11 @@ state_checks value =
 unfoldable pub vertices_checks : Option Data → Checks
 vertices_checks value = array_checks 65536 value ++ each vertex_checks (elements value)
 
--- so many triangles are too many where the draws before have so many
+-- these triangles and the `earlier` ones of the draws before are too many together
 abbrev pub sum_check : ℕ → ℕ → Check ReadKind
 sum_check earlier triangles = check (nat_lt 65536 (earlier + triangles)) TooMany
 
--- the triangle list of a draw of n vertices, before which the draws have so many triangles
+-- the triangle list of a draw of n vertices, before which the draws have `earlier` triangles
 unfoldable pub triangles_checks : ℕ → ℕ → Option Data → Checks
 triangles_checks earlier n value = array_checks 65536 value ++ sum_check earlier (count value) ∷ each (triangle_checks n) (elements value)
 
@@ -209,7 +209,7 @@ part_checks earlier vertices triangles strip quads =
 abbrev pub triangles_given : Option Data → Option Data → Option Data → ℕ
 triangles_given triangles strip quads = count triangles + strip_count (count strip) + quads_count (count quads)
 
--- how many triangles a draw counts
+-- how many triangles a draw has, by its values
 abbrev pub triangles_counted : Data → ℕ
 triangles_counted value = triangles_given (get (codes "triangles") value) (get (codes "strip") value) (get (codes "quads") value)
 
@@ -239,7 +239,7 @@ opening_checks value =
     ∷ check (has_two_lists value) TwoLists
     ∷ state_checks value
 
--- the checks of a draw before which the draws have so many triangles
+-- the checks of a draw before which the draws have `earlier` triangles
 abbrev pub draw_checks : ℕ → Data → Checks
 draw_checks earlier value =
     opening_checks value
@@ -276,7 +276,7 @@ outside kind = record { kind = kind; draw = None }
 abbrev pub in_draw : ℕ → ReadKind → ReadFault
 in_draw number kind = record { kind = kind; draw = Some number }
 
--- The checks of the draws from this number on, before which the draws have so many triangles.
+-- The checks of the draws from this number on, before which the draws have `earlier` triangles.
 abbrev pub draws_checks : ℕ → ℕ → Items → List (Check ReadFault)
 draws_checks number earlier no_items = []
 draws_checks number earlier (item value rest) =
@@ -286,20 +286,20 @@ draws_checks number earlier (item value rest) =
 abbrev pub value_checks : Data → List (Check ReadFault)
 value_checks value = told_as outside (top_checks value) ++ draws_checks 0 0 (elements (get (codes "draws") value))
 
--- All checks of an input, in their order: first that its bytes are no JSON.
+-- All checks of an input, in their order: first whether its bytes are JSON.
 abbrev pub all_checks : Option Data → List (Check ReadFault)
 all_checks None = check true (outside NotJson) ∷ []
 all_checks (Some value) = check false (outside NotJson) ∷ value_checks value
 
--- Draw n is one of these, and no check of a draw before it fails. Where want of memory is told, none of its own that come
--- before its vertices fails either.
+-- Draw n is one of these, and no check of a draw before it fails. If the kind is out of memory, none of its own that come before
+-- its vertices fails either.
 pub record IsReached (draws : Items) (kind : ReadKind) (n : ℕ) : Type 0 where
   pub draw : Data
   pub there : get_item n draws ≡ Some draw
   pub before : PassesBefore n (draws_checks 0 0 draws)
   pub memory : kind ≡ OutOfMemory → AllPass (checks_before_vertices draw)
 
--- A draw that is told was reached, and no check of the top object fails.
+-- A draw that a fault names was reached, and no check of the top object fails.
 abbrev pub Reaches : Option Data → ReadFault → Type 0
 Reaches None fault = fault.draw ≡ None
 Reaches (Some value) fault = IfSome fault.draw (λ n. AllPass (top_checks value) × IsReached (elements (get (codes "draws") value)) fault.kind n)

@@ -22,9 +22,9 @@ use Rattle.model.specs.Primitives.{PrimitiveListing, triangle_list, triangle_str
 use Rattle.model.specs.Listing.{DrawListing, Listing, scene_of}
 use Rattle.model.specs.Scene.{Scene}
 
--- ---- numbers, words and truth values
+-- ---- numbers, words and booleans
 
--- The value is this whole number, which lies from low to high.
+-- The value is this integer, which lies from low to high.
 abbrev pub IsWhole : ℤ → ℤ → Option Data → ℤ → Type 0
 IsWhole low high value z = (whole value ≡ Some z) × (low ≤ℤ z) × (z ≤ℤ high)
 
@@ -39,7 +39,7 @@ IsDepthNumber value n = IsWhole (pos 0) (pos 65535) value (pos n)
 abbrev pub IsChannel : Option Data → ℕ → Type 0
 IsChannel value n = IsWhole (pos 0) (pos 255) value (pos n)
 
--- The value is the number of one of n vertices.
+-- The value is the index of one of n vertices.
 abbrev pub IsIndex : ℕ → Option Data → ℕ → Type 0
 IsIndex n value k = (whole value ≡ Some (pos k)) × (k < n)
 
@@ -50,7 +50,7 @@ IsSize value n = IsWhole (pos 1) (pos 4096) value (pos n)
 abbrev pub IsTruth : Option Data → Bool → Type 0
 IsTruth value b = truth value ≡ Some b
 
--- What the value of a key denotes, and the default where the key is absent.
+-- What the value of a key denotes, and the default if the key is absent.
 abbrev pub OrDefault : {X : Type 0} → X → (Option Data → X → Type 0) → Option Data → X → Type 0
 OrDefault default Is None x = x ≡ default
 OrDefault default Is (Some value) x = Is (Some value) x
@@ -64,7 +64,7 @@ Each Is no_items (x ∷ xs) = ⊥
 Each Is (item value rest) [] = ⊥
 Each Is (item value rest) (x ∷ xs) = Is value x × Each Is rest xs
 
--- The value is an array of at most so many elements, each of which denotes its part.
+-- The value is an array of at most `most` elements, each of which denotes its part.
 pub record IsArrayOf {X : Type 0} (most : ℕ) (Is : Data → X → Type 0) (value : Option Data) (found : List X) : Type 0 where
   pub array : IsSome (array_of value)
   pub parts : Each Is (elements value) found
@@ -82,7 +82,7 @@ pub record IsVertex (value : Data) (v : Vertex) : Type 0 where
   pub blue : IsChannel (at 5 value) (slice_index v.rgba 2)
   pub alpha : IsChannel (at 6 value) (slice_index v.rgba 3)
 
--- The value is [a, b, c], the numbers of three of n vertices.
+-- The value is [a, b, c], the indices of three of n vertices.
 pub record IsTriangle (n : ℕ) (value : Data) (triangle : List ℕ) : Type 0 where
   pub array : length_of (Some value) ≡ Some 3
   pub indices : length triangle ≡ 3
@@ -90,11 +90,11 @@ pub record IsTriangle (n : ℕ) (value : Data) (triangle : List ℕ) : Type 0 wh
   pub second : IsIndex n (at 1 value) (slice_index triangle 1)
   pub third : IsIndex n (at 2 value) (slice_index triangle 2)
 
--- The value is the number of one of n vertices in a strip.
+-- The value is the index of one of n vertices in a strip.
 abbrev pub IsStripIndex : ℕ → Data → ℕ → Type 0
 IsStripIndex n value k = IsIndex n (Some value) k
 
--- The value is [a, b, c, d], the numbers of four of the vertices, which are the corners of a strictly convex quad.
+-- The value is [a, b, c, d], the indices of four of the vertices, which are the corners of a strictly convex quad.
 pub record IsQuad (vertices : List Vertex) (value : Data) (quad : List ℕ) : Type 0 where
   pub array : length_of (Some value) ≡ Some 4
   pub indices : length quad ≡ 4
@@ -104,8 +104,8 @@ pub record IsQuad (vertices : List Vertex) (value : Data) (quad : List ℕ) : Ty
   pub fourth : IsIndex (length vertices) (at 3 value) (slice_index quad 3)
   pub convex : IsConvexOver vertices quad
 
--- The primitives of a draw with these vertices, where its keys `triangles`, `strip` and `quads` have these values: one of
--- the three is there, and it is this triangle list, triangle strip or list of quads.
+-- The primitives of a draw with these vertices, whose keys `triangles`, `strip` and `quads` have these values: one of the three is
+-- there, and it is this triangle list, triangle strip or list of quads.
 abbrev pub IsPrimitives : List Vertex → Option Data → Option Data → Option Data → PrimitiveListing → Type 0
 IsPrimitives vertices triangles strip quads (triangle_list found) =
     IsArrayOf 65536 (IsTriangle (length vertices)) triangles found × (strip ≡ None) × (quads ≡ None)
@@ -149,7 +149,7 @@ pub record IsScissor (value : Option Data) (scissor : PixelBox) : Type 0 where
   pub right : IsScissorSide (element 2 value) scissor.x1
   pub bottom : IsScissorSide (element 3 value) scissor.y1
 
--- How the value has its fragments merged with what is stored.
+-- The value says how its fragments are merged with what is stored.
 pub record IsMerge (value : Data) (merge : Merge) : Type 0 where
   pub depth_test : OrDefault test.Always IsDepthTest (get (codes "depth_test") value) merge.test
   pub depth_write : OrDefault false IsTruth (get (codes "depth_write") value) merge.depth_write
@@ -210,7 +210,7 @@ pub record IsDrawList (value : Data) (list : Scene) : Type 0 where
   pub is : IsListing value listing
   pub scene : list ≡ scene_of listing
 
--- Of the bytes serde_json makes a value, and it is this draw list.
+-- serde_json reads the bytes, at most 64 MiB, as a value, which denotes this draw list.
 pub record Denotes (bytes : List ℕ) (list : Scene) : Type 0 where
   pub size : length bytes ≤ 67108864
   pub value : Data

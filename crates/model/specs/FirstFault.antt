@@ -4,7 +4,7 @@ use Rattle.std.specs.List.{AllByRecursion}
 use Rattle.std.specs.Option.{option_map_or}
 use Rattle.model.specs.declared.fault.ReadFault.{ReadFault}
 
--- A check: whether it fails, and what is told then.
+-- A check: whether it fails, and what it then reports.
 pub record Check (T : Type 0) : Type 0 where
   pub fails : Bool
   pub told : T
@@ -16,7 +16,7 @@ check fails told = record { fails = fails; told = told }
 abbrev pub AllPass : {T : Type 0} → List (Check T) → Type 0
 AllPass checks = AllByRecursion (λ p. p.fails ≡ false) checks
 
--- The fault is told by a check that fails, and no check before it fails.
+-- The fault is what a failing check reports, and no check before it fails.
 pub record IsFirstFault {T : Type 0} (checks : List (Check T)) (fault : T) : Type 0 where
   pub before : List (Check T)
   pub here : Check T
@@ -34,10 +34,10 @@ first_fault (p ∷ ps) = if p.fails then Some p.told else first_fault ps
 abbrev pub told_as : {T U : Type 0} → (T → U) → List (Check T) → List (Check U)
 told_as f checks = map (λ p. check p.fails (f p.told)) checks
 
--- told without a draw, or in a draw before this one
+-- reported without a draw, or in a draw before this one
 abbrev pub is_before : ℕ → ReadFault → Bool
 is_before n fault = option_map_or (λ m. nat_lt m n) fault.draw true
 
--- no check fails that is told without a draw or in a draw before this one
+-- no check fails that reports no draw or a draw before this one
 abbrev pub PassesBefore : ℕ → List (Check ReadFault) → Type 0
 PassesBefore n checks = AllByRecursion (λ p. is_before n p.told ≡ true → p.fails ≡ false) checks

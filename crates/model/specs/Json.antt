@@ -1,5 +1,5 @@
--- What the reader sees of a JSON value: the parts that a key or a position names, and the whole number, text, truth value or
--- array that a part is.
+-- What the reader sees of a JSON value: the parts that a key or a position names, and the integer, string, boolean or array that a
+-- part is.
 use Rattle.std.specs.Prelude.{ℕ, ℤ, ◌||◌, List, Bool, false, not, if◌then◌else◌, Option, Some, None, option_map, option_and_then, unwrap_or, bytes_eq}
 use Rattle.std.specs.List.{list_any}
 use Rattle.std.specs.Str.{is_utf8}
@@ -8,11 +8,11 @@ use Rattle.serde_json.specs.Events.{items_len}
 use Rattle.serde_json.specs.Find.{at, as_bool, as_number, as_integer, as_str, as_array}
 use Rattle.serde_json.specs.Read.{read}
 
--- The JSON value (RFC 8259) that serde_json reads from the bytes: none where they are no UTF-8 or no JSON text.
+-- The JSON value (RFC 8259) that serde_json reads from the bytes: `None` if they are no UTF-8 or no JSON text.
 abbrev pub json_of : List ℕ → Option Data
 json_of bytes = if is_utf8 bytes then read bytes else None
 
--- The whole number that the value is: signed or unsigned, of 64 bits. A number written with a fraction or an exponent is none.
+-- The integer that the value is: signed or unsigned, of 64 bits. `None` for a number written with a fraction or an exponent.
 abbrev pub whole : Option Data → Option ℤ
 whole value = option_and_then as_integer (option_and_then as_number value)
 

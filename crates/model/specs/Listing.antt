@@ -1,4 +1,4 @@
--- What a draw list holds, without where it lies in memory.
+-- What a draw list holds, wherever it lies in memory.
 use Rattle.std.specs.Prelude.{ℕ, ◌≤◌, List, [], ◌∷◌, map, length, sum_by, slice_index, slice_index_or, pos}
 use Rattle.std.specs.List.{All, flat_map}
 use Rattle.grid.specs.declared.sample_count.SampleCount.{SampleCount}
@@ -25,7 +25,7 @@ pub record Listing : Type 0 where
   pub output : Output
   pub draws : List DrawListing
 
--- The vertex of this number; the origin past the end, which no triangle of a draw list names.
+-- The vertex of this index; the origin past the end, which no triangle of a draw list names.
 abbrev pub vertex_of : DrawListing → ℕ → Vertex
 vertex_of d k = slice_index_or d.vertices k (record { at = record { x = pos 0; y = pos 0 }; z = 0; rgba = 0 ∷ 0 ∷ 0 ∷ 0 ∷ [] })
 

@@ -8,11 +8,11 @@ use Rattle.model.specs.declared.output.Output.{Output}
 use Rattle.model.specs.declared.output.Output.TheVariants.{Color, Depth}
 use Rattle.model.specs.Scene.{Scene}
 
--- The end of sample s of pixel (i, j): what all triangles make of the clear colour and depth.
+-- The final value of sample s of pixel (i, j): what all triangles make of the clear colour and depth.
 abbrev pub IsEnd : Scene → ℕ → ℕ → ℕ → Sample → Type 0
 IsEnd l i j s end = Ends l.triangles l.count i j s l.clear end
 
--- The colour of pixel (i, j): each channel resolved from the ends of the pixel's samples.
+-- The colour of pixel (i, j): each channel resolved from the final values of the pixel's samples.
 pub record IsColour (l : Scene) (i j : ℕ) (r g b : ℕ) : Type 0 where
   pub end : ℕ → Sample
   pub ends : (s : ℕ) → s < count_of l.count → IsEnd l i j s (end s)
@@ -28,8 +28,8 @@ pub record IsColourPixel (l : Scene) (i j : ℕ) (bytes : List ℕ) : Type 0 whe
   pub colour : IsColour l i j red green blue
   pub order : bytes ≡ red ∷ green ∷ blue ∷ []
 
--- Pixel (i, j) of a picture of depths: the depth of the pixel's sample 0 at its end, in two bytes, of which the more significant
--- comes first (Netpbm, pgm(5)). No sample is resolved.
+-- Pixel (i, j) of a picture of depths: the final depth of the pixel's sample 0, in two bytes, of which the more significant comes
+-- first (Netpbm, pgm(5)). No sample is resolved.
 pub record IsDepthPixel (l : Scene) (i j : ℕ) (bytes : List ℕ) : Type 0 where
   pub end : Sample
   pub is_end : IsEnd l i j 0 end

@@ -8,7 +8,7 @@ pub record IsPixelPrefix (l : Scene) (x y width n : ℕ) (bytes : List ℕ) : Ty
   pub size : length bytes ≡ pixel_bytes l.output * n
   pub pixels : (i j : ℕ) → i < width → j * width + i < n → IsPixel l (x + i) (y + j) (pixel_at l.output (j * width + i) bytes)
 
--- The bytes of so many pixels of one row, from pixel (i, j) to the right.
+-- The bytes of `many` pixels of one row, from pixel (i, j) to the right.
 pub record IsPixelRun (l : Scene) (i j many : ℕ) (bytes : List ℕ) : Type 0 where
   pub size : length bytes ≡ pixel_bytes l.output * many
   pub pixels : (m : ℕ) → m < many → IsPixel l (i + m) j (pixel_at l.output m bytes)

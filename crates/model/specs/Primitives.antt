@@ -7,18 +7,18 @@ use Rattle.model.specs.declared.primitives.Primitives.{Primitives}
 use Rattle.model.specs.declared.primitives.Primitives.TheVariants.{Triangles, Strip, Quads}
 use Rattle.model.specs.declared.draw.Vertex.{Vertex}
 
--- Primitives by the numbers of their vertices, without where they lie in memory.
+-- Primitives by the indices of their vertices, wherever they lie in memory.
 pub data PrimitiveListing : Type 0 where
   triangle_list : List (List ℕ) → PrimitiveListing
   triangle_strip : List ℕ → PrimitiveListing
   quad_list : List (List ℕ) → PrimitiveListing
 
--- Triangle m of a strip has the indices at m, m + 1, m + 2 where m is even, and those at m, m + 2, m + 1 where m is odd, so
--- that a strip keeps its orientation (Vulkan 1.3, triangle strips).
+-- Triangle m of a strip has the indices at m, m + 1, m + 2 if m is even, and those at m, m + 2, m + 1 if m is odd, so that a strip
+-- keeps its orientation (Vulkan 1.3, triangle strips).
 abbrev pub strip_triangle : List ℕ → ℕ → List ℕ
 strip_triangle indices m = slice_index indices m ∷ slice_index indices (m + 1 + m % 2) ∷ slice_index indices (m + 2 - m % 2) ∷ []
 
--- How many triangles a strip of so many indices has.
+-- How many triangles a strip of this many indices has.
 abbrev pub strip_count : ℕ → ℕ
 strip_count indices = indices - 2
 
@@ -27,11 +27,11 @@ abbrev pub quad_triangles : List ℕ → List (List ℕ)
 quad_triangles quad =
     (slice_index quad 0 ∷ slice_index quad 1 ∷ slice_index quad 2 ∷ []) ∷ (slice_index quad 2 ∷ slice_index quad 3 ∷ slice_index quad 0 ∷ []) ∷ []
 
--- How many triangles so many quads have.
+-- How many triangles this many quads have.
 abbrev pub quads_count : ℕ → ℕ
 quads_count quads = 2 * quads
 
--- The triangles of primitives in draw order, each by the numbers of its vertices.
+-- The triangles of primitives in draw order, each by the indices of its vertices.
 abbrev pub triangles_of : PrimitiveListing → List (List ℕ)
 triangles_of (triangle_list triangles) = triangles
 triangles_of (triangle_strip indices) = map (strip_triangle indices) (range_with_len 0 (strip_count (length indices)))
@@ -43,7 +43,7 @@ count_of_triangles (triangle_list triangles) = length triangles
 count_of_triangles (triangle_strip indices) = strip_count (length indices)
 count_of_triangles (quad_list quads) = quads_count (length quads)
 
--- Where the vertex of this number lies; the origin past the end.
+-- The position of the vertex of this index; the origin past the end.
 abbrev pub position_of : List Vertex → ℕ → Position
 position_of vertices k = slice_index_or (map (λ v. v.at) vertices) k (record { x = pos 0; y = pos 0 })
 

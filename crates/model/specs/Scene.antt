@@ -4,7 +4,7 @@ use Rattle.shade.specs.declared.sample.Sample.{Sample}
 use Rattle.shade.specs.declared.placed.Placed.{Placed}
 use Rattle.model.specs.declared.output.Output.{Output}
 
--- What a draw list has a picture drawn of: the size in pixels, the samples of a pixel, the colour and depth that each sample
+-- What the picture of a draw list is drawn from: the size in pixels, the samples of a pixel, the colour and depth that each sample
 -- begins with, what the picture shows, and all triangles in draw order.
 pub record Scene : Type 0 where
   pub width : ℕ

@@ -26,7 +26,7 @@ pub struct Draw {
     pub state: State,
     /// The vertices.
     pub vertices: Vec<Vertex>,
-    /// The primitives, by the numbers of their vertices.
+    /// The primitives, by the indices of their vertices.
     pub primitives: Primitives,
 }
 

@@ -14,8 +14,8 @@ use std::alloc::Global;
 use std::marker::Model;
 
 /// Draws in their order, and the picture's size, samples, clear values and output. It is within the limits of a draw list: a
-/// picture of 1 to 4096 pixels a side, at most 1,024 draws, at most 65,536 vertices a draw, at most 65,536 triangles together,
-/// primitives that name vertices of their draw alone, and strictly convex quads.
+/// picture of 1 to 4096 pixels in width and in height, at most 1,024 draws, at most 65,536 vertices a draw, at most 65,536
+/// triangles together, primitives that name vertices of their draw alone, and strictly convex quads.
 #[derive(Debug, Drop)]
 pub struct DrawList {
     target: Target,
@@ -64,9 +64,8 @@ impl Model for DrawList {
 impl DrawList {
     /// The draw list of these draws. Fails with `PastLimit` before it allocates, if they are past a limit.
     ///
-    /// The state of a draw has no limits. Of its sample mask the bits of the picture's samples count, and of its scissor the
-    /// pixels of the picture, so a mask over 15 and a scissor with sides outside of 0 to 4096, which the reader refuses, may
-    /// stand here.
+    /// The state of a draw has no limits. Of its sample mask the bits of the picture's samples count, and of its scissor the pixels
+    /// of the picture. So a mask above 15 and a scissor with sides outside of 0 to 4096, which the reader refuses, may stand here.
     pub fn new(
         alloc: Global,
         width: u32,
@@ -170,8 +169,8 @@ impl DrawList {
         self.draws[draw].triangle(number - self.starts[draw] as usize)
     }
 
-    /// The rows of pixels of the screen from that of the least y of this triangle's vertices to that of the greatest, where a y
-    /// by 256, rounded down, is its row. They may begin and end below the picture, whose height does not cut them.
+    /// The rows of pixels of the screen from that of the least y of this triangle's vertices to that of the greatest. The row of a
+    /// y is y by 256, rounded down. The rows may begin and end below the picture, whose height does not cut them.
     pub fn rows(&self, number: usize) -> RowSpan
         requires { number < length self.now.triangles }
         ensures { IfSome (slice_get self.now.triangles number) (λ triangle. IsRowSpan triangle.tri result) }

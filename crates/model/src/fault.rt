@@ -12,7 +12,7 @@ pub enum ReadKind {
     MissingKey,
     /// A value is of another kind than its key asks for, or an array of another length.
     WrongKind,
-    /// A number is outside of its range, or a text is none of the words.
+    /// A number is outside of its range, or a string is none of the words.
     OutOfRange,
     /// A primitive names a vertex that its draw does not have.
     BadIndex,

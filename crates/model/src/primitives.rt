@@ -6,7 +6,7 @@ ghost use Rattle.model.specs.declared.draw.Vertex.{Vertex as VertexOf};
 use crate::draw::Vertex;
 use grid::{Point, Quad};
 
-/// The primitives of a draw, each by the numbers of its vertices.
+/// The primitives of a draw, each by the indices of its vertices.
 #[derive(Debug, Drop)]
 pub enum Primitives {
     /// A triangle list: triangles in draw order.
@@ -34,7 +34,7 @@ pub fn quads_count(quads: usize) -> usize
     2 * quads
 }
 
-/// Whether each of these numbers is the number of one of `vertices` vertices.
+/// Whether each of these numbers is the index of one of `vertices` vertices.
 pub fn name_vertices(numbers: &[u32], vertices: usize) -> bool
     ensures { IsTrue result ↔ All (λ k. k < vertices) numbers.now }
 {
@@ -70,7 +70,7 @@ fn quad_triangle(quads: &[[u32; 4]], number: usize) -> [u32; 3]
     }
 }
 
-/// Where the vertex of this number lies.
+/// The position of the vertex of this index.
 fn position(vertices: &[Vertex], number: u32) -> Point
     requires { number < length vertices.now }
     ensures { result ≡ position_of vertices.now number }
@@ -112,7 +112,7 @@ impl Primitives {
         }
     }
 
-    /// The triangle of this number in draw order, by the numbers of its vertices.
+    /// The triangle of this number in draw order, by the indices of its vertices.
     pub(crate) fn triangle(&self, number: usize) -> [u32; 3]
         requires { number < count_of_triangles (primitive_listing self.now) }
         ensures value { result ≡ slice_index_or (triangles_of_listing (primitive_listing self.now)) number [] }

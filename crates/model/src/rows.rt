@@ -13,11 +13,11 @@ use std::alloc::{AllocError, Global};
 /// The rows of pixels of the screen.
 const SCREEN_ROWS: i32 = MOST_PIXELS as i32;
 
-/// Rows of pixels of the screen, from `first` to before `end`. There are none where `end` is at most `first`, as for a triangle
-/// above the screen or below it.
+/// Rows of pixels of the screen, from `first` to before `end`. There are none if `end` is at most `first`, as for a triangle above
+/// the screen or below it.
 #[derive(Clone, Copy, Debug, PartialEq, Eq)]
 pub struct RowSpan {
-    /// The first row, at most 32767: past the screen where the triangle lies below it.
+    /// The first row, at most 32767: past the screen if the triangle lies below it.
     pub first: u16,
     /// The row after the last one, at most 4096.
     pub end: u16,

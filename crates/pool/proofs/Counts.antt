@@ -32,7 +32,7 @@ pub total_le : (f g : Known → ℕ) (views : List Known) → ((id : ℕ) (v : K
 total_le f g [] h = omega arith
 total_le f g (x ∷ xs) h = let a = h zero x refl in let r = total_le f g xs (λ id v at. h (suc id) v at) in omega arith
 
--- where no other view has any of f, the total is the one view's
+-- if no other view has any of f, the total is the one view's
 pub total_alone : (f g : Known → ℕ) (views : List Known) (id : ℕ) (v : Known) → get_elem? views id ≡ some v → total g views ≡ g v
     → ((k : ℕ) (u : Known) → get_elem? views k ≡ some u → g u ≡ 0 → f u ≡ 0) → total f views ≡ f v
 total_alone f g [] id v at all idle = absurd (some-ne-none v (sym at))
@@ -222,7 +222,7 @@ module _ (limits : Limits) where
   whole x id views v r at all k =
       sym (total_alone (λ u. times k u.numbers) (λ u. u.seats) views id v at (r.seats ∙ sym all) (λ j u here idle. let e = (r.fits j u here).1 idle in rw e refl)) ∙ r.once k
 
-  -- each number stands at most once, and where a seat has marked the counter none is left out
+  -- each number stands at most once, and if a seat has marked the counter none is left out
   pub dealt : (x id : ℕ) (views : List Known) (v : Known) → IsCounted limits x views → get_elem? views id ≡ some v → v.seats ≡ limits.seats
       → ((k : ℕ) → times k v.numbers ≤ once_below k limits.count) × (0 < v.marks → (k : ℕ) → times k v.numbers ≡ once_below k limits.count)
   dealt x id views v r at all = (

@@ -39,7 +39,7 @@ module _ (n : ℕ) (counters : List Counter) (number passed : ℕ) (handles : Li
       let z : cond {A = ℕ} (ltb (turns_to (length counters) number here) passed) 1 0 ≡ 0 = ap (λ (b : Bool). cond {A = ℕ} b 1 0) t in
       omega arith
 
-  -- a fact of each handle lasts where it holds of the new one
+  -- a fact of each handle lasts if it holds of the new one
   at_places : (P : ℕ → CounterHandle → Type 0) (new : CounterHandle) → P here new → ((d : ℕ) (p : CounterHandle) → d < length counters → d ≢ here → P d (get_or handles d p))
       → (d : ℕ) (p : CounterHandle) → d < length counters → P d (get_or (set handles here new) d p)
   at_places P new here_is others d p within = dite (ℕ_discrete d here)
@@ -165,7 +165,7 @@ module _ (n : ℕ) (counters : List Counter) (number passed : ℕ) (handles : Li
       order = all_pairs_push (PrecedesInTurn (length counters) number) numbers drawn is.order after;
     }
 
-    -- there is room for it
+    -- there is capacity for it
     pub has_room : length numbers < n
     has_room =
         let all : All (λ x. x < n) (numbers ++ drawn ∷ []) = Rattle.pool.proofs.Counts.all_below (numbers ++ drawn ∷ []) n once_kept in
@@ -180,7 +180,7 @@ same_at [] i a b h = absurd (omega arith)
 same_at (x ∷ xs) zero a b h = refl
 same_at (x ∷ xs) (suc i) a b h = same_at xs i a b (omega arith)
 
--- the same in the words of the code
+-- the same in terms of the code
 module _ (n : ℕ) (counters : List Counter) (number passed : ℕ) (handles : List CounterHandle) (numbers : List ℕ) (is : IsDeskSeat n counters number passed handles numbers) (left : passed < length counters)
     (counter : Counter) (old new : CounterHandle) where
   abbrev At : ℕ → Type 0

@@ -49,7 +49,7 @@ first_or_rest k number rest some = dite (ℕ_discrete number k)
     let t : eqb number k ≡ false = grind (arith, nat_tests) in
     let z : cond {A = ℕ} (eqb number k) 1 0 ≡ 0 = ap (λ (b : Bool). cond {A = ℕ} b 1 0) t in inr (omega arith))
 
--- where each number was dealt, each place has an answer
+-- if each number was given, each place has an answer
 pub all_filled : {Out : Type 0} (n : ℕ) (lists : List (List ℕ × Bool)) (places : List (Option Out)) → length places ≡ n → DealtOnce n lists
     → ((k : ℕ) → 0 < times_in k lists → HasAnswer places k) → All (λ place. IsTrue (is_some place)) places
 all_filled n lists places len dealt put k d within =
@@ -80,7 +80,7 @@ pub some_ended : {S : Type 0} (given : S → List ℕ) (ended : S → Bool) (sea
 some_ended given ended [] some all = absurd (omega arith)
 some_ended given ended (s ∷ seats) some all = let e : ended s ≡ true = All-head (λ x. ended x ≡ true) s seats all in rw e refl
 
--- Where some of all pairs are left to be put: those are right, and each number of the others has its answer
+-- When some of all pairs are left to be put: those are right, and each number of the others has its answer
 abbrev pub Putting : {Out : Type 0} → (ℕ → Out → Type 0) → ℕ → List (Option Out) → List (ℕ × Out) → List (Option Out) → List (ℕ × Out) → Type 0
 Putting right n initial all places left =
     All (IsRight right n) left

@@ -47,7 +47,7 @@ other_desk w d e i j h k ne =
     let apart : d + i * w ≢ e + j * w = λ p. ne (sym (desk_of w d i h) ∙ ap (λ (k : ℕ). k % w) p ∙ desk_of w e j k) in
     grind (arith, nat_tests)
 
--- number j of desk d is below n where j is below the desk's count
+-- number j of desk d is below n if j is below the desk's count
 pub desk_below : (n w d j : ℕ) → d < w → j < desk_count n w d → d + j * w < n
 desk_below n w d j h lt =
     let some : 0 < w = omega arith in

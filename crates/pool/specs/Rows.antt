@@ -28,12 +28,13 @@ abbrev pub AreJoined : List CounterHandle → List CounterHandle → List Counte
 AreJoined whole row joined = (d : ℕ) (p q r : CounterHandle) → d < length whole
     → known_of (slice_index_or joined d p) ≡ both (known_of (slice_index_or whole d q)) (known_of (slice_index_or row d r))
 
--- the handle, which stands for all seats, has each number of the counter at most once, and just once where a seat has marked the counter
+-- the handle, which stands for all seats, has each number of the counter at most once, and exactly once if a seat has marked the
+-- counter
 abbrev pub IsClosed : Counter → CounterHandle → Type 0
 IsClosed counter handle = ((x : ℕ) → times x (known_of handle).numbers ≤ once_below x (count_of counter))
     × (0 < (known_of handle).marks → (x : ℕ) → times x (known_of handle).numbers ≡ once_below x (count_of counter))
 
--- each handle stands for so many seats, which were given nothing
+-- each handle stands for `seats` seats, which were given nothing
 abbrev pub AreUncut : ℕ → List Counter → List CounterHandle → Type 0
 AreUncut seats counters handles = (d : ℕ) (counter : Counter) (handle : CounterHandle) → d < length counters
     → known_of (slice_index_or handles d handle) ≡ known (count_of (slice_index_or counters d counter)) seats [] 0

@@ -1,4 +1,4 @@
--- What the workers of a run bring back, and where their answers are put.
+-- What the workers of a run return, and where their answers are put.
 use Rattle.std.specs.Prelude.{◌≡◌, ℕ, ◌+◌, ◌<◌, ◌≤◌, true, List, [], ◌∷◌, length, map, slice_get, slice_index_or, Option, Some, None, is_some, IsTrue, All, Result, IfOk}
 use Rattle.std.specs.List.{range_with_len}
 use Rattle.std.specs.declared.thread.PromisedHandle.{PromisedHandle}
@@ -22,14 +22,15 @@ abbrev pub EachFrom : {X : Type 0} → (ℕ → X → Type 0) → ℕ → List X
 EachFrom fact first [] = Unit {0}
 EachFrom fact first (x ∷ xs) = fact first x × EachFrom fact (first + 1) xs
 
--- Seats as they are dealt: of this dealer, in their order, given nothing, and not more than there may be
+-- New seats of this dealer, in their order: they were given nothing, and are not more than there may be
 pub record AreDealt {D Seat : Type 0} (d : Dealer.Ghosts D Seat) (dealer : D) (seats : List Seat) : Type 0 where
   pub fresh : All (λ s. d.fits dealer s × (d.given s ≡ [])) seats
   pub numbers : map d.number seats ≡ range_with_len 0 (length seats)
   pub few : length seats ≤ 16
 
 module _ {D Seat : Type 0} (d : Dealer.Ghosts D Seat) {J Out Scratch : Type 0} (j : Job.Ghosts J Out Scratch) where
-  -- What a worker brings back: its seat has been told that none is left, and just the numbers that it was given have an answer, in their order
+  -- What a worker returns: its seat has seen that none is left, and exactly the numbers that it was given have an answer, in their
+  -- order
   pub record AreWorkerAnswers (dealer : D) (job : J) (worker : ℕ) (answers : WorkerAnswers Seat Out) : Type 0 where
     pub fits : d.fits dealer answers.seat
     pub number : d.number answers.seat ≡ worker
@@ -37,7 +38,7 @@ module _ {D Seat : Type 0} (d : Dealer.Ghosts D Seat) {J Out Scratch : Type 0} (
     pub numbers : map (λ pair. pair.0) answers.pairs.items ≡ d.given answers.seat
     pub right : All (IsRight (j.right job) (d.count dealer)) answers.pairs.items
 
-  -- the same, if the worker was not refused memory
+  -- the same, if no allocation of the worker failed
   abbrev pub IsWorkerResult : D → J → ℕ → Result (WorkerAnswers Seat Out) OutOfMemory → Type 0
   IsWorkerResult dealer job worker result = IfOk result (AreWorkerAnswers dealer job worker)
 
@@ -46,11 +47,11 @@ module _ {D Seat : Type 0} (d : Dealer.Ghosts D Seat) {J Out Scratch : Type 0} (
   AreWorkerResults dealer job workers results = EachFrom (IsWorkerResult dealer job) 0 results × (length results ≡ workers)
 
   module _ {G : Type 0} (g : Gate.Ghosts G) where
-    -- the worker of this number can do the job for each number that is dealt, once it has entered for it
+    -- the worker of this number can do the job for each number of the dealer, once it has entered for it
     abbrev pub CanWork : D → J → G → ℕ → Type 0
     CanWork dealer job gate worker = (k : ℕ) → k < d.count dealer → g.entered gate worker k → j.can_work job k
 
-    -- each of so many workers can
+    -- each of this many workers can
     abbrev pub AllCanWork : D → J → G → ℕ → Type 0
     AllCanWork dealer job gate workers = (worker : ℕ) → worker < workers → CanWork dealer job gate worker
 

@@ -36,7 +36,7 @@ fn put<J: Job>(_job: &J, places: &mut Vec<Option<J::Out>>, pairs: Vec<(u32, J::O
     }
 }
 
-/// The answers, where each place has one.
+/// The answers, if each place has one.
 fn answers_of<T: Drop>(alloc: Global, places: Vec<Option<T>>) -> Result<Vec<T>, OutOfMemory>
     requires { All (λ place. IsTrue (is_some place)) places.items }
     ensures { IfOk result (λ answers. map (λ answer. Some answer) answers.items ≡ places.items) }

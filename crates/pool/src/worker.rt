@@ -10,14 +10,14 @@ use std::alloc::Global;
 use std::snapshot::Snapshot;
 use std::thread::Promise;
 
-/// What a worker brings back: its seat, and each number that the seat was given with its answer.
+/// What a worker returns: its seat, and each number that the seat was given with its answer.
 #[derive(Drop)]
 pub(crate) struct WorkerAnswers<S, T> {
     pub(crate) seat: S,
     pub(crate) pairs: Vec<(u32, T)>,
 }
 
-/// What a worker brings back, if it was not refused memory.
+/// What a worker returns, if none of its allocations failed.
 pub(crate) type WorkerResult<D, J> = Result<
     WorkerAnswers<<D as Dealer>::Seat, <J as Job>::Out>,
     OutOfMemory,

@@ -17,7 +17,7 @@ use std::thread::{PromisedHandle, Scope, Threads};
 /// A worker that was started.
 type Worker<D, J> = PromisedHandle<WorkerResult<D, J>, WorksThrough<D, J>>;
 
-/// Starts a worker for each seat, in a thread of its own. The answer is whether all were started.
+/// Starts a worker for each seat, in a thread of its own. Returns whether all were started.
 fn start_all<'s, E, D: Dealer, J: Job, G: Gate>(
     alloc: Global,
     scope: &'s Scope<'s, E>,
@@ -117,16 +117,15 @@ fn work_seats<'a, R: Threads + Wait + Sync, D: Dealer, J: Job, G: Gate, T: Drop,
     )
 }
 
-/// The answers of the job for the numbers below `n`, in their order, and what the call beside the workers answered.
+/// Returns the answers of the job for the numbers below `n`, in their order, and the result of the call `beside`.
 ///
-/// `workers` workers do it, each in a thread of its own with a seat and a scratch of its own. The
-/// calling thread does none of it: once they are started it makes the call `beside`, and then waits for them all, also where the
-/// answer is a fault. A worker enters the gate for a number before it works on it, under the number of its seat: what the gate
-/// lets know then is there for the job to rest on.
+/// `workers` workers do the job, each in a thread of its own with its own seat and scratch. The calling thread does none of it.
+/// Once the workers are started it calls `beside`, and then joins them all, also if the result is a fault. Before a worker works on
+/// a number, it enters the gate for it under the number of its seat. The job may rely on what the gate ensures by that.
 ///
-/// A fault comes only where a growth of memory was refused (`PoolFault::OutOfMemory`) or a thread
-/// was not started (`PoolFault::NoWorker`): dealing gives each number once, so there is no number
-/// without an answer and none with two. The call `beside` is made once, whether or not there is a fault.
+/// The result is a fault only if an allocation failed (`PoolFault::OutOfMemory`) or a thread was not started
+/// (`PoolFault::NoWorker`). Each number is given once, so that no number has no answer and none has two. `beside` is called once,
+/// whether or not there is a fault.
 pub fn run_beside<R: Threads + Wait + Sync, D: Dealer, J: Job, G: Gate, T: Drop, F: FnOnce() -> T>(
     rt: &R,
     alloc: Global,
@@ -151,7 +150,7 @@ pub fn run_beside<R: Threads + Wait + Sync, D: Dealer, J: Job, G: Gate, T: Drop,
     (gather(alloc, dealer, job, n, worked), answer)
 }
 
-/// The answers of the job for the numbers below `n`, in their order: `run_beside` where the calling thread has nothing else to do.
+/// The answers of the job for the numbers below `n`, in their order: `run_beside` if the calling thread has nothing else to do.
 pub fn run<R: Threads + Wait + Sync, D: Dealer, J: Job, G: Gate>(
     rt: &R,
     alloc: Global,

@@ -1,4 +1,4 @@
-//! The call that the calling thread makes beside the workers.
+//! The call that the calling thread makes concurrently with the workers.
 
 use grid::OutOfMemory;
 use pool::{Desks, Job, Open, PoolFault, run_beside};
@@ -9,8 +9,8 @@ use std::test::Fail;
 use std::thread;
 use std::thread::Threads;
 
-/// Waits in each work until the call beside was made, for at most 1,000,000 turns, and answers whether it was. The work on one
-/// number is refused after that.
+/// Waits in each work until the call `beside` was made, for at most 1,000,000 turns, and returns whether it was. After that the
+/// work on one number fails.
 #[derive(Drop)]
 struct Waiting {
     calls: AtomicU64,
@@ -18,7 +18,7 @@ struct Waiting {
 }
 
 impl Waiting {
-    /// Refuses the work on this number.
+    /// The work on this number fails.
     fn new(refused: u32) -> Waiting {
         Waiting {
             calls: AtomicU64::new(0),
@@ -60,8 +60,8 @@ impl Job for Waiting {
     }
 }
 
-/// Has two workers do the job for three numbers, with a call beside them that is counted. The result is that of the workers, and how
-/// often the call was made before.
+/// Has two workers do the job for three numbers, and concurrently makes a call that is counted. Returns the workers' result, and
+/// how often the call was made before.
 fn run_counted<R: Threads + Wait + Sync>(
     rt: &R,
     alloc: Global,

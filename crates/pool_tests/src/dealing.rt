@@ -6,7 +6,7 @@ use pool::{Dealer, Desks, Settled, Tickets};
 use std::alloc::Global;
 use std::test::Fail;
 
-/// What the calls of two seats answer. Each call names its seat.
+/// What the calls of two seats return. Each call names its seat.
 fn call_all<D: Dealer>(
     alloc: Global,
     n: u32,
@@ -91,7 +91,7 @@ fn no_numbers(rt: HostRuntime) -> Result<(), Fail> {
     Ok(())
 }
 
-/// Whether each of three seats is told at once that no number is left.
+/// Whether the first call of each of three seats returns that no number is left.
 fn ends_at_once<D: Dealer>(alloc: Global) -> Result<bool, OutOfMemory> {
     let (dealer, mut seats) = D::deal(alloc, 0, 3)?;
     let mut first = seats.remove(0);

@@ -1,4 +1,4 @@
-//! The order of desks, beside deques that seats pop from and steal from.
+//! The order of desks, compared with deques that seats pop from and steal from.
 ghost use Rattle.std.specs.Prelude.{◌<◌, ◌≤◌, All, vec_len};
 
 use crossbeam_deque::{Steal, Worker};
@@ -50,7 +50,7 @@ fn next_in_turn<D: Dealer>(dealer: &D, seats: &mut Vec<D::Seat>) -> Option<u32>
     answer
 }
 
-/// Whether all calls, which go round the seats, answer what the deques do, and the last round `None`.
+/// Whether all calls, which go round the seats, return what the deques do, and the last round `None`.
 fn agrees(alloc: Global, n: u32, count: u32) -> Result<bool, Fail>
     requires n { n ≤ 20 }
     requires count { (1 ≤ count) × (count ≤ 4) }

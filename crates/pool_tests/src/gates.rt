@@ -21,7 +21,7 @@ const TILES: u32 = 12;
 struct Watch {
     /// How often a worker passed.
     passes: AtomicU64,
-    /// Of each tile, in five bits, one more than the worker that passed for it, and 0 where none has.
+    /// Of each tile, in five bits, one more than the worker that passed for it, and 0 if none has.
     passed: AtomicU64,
     /// How many of the first three passes were for the tile that has the worker's number.
     own: AtomicU64,
@@ -39,7 +39,7 @@ impl Watch {
         }
     }
 
-    /// One more than the worker that passed for this tile, 0 where none has.
+    /// One more than the worker that passed for this tile, 0 if none has.
     fn worker_of(&self, tile: u32) -> u64 {
         if tile >= TILES {
             return 0;

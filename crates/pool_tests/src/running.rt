@@ -111,7 +111,7 @@ fn many_runs(rt: HostRuntime) -> Result<(), Fail> {
     Ok(())
 }
 
-/// Holds the work of the first tile begun until the other's work has ended, and answers whether it ended.
+/// Holds the work of the first tile begun until the other's work has ended, and returns whether it ended.
 #[derive(Drop)]
 struct Meeting {
     begun: AtomicU64,
@@ -166,7 +166,7 @@ fn two_at_once(rt: HostRuntime) -> Result<(), Fail> {
     Ok(())
 }
 
-/// Refuses the work on one number, and counts the works that began and that ended.
+/// Fails the work on one number, and counts the works that began and that ended.
 #[derive(Drop)]
 struct Refusing {
     refused: u32,
@@ -176,7 +176,7 @@ struct Refusing {
 }
 
 impl Refusing {
-    /// Refuses the work on this number, and each scratch after so many.
+    /// Fails the work on this number, and each scratch after this many.
     fn new(refused: u32, scratches: u64) -> Refusing {
         Refusing {
             refused,

@@ -42,7 +42,7 @@ module _ (t : Placed) (tile : Tile) where
           second.kept row column s h (λ q. n (into row column s h (inr q))) ∙ first.kept row column s h (λ p. n (into row column s h (inl p)));
     }
 
-  -- the same part in other words
+  -- the same part by an equivalent predicate
   pub same_part : (P R : ℕ → ℕ → ℕ → Type 0) (a b : List BlockSamples) → DrawsPart t tile P a b
       → ((row column s : ℕ) → IsSampleOf tile row column s → R row column s → P row column s)
       → ((row column s : ℕ) → IsSampleOf tile row column s → P row column s → R row column s)

@@ -22,7 +22,7 @@ DrawsAt t tile old new row column s =
 abbrev pub KeepsAt : Tile → List BlockSamples → List BlockSamples → ℕ → ℕ → ℕ → Type 0
 KeepsAt tile old new row column s = stored tile new row column s ≡ stored tile old row column s
 
--- The triangle is drawn at the samples of a part of the tile, and the others stay.
+-- The triangle is drawn at the samples of a part of the tile, and the others are unchanged.
 pub record DrawsPart (t : Placed) (tile : Tile) (part : ℕ → ℕ → ℕ → Type 0) (old new : List BlockSamples) : Type 0 where
   pub drawn : (row column s : ℕ) → IsSampleOf tile row column s → part row column s → DrawsAt t tile old new row column s
   pub kept : (row column s : ℕ) → IsSampleOf tile row column s → ¬ part row column s → KeepsAt tile old new row column s
@@ -32,7 +32,7 @@ abbrev pub DrawsTile : Placed → Tile → List BlockSamples → List BlockSampl
 DrawsTile t tile old new = (row column s : ℕ) → IsSampleOf tile row column s → DrawsAt t tile old new row column s
 
 -- ---- parts of a tile
--- The pixel in a row and a column of the tile is in the square of this side that begins at pixel (8 bx, 8 by).
+-- The pixel in a row and a column of the tile is in the square of this size that begins at pixel (8 bx, 8 by).
 pub record IsInSquare (tile : Tile) (bx by side : ℕ) (row column s : ℕ) : Type 0 where
   pub left : 8 * bx ≤ 8 * tile.bx + column
   pub right : 8 * tile.bx + column < 8 * bx + side
@@ -54,12 +54,12 @@ square_of t tile = record { triangle = t; bx = tile.bx; by = tile.by; side = til
 abbrev pub block_of : Tri → Tile → ℕ → ℕ → TestedSquare
 block_of t tile bx by = record { triangle = t; bx = bx; by = by; side = T8; count = tile.count }
 
--- The bits of the mask tell which samples of its block the triangle meets.
+-- The bits of the mask say which samples of its block the triangle meets.
 abbrev pub AreMet : Placed → BlockMask → Type 0
 AreMet t m =
     (row column s : ℕ) → row < 8 → column < 8 → s < count_of m.count
     → (IsBitSet (slice_index m.plane s) (8 * row + column) ↔ Meets t m.count (8 * m.bx + column) (8 * m.by + row) s)
 
--- The words tell which samples of block (bx, by) the triangle covers.
+-- The planes say which samples of block (bx, by) the triangle covers.
 abbrev pub ArePlanesOf : Tri → ℕ → ℕ → SampleCount → List ℕ → Type 0
 ArePlanesOf t bx by count planes = (s : ℕ) → s < count_of count → IsPlaneOf t bx by count s (slice_index planes s)

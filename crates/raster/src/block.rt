@@ -14,7 +14,7 @@ use grid::SampleCount;
 use lanes::{BlockMask, BlockSamples, Interpolants};
 use shade::Placed;
 
-/// All pixels of a block where sample `s` of a pixel is drawn, and else none.
+/// All pixels of a block if sample `s` of a pixel is drawn, else none.
 #[inline]
 fn in_sample_mask(triangle: &Placed, s: u32) -> u64
     requires { s < 4 }
@@ -27,7 +27,7 @@ fn in_sample_mask(triangle: &Placed, s: u32) -> u64
     }
 }
 
-/// Which samples of block (bx, by) the triangle meets, of those that it covers; `scissor` tells which pixels are in the scissor.
+/// Which samples of block (bx, by) the triangle meets, of those that it covers. `scissor` says which pixels are in the scissor.
 #[inline]
 fn met(
     triangle: &Placed,
@@ -58,7 +58,7 @@ fn met(
     }
 }
 
-/// Draws the triangle at the samples of block (bx, by); the bits of `covered` tell which of them it covers, and `whole` that all
+/// Draws the triangle at the samples of block (bx, by). The bits of `covered` say which of them it covers; `whole` says that all
 /// pixels of the tile are in the scissor.
 pub(crate) fn draw_block(
     triangle: &Interpolants,

@@ -1,4 +1,4 @@
-//! One triangle drawn at the samples of one tile, which stay in the caller's memory. No call takes memory.
+//! One triangle drawn at the samples of one tile, which stay in the caller's memory. No call allocates.
 #![tactic(auto)]
 
 mod block;

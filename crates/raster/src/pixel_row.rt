@@ -31,7 +31,7 @@ fn interleaved(r: u8x8, g: u8x8, b: u8x8) -> [u8; 32]
 }
 
 /// Red, green and blue of the eight pixels in a row of the tile and a column of its blocks, pixel by pixel: the first 24 bytes of
-/// the answer.
+/// the result.
 #[inline]
 pub fn colours(tile: &Tile, samples: &[BlockSamples], row: u32, column: u32) -> [u8; 32]
     requires samples { length samples.now ≡ planes_of tile.now.side tile.now.count }

@@ -21,7 +21,7 @@ const ALL: [u64; 4] = [u64::MAX; 4];
 /// The masks of a block of whose samples none is covered.
 const NONE: [u64; 4] = [0; 4];
 
-/// Which samples of a block the triangle covers, or none where it covers none of them.
+/// Which samples of a block the triangle covers, or `None` if it covers none of them.
 #[inline]
 fn planes(block: &Square) -> Option<[u64; 4]>
     requires { block.now.side ≡ T8 }
@@ -38,7 +38,7 @@ fn planes(block: &Square) -> Option<[u64; 4]>
     }
 }
 
-/// Which samples of block (bx, by) of the tile the triangle covers, or none where it covers none of them; `all` says that it covers
+/// Which samples of block (bx, by) of the tile the triangle covers, or `None` if it covers none of them; `all` says that it covers
 /// all samples of the tile.
 #[inline]
 fn covered(setup: &Setup, tile: &Tile, all: bool, bx: u32, by: u32) -> Option<[u64; 4]>
@@ -54,8 +54,8 @@ fn covered(setup: &Setup, tile: &Tile, all: bool, bx: u32, by: u32) -> Option<[u
     }
 }
 
-/// Whether the triangle covers all samples of the tile. It is asked only where the region has all of the tile's blocks, since a
-/// smaller triangle does not.
+/// Whether the triangle covers all samples of the tile. It is tested only if the region has all of the tile's blocks, since a
+/// smaller triangle does not cover the tile.
 #[inline]
 fn covers_tile(setup: &Setup, tile: &Tile, region: &Region) -> bool
     ensures { IsTrue result → CoversAll (square_of setup.now tile.now) }
@@ -69,8 +69,8 @@ fn covers_tile(setup: &Setup, tile: &Tile, region: &Region) -> bool
     }
 }
 
-/// Draws the triangle at the samples of the tile that it meets: block by block of the region where its box and its scissor meet the
-/// tile. It is made ready at the first block that it does not leave out.
+/// Draws the triangle at the samples of the tile that it meets: block by block of the region in which its box and its scissor meet
+/// the tile. It is made ready at the first block that it does not leave out.
 fn draw_blocks(triangle: &Placed, setup: &Setup, tile: &Tile, samples: &mut [BlockSamples])
     requires samples { length samples.old ≡ planes_of tile.now.side tile.now.count }
     requires setup { setup.now ≡ triangle.now.tri }

@@ -1,6 +1,7 @@
-//! A store that is used again after want of memory. The tiles of a draw list from standard input are drawn one after another in
-//! one store, and each is compared with the plain program's picture; where memory is refused for a tile, the next one is drawn all
-//! the same. It prints how many tiles were right, wrong and refused. `tools/refuse_memory.py` refuses it each growth in turn.
+//! A store that is used again after an allocation has failed. The tiles of a draw list from standard input are drawn one after
+//! another in one store, and each is compared with the reference program's picture. If an allocation fails for a tile, the next one
+//! is drawn all the same. It prints how many tiles were right, wrong and refused. `tools/allocation_failures.py` makes each
+//! allocation fail in turn.
 #![tactic(auto)]
 
 ghost use Rattle.std.specs.Prelude.{◌≤◌, length};
@@ -60,7 +61,7 @@ fn drawn_tiles(alloc: Global, list: &DrawList, picture: &[u8]) -> Result<Tally, 
     Ok(tally)
 }
 
-/// The tiles of the list that the bytes denote, or none where they denote none or memory is refused elsewhere.
+/// Returns the tiles of the list that the bytes denote, or `None` if they denote none or an allocation fails elsewhere.
 fn tiles_of(alloc: Global, bytes: &[u8]) -> Option<Tally>
     requires { length bytes.now ≤ MOST_BYTES }
 {

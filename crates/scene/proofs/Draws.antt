@@ -82,7 +82,7 @@ module _ (head : SceneHead) (ds : List SceneDraw) (vs : List SceneVertex) (is : 
   reached_in None none = none
   reached_in (Some n) reached = (inside, few, reached)
 
--- where the numbers of the picture and the number of draws pass, what was reached among the draws is reached in the scene
+-- if the numbers of the picture and the number of draws pass, what was reached among the draws is reached in the scene
 pub reaches : (head : SceneHead) (ds : List SceneDraw) (vs : List SceneVertex) (is : List ℕ) (fault : ReadFault) → IsHeadInRange head → length ds ≤ 1024
     → IfSome fault.draw (IsReached 0 0 ds vs is fault.kind) → Reaches head ds vs is fault
 reaches head ds vs is fault inside few reached = reached_in head ds vs is fault.kind inside few fault.draw reached

@@ -1,4 +1,4 @@
--- Where a check fails, the arrays list nothing.
+-- If a check fails, the arrays list nothing.
 use Rattle.std.proofs.Common.{◌≡◌, ◌≢◌, ℕ, List, [], ◌∷◌, inl, inr}
 use Rattle.model.specs.declared.fault.ReadKind.{ReadKind}
 use Rattle.model.specs.declared.fault.ReadKind.TheVariants.{OutOfMemory}

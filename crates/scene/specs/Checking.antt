@@ -3,7 +3,7 @@ use Rattle.std.specs.Prelude.{◌≡◌, ◌≢◌, ◌⊎◌, Result, MatchResu
 use Rattle.model.specs.declared.fault.ReadKind.{ReadKind}
 use Rattle.model.specs.declared.fault.ReadKind.TheVariants.{OutOfMemory}
 
--- Checks, one after another: what has to hold, and what is told where it does not.
+-- Checks, one after another: what has to hold, and what is reported if it does not.
 pub data Checks : Type 1 where
   done : Checks
   check : Type 0 → ReadKind → Checks → Checks
@@ -17,11 +17,11 @@ abbrev pub Pass : Checks → Type 0
 Pass done = Unit {0}
 Pass (check holds told rest) = holds × Pass rest
 
--- A check does not hold, and of the first that does not this is told.
+-- A check does not hold, and the first that does not reports this.
 abbrev pub FirstIs : Checks → ReadKind → Type 0
 FirstIs done kind = ⊥
 FirstIs (check holds told rest) kind = ((holds → ⊥) × (told ≡ kind)) ⊎ (holds × FirstIs rest kind)
 
--- The answer is right: each check holds, or the first that does not is told, unless memory ran out.
+-- The result is right: each check holds, or the first that does not is reported, unless memory ran out.
 abbrev pub Reads : {X : Type 0} → Checks → (X → Type 0) → Result X ReadKind → Type 0
 Reads checks P answer = MatchResult answer (λ x. Pass checks × P x) (λ kind. kind ≢ OutOfMemory → FirstIs checks kind)

@@ -22,8 +22,8 @@ number_checks vertices = check (length vertices ≤ 65536) TooMany done
 abbrev pub vertices_checks : List SceneVertex → Checks
 vertices_checks vertices = followed_by (number_checks vertices) (check (All IsVertexInRange vertices) OutOfRange done)
 
--- The primitives of a draw of these vertices, before which the draws have so many triangles. Where each index names a vertex, only
--- a quad that is not strictly convex is not over the vertices.
+-- The primitives of a draw of these vertices, before which the draws have `earlier` triangles. If each index names a vertex, only a
+-- quad that is not strictly convex is not over the vertices.
 abbrev pub primitives_checks : ℕ → List Vertex → ℕ → List ℕ → Checks
 primitives_checks earlier vertices kind indices =
     check (length indices % corners_of kind ≡ 0) WrongKind (
@@ -54,14 +54,14 @@ checks_before_vertices d vertices indices = followed_by (opening_checks d vertic
 abbrev pub triangles_listed : SceneDraw → List ℕ → ℕ
 triangles_listed d indices = count_of_triangles (primitives_listed d.primitives (take d.indices indices))
 
--- Each draw passes its checks, and no vertex and no index is left over. The draws before have so many triangles.
+-- Each draw passes its checks, and no vertex and no index is left over. The draws before have `earlier` triangles.
 abbrev pub DrawsPass : ℕ → List SceneDraw → List SceneVertex → List ℕ → Type 0
 DrawsPass earlier [] vertices indices = (vertices ≡ []) × (indices ≡ [])
 DrawsPass earlier (d ∷ ds) vertices indices =
     Pass (draw_checks earlier d vertices indices)
     × DrawsPass (earlier + triangles_listed d indices) ds (drop d.vertices vertices) (drop d.indices indices)
 
--- The first check of draws that fails tells this fault. They are numbered from here on.
+-- The first check of draws that fails reports this fault. The draws are numbered from `number` on.
 abbrev pub IsFirstOfDraws : ℕ → ℕ → List SceneDraw → List SceneVertex → List ℕ → ReadFault → Type 0
 IsFirstOfDraws number earlier [] vertices indices fault =
     ((vertices ≡ []) × (indices ≡ []) → ⊥) × (fault ≡ record { kind = WrongKind; draw = None })
@@ -84,7 +84,7 @@ abbrev pub Reaches : SceneHead → List SceneDraw → List SceneVertex → List 
 Reaches head draws vertices indices fault =
     IfSome fault.draw (λ n. IsHeadInRange head × (length draws ≤ 1024) × IsReached 0 0 draws vertices indices fault.kind n)
 
--- The first check of a scene that fails tells this fault.
+-- The first check of a scene that fails reports this fault.
 pub data IsFirstFault (head : SceneHead) (draws : List SceneDraw) (vertices : List SceneVertex) (indices : List ℕ) (fault : ReadFault) : Type 0 where
   in_head : (IsHeadInRange head → ⊥) → fault ≡ record { kind = OutOfRange; draw = None } → IsFirstFault head draws vertices indices fault
   in_number : IsHeadInRange head → (length draws ≤ 1024 → ⊥) → fault ≡ record { kind = TooMany; draw = None } → IsFirstFault head draws vertices indices fault

@@ -86,7 +86,7 @@ pub fn build(
 ) -> Result<DrawList, ReadFault>
     // What is made is listed.
     ensures ok { IfOk result (IsListOf head.now draws.now vertices.now indices.now) }
-    // Where the arrays list a scene, that very one is made, or memory ran out.
+    // If the arrays list a scene, that very one is made, or memory ran out.
     ensures only { (list : Scene) → IsListOf head.now draws.now vertices.now indices.now list
         → MatchResult result (λ found. found ≡ list) (λ fault. fault.kind ≡ OutOfMemory) }
     // A fault is the first one, unless memory ran out.

@@ -28,15 +28,15 @@ pub struct SceneDraw {
     pub cull: u32,
     /// When a new depth passes: 0 never, 1 less, 2 equal, 3 less or equal, 4 greater, 5 not equal, 6 greater or equal, 7 always.
     pub depth_test: u32,
-    /// 1 where the new depth is stored where the test passes, else 0.
+    /// 1 if the new depth is stored when the test passes, else 0.
     pub depth_write: u32,
-    /// 1 where the new colour is blended over the stored one by its alpha, and 0 where it replaces it.
+    /// 1 if the new colour is blended over the stored one by its alpha, 0 if it replaces it.
     pub blend: u32,
-    /// 1 where red is written, else 0.
+    /// 1 if red is written, else 0.
     pub write_red: u32,
-    /// 1 where green is written, else 0.
+    /// 1 if green is written, else 0.
     pub write_green: u32,
-    /// 1 where blue is written, else 0.
+    /// 1 if blue is written, else 0.
     pub write_blue: u32,
     /// Bit s says whether sample s is drawn: 0 to 15.
     pub sample_mask: u32,

@@ -1,4 +1,4 @@
-//! Draw lists out of a caller's own arrays, without a text.
+//! Draw lists out of a caller's own arrays, without JSON.
 #![tactic(auto)]
 
 mod builder;

@@ -33,7 +33,7 @@ fn triangles(kind: u32, indices: &[u32]) -> usize
     }
 }
 
-/// The primitives of this kind with these indices; what is left at the end and too few for a primitive is none.
+/// The primitives of this kind with these indices. Indices at the end that are too few for a primitive are left out.
 fn listed(alloc: Global, kind: u32, indices: &[u32]) -> Result<Primitives, AllocError>
     ensures { IfOk result (λ found. primitive_listing found ≡ primitives_listed kind indices.now) }
 {

@@ -30,7 +30,7 @@ pub struct SceneVertex {
 }
 
 impl SceneVertex {
-    /// The vertex, or none where a number is outside of its range.
+    /// The vertex, or `None` if a number is outside of its range.
     fn vertex(&self) -> Option<Vertex>
         ensures some { IsSome result ↔ IsVertexInRange self.now }
         ensures value { IfSome result (λ v. v ≡ vertex_listed self.now) }

@@ -1,4 +1,4 @@
--- A triangle makes just one sample of each sample.
+-- A triangle makes exactly one sample of each sample.
 use Rattle.std.proofs.Common.{◌≡◌, inl, inr, refl, sym, ◌∙◌, ℕ, ◌+◌, ◌-◌, ◌*◌, List, Bool, true, false, if◌then◌else◌, slice_index_or, arith}
 use Rattle.grid.specs.Position.{Position}
 use Rattle.grid.specs.Triangle.{Covers}

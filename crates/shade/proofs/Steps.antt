@@ -21,7 +21,7 @@ pub rightward : (a b p : Position) (r : ℤ) → r ≡ pos 256 *ℤ (a.y -ℤ b.
 rightward a b p r e = side-right a b p ∙ ap (λ z. side a b p +ℤ z) (sym e)
 
 -- ---- the change of a weighted sum
--- a value times the size of a number of known sign
+-- a value times the absolute value of a number of known sign
 pub scaled_over : (u : ℕ) (x : ℤ) → pos 0 ≤ℤ x → pos (u * unsigned_abs x) ≡ pos u *ℤ x
 scaled_over u (pos n) h = omega (arith, ints)
 scaled_over u (negsuc n) h = absurd (omega (arith, ints))
@@ -104,7 +104,7 @@ pub negated-within : (sum : ℤ) → IsWithin (2 ^ 50) sum → IsWithin (2 ^ 50)
 negated-within sum h = record { low = omega (arith, ints); high = omega (arith, ints) }
 
 -- ---- division by the area
--- a number of the same sign as what is left at most
+-- a number that is not negative, and one that is negative, by quotient and remainder
 pub split_over : (n d : ℕ) → 0 < d → pos n ≡ pos (n / d) *ℤ pos d +ℤ pos (n % d)
 split_over n d h = omega (arith, ints)
 
@@ -118,7 +118,7 @@ split_under n d h =
     sub_one_mul q d = ring (q ∷ d ∷ []) (times (plus (neg (var 0)) (neg (lit (pos 1)))) (var 1)) (plus (neg (times (var 0) (var 1))) (neg (var 1))) refl
 
 -- ---- a step
--- a quotient and what is left of a number that is not negative
+-- the quotient and the remainder of a number that is not negative
 pub record IsNext (n d : ℕ) (q : ℤ) (r : ℕ) : Type 0 where
   pub quotient : ℕ
   pub is : q ≡ pos quotient

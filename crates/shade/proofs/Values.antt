@@ -1,4 +1,4 @@
--- Values at a covered point, where the sizes of the three sides add up to the size of the doubled area.
+-- Values at a covered point, where the absolute values of the three sides add up to the absolute doubled area.
 use Rattle.std.proofs.Common.{◌≡◌, ℕ, ap, ◌+◌, ◌*◌, ◌/◌, ◌%◌, ◌<◌, ◌≤◌, arith}
 use Rattle.std.proofs.Math.Nat.{mul-le-mul_right, lt_of_mul-lt-mul_right}
 use Rattle.std.proofs.lemmas.Int.{ints}
@@ -44,7 +44,7 @@ weights-sum a b c p h =
 pub area_positive : (a b c p : Position) → Covers a b c p → 0 < unsigned_abs (side a b c)
 area_positive a b c p h = elim (sign (side a b c)) [ negative k ↦ omega (arith, ints) | null k ↦ absurd (h.area k) | positive k ↦ omega (arith, ints) ]
 
--- so no weighted sum exceeds the greatest value times the size of the doubled area
+-- so no weighted sum exceeds the greatest value times the absolute doubled area
 sum_bound : (x y z s u v w m : ℕ) → x + y + z ≡ s → u ≤ m → v ≤ m → w ≤ m → u * x + v * y + w * z ≤ m * s
 sum_bound x y z s u v w m e i j k =
     omega (arith, ap (λ n. m * n) e, mul-le-mul_right x i, mul-le-mul_right y j, mul-le-mul_right z k)

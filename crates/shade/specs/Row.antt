@@ -26,12 +26,12 @@ pub record AttributeAt : Type 0 where
   pub v : ℕ
   pub w : ℕ
 
--- n by d is q, and r is left.
+-- n by d is q, with the remainder r.
 pub record IsDivided (n d q r : ℕ) : Type 0 where
   pub sum : n ≡ q * d + r
   pub less : r < d
 
--- The step adds this number of either sign, as a quotient by the area and what is left.
+-- The step adds this number of either sign, as a quotient by the area and a remainder.
 pub record IsSplit (change : ℤ) (area : ℕ) (step : Step) : Type 0 where
   pub of_area : step.area ≡ area
   pub sum : change ≡ step.quotient *ℤ pos area +ℤ pos step.remainder
@@ -60,7 +60,7 @@ pub record Are16Bit (u v w : ℕ) : Type 0 where
   pub second : v ≤ 65535
   pub third : w ≤ 65535
 
--- A value at the covered point p, with what is left of the weighted sum, and the step from there.
+-- A value at the covered point p, with the remainder of the weighted sum, and the step from there.
 pub record IsRowAt (a b c p : Position) (u v w value remainder : ℕ) (step : Step) : Type 0 where
   pub covered : Covers a b c p
   pub divided : IsDivided (weighted_sum a b c p u v w) (unsigned_abs (doubled_area a b c)) value remainder

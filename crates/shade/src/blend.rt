@@ -1,6 +1,6 @@
 ghost use Rattle.shade.specs.Blend.{IsOver};
 
-/// The source channel `s` over the stored channel `d` by the source's alpha `a`, where 255 is whole (source-over of Porter and
+/// The source channel `s` over the stored channel `d` by the source's alpha `a`, of which 255 is opaque (source-over of Porter and
 /// Duff 1984), rounded to nearest (the rounding is this project's rule).
 pub fn over(s: u8, a: u8, d: u8) -> u8
     ensures { IsOver s a d result }

@@ -14,9 +14,9 @@ pub fn passes(test: DepthTest, new: u16, old: u16) -> bool
     test.holds(new, old)
 }
 
-/// The stored sample after a triangle's sample. Where the depth test fails nothing changes, neither colour nor depth. Where it
-/// passes, each channel of the write mask takes the new channel, or the new over the stored one, and the depth is stored where
-/// depth writes are on (Direct3D 11, output-merger stage).
+/// The stored sample after a triangle's sample. If the depth test fails, nothing changes, neither colour nor depth. If it passes,
+/// each channel of the write mask takes the new channel, or the new over the stored one, and the depth is stored if depth writes
+/// are on (Direct3D 11, output-merger stage).
 pub fn apply(m: &Merge, new: &Shaded, old: Sample) -> Sample
     ensures { IsApplied m.now new.now old result }
 {
@@ -26,8 +26,8 @@ pub fn apply(m: &Merge, new: &Shaded, old: Sample) -> Sample
     merged(m, new, old)
 }
 
-/// The stored sample after a triangle's sample that passed the depth test. A channel of the new sample is read only where it is
-/// written, and alpha only where the new colour is blended.
+/// The stored sample after a triangle's sample that passed the depth test. A channel of the new sample is read only if it is
+/// written, and alpha only if the new colour is blended.
 pub(crate) fn merged(m: &Merge, new: &Shaded, old: Sample) -> Sample
     ensures { IsMerged m.now new.now old result }
 {

@@ -47,9 +47,9 @@ impl Placed {
         }
     }
 
-    /// What a stored sample becomes where the triangle is drawn at a point that it covers: the fragment there is merged by the
-    /// depth test, the write mask and the blending of the draw. A colour is interpolated only where the depth test passes, and
-    /// only in the channels that are written.
+    /// What a stored sample becomes if the triangle is drawn at a point that it covers: the fragment there is merged by the depth
+    /// test, the write mask and the blending of the draw. A colour is interpolated only if the depth test passes, and only in the
+    /// channels that are written.
     pub fn drawn_at(&self, p: Point, stored: Sample) -> Sample
         requires { Covers self.now.tri.a self.now.tri.b self.now.tri.c p }
         ensures { IsDrawnAt self.now p stored result }
@@ -63,8 +63,8 @@ impl Placed {
         merged(&merge, &self.needed(&weights, z), stored)
     }
 
-    /// The fragment at the point of these weights, where `z` is its depth, as far as the draw reads it: red, green and blue where
-    /// they are written, and alpha where the draw blends. What is not read is 0.
+    /// The fragment at the point of these weights, whose depth is `z`, as far as the draw reads it: red, green and blue if they are
+    /// written, and alpha if the draw blends. What is not read is 0.
     fn needed(&self, weights: &Weights, z: u16) -> Shaded
         requires triangle { AreWeightsOf self.now weights.now }
         requires depth { IsInterpolated self.now weights.now.p self.now.z z }
@@ -80,7 +80,7 @@ impl Placed {
         }
     }
 
-    /// Red, green, blue or alpha at the point of these weights, or 0 where it is not needed.
+    /// Red, green, blue or alpha at the point of these weights, or 0 if it is not needed.
     fn channel_if(&self, needed: bool, weights: &Weights, number: usize) -> u8
         requires number { number < 4 }
         requires triangle { AreWeightsOf self.now weights.now }

@@ -62,7 +62,7 @@ impl Row {
         self.value
     }
 
-    /// The value at the point, as `value` gives it, where the vertices have at most 255.
+    /// The value at the point, as `value` returns it, if the vertices have at most 255.
     #[inline(always)]
     pub fn channel(&self) -> u8
         requires a { self.now.u ≤ 255 }
@@ -73,7 +73,7 @@ impl Row {
         self.value() as u8
     }
 
-    /// Goes to the point a pixel to the right, asked where the triangle covers that too.
+    /// Goes to the point a pixel to the right, which the triangle has to cover too.
     #[inline(always)]
     pub fn step(&mut self)
         requires { Covers self.old.a self.old.b self.old.c (right_of self.old.p) }

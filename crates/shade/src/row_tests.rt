@@ -1,4 +1,4 @@
-//! Values stepped along rows of pixels: worked ones, and all 4,096 of a row beside the exact quotient at each.
+//! Values stepped along rows of pixels: worked ones, and all 4,096 of a row compared with the exact quotient at each.
 use crate::Row;
 use crate::test_support::{GREATEST, GREATEST_TURNED, point, triangle};
 use grid::{Point, Tri, side};
@@ -15,11 +15,11 @@ const FIRST: (i32, i32) = (128, 128);
 /// A triangle that reaches little beyond the first row, and in which values change by some sixteen from pixel to pixel.
 const LOW: [(i32, i32); 3] = [(-300, -7), (1_048_583, 128), (-301, 300)];
 
-/// A triangle with a side of 4,096 pixels along the first row, at some of whose pixels nothing is left of a value.
+/// A triangle with a side of 4,096 pixels along the first row, at some of whose pixels a value has no remainder.
 const EVEN: [(i32, i32); 3] = [(128, 128), (1_048_704, 128), (128, 1_048_704)];
 
-/// The value at `at` and at the pixels to the right of it, with what is left of each, by steps: so many, or fewer where the
-/// next one is not covered.
+/// The value at `at` and at the pixels to the right of it, with the remainder of each, by steps: `pixels` values, or fewer if the
+/// next pixel is not covered.
 fn stepped(
     alloc: Global,
     t: &Tri,
@@ -53,8 +53,8 @@ fn weighted(value: u16, a: Point, b: Point, p: Point) -> u64 {
     u64::from(value).wrapping_mul(side(a, b, p).unsigned_abs())
 }
 
-/// The weighted sum of `v` at the point by the doubled area, and what is left of it, with a division. At a covered point the sum
-/// is under 2^64, so that nothing wraps.
+/// The weighted sum of `v` at the point by the doubled area, and its remainder, with a division. At a covered point the sum is
+/// below 2^64, so that nothing wraps.
 fn divided(t: &Tri, p: Point, v: [u16; 3]) -> Option<(u64, u64)> {
     let area = t.area2().unsigned_abs();
     let sum = weighted(v[0], t.b, t.c, p)
@@ -99,8 +99,8 @@ fn steps_equal_values_over_a_whole_row(rt: HostRuntime) -> Result<(), Fail> {
     Ok(())
 }
 
-/// Asserts that value and remainder are those of the division at all 4,096 pixels of the first row, and that a remainder is
-/// large: over 4080/4096 of the area.
+/// Asserts that value and remainder are those of the division at all 4,096 pixels of the first row, and that a remainder is large:
+/// above 4080/4096 of the area.
 fn steps_exactly(
     rt: &(impl Abort + AllocGlobal),
     corners: [(i32, i32); 3],

@@ -26,7 +26,7 @@ pub struct Shaded {
 pub struct Merge {
     /// The test that a new depth has to pass.
     pub test: DepthTest,
-    /// Whether the depth is stored where the test passes.
+    /// Whether the depth is stored if the test passes.
     pub depth_write: bool,
     /// Which of red, green and blue are written.
     pub write: [bool; 3],

@@ -43,7 +43,7 @@ fn sum_of(first: i64, second: i64, third: i64) -> i64
     first + second + third
 }
 
-/// How much the weighted sum of `v` changes from a covered point to the one a pixel to the right, where that is covered too.
+/// How much the weighted sum of `v` changes from a covered point to the one a pixel to the right, if that is covered too.
 fn change(t: &Tri, v: [u16; 3]) -> i64
     ensures change { IsChange t.now.a t.now.b t.now.c (slice_index v 0) (slice_index v 1) (slice_index v 2) result }
     ensures size { IsWithin (2 ^ 50) result }

@@ -51,7 +51,7 @@ fn rounds_values_down_in_either_orientation(rt: HostRuntime) {
     assert_eq!(rt; value_at(&rt, &reversed, (32, 160), [0, 0, 255]), Some(31));
 }
 
-// The weighted sum of the greatest value at all three vertices is 18446460399743205375, just under 2^64.
+// The weighted sum of the greatest value at all three vertices is 18446460399743205375, a little below 2^64.
 #[test]
 fn holds_the_largest_triangle(rt: HostRuntime) {
     let largest = triangle(&rt, GREATEST);
@@ -59,15 +59,15 @@ fn holds_the_largest_triangle(rt: HostRuntime) {
         value_at(&rt, &largest, (128, 128), [65535, 65535, 65535]),
         Some(65535)
     );
-    // One less at a vertex is divided: the sum is then less by that vertex's weight, which is under the area.
+    // One less at a vertex is divided: the sum is then less by that vertex's weight, which is less than the area.
     assert_eq!(rt;
         value_at(&rt, &largest, (128, 128), [65534, 65535, 65535]),
         Some(65534)
     );
 }
 
-// The value and what is left of the division give the weighted sum back: the value times the area, and the rest. At the centre of
-// pixel (0, 0) the weights of the largest triangle are 16777215 times 257, 8388479 and 8388479.
+// The value and the remainder of the division give the weighted sum back: the value times the area, and the remainder. At the
+// centre of pixel (0, 0) the weights of the largest triangle are 16777215 times 257, 8388479 and 8388479.
 #[test]
 fn forms_the_greatest_weighted_sum(rt: HostRuntime) {
     let largest = triangle(&rt, GREATEST);

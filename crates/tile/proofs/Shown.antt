@@ -74,7 +74,7 @@ module _ (g : TileGrid) (k : ℕ) (h : k < tiles_of g) (tile : Tile) (at : IsTil
         part = part;
       }
 
--- the colour of a pixel, where its samples are their ends
+-- the colour of a pixel, if its samples have their final values
 pub colour_shown : (l : Scene) (tile : Tile) (samples : List BlockSamples) (row column r g b : ℕ) → AreEnds l tile samples → tile.count ≡ l.count → IsShown l tile row column 0
     → IsColourAt tile samples row column r g b → IsColour l (8 * tile.bx + column) (8 * tile.by + row) r g b
 colour_shown l tile samples row column r g b ends count shown c = record {

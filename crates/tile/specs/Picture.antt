@@ -42,7 +42,7 @@ abbrev pub IsTileBin : Scene → Tile → List ℕ → Type 0
 IsTileBin l tile numbers =
     (row column s : ℕ) → IsShown l tile row column s → IsBin l (λ t. Meets t l.count (8 * tile.bx + column) (8 * tile.by + row) s) numbers
 
--- The samples whose pixels are in the picture are their ends.
+-- The samples whose pixels are in the picture have their final values.
 abbrev pub AreEnds : Scene → Tile → List BlockSamples → Type 0
 AreEnds l tile samples =
     (row column s : ℕ) → IsShown l tile row column s → IsEnd l (8 * tile.bx + column) (8 * tile.by + row) s (stored tile samples row column s)
@@ -54,7 +54,7 @@ AreDepthsAt tile samples row column bytes =
     (i : ℕ) → i < 8
     → (slice_index bytes (2 * i) ≡ (stored tile samples row (8 * column + i) 0).z / 256) × (slice_index bytes (2 * i + 1) ≡ (stored tile samples row (8 * column + i) 0).z % 256)
 
--- The new bytes are the old ones, and behind them those of so many pixels of one row of the picture, from pixel (i, j) on.
+-- The new bytes are the old ones, and behind them those of `many` pixels of one row of the picture, from pixel (i, j) on.
 pub record AddsPixelRun (l : Scene) (i j many : ℕ) (old new : List ℕ) : Type 0 where
   pub run : List ℕ
   pub is : IsPixelRun l i j many run

@@ -1,7 +1,7 @@
 use Rattle.grid.specs.declared.pixels.TileSide.{TileSide}
 use Rattle.grid.specs.declared.sample_count.SampleCount.{SampleCount}
 
--- What a store has room for: the samples of a square tile of this side, so many for a pixel. What they are is of no account.
+-- The shape of a tile buffer: tile size and samples per pixel. Its contents are unspecified.
 pub record Room : Type 0 where
   pub side : TileSide
   pub count : SampleCount

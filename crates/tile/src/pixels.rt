@@ -13,8 +13,8 @@ use model::{DrawList, Output};
 use raster::{Tile, colours};
 use std::alloc::Global;
 
-/// Appends the first `many` pixels of eight, with `each` bytes per pixel. The length of a whole run is known where this is
-/// inlined, so that it is copied without a call.
+/// Appends the first `many` pixels of eight, with `each` bytes per pixel. If this is inlined, the length of a whole run is known,
+/// so that it is copied without a call.
 #[inline(always)]
 fn push_first(run: &[u8], each: u32, many: u32, bytes: &mut Vec<u8>) -> Result<(), OutOfMemory>
     requires each { each ≤ 3 }

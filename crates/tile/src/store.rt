@@ -56,7 +56,7 @@ impl Store {
         })
     }
 
-    /// The side of the tiles.
+    /// The tile size.
     pub fn side(&self) -> TileSide
         ensures { result ≡ self.now.side }
     {

@@ -21,8 +21,8 @@ use std::alloc::Global;
 pub struct TilePixels {
     /// The tile's pixels, as far as they are in the picture.
     pub rect: PixelBox,
-    /// The rows of the rectangle from top to bottom, the pixels of a row from left to right, and of a pixel either red, green and
-    /// blue or, where the list's output is its depths, the more and the less significant byte of the depth.
+    /// The rows of the rectangle from top to bottom, the pixels of a row from left to right. Of a pixel either red, green and blue
+    /// or, if the list's output is its depths, the more and the less significant byte of the depth.
     pub bytes: Vec<u8>,
 }
 
@@ -75,10 +75,10 @@ fn shown(pixels: u32, block: u32, side: TileSide) -> u32
     (pixels - 8 * block).min(side.pixels())
 }
 
-/// Tile `k` of the picture, drawn from its bin in a store for the tile's samples: each triangle of the bin in draw order at the
-/// samples that it meets, and at the end each pixel's colour from its samples (multisample
-/// resolve), or the depth of its sample 0. Only the answer takes
-/// memory, and want of memory is the only error. The store may be used again for another tile, also after an error.
+/// Tile `k` of the picture, drawn from its bin in a store for the tile's samples. Each triangle of the bin is drawn, in draw order,
+/// at the samples that it meets. At the end each pixel has the colour of its samples (multisample resolve), or the depth of its
+/// sample 0. Only the result is allocated. Fails only if an allocation fails. The store may be used again for another tile, also
+/// after an error.
 pub fn render(
     alloc: Global,
     list: &DrawList,

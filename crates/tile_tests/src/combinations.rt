@@ -9,7 +9,7 @@ use std::alloc::Global;
 use std::process::Abort;
 use std::test::Fail;
 
-/// The size of the pictures in pixels, which is no whole number of tiles.
+/// The size of the pictures in pixels, which is no multiple of a tile size.
 const SIZE: (u32, u32) = (12, 11);
 
 /// A scissor that holds the whole picture, one that cuts through blocks, one along blocks, and one that is empty.
@@ -70,7 +70,7 @@ fn combined(combination: u32) -> State {
 }
 
 impl Numbers {
-    /// A draw of a triangle that covers whole blocks and of two others; where it is flat, all vertices have one depth and colour.
+    /// A draw of a triangle that covers whole blocks and of two others; if it is flat, all vertices have one depth and colour.
     fn over_blocks(
         &mut self,
         rt: &impl Abort,

@@ -37,7 +37,7 @@ const PLAIN: State = State {
     },
 };
 
-/// Where a byte of a pixel stands in the picture's bytes, where a pixel has so many.
+/// The index of a byte of a pixel in the picture's bytes, if a pixel has `pixel_bytes`.
 fn place(width: u32, pixel_bytes: u32, x: i32, y: i32, byte: u32) -> Option<usize> {
     let pixel = i64::from(y)
         .wrapping_mul(i64::from(width))
@@ -64,7 +64,7 @@ fn is_part(tile: &TilePixels, width: u32, pixel_bytes: u32, picture: &[u8]) -> b
     bytes.next().is_none()
 }
 
-/// Whether the tiles of this side, each drawn in the same store, are the parts of the picture.
+/// Whether the tiles of this size, each drawn in the same store, are the parts of the picture.
 pub(crate) fn are_parts(
     alloc: Global,
     list: &DrawList,
@@ -290,7 +290,7 @@ impl Numbers {
     }
 }
 
-/// Draws so many lists tile by tile, and each sample by itself.
+/// Draws twenty generated lists tile by tile, and each sample by itself.
 fn compare(
     rt: &impl Abort,
     alloc: Global,

@@ -93,7 +93,7 @@ column_added l g y column old bytes run all h same added more e =
       behind = e ∙ (ap (λ b. b ++ run) added.behind ∙ append_assoc old added.run run);
     }
 
--- The new bytes are the old ones, and behind them the first pixels of the picture's rows from this one on, so many of them.
+-- The new bytes are the old ones, and behind them the first n pixels of the picture's rows from row y on.
 pub record AddsPixelPrefix (l : Scene) (y n : ℕ) (old new : List ℕ) : Type 0 where
   pub rows : List ℕ
   pub is : IsPixelPrefix l 0 y l.width n rows

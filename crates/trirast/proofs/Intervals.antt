@@ -1,4 +1,4 @@
--- A row of tiles, or a column of them, as an interval of rows or columns of pixels.
+-- A row or a column of tiles, as an interval of rows or columns of pixels.
 use Rattle.std.proofs.Common.{◌≡◌, ℕ, ◌+◌, ◌-◌, ◌*◌, ◌<◌, ◌≤◌, min, arith}
 use Rattle.std.proofs.Math.Nat.{mul-le-mul_left}
 use Rattle.grid.specs.Pixels.{side_of}

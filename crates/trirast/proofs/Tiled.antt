@@ -1,4 +1,4 @@
--- Tiles that are counted row by row from a first row of tiles on.
+-- Tiles that are counted row by row from a first tile row on.
 use Rattle.std.proofs.Common.{◌≡◌, refl, sym, ap, subst, ◌∙◌, ℕ, ◌+◌, ◌-◌, ◌*◌, ◌/◌, ◌%◌, ◌<◌, ◌≤◌, zero, suc, List, [], ◌∷◌, ◌++◌, length, take, drop, slice_get, Some, Result, IfOk, zero-add, arith}
 use Rattle.std.proofs.lemmas.List.{length_push, length-take, length-drop}
 use Rattle.std.proofs.lemmas.Option.{none-some, same_Some, slice_get_within}
@@ -12,7 +12,7 @@ use Rattle.trirast.specs.TileRow.{AreColumns, IsColumn}
 use Rattle.trirast.specs.TileRows.{AreTiles, IsTileIn}
 use Rattle.trirast.proofs.Columns.{column_of_answer, tile_of_column}
 
--- the tile of this number among those from a row of tiles on, by its row and its column
+-- the tile of this number among those from a tile row on, by its row and its column
 place : (first n c : ℕ) → first * c + n ≡ (first + n / c) * c + n % c
 place first n c = omega (arith, div-add-mod' n c)
 
@@ -34,7 +34,7 @@ each_pushed P [] x each last (suc k) y e = absurd (none-some y e)
 each_pushed P (z ∷ zs) x each last zero y e = each zero y e
 each_pushed P (z ∷ zs) x each last (suc k) y e = each_pushed (λ n. P (suc n)) zs x (λ n. each (suc n)) last k y e
 
--- The first tiles from a row of tiles on, so many of them.
+-- The first `many` tiles from a tile row on.
 pub record AreFirst (l : Scene) (g : TileGrid) (first many : ℕ) (tiles : List TilePixels) : Type 0 where
   pub number : length tiles ≡ many
   pub each : (n : ℕ) (pixels : TilePixels) → slice_get tiles n ≡ Some pixels → IsTileIn l g first n pixels
@@ -71,7 +71,7 @@ get_dropped zero i xs = ap (slice_get xs) (sym (zero-add i))
 get_dropped (suc n) i [] = refl
 get_dropped (suc n) i (y ∷ ys) = let next : suc (n + i) ≡ suc n + i = omega arith in get_dropped n i ys ∙ ap (slice_get (y ∷ ys)) next
 
--- a tile of some rows of tiles is one of the picture
+-- a tile of some tile rows is one of the picture
 pub tile_within : (g : TileGrid) (first end n : ℕ) → first ≤ end → end ≤ rows_of g → n < (end - first) * columns_of g → first * columns_of g + n < columns_of g * rows_of g
 tile_within g first end n ordered within h =
     let all : first + (end - first) ≡ end = omega arith in
@@ -79,7 +79,7 @@ tile_within g first end n ordered within h =
     let more : columns_of g * end ≤ columns_of g * rows_of g = mul-le-mul_left (columns_of g) within in
     omega arith
 
--- of the tiles those of one row of tiles
+-- of the tiles those of one tile row
 module _ (l : Scene) (g : TileGrid) (first end row : ℕ) (tiles : List TilePixels) (are : AreTiles l g first end tiles) (from : first ≤ row) (below : row < end) where
   abbrev columns : ℕ
   columns = columns_of g

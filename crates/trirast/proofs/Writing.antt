@@ -144,7 +144,7 @@ module _ (l : Scene) (side : TileSide) where
     explains_behind end (OutOfMemory row) held'' k = (omega (arith, k.0), k.1, (k.2.0, then_written row k.2.0 held'' k.0 k.2.1))
     explains_behind end (WriteFailed count') held'' k = more_cut k.end count' k.rows held'' k.ordered k.are k.within k.written
 
--- the error of an answer of another type
+-- the error of a result of another type
 pub err_of : {T T' E : Type 0} (e x : E) → IsErrOf {T = T} {E = E} (Err e) x → IsErrOf {T = T'} {E = E} (Err e) x
 err_of e x h = ap Err (same_Some e x (ap result_err h))
 

@@ -46,7 +46,7 @@ header_cut l output width height n held held_after d e f wide short written =
       written = subst (Appends held held_after) (ap (take n) header ∙ sym front) written;
     }
 
--- The header and the tile rows before this one went out, in so many bytes.
+-- The header and the tile rows before this one were written, `count` bytes together.
 pub record HasWritten (l : Scene) (side : TileSide) (row count : ℕ) (held held_after : Option (List ℕ)) : Type 0 where
   pub rows : List ℕ
   pub part : IsPart l 0 0 l.width (min l.height (side_of side * row)) rows
@@ -78,7 +78,7 @@ module _ (l : Scene) (side : TileSide) (first count : ℕ) (held held' : Option 
   below_top : side_of side * first < l.height
   below_top = begins_within first l.height side within
 
-  -- no tile row more went out
+  -- no tile row more was written
   pub whole_tile_rows : WritesTileRows l side first held held'
   whole_tile_rows =
       let part : IsPart l 0 0 l.width (side_of side * first) h.rows = rw top at h.part in
@@ -108,7 +108,7 @@ module _ (l : Scene) (side : TileSide) (first count : ℕ) (held held' : Option 
         let sum : min l.height (side_of side * first) + high ≡ min l.height (side_of side * end) = omega arith in
         subst (λ n. IsPart l 0 0 l.width n (h.rows ++ bytes)) sum both
 
-    -- the tile rows went out whole
+    -- the tile rows were written whole
     pub tile_rows_written : (count' : ℕ) (held'' : Option (List ℕ)) → count' ≡ count + length bytes → Appends held' held'' bytes → HasWritten l side end count' held held''
     tile_rows_written count' held'' more written =
         let many = h.many in record {
@@ -137,7 +137,7 @@ module _ (l : Scene) (side : TileSide) (first count : ℕ) (held held' : Option 
           written = subst (Appends held held'') (sym (ap (take n) file ∙ front)) went;
         }
 
--- all tile rows went out
+-- all tile rows were written
 pub all_written : (l : Scene) (side : TileSide) (row count : ℕ) (held held' : Option (List ℕ)) → tiles_over l.height side ≤ row → HasWritten l side row count held held' → WritesAll l count held held'
 all_written l side row count held held' past h =
     let all = intervals_all row l.height side past in

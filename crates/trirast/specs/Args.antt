@@ -36,7 +36,7 @@ line_fault kind.OutOfMemory = fault.OutOfMemory
 line_fault kind.DisplayHelp = fault.Help
 line_fault _ = fault.Refused
 
--- clap answers the arguments with its help
+-- clap returns its help for the arguments
 abbrev pub AsksForHelp : List Text → Type 0
 AsksForHelp arguments = IsAmong kind.DisplayHelp (fault_of trirast_app arguments)
 

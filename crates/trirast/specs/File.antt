@@ -10,7 +10,7 @@ use Rattle.model.specs.Picture.{IsPicture}
 abbrev pub ppm_header : ℕ → ℕ → List ℕ
 ppm_header width height = codes "P6\n" ++ decimal width ++ codes " " ++ decimal height ++ codes "\n255\n"
 
--- The header of a picture of depths. As its greatest value is over 255, a pixel has two bytes, the more significant one first.
+-- The header of a picture of depths. As its greatest value is above 255, a pixel has two bytes, the more significant one first.
 abbrev pub pgm_header : ℕ → ℕ → List ℕ
 pgm_header width height = codes "P5\n" ++ decimal width ++ codes " " ++ decimal height ++ codes "\n65535\n"
 

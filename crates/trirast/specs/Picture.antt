@@ -26,14 +26,14 @@ pub record CutsRows (l : Scene) (side : TileSide) (first before count : ℕ) (he
   pub within : (before ≤ count) × (count ≤ before + length rows)
   pub written : Appends held held_after (take (count - before) rows)
 
--- What was written of tile rows from `first` to before `end`, where this fault came.
+-- What was written of tile rows from `first` to before `end` before this fault.
 abbrev pub ExplainsRows : Scene → TileSide → ℕ → ℕ → ℕ → PictureFault → Option (List ℕ) → Option (List ℕ) → Type 0
 ExplainsRows l side first end before NotBegun held held_after = ⊥
 ExplainsRows l side first end before (OutOfMemory row) held held_after = (first ≤ row) × (row < end) × ((count : ℕ) × WritesRows l side first row before count held held_after)
 ExplainsRows l side first end before (WriteFailed count) held held_after = CutsRows l side first before count held held_after
 
--- What was written of a list's picture file, where this fault came: after want of memory for a tile row exactly the header and the
--- tile rows before it.
+-- What was written of a list's picture file before this fault: if memory ran out for a tile row, exactly the header and the tile
+-- rows before it.
 abbrev pub ExplainsPicture : Scene → TileSide → PictureFault → Option (List ℕ) → Option (List ℕ) → Type 0
 ExplainsPicture l side NotBegun held held_after = Keeps held held_after
 ExplainsPicture l side (OutOfMemory row) held held_after = WritesTileRows l side row held held_after

@@ -17,8 +17,8 @@ pub record WritesLine (line : List ℕ) (held held_after : Option (List ℕ)) : 
   pub count : ℕ
   pub written : Appends held held_after (take count line)
 
--- There is a fault, of a run with some tile side, that explains what the input gave and what was written. It is a failed input
--- exactly where a read failed, and a failed output exactly where a write did.
+-- There is a fault, of a run with some tile size, that explains what the input gave and what was written. It is a failed input if
+-- and only if a read failed, and a failed output if and only if a write did.
 pub record EndsByFault (left left_after held held_after : Option (List ℕ)) (ReadHasFailed WriteHasFailed : Type 0) : Type 0 where
   pub side : TileSide
   pub fault : Fault

@@ -14,7 +14,7 @@ use Rattle.model.specs.Json.{json_of}
 use Rattle.model.specs.FirstFault.{IsFirstFault}
 use Rattle.trirast.specs.File.{header_of, IsPictureFile}
 
--- a reader that had `left` gave these bytes, and then was at its end
+-- a reader with the bytes `left` gave these bytes, and then was at its end
 pub record GivesAll (left left_after : Option (List ℕ)) (bytes : List ℕ) : Type 0 where
   pub given : Consumes left left_after bytes
   pub ended : IsAtEnd left_after
@@ -38,14 +38,14 @@ pub record WritesFileUpTo (list : Scene) (count : ℕ) (held held_after : Option
   pub within : count ≤ length file
   pub written : Appends held held_after (take count file)
 
--- What was written is that file, which has so many bytes.
+-- What was written is that file, which has `count` bytes.
 pub record WritesAll (list : Scene) (count : ℕ) (held held_after : Option (List ℕ)) : Type 0 where
   pub file : List ℕ
   pub picture : IsPictureFile list file
   pub many : count ≡ length file
   pub written : Appends held held_after file
 
--- How many bytes of the file come before the tile row of this number, where each tile row has so many rows of pixels.
+-- How many bytes of the file come before the tile row of this number, with tiles of this size.
 abbrev pub bytes_before : Scene → TileSide → ℕ → ℕ
 bytes_before list side row = length (header_of list.output list.width list.height) + pixel_bytes list.output * (side_of side * row * list.width)
 
@@ -87,14 +87,14 @@ pub record HasFault (left left_after : Option (List ℕ)) (fault : ReadFault) : 
   pub input : GivesAll left left_after bytes
   pub first : IsFirstFault (all_checks (json_of bytes)) fault
 
--- As many bytes came.
+-- The input gave exactly `count` bytes.
 pub record Gives (left left_after : Option (List ℕ)) (count : ℕ) : Type 0 where
   pub bytes : List ℕ
   pub given : Consumes left left_after bytes
   pub many : length bytes ≡ count
 
--- What each fault says of the input's and the output's bytes, where the tiles have this side. A run never ends in a fault of the
--- pool: what a worker was refused is drawn by the calling thread.
+-- What each fault says of the input's and the output's bytes, with tiles of this size. A run never ends in a fault of the pool:
+-- what workers could not draw is drawn by the calling thread.
 abbrev pub Explains : TileSide → Fault → Option (List ℕ) → Option (List ℕ) → Option (List ℕ) → Option (List ℕ) → Type 0
 Explains side (BadList fault) left left_after held held_after = HasFault left left_after fault × Keeps held held_after
 Explains side (Pool fault) left left_after held held_after = ⊥
@@ -103,8 +103,8 @@ Explains side InputTooLong left left_after held held_after = Gives left left_aft
 Explains side (WriteFailed count) left left_after held held_after = WritesBeginning left left_after held held_after count
 Explains side OutOfMemory left left_after held held_after = Keeps held held_after ⊎ WritesWholeTileRows side left left_after held held_after
 
--- How a run ends: the picture's file was written, or the fault explains what was. It is a failed input exactly where a read failed,
--- and a failed output exactly where a write did.
+-- How a run ends: the picture's file was written, or the fault explains what was. It is a failed input if and only if a read
+-- failed, and a failed output if and only if a write did.
 pub record EndsAs {Done : Type 0} (side : TileSide) (result : Result Done Fault) (left left_after held held_after : Option (List ℕ)) (ReadHasFailed WriteHasFailed : Type 0) : Type 0 where
   pub picture : OnOk result (WritesPicture left left_after held held_after)
   pub fault : IfErr result (λ e. Explains side e left left_after held held_after)

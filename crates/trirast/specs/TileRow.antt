@@ -1,4 +1,4 @@
--- One row of tiles, and the rows of pixels in it.
+-- One tile row, and the rows of pixels in it.
 use Rattle.std.specs.Prelude.{◌≡◌, ℕ, ◌+◌, ◌-◌, ◌*◌, List, ◌++◌, length, min, slice_get, Some}
 use Rattle.grid.specs.Pixels.{side_of}
 use Rattle.grid.specs.declared.pixels.TileSide.{TileSide}
@@ -42,7 +42,7 @@ pub record AddsTileRow (l : Scene) (g : TileGrid) (row : ℕ) (old new : List �
   pub is : IsTileRow l g row bytes
   pub behind : new ≡ old ++ bytes
 
--- The bytes of the rows of pixels in the rows of tiles of this side from `first` to before `end`.
+-- The bytes of the rows of pixels in the tile rows from `first` to before `end`, with tiles of this size.
 abbrev pub AreTileRows : Scene → TileSide → ℕ → ℕ → List ℕ → Type 0
 AreTileRows l side first end bytes = IsPart l 0 (side_of side * first) l.width (min l.height (side_of side * end) - side_of side * first) bytes
 

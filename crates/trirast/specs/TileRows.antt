@@ -8,7 +8,7 @@ use Rattle.trirast.specs.TileRow.{AreTileRows, IsColumn}
 use Rattle.trirast.specs.declared.tile_rows.Beside.{Beside}
 use Rattle.trirast.specs.declared.tile_rows.TileRows.{TileRows}
 
--- The pixels of the tile of this number, where the tiles are counted row by row from a first tile row on.
+-- The pixels of the tile of this number, if the tiles are counted row by row from a first tile row on.
 abbrev pub IsTileIn : Scene → TileGrid → ℕ → ℕ → TilePixels → Type 0
 IsTileIn l g first n pixels = IsColumn l g (first + n / columns_of g) (n % columns_of g) pixels
 
@@ -33,8 +33,8 @@ AreBinsOf rows bins = AreBins rows.list.now rows.tiling.now rows.first (rows.end
 abbrev pub AreBytesOf : TileRows → List ℕ → Type 0
 AreBytesOf rows bytes = AreTileRows rows.list.now rows.tiling.now.side rows.first rows.end bytes
 
--- What the calling thread makes while these tile rows are drawn: the bytes of those above, from `above` on, whose memory can be
--- refused only if there are some, and the bins of those below, to before `below`.
+-- What the calling thread makes while these tile rows are drawn: the bytes of those above, from `above` on, whose allocation can
+-- fail only if there are some, and the bins of those below, to before `below`.
 pub record IsBeside (rows : TileRows) (above below : ℕ) (beside : Beside) : Type 0 where
   pub joined : IfOk beside.joined (λ bytes. AreTileRows rows.list.now rows.tiling.now.side above rows.first bytes.items)
   pub refused : IfErr beside.joined (λ _. above < rows.first)

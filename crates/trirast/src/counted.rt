@@ -8,7 +8,7 @@ use std::io;
 use std::io::{Read, Write};
 use std::marker::Model;
 
-/// A device and how many of its calls failed.
+/// A reader or a writer, and how many of its calls failed.
 #[derive(Drop)]
 pub struct Counted<T> {
     inner: T,
@@ -46,7 +46,7 @@ impl<T> Counted<T> {
 }
 
 impl<R: Read> Counted<R> {
-    /// Reads from the device. A failure is an error of the device.
+    /// Reads from the reader. A failure is an error of the reader.
     pub fn read(&mut self, buffer: &mut [u8]) -> io::Result<usize>
         requires { self.old.failures < u64.MAX }
         ensures bound { ReadsAtMost result buffer.new }
@@ -62,7 +62,7 @@ impl<R: Read> Counted<R> {
 }
 
 impl<W: Write> Counted<W> {
-    /// Writes to the device. A failure is an error of the device, or that it takes none of at least one byte.
+    /// Writes to the writer. A failure is an error of the writer, or that it takes none of at least one byte.
     pub fn write(&mut self, bytes: &[u8]) -> io::Result<usize>
         requires { self.old.failures < u64.MAX }
         ensures bound { WritesAtMost result bytes.now }
@@ -78,7 +78,7 @@ impl<W: Write> Counted<W> {
         result
     }
 
-    /// Flushes the device. A failure is an error of the device.
+    /// Flushes the writer. A failure is an error of the writer.
     pub fn flush(&mut self) -> io::Result<()>
         requires { self.old.failures < u64.MAX }
         ensures bytes { Keeps (W.contents self.old.inner) (W.contents self.new.inner) }

@@ -46,7 +46,7 @@ pub fn run_with<Rt: Threads + Wait + Sync, R: Read, W: Write, G: Gate>(
 {
     let bytes = read_input(alloc, input)?;
     let list = read_list(alloc, bytes.as_slice())?;
-    // Nothing needs the text any more, so its memory is given back before drawing begins.
+    // Nothing needs the JSON text any more, so its memory is freed before drawing begins.
     drop(bytes);
     Ok(write_picture(rt, alloc, &list, options, gate, output)?)
 }

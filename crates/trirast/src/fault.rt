@@ -10,7 +10,7 @@ use std::alloc::AllocError;
 use std::fmt;
 use thiserror::Error;
 
-/// Why a run gave no whole picture. Its text is the line that the program writes of it, without the end of the line.
+/// Why a run gave no whole picture. `Display` writes the line that the program writes for it, without the end of the line.
 #[derive(Clone, Copy, Debug, PartialEq, Eq, Error)]
 pub enum Fault {
     /// The input denotes no draw list. Nothing was written.
@@ -33,7 +33,7 @@ pub enum Fault {
     OutOfMemory,
 }
 
-/// Where in a list a fault is, behind its name: nothing, or the number of the draw.
+/// The draw that a fault of a list is in, written behind the fault's name: nothing, or the number of the draw.
 #[derive(Drop)]
 struct InDraw(Option<u32>);
 

@@ -28,7 +28,7 @@ fn push_decimal(number: u32, text: &mut ArrayVec<u8, HEADER_BYTES>)
     }
 }
 
-/// Appends a text.
+/// Appends a string.
 fn push_text(more: &[u8], text: &mut ArrayVec<u8, HEADER_BYTES>)
     requires { array_vec_len text.old + length more.now ≤ 19 }
     ensures items { text.new.items ≡ text.old.items ++ more.now }
@@ -74,7 +74,7 @@ pub fn file_header(list: &DrawList) -> ArrayVec<u8, HEADER_BYTES>
     picture_header(list.output(), list.width(), list.height())
 }
 
-/// Writes the header of a picture that shows colours or depths, and answers its length.
+/// Writes the header of a picture that shows colours or depths, and returns its length.
 pub(crate) fn write_header<W: Write>(
     output: Output,
     width: u32,
@@ -91,7 +91,7 @@ pub(crate) fn write_header<W: Write>(
     out.write_all(header.as_slice(), 0)
 }
 
-/// Writes the header of a picture of colours (binary PPM: Netpbm, ppm(5)), and answers its length.
+/// Writes the header of a picture of colours (binary PPM: Netpbm, ppm(5)), and returns its length.
 pub fn ppm_header<W: Write>(
     width: u32,
     height: u32,
@@ -106,7 +106,7 @@ pub fn ppm_header<W: Write>(
     write_header(Output::Color, width, height, out)
 }
 
-/// Writes the header of a picture of depths (binary PGM: Netpbm, pgm(5)), and answers its length.
+/// Writes the header of a picture of depths (binary PGM: Netpbm, pgm(5)), and returns its length.
 pub fn pgm_header<W: Write>(
     width: u32,
     height: u32,

@@ -23,9 +23,9 @@ use std::thread::Threads;
 /// Why a picture's file was not written whole.
 #[derive(Clone, Copy, Debug, PartialEq, Eq)]
 pub enum PictureFault {
-    /// Memory for the bytes of tile rows was refused. Nothing was written.
+    /// The bytes of tile rows could not be allocated. Nothing was written.
     NotBegun,
-    /// Memory was refused for the tile row of this number, counted from the top. The header and all tile rows before it were
+    /// An allocation failed for the tile row of this number, counted from the top. The header and all tile rows before it were
     /// written, each whole, and nothing else.
     OutOfMemory(u32),
     /// The writer failed after this many bytes of the file.
@@ -51,8 +51,8 @@ impl From<PictureFault> for Fault {
     }
 }
 
-/// Draws tile rows on the calling thread, in one store, and writes each of them before the next one is drawn. `before` bytes of
-/// the file were written earlier, and the answer is how many are written then. The bytes that are given are used for each row.
+/// Draws tile rows on the calling thread, in one store, and writes each of them before the next one is drawn. `before` bytes of the
+/// file were written earlier; returns how many are written after the call. The bytes that are given are used for each row.
 fn write_alone<W: Write, G: Gate>(
     alloc: Global,
     rows: TileRows,
@@ -87,8 +87,8 @@ fn write_alone<W: Write, G: Gate>(
 }
 
 /// Draws tile rows by several workers, a batch of them at a time, and writes them. While a batch is drawn, the calling thread puts
-/// the one above together, which is written then, and makes the bins of the one below. A batch for which memory or a worker was
-/// refused is drawn by the calling thread.
+/// the one above together, which is written then, and makes the bins of the one below. A batch for which an allocation fails or a
+/// worker is not started is drawn by the calling thread.
 fn write_together<R: Threads + Wait + Sync, W: Write, G: Gate>(
     rt: &R,
     alloc: Global,
@@ -152,7 +152,7 @@ fn write_together<R: Threads + Wait + Sync, W: Write, G: Gate>(
     Ok(ppm_rows(&last, written, output)?)
 }
 
-/// Writes the header and all tile rows, and answers how many bytes they are.
+/// Writes the header and all tile rows, and returns how many bytes they are.
 fn write_rows<R: Threads + Wait + Sync, W: Write, G: Gate>(
     rt: &R,
     alloc: Global,
@@ -181,7 +181,7 @@ fn write_rows<R: Threads + Wait + Sync, W: Write, G: Gate>(
     };
     let header = write_header(list.output(), list.width(), list.height(), output)?;
     let rows = TileRows::new(list, &tiling, 0, tiling.rows());
-    // Nobody would work beside one worker, or beside the one that draws a batch of one tile.
+    // With one worker, or with a batch of one tile, nothing would be drawn concurrently.
     if options.workers == 1 || tiling.columns() * together == 1 {
         let (written, _bytes) = write_alone(alloc, rows, gate, bytes, header, output)?;
         Ok(written)

@@ -1,4 +1,4 @@
-//! One row of tiles, put together of its tiles.
+//! One tile row, put together of its tiles.
 ghost use Rattle.std.specs.Prelude.{◌≡◌, ◌+◌, ◌<◌, OnOk};
 ghost use Rattle.bins.specs.Grid.{columns_of, rows_of};
 ghost use Rattle.trirast.specs.TileRow.{AreColumns};

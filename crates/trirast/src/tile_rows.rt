@@ -29,7 +29,7 @@ pub(crate) fn rows_together(tiling: &Tiling) -> u32
     (MAX_PIXELS / row).clamp(1, most)
 }
 
-/// The tile rows of a picture from `first` to before `end`, counted from the top; none where the two are equal.
+/// The tile rows of a picture from `first` to before `end`, counted from the top; none if the two are equal.
 #[derive(Clone, Copy)]
 pub(crate) struct TileRows<'a> {
     list: &'a DrawList,
@@ -83,7 +83,7 @@ impl<G: Gate> Job for TileJob<'_, G> {
 pub(crate) struct Beside {
     /// The bytes of the tile rows above.
     pub(crate) joined: Result<Vec<u8>, OutOfMemory>,
-    /// The bins of the tile rows below, if there are some and memory was not refused.
+    /// The bins of the tile rows below, if there are some and no allocation failed.
     pub(crate) bins: Option<Bins>,
 }
 
@@ -200,9 +200,9 @@ impl<'a> TileRows<'a> {
         Ok(bytes)
     }
 
-    /// What the calling thread does while workers draw these tile rows. It puts the tiles of those above, from `above` on, together in
-    /// place of the bytes that are given, and makes the bins of those below, to before `below`. If memory for these bins is refused,
-    /// they are made when their turn comes.
+    /// What the calling thread does while workers draw these tile rows. It puts the tiles of those above, from `above` on, together
+    /// in place of the bytes that are given, and makes the bins of those below, to before `below`. If these bins cannot be
+    /// allocated, they are made when their turn comes.
     fn beside(
         &self,
         alloc: Global,
@@ -227,7 +227,8 @@ impl<'a> TileRows<'a> {
     }
 
     /// Has the tiles drawn by this many workers, or by one for each tile if there are fewer tiles. Their bins are made if they are
-    /// not given. Meanwhile, and also if memory or a worker is refused, the calling thread sees to the tile rows above and below.
+    /// not given. Meanwhile, and also if an allocation fails or a worker is not started, the calling thread does the work of
+    /// `beside`.
     pub(crate) fn draw<R: Threads + Wait + Sync, G: Gate>(
         &self,
         rt: &R,

@@ -47,7 +47,7 @@ pub(crate) fn list_of_arrays(
     }
 }
 
-/// The side of a tile with this many pixels along one edge.
+/// Returns the tile size of this many pixels. Fails with `TileSize` if there is none.
 pub(crate) fn side_of(tile_size: u32) -> Result<TileSide, CallError>
     ensures side { IfOk result (λ side. pixels_of side ≡ tile_size) }
     ensures none { IfErr result (λ e. (e ≡ call.TileSize) × ¬ IsTileSize tile_size) }

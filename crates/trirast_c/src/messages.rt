@@ -66,7 +66,7 @@ fn line_of(error: CallError) -> FaultLine {
     }
 }
 
-/// A line of this text, which is shorter than 96 bytes.
+/// A line of this string, which is shorter than 96 bytes.
 fn line(text: &str) -> FaultLine {
     let mut line = FaultLine::new();
     let _ = line.try_push_str(text);

@@ -88,7 +88,7 @@ const UNSET: LibraryError = LibraryError {
     draw: 77,
 };
 
-/// The error of which this status says all, or none with status 0.
+/// The error that this status describes completely; no error with status 0.
 fn alone(status: u32) -> LibraryError {
     LibraryError {
         status,
@@ -290,7 +290,8 @@ fn drawn_scene(alloc: Global, head: &PictureHead, batch: &Batch<'_>) -> (u32, Li
     (status, error)
 }
 
-/// Whether the call refuses these sizes by the status 7, also with a tile size that there is not, and leaves the buffer.
+/// Whether the call refuses these sizes by the status 7, also with a tile size that does not exist, and leaves the buffer
+/// unchanged.
 fn refuses_sizes(alloc: Global, head: &PictureHead, batch: &Batch<'_>) -> bool {
     let mut buffer = [7; 40];
     let mut error = UNSET;

@@ -1,4 +1,4 @@
-//! Rows of tiles of a list's picture, as bytes in the caller's buffer.
+//! Tile rows of a list's picture, as bytes in the caller's buffer.
 ghost use Rattle.std.specs.Prelude.{◌≡◌, ◌≢◌, ◌<◌, ◌≤◌, ℕ, List, length, OnOk, OnErr, IfErr};
 ghost use Rattle.model.specs.Denotes.{Denotes};
 ghost use Rattle.bins.specs.Grid.{tiles_over};

@@ -90,7 +90,7 @@ impl Desks {
 }
 
 impl DeskSeat {
-    /// A seat that was given nothing, with room for `n` numbers.
+    /// A seat that was given nothing, with capacity for `n` numbers.
     fn new(
         alloc: Global,
         number: u32,

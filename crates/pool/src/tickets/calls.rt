@@ -15,7 +15,7 @@ use grid::OutOfMemory;
 use std::alloc::Global;
 
 impl TicketSeat {
-    /// A seat that was given nothing, with room for `n` numbers.
+    /// A seat that was given nothing, with capacity for `n` numbers.
     fn new(
         alloc: Global,
         number: u32,

@@ -4,7 +4,7 @@ use Rattle.std.specs.Vec.Iter.{into_iter_items, into_iter_len}
 use Rattle.pool.specs.Work.{EachFrom, IsPromised}
 use Rattle.pool.proofs.workers.start_all.Given as goal
 
--- the seats that are left bear the next numbers, and there is room for their workers
+-- the seats that are left bear the next numbers, and there is capacity for their workers
 abbrev pub invariant-loop-seat : goal.invariant-loop-seat
 invariant-loop-seat g l =
     EachFrom (IsPromised l.dealer l.job) 0 l.workers.items

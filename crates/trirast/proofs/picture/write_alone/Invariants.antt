@@ -2,7 +2,7 @@ use Rattle.std.proofs.Common.{◌≡◌}
 use Rattle.trirast.specs.Picture.{WritesRows}
 use Rattle.trirast.proofs.picture.write_alone.Given as goal
 
--- the tile rows so far are written, and the store is as it was
+-- the tile rows so far are written, and the store is unchanged
 abbrev pub invariant-loop-row : goal.invariant-loop-row
 invariant-loop-row g l = record {
   rows : WritesRows l.rows.list.now l.rows.tiling.now.side l.rows.first l.row l.before l.written (g.W.Write.contents l.fn.output.inner) (g.W.Write.contents l.output.inner);

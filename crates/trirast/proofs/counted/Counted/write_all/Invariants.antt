@@ -2,7 +2,7 @@ use Rattle.std.proofs.Common.{length, ◌-◌, ◌≡◌, ◌≤◌, take}
 use Rattle.std.specs.Io.KnownBytes.{Appends}
 use Rattle.trirast.proofs.counted.Counted.write_all.Given as goal
 
--- what went out is the beginning of the bytes up to `sent`
+-- what was written is the beginning of the bytes up to `sent`
 abbrev pub invariant-loop-sent : goal.invariant-loop-sent
 invariant-loop-sent g l = record {
   within : l.sent ≤ length l.bytes;

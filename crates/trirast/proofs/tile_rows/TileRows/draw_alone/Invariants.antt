@@ -2,7 +2,7 @@ use Rattle.std.proofs.Common.{◌≡◌, ◌≤◌, vec_len, vec_capacity}
 use Rattle.trirast.proofs.Tiled.{AreFirst}
 use Rattle.trirast.proofs.tile_rows.TileRows.draw_alone.Given as goal
 
--- the tiles so far, room for all, and the store as it was
+-- the tiles so far, capacity for all, and the store unchanged
 abbrev pub invariant-loop-n : goal.invariant-loop-n
 invariant-loop-n g l = record {
   tiles : AreFirst l.fn.self.list.now l.fn.self.tiling.now l.fn.self.first l.n l.tiles.items;
