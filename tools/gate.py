@@ -66,9 +66,9 @@ CHECKS = (
     Check("mutants of the rules", module("mutants"), 20 * MINUTE),
     Check("the comparison with drivers", module("test_conformance", "conformance"), 15 * MINUTE, runs_program=False),
     Check("mistakes after failed allocations", module("test_injection"), 5 * MINUTE, runs_program=False),
-    Check("allocation failures", module("allocation_failures"), 10 * MINUTE),
+    Check("allocation failures", module("allocation_failures"), 20 * MINUTE),
     Check("fault injection", module("fault_injection"), 20 * MINUTE),
-    Check("the library", module("check_library"), 10 * MINUTE, runs_library=True, needs=("cc", "gcc")),
+    Check("the library", module("check_library"), 30 * MINUTE, runs_library=True, needs=("cc", "gcc")),
 )
 
 
