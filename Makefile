@@ -1,14 +1,27 @@
 # The front door. rt proves and builds; this file says where things lie.
 #
-#   make           prove what the program needs, and leave it at bin/trirast; a line for each crate, the rest in out/trirast_cli.log
+#   make           prove what the program needs, and leave it at bin/trirast; a line for each crate, the rest in out/trirast_cli.log;
+#                  with ARCH=aarch64 for ARM64 too, at bin/aarch64/trirast, by a cross compiler
+#                  with CPU=x86-64-v3 for processors of that level, at bin/x86-64-v3/trirast
+#   make why       prove what trirast_why needs, and leave it at bin/trirast_why
 #   make look      draw examples/mesh.json to out/look.ppm within two minutes, by a program that is not proved
 #   make demo      draw every list of examples/ to out/*.pnm, and to out/*.png where pnmtopng is installed
 #   make test      the merge gate: every proof from nothing, the must-fail edits, all tests, and the checks of make checks
-#   make library   prove and build the core for other programs: lib/libtrirast.a, lib/libtrirast.so and lib/trirast.pc
-#   make check-library      run the library, its header, the Python package and their examples against the program
-#   make install   program, manual page, header, libraries, pkg-config file and schema below PREFIX (an absolute path,
+#   make library   prove and build the core for other programs: lib/libtrirast.a, lib/libtrirast.so and lib/trirast.pc, and for
+#                  the loader a second lib/x86-64-v3/libtrirast.so.1; with ARCH=aarch64 for ARM64 in lib/aarch64/, by a cross compiler
+#   make check-library      run the library, its header, the packages in Python and Rust and the examples against the program
+#   make check-poster       draw posters by threads and by Dask, stop and resume them, and look at their tiles in Chromium
+#   make install   program, manual page, header, libraries, pkg-config and CMake files and schema below PREFIX (an absolute path,
 #                  /usr/local if not given), behind DESTDIR where that is given; make uninstall takes them away
+#   make web       the coverage explorer for browsers, in web/out, as python3 -m http.server -d web/out serves it
+#   make check-web          drag the vertices of that page in Chromium, and compare each sample with the program
+#   make deb       the Debian packages of program, library and header, in dist/
+#   make wheel     the Python packages with the library inside, for x86-64 and, where its compiler is there, ARM64, in dist/
+#   make release   all packages and the sources, with SHA-256 checksums, in dist/
+#   make check-packages     install each package in a clean folder, and use it there
 #   make compare   draw generated lists, and compare each byte with the reference renderer
+#   make compare-history    compare the histories that bin/trirast_why prints with the reference's, and their ends with the pictures
+#   make compare-canvas    draw generated lists on canvases, split into batches, and compare them with program and reference
 #   make check-compare      test that comparison: what its lists cover, and mutants of the reference's rules
 #   make golden    compare the pictures of examples/ and tests/regressions/ with their checksums and the reference renderer
 #   make schema    try the JSON Schema of the draw list
@@ -16,43 +29,73 @@
 #   make fault-injection      run the program where devices, threads and lists fail; also make hostile
 #   make types     check the types of the Python sources, by mypy
 #   make checks    the gate's checks without its proofs: compare, check-compare, golden, schema, check-conformance,
-#                  allocation-failures, fault-injection, types where there is mypy, check-library where there is a C
-#                  compiler, and the tests of the gate's counts, of the documents, of docs/statement.md and of the must-fail edits
+#                  allocation-failures, fault-injection, types where there is mypy, compare-canvas, check-library, check-packages
+#                  and check-web where there is a C compiler, and the tests of the gate's counts, of the documents, of docs/statement.md and of the must-fail edits
 #   make races     run the program under valgrind; no part of the gate
 #   make bench     time the program on generated scenes
 #   make frames    build the program that times frames by themselves, for python3 -m bench.llvmpipe
 #   make model     build the same rules in C++ to time beside, for python3 -m bench.llvmpipe: g++ 12 or clang++ 14, or later, on x86-64
-#   make conformance        compare the machine's OpenGL driver with the program, sample by sample; out/conformance.html
-#   make check-conformance  test that comparison without a driver, by mutants
+#   make conformance        compare the machine's OpenGL driver with the program, sample by sample; out/conformance.html.
+#                  With DEVICE=d3d11 Direct3D 11, here by Wine: out/conformance-d3d11.html; ADAPTER=warp or a number, else hardware
+#   make conformance-windows  write dist/trirast-conformance-windows.zip, which asks Direct3D on a Windows machine
+#   make check-conformance  test that comparison without a driver, by mutants and by recorded answers
 #   make clean     remove what this file made; what rt keeps in crates/*/out/ stays
 
 RT ?= rt
 PYTHON ?= python3
 PREFIX ?= /usr/local
+# Where libraries go below PREFIX.
+LIBDIR = lib
+# The processor of `make` and `make library`: x86_64 or aarch64.
+ARCH = x86_64
+# The level of x86-64 of `make` and `make compare`; the toolchain's if not given.
+CPU =
+ADAPTER ?= hardware
+WINDOWS_CXX ?= x86_64-w64-mingw32-g++
 
-PROGRAM := bin/trirast
+PROGRAM := bin/$(if $(CPU),$(CPU)/)trirast
+WHY := bin/trirast_why
 TILES := bin/refused_tiles
 READER := bin/list_bench
 MODEL := bench/out/model
+RASTERIZE := conformance/out/rasterize.exe
 ARCHIVE := crates/trirast_c/out/libtrirast_c.a
+CANVAS_ARCHIVE := crates/canvas_c/out/libcanvas_c.a
 SOURCES := crates.txt $(shell find crates -name out -prune -o -type f \( -name '*.rt' -o -name '*.antt' \) -print)
 LISTS := $(wildcard examples/*.json)
 PICTURES := $(LISTS:examples/%.json=out/%.pnm)
-LIBRARY_VERSION := $(shell sed -n 's/^\#define TRIRAST_VERSION //p' include/trirast.h)
+VERSION := $(shell cat VERSION)
 SHARED := libtrirast.so.1
-INSTALLED := bin/trirast share/man/man1/trirast.1 share/trirast/draw-list.schema.json include/trirast.h \
-    lib/libtrirast.a lib/$(SHARED) lib/libtrirast.so lib/pkgconfig/trirast.pc
+# The second level of x86-64, as glibc's loader names the folder in which it looks for it by itself.
+LEVEL := x86-64-v3
+LIBRARY_x86_64 := lib/libtrirast.a lib/libtrirast.so lib/$(LEVEL)/$(SHARED) lib/trirast.pc
+LIBRARY_aarch64 := lib/aarch64/libtrirast.a lib/aarch64/libtrirast.so
+PROGRAM_x86_64 := $(PROGRAM)
+PROGRAM_aarch64 := bin/aarch64/trirast
+CMAKE_FILES := trirast-config.cmake trirast-config-version.cmake
+INSTALLED := bin/trirast share/man/man1/trirast.1 share/trirast/draw-list.schema.json include/trirast.h include/trirast.hpp \
+    bin/trirast_why share/man/man1/trirast_why.1 share/trirast/history.schema.json \
+    $(addprefix $(LIBDIR)/,libtrirast.a $(SHARED) libtrirast.so pkgconfig/trirast.pc glibc-hwcaps/$(LEVEL)/$(SHARED) \
+    $(addprefix cmake/trirast/,$(CMAKE_FILES)))
 
-.PHONY: all look library check-library install uninstall demo test checks compare check-compare golden schema types memory \
-    hostile allocation-failures fault-injection races bench frames model conformance check-conformance clean
+.PHONY: all why look library check-library check-poster install uninstall demo test checks compare compare-history compare-canvas \
+    check-compare golden schema types memory hostile allocation-failures fault-injection races bench frames model conformance \
+    conformance-windows check-conformance clean
 .DELETE_ON_ERROR:
 
-all: $(PROGRAM)
+all: $(PROGRAM_$(ARCH))
 
 $(PROGRAM): $(SOURCES)
 	@$(PYTHON) -m tools.prove trirast_cli
-	cd crates/trirast_cli && $(RT) run < "$(CURDIR)/examples/triangle.json" > /dev/null
+	cd crates/trirast_cli && $(RT) run $(if $(CPU),--cpu $(CPU)) < "$(CURDIR)/examples/triangle.json" > /dev/null
 	install -D -m 755 crates/trirast_cli/out/trirast_cli $@
+
+why: $(WHY)
+
+$(WHY): $(SOURCES)
+	@$(PYTHON) -m tools.prove trirast_why
+	cd crates/trirast_why && $(RT) run -- 0,0 < "$(CURDIR)/examples/triangle.json" > /dev/null
+	install -D -m 755 crates/trirast_why/out/trirast_why $@
 
 look:
 	@mkdir -p out
@@ -66,30 +109,75 @@ $(TILES): $(SOURCES)
 	cd crates/refused_tiles && $(RT) run < stdin > /dev/null
 	install -D -m 755 crates/refused_tiles/out/refused_tiles $@
 
-library: lib/libtrirast.a lib/libtrirast.so lib/trirast.pc
+library: $(or $(LIBRARY_$(ARCH)),$(error ARCH is x86_64 or aarch64, and not $(ARCH)))
 
-# The library's code with what it calls: the toolchain's heap over malloc, realloc and free, and of the compiler's own
-# library the division of 128 bits. Only trirast_* is left to be seen.
+# The library's code with what it calls: a heap over malloc, realloc and free, and of the compiler's own library the division
+# of 128 bits. Only trirast_* is left to be seen.
+HEAP = "$$(dirname "$$($(RT) doc)")/c/liblibc_c.a"
+OBJCOPY = objcopy
+ONLY_CALLS = $(OBJCOPY) --wildcard --keep-global-symbol='trirast_*'
+OBJECTS := lib/trirast.o lib/$(LEVEL)/trirast.o lib/aarch64/trirast.o
+CANVAS_OBJECTS := $(OBJECTS:%/trirast.o=%/canvas.o)
 lib/trirast.o: $(ARCHIVE) | lib
-	$(LD) -r -o $@ --whole-archive $< --no-whole-archive \
-	    "$$(dirname "$$($(RT) doc)")/c/liblibc_c.a" "$$($(CC) -print-libgcc-file-name)"
-	objcopy --wildcard --keep-global-symbol='trirast_*' $@
+lib/canvas.o: $(CANVAS_ARCHIVE) | lib
+$(filter-out lib/trirast.o,$(OBJECTS)): %/trirast.o: %/trirast_c.a
+$(filter-out lib/canvas.o,$(CANVAS_OBJECTS)): %/canvas.o: %/canvas_c.a
+$(OBJECTS): %/trirast.o: %/canvas.o
+lib/aarch64/trirast.o: lib/aarch64/heap.o
 
-$(ARCHIVE): $(SOURCES)
-	cd crates/trirast_c && $(RT) lib
+$(OBJECTS):
+	$(LD) -r -o $@ --whole-archive $< --no-whole-archive $(@D)/canvas.o $(HEAP) "$$($(CC) -print-libgcc-file-name)"
+	$(ONLY_CALLS) $@
+
+# The calls of a canvas, without a heap. Both archives have the crates on which both stand, so one hides its own before they meet.
+$(CANVAS_OBJECTS):
+	$(LD) -r -o $@ --whole-archive $<
+	$(ONLY_CALLS) $@
+
+$(ARCHIVE) $(CANVAS_ARCHIVE): crates/%: $(SOURCES)
+	cd $(@D:%/out=%) && $(RT) lib
 	touch $@
 
-lib/libtrirast.a: lib/trirast.o
+# The same proved crates for another processor, over what rt lib has kept.
+CORES := $(foreach folder,lib/$(LEVEL) lib/aarch64,$(folder)/trirast_c.a $(folder)/canvas_c.a)
+$(filter %/trirast_c.a,$(CORES)): $(ARCHIVE)
+$(filter %/canvas_c.a,$(CORES)): $(CANVAS_ARCHIVE)
+$(CORES):
+	@mkdir -p $(@D)
+	$(PYTHON) -m tools.archive $(basename $(@F)) $(notdir $(@D)) --rt $(RT) -o $@
+
+# For ARM64 the tools of a cross compiler, and a heap in C: the toolchain's own is for x86-64.
+CROSS = aarch64-linux-gnu-
+lib/aarch64/%: CC = $(CROSS)gcc
+lib/aarch64/%: LD = $(CROSS)ld
+lib/aarch64/%: AR = $(CROSS)ar
+lib/aarch64/%: OBJCOPY = $(CROSS)objcopy
+lib/aarch64/%: HEAP = lib/aarch64/heap.o
+
+lib/aarch64/heap.o lib/aarch64/arguments.o: lib/aarch64/%.o: packaging/%.c
+	@mkdir -p $(@D)
+	$(CC) -std=c11 -O2 -fPIC -Wall -Wextra -Wpedantic -Werror -c -o $@ $<
+
+# The program for ARM64, over what was proved for $(PROGRAM), with the heap, its arguments and errno in C.
+lib/aarch64/trirast_cli.o: $(PROGRAM)
+	@mkdir -p $(@D)
+	$(PYTHON) -m tools.archive trirast_cli aarch64 --rt $(RT) -o $@
+
+$(PROGRAM_aarch64): $(addprefix lib/aarch64/,trirast_cli.o heap.o arguments.o)
+	@mkdir -p $(@D)
+	$(CROSS)gcc -pthread -o $@ $^
+
+$(OBJECTS:%/trirast.o=%/libtrirast.a): %/libtrirast.a: %/trirast.o
 	rm -f $@
 	$(AR) rcs $@ $<
 
-lib/$(SHARED): lib/trirast.o
+$(OBJECTS:%/trirast.o=%/$(SHARED)): %/$(SHARED): %/trirast.o
 	$(CC) -shared -s -Wl,-soname,$(SHARED) -Wl,--gc-sections -Wl,-z,defs -o $@ $<
 
-lib/libtrirast.so: lib/$(SHARED)
+$(OBJECTS:%/trirast.o=%/libtrirast.so): %/libtrirast.so: %/$(SHARED)
 	ln -sf $(SHARED) $@
 
-lib/trirast.pc: Makefile include/trirast.h | lib
+lib/trirast.pc: Makefile VERSION | lib
 	$(file >$@,$(PACKAGE))
 
 lib:
@@ -102,7 +190,7 @@ libdir=$${prefix}/lib
 
 Name: trirast
 Description: triangles drawn to PPM and PGM pictures, proved byte for byte
-Version: $(LIBRARY_VERSION)
+Version: $(VERSION)
 Cflags: -I$${includedir}
 Libs: -L$${libdir} -ltrirast
 endef
@@ -110,20 +198,33 @@ endef
 check-library: $(PROGRAM) library
 	$(PYTHON) -m tools.check_library
 
-install: $(PROGRAM) library
+check-poster: $(PROGRAM) library
+	$(PYTHON) -m tools.check_poster
+
+install: $(PROGRAM) $(WHY) $(LIBRARY_x86_64)
 	install -D -m 755 $(PROGRAM) "$(DESTDIR)$(PREFIX)/bin/trirast"
+	install -D -m 755 $(WHY) "$(DESTDIR)$(PREFIX)/bin/trirast_why"
+	install -D -m 644 docs/trirast_why.1 "$(DESTDIR)$(PREFIX)/share/man/man1/trirast_why.1"
+	install -D -m 644 docs/history.schema.json "$(DESTDIR)$(PREFIX)/share/trirast/history.schema.json"
 	install -D -m 644 docs/trirast.1 "$(DESTDIR)$(PREFIX)/share/man/man1/trirast.1"
 	install -D -m 644 docs/draw-list.schema.json "$(DESTDIR)$(PREFIX)/share/trirast/draw-list.schema.json"
 	install -D -m 644 include/trirast.h "$(DESTDIR)$(PREFIX)/include/trirast.h"
-	install -D -m 644 lib/libtrirast.a "$(DESTDIR)$(PREFIX)/lib/libtrirast.a"
-	install -D -m 755 lib/$(SHARED) "$(DESTDIR)$(PREFIX)/lib/$(SHARED)"
-	ln -sf $(SHARED) "$(DESTDIR)$(PREFIX)/lib/libtrirast.so"
-	install -d "$(DESTDIR)$(PREFIX)/lib/pkgconfig"
-	sed 's|^prefix=.*|prefix=$(PREFIX)|' lib/trirast.pc > "$(DESTDIR)$(PREFIX)/lib/pkgconfig/trirast.pc"
+	install -D -m 644 include/trirast.hpp "$(DESTDIR)$(PREFIX)/include/trirast.hpp"
+	install -D -m 644 lib/libtrirast.a "$(DESTDIR)$(PREFIX)/$(LIBDIR)/libtrirast.a"
+	install -D -m 755 lib/$(SHARED) "$(DESTDIR)$(PREFIX)/$(LIBDIR)/$(SHARED)"
+	install -D -m 755 lib/$(LEVEL)/$(SHARED) "$(DESTDIR)$(PREFIX)/$(LIBDIR)/glibc-hwcaps/$(LEVEL)/$(SHARED)"
+	ln -sf $(SHARED) "$(DESTDIR)$(PREFIX)/$(LIBDIR)/libtrirast.so"
+	install -d $(foreach folder,pkgconfig cmake/trirast,"$(DESTDIR)$(PREFIX)/$(LIBDIR)/$(folder)")
+	sed -e 's|^prefix=.*|prefix=$(PREFIX)|' -e 's|^libdir=.*|libdir=$${prefix}/$(LIBDIR)|' \
+	    lib/trirast.pc > "$(DESTDIR)$(PREFIX)/$(LIBDIR)/pkgconfig/trirast.pc"
+	for name in $(CMAKE_FILES); do sed -e 's|@VERSION@|$(VERSION)|' \
+	    -e "s|@PREFIX_FROM_HERE@|$$(realpath -ms --relative-to=/$(LIBDIR)/cmake/trirast /)|" \
+	    packaging/cmake/$$name > "$(DESTDIR)$(PREFIX)/$(LIBDIR)/cmake/trirast/$$name" || exit 1; done
 
 uninstall:
 	@for name in $(INSTALLED); do rm -fv "$(DESTDIR)$(PREFIX)/$$name"; done
-	@rmdir "$(DESTDIR)$(PREFIX)/share/trirast" 2> /dev/null || true
+	@rmdir $(foreach folder,share/trirast $(addprefix $(LIBDIR)/,cmake/trirast cmake glibc-hwcaps/$(LEVEL) glibc-hwcaps), \
+	    "$(DESTDIR)$(PREFIX)/$(folder)") 2> /dev/null || true
 
 out/%.pnm: examples/%.json $(PROGRAM)
 	@mkdir -p out
@@ -137,12 +238,17 @@ demo: $(PICTURES)
 test:
 	@$(PYTHON) -m tools.gate --rt $(RT)
 
-checks: $(PROGRAM) $(TILES) $(READER) $(if $(shell command -v gcc),library)
+checks: $(PROGRAM) $(WHY) $(TILES) $(READER) $(if $(shell command -v gcc),library)
 	@$(PYTHON) -m tools.gate --without-proofs
 
 compare: $(PROGRAM)
 	$(PYTHON) -m tools.test_reference
-	$(PYTHON) -m tools.compare
+	$(PYTHON) -m tools.compare --program $(PROGRAM)
+
+compare-history: $(PROGRAM) $(WHY)
+	$(PYTHON) -m tools.compare_history
+compare-canvas: $(PROGRAM) library
+	$(PYTHON) -m tools.compare_canvas
 
 check-compare: $(PROGRAM)
 	$(PYTHON) -m tools.test_compare
@@ -188,12 +294,24 @@ $(MODEL): bench/draw_list.hpp $(wildcard bench/model/*)
 bench: $(PROGRAM)
 	$(PYTHON) -m bench.run
 
-conformance: $(PROGRAM)
+conformance: $(PROGRAM) $(if $(filter d3d11,$(DEVICE)),$(RASTERIZE))
 	@mkdir -p out
-	$(PYTHON) -m conformance.run --html out/conformance.html
+	$(if $(filter d3d11,$(DEVICE)),$(PYTHON) -m conformance.d3d11.run --device $(ADAPTER) --html out/conformance-d3d11.html,\
+	    $(PYTHON) -m conformance.run --html out/conformance.html)
+
+$(RASTERIZE): $(wildcard conformance/d3d11/rasterize/*)
+	@mkdir -p $(@D)
+	$(WINDOWS_CXX) -std=c++17 -O2 -Wall -Wextra -static -s -o $@ conformance/d3d11/rasterize/main.cpp -ld3d11 -ldxgi
+
+conformance-windows: $(RASTERIZE)
+	$(PYTHON) -m conformance.d3d11.windows dist/trirast-conformance-windows.zip
 
 check-conformance:
 	$(PYTHON) -m conformance.test_conformance
+	$(PYTHON) -m conformance.d3d11.test_direct3d
+
+include packaging/packages.mk
+include packaging/web.mk
 
 clean:
-	rm -rf bin lib out bench/out conformance/out .mypy_cache
+	rm -rf bin dist lib out bench/out conformance/out web/out .mypy_cache

@@ -31,7 +31,7 @@ from tools.places import BENCH_OUT, FRAMES_PROGRAM, MODEL_PROGRAM, PROGRAM, TOP,
 
 SCENES = (
     "smooth", "small", "mesh", "slivers", "blended", "flat", "flat_depth", "flat_blended", "large_mesh", "whole_values",
-    "thin_slivers", "level_rows", "depths_first",
+    "thin_slivers", "level_rows", "depths_first", "levels", "levels_four", "levels_depth", "charts", "steps", "sprites", "dust",
 )
 WORKERS = (1, 4)
 FRAMES_A_TURN = 3

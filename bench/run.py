@@ -26,7 +26,8 @@ from tools.places import BENCH_OUT, PROGRAM, TOP, is_built
 
 SCENES = (
     "tiny", "empty", "smooth", "small", "mesh", "slivers", "blended", "flat", "flat_depth", "flat_blended", "large_mesh",
-    "whole_values", "thin_slivers", "level_rows", "depths_first", "long_list", "refused_list",
+    "whole_values", "thin_slivers", "level_rows", "depths_first", "levels", "levels_four", "levels_depth", "charts", "steps", "sprites",
+    "dust", "long_list", "refused_list",
 )
 # Lists that are refused: the program ends with status 1 and no picture.
 REFUSED = ("refused_list",)
@@ -36,16 +37,18 @@ ENOUGH_SECONDS = 6.0
 
 
 class Run:
-    """One run of a command: wall and processor time in seconds, peak memory in bytes, exit status."""
+    """One run of a command: wall and processor time in seconds, peak memory in bytes, exit status.
 
-    def __init__(self, command: list[str], source: str, target: str) -> None:
+    With `is_quiet` what it writes to standard error goes to the target too.
+    """
+
+    def __init__(self, command: list[str], source: str, target: str, is_quiet: bool = False) -> None:
         reading = os.open(source, os.O_RDONLY)
         writing = os.open(target, os.O_WRONLY | os.O_CREAT | os.O_TRUNC, 0o644)
+        actions = [(os.POSIX_SPAWN_DUP2, reading, 0), (os.POSIX_SPAWN_DUP2, writing, 1)]
+        actions += [(os.POSIX_SPAWN_DUP2, writing, 2)] if is_quiet else []
         begin = time.perf_counter()
-        child = os.posix_spawn(
-            command[0], command, os.environ,
-            file_actions=[(os.POSIX_SPAWN_DUP2, reading, 0), (os.POSIX_SPAWN_DUP2, writing, 1)],
-        )
+        child = os.posix_spawn(command[0], command, os.environ, file_actions=actions)
         _, status, usage = os.wait4(child, 0)
         self.wall = time.perf_counter() - begin
         os.close(reading)

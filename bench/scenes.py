@@ -214,6 +214,86 @@ def level_rows() -> DrawList:
     return {"width": 1024, "height": 1024, "samples": 4, "draws": draws}
 
 
+def level_quad(x: float, y: float, side: int, most: int, z: tuple[int, int]) -> Triangles:
+    """Two triangles over `side` pixels: red grows from 0 to `most` to the right, green downwards, and blue shrinks. The depth
+    grows from the first of `z` to the right by the second."""
+    corner = [
+        vertex(x + side * i, y + side * j, z[0] + z[1] * i, (most * i, most * j, most - most * i))
+        for i, j in ((0, 0), (1, 0), (1, 1), (0, 1))
+    ]
+    return [[corner[0], corner[1], corner[3]], [corner[3], corner[1], corner[2]]]
+
+
+def level_quads(layers: int, sides: Sequence[int], most: int, depth: bool = False) -> Triangles:
+    """Layers of such quads over 1024 by 1024 pixels, as many as fit, each layer of the next of these sides. Their corners are centres
+    of pixels, so that a value is a whole number wherever it can be one. With `depth` each layer is nearer, and depths grow
+    as red does."""
+    triangles = []
+    for layer in range(layers):
+        side = sides[layer % len(sides)]
+        for place in range((1023 // side) ** 2):
+            row, column = divmod(place, 1023 // side)
+            z = (60000 - 1000 * layer, most if depth else 0)
+            triangles += level_quad(side * column + 0.5, side * row + 0.5, side, most, z)
+    return triangles
+
+
+def levels() -> DrawList:
+    """12 layers of quads with 100 levels over 300 pixels: each third value is a whole number that no binary fraction meets."""
+    return {"width": 1024, "height": 1024, "draws": draws_of(level_quads(12, [300], 100))}
+
+
+def levels_four() -> DrawList:
+    """The same with four samples."""
+    return {**levels(), "samples": 4}
+
+
+def levels_depth() -> DrawList:
+    """The same with one sample and depths that grow by thirds too, and the depth test."""
+    draws = draws_of(level_quads(12, [300], 100, depth=True), depth_test="less", depth_write=True)
+    return {"width": 1024, "height": 1024, "draws": draws}
+
+
+def charts() -> DrawList:
+    """12 layers of quads of 48 pixels with 80 levels."""
+    return {"width": 1024, "height": 1024, "draws": draws_of(level_quads(12, [48], 80))}
+
+
+def steps() -> DrawList:
+    """12 layers of quads with 255 levels over 256, 510 and 512 pixels."""
+    return {"width": 1024, "height": 1024, "draws": draws_of(level_quads(12, [256, 510, 512], 255))}
+
+
+def sprites() -> DrawList:
+    """32,768 quads of 12 pixels, as of sprites and glyphs: every other one of one colour, the others with a colour at each corner."""
+    pick = random.Random("sprites")
+    triangles = []
+    for number in range(MAX_TRIANGLES // 2):
+        x, y = pick.randrange(1908) + 0.5, pick.randrange(1068) + 0.5
+        colour = some_colour(pick)
+        corner = [
+            vertex(x + 12 * i, y + 12 * j, 0, some_colour(pick) if number % 2 else colour)
+            for i, j in ((0, 0), (1, 0), (1, 1), (0, 1))
+        ]
+        triangles += [[corner[0], corner[1], corner[3]], [corner[3], corner[1], corner[2]]]
+    return {"width": 1920, "height": 1080, "draws": draws_of(triangles)}
+
+
+def dust() -> DrawList:
+    """65,536 smooth triangles of two to four pixels a side, depth test."""
+    pick = random.Random("dust")
+    triangles = []
+    for _ in range(MAX_TRIANGLES):
+        x, y, turn = pick.uniform(0, 1920), pick.uniform(0, 1080), pick.uniform(0, 2 * math.pi)
+        angles = [turn + k * 2 * math.pi / 3 for k in range(3)]
+        radius = pick.uniform(2, 4) / math.sqrt(3)
+        triangles.append([
+            vertex(x + radius * math.cos(a), y + radius * math.sin(a), pick.randint(0, 65535), some_colour(pick))
+            for a in angles
+        ])
+    draws = draws_of(triangles, depth_test="less", depth_write=True)
+    return {"width": 1920, "height": 1080, "draws": draws}
+
 def refused_list() -> DrawList:
     """The long list with its last index past the vertices: an error that is found only at the end."""
     scene = long_list()
@@ -252,6 +332,13 @@ SCENES = {
     "thin_slivers": thin_slivers,
     "level_rows": level_rows,
     "depths_first": depths_first,
+    "levels": levels,
+    "levels_four": levels_four,
+    "levels_depth": levels_depth,
+    "charts": charts,
+    "steps": steps,
+    "sprites": sprites,
+    "dust": dust,
     "long_list": long_list,
     "refused_list": refused_list,
 }

@@ -6,24 +6,22 @@ Depths have 16 bits. A draw whose triangles have one colour each is shaded flat;
 from __future__ import annotations
 
 import ctypes
+from typing import Sequence
 
-from conformance.renderer import Candidate, CannotAsk
-from tools.draw_list import Draw, DrawList, triangles_of
+from conformance.renderer import Candidate, CannotAsk, require_powers_of_two
+from conformance.suites.setting import PLAIN, Setting
+from conformance.suites import OPENGL_LEFT_OUT
+from conformance.suites.shapes import is_flat
+from tools.draw_list import Draw, DrawList
 from tools.opengl import gl
 from tools.opengl.frames import DrawState, Frames, Mesh, NoFrame, Viewport, set_up
-
-
-def is_flat(draw: Draw) -> bool:
-    """Whether each triangle of a draw has one colour, and one alpha."""
-    vertices = draw["vertices"]
-    return all(vertices[a][3:] == vertices[b][3:] == vertices[c][3:] for a, b, c in triangles_of(draw))
 
 
 class Driver:
     """A renderer by the driver of this name, or by the machine's own choice."""
 
     def __init__(self, kind: str) -> None:
-        self.viewport_side: int | None = None
+        self.setting = PLAIN
         self.library = gl.open_driver(kind)
         self.name = gl.text(self.library, gl.RENDERER)
         self.frames: dict[tuple[int, int, int], Frames] = {}
@@ -49,8 +47,11 @@ class Driver:
             positions.append(f"({pair[0] * 256:g}, {pair[1] * 256:g})")
         return ", ".join(positions)
 
-    def through(self, viewport_side: int | None) -> Candidate:
-        self.viewport_side = viewport_side
+    def left_out(self) -> Sequence[tuple[str, str]]:
+        return OPENGL_LEFT_OUT
+
+    def through(self, setting: Setting) -> Candidate:
+        self.setting = setting
         return self
 
     def frame(self, width: int, height: int, samples: int) -> Frames:
@@ -65,10 +66,10 @@ class Driver:
 
     def picture(self, scene: DrawList) -> bytes:
         width, height, samples = scene["width"], scene["height"], scene.get("samples", 1)
-        if width & (width - 1) or height & (height - 1):
-            # A float holds the clip coordinates of each position exactly if the viewport's sides are powers of two.
-            raise CannotAsk("a picture whose size is no power of two: its positions are rounded as floats")
-        frames, viewport = self.frame(width, height, samples), Viewport.around(width, height, self.viewport_side)
+        require_powers_of_two(scene)
+        if self.setting != Setting(self.setting.viewport):
+            raise CannotAsk("another front, another format of depths, or a viewport that is moved")
+        frames, viewport = self.frame(width, height, samples), Viewport.around(width, height, self.setting.viewport)
         frames.begin(viewport)
         frames.clear(scene.get("clear", (0, 0, 0)), scene.get("clear_depth", 65535))
         for draw in scene["draws"]:

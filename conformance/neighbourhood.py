@@ -4,14 +4,15 @@ from __future__ import annotations
 
 from typing import Callable
 
-from conformance.comparison import Example, colour_at, samples_of
+from conformance.comparison import EXTRA, MISSING, OTHER, Example, colour_at, kind_of, samples_of
 from conformance.suites.shapes import PIXEL, PLACES
 
 REACH = 4  # pixels on each side of the worst one
 SCALE = 34  # of a pixel in the drawing
 PALETTE = ("#4c78a8", "#f2a541", "#59a14f", "#b07aa1", "#76b7b2", "#9c755f", "#edc948", "#8c8c8c")
 Pixel = tuple[int, int]  # column and row
-DRAWN_TOO_MUCH, MISSING, OTHER = "#d62728", "#1f3fd6", "#c21fd6"
+# Of each kind of difference its character and its colour.
+MARKS = {EXTRA: ("+", "#d62728"), MISSING: ("-", "#1f3fd6"), OTHER: ("*", "#c21fd6")}
 
 
 class Window:
@@ -19,7 +20,7 @@ class Window:
 
     def __init__(self, example: Example) -> None:
         self.example, self.width, self.height = example, example.scene["width"], example.scene["height"]
-        row, column = divmod(example.pixel, self.width)
+        column, row = example.place
         self.columns = range(max(0, column - REACH), min(self.width, column + REACH + 1))
         self.rows = range(max(0, row - REACH), min(self.height, row + REACH + 1))
         self.centre = (column, row)
@@ -44,9 +45,7 @@ def verdict(expected: bytes, drawn: bytes) -> tuple[str, str]:
     """How a sample's two colours compare: as a character and as a colour."""
     if expected == drawn:
         return ("#", "#bbbbbb") if any(drawn) else (".", "none")
-    if not any(expected):
-        return "+", DRAWN_TOO_MUCH
-    return ("-", MISSING) if not any(drawn) else ("*", OTHER)
+    return MARKS[kind_of(expected, drawn)]
 
 
 def as_characters(example: Example) -> list[str]:

@@ -2,8 +2,9 @@
 
 from __future__ import annotations
 
-from typing import Protocol
+from typing import Protocol, Sequence
 
+from conformance.suites.setting import Setting
 from tools.draw_list import DrawList
 
 
@@ -19,10 +20,19 @@ class Renderer(Protocol):
 
 
 class Candidate(Renderer, Protocol):
-    """A renderer that is compared with the program."""
+    """A renderer that is compared with the program: an interface and the driver behind it."""
 
     def said(self) -> list[tuple[str, str]]:
         """What the renderer says of itself, as pairs of a question and its answer."""
 
-    def through(self, viewport_side: int | None) -> Candidate:
-        """The renderer with a viewport of this side around each picture, or with the picture itself as its viewport."""
+    def left_out(self) -> Sequence[tuple[str, str]]:
+        """What no list asks of this interface, as pairs of a matter and the reason."""
+
+    def through(self, setting: Setting) -> Candidate:
+        """The renderer under this setting."""
+
+
+def require_powers_of_two(scene: DrawList) -> None:
+    """Raises `CannotAsk` unless floats hold the clip coordinates of each position exactly."""
+    if any(scene[side] & (scene[side] - 1) for side in ("width", "height")):
+        raise CannotAsk("a picture whose size is no power of two: its positions are rounded as floats")

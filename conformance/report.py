@@ -3,12 +3,12 @@
 from __future__ import annotations
 
 import html
-from dataclasses import dataclass
+from dataclasses import dataclass, field
 from typing import Callable, Iterable, Iterator, Sequence
 
-from conformance.comparison import Tally
+from conformance.comparison import KINDS, Example, Tally
+from conformance.history import HEAD, History
 from conformance.neighbourhood import as_characters, coverage_panels, value_panels
-from conformance.suites import LEFT_OUT
 
 Row = tuple[str, ...]
 
@@ -37,7 +37,10 @@ class Report:
     said: list[tuple[str, str]]
     findings: list[tuple[str, str, str]]
     tallies: list[Tally]
-    files: dict[str, str]  # the file of the first list that differs, by a tally's name
+    files: dict[str, str]  # the file of the list, by an example's name
+    never_asked: Sequence[tuple[str, str]] = ()
+    histories: dict[str, History] = field(default_factory=dict)  # by an example's name
+    no_histories: str = ""  # why there is none
 
     def exact(self) -> list[Tally]:
         return [tally for tally in self.tallies if tally.suite.exact]
@@ -48,13 +51,29 @@ class Report:
     def differing(self) -> list[Tally]:
         return [tally for tally in self.exact() if not tally.agrees]
 
+    def beyond(self) -> list[Tally]:
+        """The near subjects of which a channel differs by more than the interface's specification allows."""
+        return [tally for tally in self.near() if tally.suite.tolerances and not tally.agrees]
+
+    def examples(self) -> list[tuple[str, Example]]:
+        """All that are shown, with their names."""
+        return [named for tally in self.tallies for named in tally.named_examples()]
+
     def samples_compared(self) -> int:
         return sum(tally.compared for tally in self.exact())
 
     def coverage_agrees(self) -> bool:
         return self.samples_compared() > 0 and not self.differing()
 
+    def agrees(self) -> bool:
+        """Whether coverage agrees, and values do within what the interface's specification allows."""
+        return self.coverage_agrees() and not self.beyond()
+
     def summary(self) -> str:
+        beyond = ", ".join(f"{tally.suite.title} ({tally.samples})" for tally in self.beyond())
+        return self.coverage_summary() + (f" Values differ by more than is allowed: {beyond}." if beyond else "")
+
+    def coverage_summary(self) -> str:
         differing = self.differing()
         compared = f"{self.samples_compared():,} samples compared"
         left_out = sum(sum(tally.left_out.values()) for tally in self.tallies)
@@ -72,12 +91,12 @@ class Report:
         return f"Coverage differs: {compared}, {count:,} differ, by subject and samples a pixel: {names}."
 
     def left_out(self) -> list[tuple[str, str]]:
-        """What was not asked: of OpenGL at all, and of this driver."""
+        """What was not asked: of this interface at all, and of this driver."""
         refused: dict[str, list[str]] = {}
         for tally in self.tallies:
             for why, count in tally.left_out.items():
                 refused.setdefault(why, []).append(f"{tally.name} ({count})")
-        return [*LEFT_OUT, *((f"lists of {', '.join(names)}", why) for why, names in refused.items())]
+        return [*self.never_asked, *((f"lists of {', '.join(names)}", why) for why, names in refused.items())]
 
 
 def share(tally: Tally) -> str:
@@ -89,7 +108,8 @@ def exact_rows(report: Report) -> Iterator[Row]:
     for tally in report.exact():
         first = f"{tally.first.title} ({report.files[tally.name]})" if tally.first else "-"
         numbers = (str(tally.samples), str(tally.lists), f"{tally.compared:,}", f"{tally.differ:,}", share(tally))
-        yield (tally.suite.title, *numbers, first)
+        kinds = ", ".join(f"{tally.kinds[kind]:,} {words}" for kind, words in KINDS.items() if tally.kinds[kind])
+        yield (tally.suite.title, *numbers, kinds or "-", first)
 
 
 BINS = ((0, 0), (1, 1), (2, 2), (3, 3), (4, 15), (16, 63), (64, 255))
@@ -104,12 +124,13 @@ def histogram(tally: Tally) -> str:
 
 def near_rows(report: Report) -> Iterator[Row]:
     for tally in report.near():
-        greatest = str(max(tally.errors, default=0))
-        yield tally.suite.title, str(tally.samples), str(tally.lists), f"{tally.compared:,}", greatest, histogram(tally)
+        greatest, allowed = max(tally.errors, default=0), tally.suite.tolerance(tally.samples)
+        limit = "-" if allowed is None else str(allowed)
+        yield tally.suite.title, str(tally.samples), str(tally.lists), f"{tally.compared:,}", str(greatest), limit, histogram(tally)
 
 
-EXACT_HEAD = ("subject", "samples a pixel", "lists", "compared", "differ", "share", "first list that differs")
-NEAR_HEAD = ("subject", "samples a pixel", "lists", "channels", "greatest difference", "channels by difference")
+EXACT_HEAD = ("subject", "samples a pixel", "lists", "compared", "differ", "share", "of these", "first list that differs")
+NEAR_HEAD = ("subject", "samples a pixel", "lists", "channels", "greatest difference", "allowed", "channels by difference")
 FINDINGS_HEAD = ("read from pictures", "the program", "the driver")
 
 
@@ -127,7 +148,10 @@ SECTIONS = (
     Section("What the driver says of itself", (), lambda report: report.said),
     Section("What its pictures show", FINDINGS_HEAD, lambda report: report.findings, lambda row: row[1] != row[2]),
     Section("Coverage, sample by sample", EXACT_HEAD, exact_rows, lambda row: row[4] != "0"),
-    Section("Colours and depths, in 1/255 of a channel", NEAR_HEAD, near_rows),
+    Section(
+        "Colours and depths, in 1/255 of a channel", NEAR_HEAD, near_rows,
+        lambda row: row[5] != "-" and int(row[4]) > int(row[5]),
+    ),
     Section("Not asked", (), Report.left_out),
 )
 
@@ -144,13 +168,21 @@ def text_table(section: Section, rows: Sequence[Row]) -> list[str]:
     return [f"{mark} {line}".rstrip() for mark, line in zip(marks, lines)]
 
 
-def text_example(tally: Tally, file: str) -> Iterator[str]:
-    first = tally.example
-    row, column = divmod(first.pixel, first.scene["width"])
-    yield f"{tally.name}: {first.title}, sample {first.sample}, around pixel ({column}, {row}); list {file}"
+def text_history(found: History) -> Iterator[str]:
+    """The history of a sample by the rules, a line for each triangle."""
+    yield f"   by the rules, at {found.position}, from {found.begin}:"
+    for row in found.rows:
+        yield "   " + "; ".join(f"{name} {value}" for name, value in zip(HEAD, row) if value not in ("-", ""))
+    yield f"   to {found.end}"
+
+
+def text_example(report: Report, name: str, example: Example) -> Iterator[str]:
+    yield f"{name}: {example.title}, sample {example.sample}, around pixel {example.place}; list {report.files[name]}"
     yield "   # equal   . not drawn   + by the driver alone   - missing   * of another triangle"
-    for line in as_characters(first):
+    for line in as_characters(example):
         yield f"   {line}"
+    if name in report.histories:
+        yield from text_history(report.histories[name])
     yield ""
 
 
@@ -161,7 +193,10 @@ def text(report: Report) -> str:
         if rows:
             lines += [section.title, "-" * len(section.title), *text_table(section, rows), ""]
     for tally in report.differing():
-        lines += text_example(tally, report.files[tally.name])
+        for name, example in tally.named_examples():
+            lines += text_example(report, name, example)
+    if report.differing() and report.no_histories:
+        lines.append(report.no_histories)
     return "\n".join(lines)
 
 
@@ -183,21 +218,27 @@ def html_table(section: Section, rows: Sequence[Row]) -> str:
     return "\n".join([*lines, "</table>"])
 
 
-def html_example(tally: Tally, file: str, panels: str) -> str:
-    first = tally.example
-    row, column = divmod(first.pixel, first.scene["width"])
-    place = f"{first.title}, around pixel ({column}, {row}): "
-    command = f"bin/trirast < {file}"
+def html_history(found: History) -> str:
+    lines = [f"<p>By the rules, at {html.escape(found.position)}: from {html.escape(found.begin)} to {html.escape(found.end)}.</p>"]
+    rows = (f"<tr>{''.join(map(cell, row))}</tr>" for row in found.rows)
+    return "\n".join([*lines, "<table>", f"<tr>{''.join(cell(name, 'th') for name in HEAD)}</tr>", *rows, "</table>"])
+
+
+def html_example(report: Report, tally: Tally, name: str, example: Example) -> str:
+    kind = f", {KINDS[example.kind]}" if example.kind in KINDS else ""
+    place = f"{example.title}, sample {example.sample}, around pixel {example.place}: "
+    panels = coverage_panels if tally.suite.exact else value_panels
+    shown = html_history(report.histories[name]) if name in report.histories else ""
     return (
-        f'<h3 id="{tally.name}">{html.escape(tally.suite.title)}, samples a pixel: {tally.samples}</h3>'
-        f"<p>{html.escape(place)}<code>{html.escape(command)}</code></p>"
-        f'<div class="figures">{panels}</div>'
+        f'<h3 id="{name}">{html.escape(tally.suite.title)}, samples a pixel: {tally.samples}{kind}</h3>'
+        f"<p>{html.escape(place)}<code>{html.escape(f'bin/trirast < {report.files[name]}')}</code></p>"
+        f'<div class="figures">{panels(example)}</div>{shown}'
     )
 
 
 def page(report: Report) -> str:
     """The report as one HTML file that needs no other."""
-    kind = "agrees" if report.coverage_agrees() else "differs"
+    kind = "agrees" if report.agrees() else "differs"
     name = dict(report.said).get("renderer", "driver")
     parts = [f"<h1>{html.escape(name)}, sample by sample</h1>"]
     parts.append(f'<p class="{kind}">{html.escape(report.summary())}</p>')
@@ -205,11 +246,11 @@ def page(report: Report) -> str:
         rows = list(section.rows(report))
         if rows:
             parts += [f"<h2>{section.title}</h2>", html_table(section, rows)]
-    examples = [(tally, coverage_panels) for tally in report.differing()]
-    examples += [(tally, value_panels) for tally in report.near() if tally.first]
-    if examples:
+    shown = [tally for tally in [*report.differing(), *report.near()] if tally.first]
+    if shown:
         parts += ["<h2>Where they differ</h2>", KEY]
-    for tally, panels in examples:
-        parts.append(html_example(tally, report.files[tally.name], panels(tally.example)))
+        parts += [f"<p>{html.escape(report.no_histories)}</p>"] if report.no_histories else []
+    for tally in shown:
+        parts += [html_example(report, tally, name, example) for name, example in tally.named_examples()]
     head = f'<meta charset="utf-8"><title>{html.escape(name)}</title><style>{STYLE}</style>'
     return "\n".join([f'<!doctype html><html lang="en"><head>{head}</head><body>', *parts, "</body></html>", ""])

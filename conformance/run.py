@@ -17,47 +17,70 @@ import sys
 from typing import Sequence
 
 from conformance import suites
-from conformance.comparison import Tally, compare_suite, only_sample
+from conformance.comparison import VALUE, Example, compare_suite, only_sample
 from conformance.driver import Driver
 from conformance.findings import findings
+from conformance.history import NO_PROGRAM, histories
 from conformance.program import Program, Refused, as_bytes
 from conformance.renderer import Candidate, Renderer
 from conformance.report import Report, page, text
+from conformance.suites.setting import PLAIN
 from tools.opengl.gl import MESA, Unavailable
-from tools.places import PROGRAM, TOP, is_built
+from tools.places import HISTORY_PROGRAM, PROGRAM, TOP, is_built
 
 LISTS = os.path.join(TOP, "conformance", "out")
 BITS_HELP = "round the lists' positions to N subpixel bits first, for a driver that keeps fewer than 8 (default 8)"
 
 
-def write_list(folder: str, tally: Tally) -> str:
-    """Writes the list of a tally's example, of the one sample index that differs, and gives the file's name."""
-    first = tally.example
-    scene = only_sample(first.scene, first.sample) if tally.suite.exact else first.scene
+def write_list(folder: str, name: str, example: Example) -> str:
+    """Writes the list of an example, of the one sample index that differs, and gives the file's name."""
+    scene = example.scene if example.kind == VALUE else only_sample(example.scene, example.sample)
     os.makedirs(folder, exist_ok=True)
-    path = os.path.join(folder, f"{tally.name}.json")
+    path = os.path.join(folder, f"{name}.json")
     with open(path, "wb") as file:
         file.write(as_bytes(scene))
     near = os.path.relpath(path)
     return path if near.startswith(os.pardir) else near
 
 
-def measure(program: Renderer, driver: Candidate, chosen: Sequence[suites.Suite], folder: str, bits: int = 8) -> Report:
-    """The report of a driver over these suites."""
-    tallies = [compare_suite(suite, samples, program, driver, bits) for suite in chosen for samples in suite.samples]
-    files = {tally.name: write_list(folder, tally) for tally in tallies if tally.first}
-    return Report(driver.said(), findings(program, driver.through(None)), tallies, files)
+def measure(
+    program: Renderer, driver: Candidate, chosen: Sequence[suites.Suite], folder: str, bits: int = 8, limit: int | None = None,
+    why: str = HISTORY_PROGRAM,
+) -> Report:
+    """The report of a driver over these suites, or over the first lists of each."""
+    tallies = [compare_suite(suite, samples, program, driver, bits, limit) for suite in chosen for samples in suite.samples]
+    examples = [named for tally in tallies for named in tally.named_examples()]
+    files = {name: write_list(folder, name, example) for name, example in examples}
+    found = findings(program, driver.through(PLAIN))
+    coverage = [(name, example) for name, example in examples if example.kind != VALUE]
+    missing = "" if os.access(why, os.X_OK) else NO_PROGRAM.format(os.path.relpath(why))
+    return Report(driver.said(), found, tallies, files, driver.left_out(), histories(why, coverage), missing)
 
 
-def arguments() -> argparse.Namespace:
-    names = [suite.name for suite in suites.ALL]
-    parser = argparse.ArgumentParser(description="Compares a driver's samples with the program's.")
-    parser.add_argument("--driver", choices=("default", *MESA), default="default", help="default: EGL's choice")
+def publish(report: Report, html: str | None) -> int:
+    """Prints the report, and writes it as one HTML file if a name is given. Returns the exit status."""
+    print(text(report))
+    if html:
+        with open(html, "w", encoding="utf-8") as file:
+            file.write(page(report))
+    if not report.samples_compared():
+        return 2
+    return 0 if report.agrees() else 1
+
+
+def add_shared(parser: argparse.ArgumentParser, names: Sequence[str]) -> None:
+    """The options that each interface has."""
     parser.add_argument("--suite", nargs="+", choices=names, default=names, metavar="NAME", help=", ".join(names))
     parser.add_argument("--bits", type=int, choices=range(9), default=8, metavar="N", help=BITS_HELP)
     parser.add_argument("--html", metavar="FILE", help="write the report as one HTML file too")
     parser.add_argument("--program", default=PROGRAM, help="default bin/trirast")
     parser.add_argument("--lists", default=LISTS, metavar="FOLDER", help="default conformance/out")
+
+
+def arguments() -> argparse.Namespace:
+    parser = argparse.ArgumentParser(description="Compares a driver's samples with the program's.")
+    parser.add_argument("--driver", choices=("default", *MESA), default="default", help="default: EGL's choice")
+    add_shared(parser, [suite.name for suite in suites.OPENGL])
     return parser.parse_args()
 
 
@@ -65,20 +88,14 @@ def main() -> int:
     options = arguments()
     if not is_built(options.program):
         return 2
-    chosen = [suite for suite in suites.ALL if suite.name in options.suite]
+    chosen = [suite for suite in suites.OPENGL if suite.name in options.suite]
     try:
         program, driver = Program(os.path.abspath(options.program)), Driver(options.driver)
         report = measure(program, driver, chosen, options.lists, options.bits)
     except (Unavailable, Refused) as error:
         print(f"conformance: {error}", file=sys.stderr)
         return 2
-    print(text(report))
-    if options.html:
-        with open(options.html, "w", encoding="utf-8") as file:
-            file.write(page(report))
-    if not report.samples_compared():
-        return 2
-    return 0 if report.coverage_agrees() else 1
+    return publish(report, options.html)
 
 
 if __name__ == "__main__":

@@ -6,11 +6,13 @@
  *     1. trirast_read_image_info gives the size of the file, and 2. trirast_draw draws it.
  *     3. trirast_draw_rows draws a part of the picture, so that several threads share one.
  *     4. trirast_draw_scene draws from arrays, without a text.
+ *     5. trirast_canvas_* draw batch after batch over samples that stay in the caller's memory: docs/canvas.md.
  *
  * Rules of every call:
  *
  * - Memory. The caller owns all memory that it passes. A call keeps no pointer, and frees all that it allocates before it
- *   returns. It allocates by malloc, realloc and free; a program that replaces one of these replaces all three.
+ *   returns. It allocates by malloc, realloc and free; a program that replaces one of these replaces all three. The calls
+ *   trirast_canvas_* and trirast_weights allocate nothing.
  * - Arrays. An array is a pointer and a count of elements. If the count is 0, the pointer may be NULL. Every other pointer
  *   points to a valid object.
  * - Reading and writing. A call writes to its non-const pointers alone. The memory behind them must not overlap with any
@@ -21,12 +23,13 @@
  *
  * Rules of every call that returns a trirast_status:
  *
- * - If the status is TRIRAST_STATUS_OK, the call did what its text says, and `*error` is all zeros. The bytes of the buffer
- *   behind those that the text names are unchanged.
+ * - If the status is TRIRAST_STATUS_OK, the call did what its text says, and `*error`, where there is one, is all zeros. The
+ *   bytes of the buffer behind those that the text names are unchanged.
  * - Otherwise `*error` says why, and nothing else was written.
  * - Of several errors the first in this order is reported: TRIRAST_STATUS_BAD_STRUCT_SIZE, TRIRAST_STATUS_BAD_TILE_SIZE,
  *   TRIRAST_STATUS_INPUT_TOO_LONG, TRIRAST_STATUS_BAD_LIST, TRIRAST_STATUS_BAD_TILE_ROWS, TRIRAST_STATUS_BUFFER_TOO_SMALL.
- *   TRIRAST_STATUS_OUT_OF_MEMORY is reported as soon as an allocation fails; later checks are not made.
+ *   TRIRAST_STATUS_OUT_OF_MEMORY is reported as soon as an allocation fails; later checks are not made. The calls on a canvas
+ *   have an order of their own, which stands there.
  */
 #ifndef TRIRAST_H
 #define TRIRAST_H
@@ -38,7 +41,8 @@
 extern "C" {
 #endif
 
-/* The version that this header describes. A library of a greater version has all of it, in the same form. */
+/* The number of the interface that this header describes. A library of a greater number has all of it, in the same form. The
+ * release, as 0.1.0, is what pkg-config and CMake give. */
 #define TRIRAST_VERSION 1
 
 /* Bytes of stack that are enough for each call: docs/library.md. */
@@ -58,7 +62,12 @@ typedef enum trirast_status {
     TRIRAST_STATUS_BUFFER_TOO_SMALL = 4, /* the buffer has fewer bytes than the call would write */
     TRIRAST_STATUS_BAD_TILE_SIZE = 5,    /* the tile size is none of 8, 16, 32 and 64 */
     TRIRAST_STATUS_BAD_TILE_ROWS = 6,    /* the first tile row is not before the end, or the picture has fewer than the end */
-    TRIRAST_STATUS_BAD_STRUCT_SIZE = 7   /* a size member is another than the library's own */
+    TRIRAST_STATUS_BAD_STRUCT_SIZE = 7,  /* a size member is another than the library's own */
+    TRIRAST_STATUS_BAD_CANVAS = 8,       /* a side is not 1 to 4096, or the samples of a pixel are neither 1 nor 4 */
+    TRIRAST_STATUS_BAD_MEMORY = 9,       /* the memory of the samples is not as large as the tile rows need */
+    TRIRAST_STATUS_BAD_FORMAT = 10,      /* the number is none of trirast_format */
+    TRIRAST_STATUS_BAD_SAMPLE = 11,      /* a pixel has no sample of this index */
+    TRIRAST_STATUS_BAD_POSITION = 12     /* a position is outside of -8388608 to 8388607 */
 } trirast_status;
 
 /* Why there is no draw list: the numbers and names of docs/draw-list.md. */
@@ -95,6 +104,11 @@ static inline const char *trirast_status_string(trirast_status status) {
     case TRIRAST_STATUS_BAD_TILE_SIZE: return "no such tile size";
     case TRIRAST_STATUS_BAD_TILE_ROWS: return "no such tile rows";
     case TRIRAST_STATUS_BAD_STRUCT_SIZE: return "no such struct size";
+    case TRIRAST_STATUS_BAD_CANVAS: return "no such canvas";
+    case TRIRAST_STATUS_BAD_MEMORY: return "memory of another size";
+    case TRIRAST_STATUS_BAD_FORMAT: return "no such format";
+    case TRIRAST_STATUS_BAD_SAMPLE: return "no such sample";
+    case TRIRAST_STATUS_BAD_POSITION: return "position out of range";
     }
     return "unknown status";
 }
@@ -110,7 +124,7 @@ static inline const char *trirast_status_string(trirast_status status) {
  * reports such an error, as if the status is TRIRAST_STATUS_OK. */
 size_t trirast_error_line(const trirast_error *error, char *buffer, size_t buffer_size);
 
-/* Returns the version of the library: 1. */
+/* Returns the number of the library's interface: 1. */
 uint32_t trirast_version(void);
 
 /* ---- Draw lists ---- */
@@ -308,6 +322,190 @@ typedef struct trirast_batch {
  * - TRIRAST_LIST_NOT_CONVEX if a quad is not strictly convex. */
 trirast_status trirast_draw_scene(const trirast_scene_head *head, const trirast_batch *batch, uint32_t tile_size,
                                   uint8_t *buffer, size_t buffer_size, trirast_error *error);
+
+/* ---- Canvases: samples that stay in the caller's memory ---- */
+
+/* The tile rows of a canvas, or some of them, with the memory of their samples. A tile row has trirast_canvas_row_pixels()
+ * rows of pixels, and a canvas has trirast_canvas_rows(height) tile rows. Begin with TRIRAST_CANVAS_INIT.
+ *
+ * A call owns the memory that it is given. So threads that share a canvas each pass a struct of their own with a piece of it
+ * (trirast_canvas_piece), and may then call at once: two pieces without a tile row in common have no memory in common.
+ *
+ * A canvas is a window on the screen: pixel (x, y) of the canvas is pixel (x + origin_x, y + origin_y) of the screen.
+ * Positions and scissors are those of the screen, and the canvas shows what lies there, sample by sample. */
+typedef struct trirast_canvas {
+    uint32_t struct_size; /* sizeof(trirast_canvas) */
+    uint32_t width;       /* of the whole canvas, in pixels: 1 to 4096 */
+    uint32_t height;      /* of the whole canvas, in pixels: 1 to 4096 */
+    uint32_t samples;     /* samples of a pixel: 1 or 4 */
+    int32_t origin_x;     /* the pixel of the screen at which the upper left one of the canvas lies; 0, 0 without a window */
+    int32_t origin_y;
+    uint32_t first;       /* the first of these tile rows; the whole canvas: 0 */
+    uint32_t end;         /* the tile row behind the last one; the whole canvas: trirast_canvas_rows(height) */
+    void *memory;         /* the samples of these tile rows, aligned to 2; aligned to 64 is faster. What is in it is not specified */
+    size_t plane_count;   /* its size in units of TRIRAST_PLANE_BYTES: trirast_canvas_bytes(..) / TRIRAST_PLANE_BYTES */
+} trirast_canvas;
+
+#define TRIRAST_CANVAS_INIT {sizeof(trirast_canvas), 0, 0, 1, 0, 0, 0, 0, 0, 0}
+
+/* Bytes of the samples of one index of a block of 8 by 8 pixels: the unit of a canvas's memory. */
+#define TRIRAST_PLANE_BYTES 320
+
+/* How the colour of a pixel lies in bytes, in the order of the name. Alpha is written as 255, and is not read. */
+typedef enum trirast_format {
+    TRIRAST_FORMAT_RGB8 = 0,
+    TRIRAST_FORMAT_RGBA8 = 1,
+    TRIRAST_FORMAT_BGRA8 = 2
+} trirast_format;
+
+/* Returns the bytes of the samples of the tile rows from `first` to before `end`. Returns 0 if there is no such canvas, or it
+ * has no such tile rows. */
+size_t trirast_canvas_bytes(uint32_t width, uint32_t height, uint32_t samples, uint32_t first, uint32_t end);
+
+/* Returns the number of tile rows of a canvas of this height. Returns 0 if there is no such canvas. */
+uint32_t trirast_canvas_rows(uint32_t height);
+
+/* Returns the number of rows of pixels of a tile row: 64. */
+uint32_t trirast_canvas_row_pixels(void);
+
+/* Checks of every call on a canvas, of which the first that fails is reported: TRIRAST_STATUS_BAD_STRUCT_SIZE,
+ * TRIRAST_STATUS_BAD_CANVAS, TRIRAST_STATUS_BAD_TILE_ROWS if first is greater than end, or end is greater than the number of
+ * tile rows, TRIRAST_STATUS_BAD_MEMORY. Then come those that the call's own text names. `first` may be `end`: then there are
+ * no samples, and memory may be NULL. */
+
+/* Makes a struct for some of the tile rows of another. The piece has no memory of its own: it is a part of the whole's.
+ *
+ * @whole: some tile rows of a canvas.
+ * @first, @end: the tile rows of the piece: from first to before end.
+ * @piece: where the struct goes.
+ *
+ * Returns TRIRAST_STATUS_OK, or the first check that fails; TRIRAST_STATUS_BAD_TILE_ROWS also if the whole lacks one of the
+ * tile rows; TRIRAST_STATUS_BAD_MEMORY also if its memory is NULL or not aligned to 2, which no other call can see. */
+static inline trirast_status trirast_canvas_piece(const trirast_canvas *whole, uint32_t first, uint32_t end,
+                                                  trirast_canvas *piece) {
+    size_t row;
+    if (whole->struct_size != sizeof(trirast_canvas)) return TRIRAST_STATUS_BAD_STRUCT_SIZE;
+    row = trirast_canvas_bytes(whole->width, whole->height, whole->samples, 0, 1);
+    if (row == 0) return TRIRAST_STATUS_BAD_CANVAS;
+    if (first < whole->first || first > end || end > whole->end || whole->end > trirast_canvas_rows(whole->height))
+        return TRIRAST_STATUS_BAD_TILE_ROWS;
+    if (whole->plane_count != (whole->end - whole->first) * (row / TRIRAST_PLANE_BYTES)) return TRIRAST_STATUS_BAD_MEMORY;
+    if (whole->plane_count != 0 && (!whole->memory || (uintptr_t)whole->memory % 2 != 0)) return TRIRAST_STATUS_BAD_MEMORY;
+    *piece = *whole;
+    piece->first = first;
+    piece->end = end;
+    piece->memory = (unsigned char *)whole->memory + (first - whole->first) * row;
+    piece->plane_count = (end - first) * (row / TRIRAST_PLANE_BYTES);
+    return TRIRAST_STATUS_OK;
+}
+
+/* Makes each sample of these tile rows one of this colour and depth.
+ *
+ * @canvas: the tile rows.
+ * @color: red, green and blue: 3 bytes.
+ * @depth: 0 to 65535.
+ *
+ * Returns TRIRAST_STATUS_OK, or the first check that fails. */
+trirast_status trirast_canvas_clear(trirast_canvas *canvas, const uint8_t *color, uint16_t depth);
+
+/* Makes a picture the colour of all samples of its pixels. Depths are unchanged.
+ *
+ * @canvas: the tile rows.
+ * @format: a trirast_format.
+ * @pixels: the first pixel of the first row of pixels of these tile rows.
+ * @size: the bytes that are there. The last row needs no padding behind its pixels.
+ * @stride: the bytes from the beginning of a row to that of the next: at least those of a row of pixels.
+ *
+ * Returns TRIRAST_STATUS_OK; or the first check that fails, then TRIRAST_STATUS_BAD_FORMAT, then
+ * TRIRAST_STATUS_BUFFER_TOO_SMALL if the stride is less than a row of pixels, or the last row of pixels ends behind size. */
+trirast_status trirast_canvas_load(trirast_canvas *canvas, trirast_format format, const void *pixels, size_t size,
+                                   size_t stride);
+
+/* Draws a batch over what is stored: each sample ends as the batch's triangles make it, one after another, in the order in
+ * which trirast_draw_scene would draw them. So a picture does not depend on the batches into which its triangles are split.
+ *
+ * Only vertices that an index names are looked at. A batch may have any number of vertices and triangles, and up to
+ * 4,294,967,295 draws. The edges of a scissor are pixels of the screen: 0 to 32,768. That of TRIRAST_BATCH_DRAW_INIT ends at
+ * 4096, which a window that lies further right or down has to change.
+ *
+ * @canvas: the tile rows.
+ * @batch: what is drawn on them.
+ * @error: why nothing was drawn.
+ *
+ * Returns TRIRAST_STATUS_OK; or the first check that fails, then TRIRAST_STATUS_BAD_STRUCT_SIZE if a size member of batch is
+ * another than its comment says, then TRIRAST_STATUS_BAD_LIST with the first error of the first draw that has one:
+ * - TRIRAST_LIST_WRONG_KIND if fewer vertices or indices are left than the draw has;
+ * - TRIRAST_LIST_OUT_OF_RANGE if a number of the draw is outside of its range;
+ * - TRIRAST_LIST_WRONG_KIND if its indices make no whole triangles or quads;
+ * - TRIRAST_LIST_TOO_MANY if the id of a triangle would be greater than 16,777,215, or first_id is greater than 16,777,216
+ *   (trirast_canvas_draw_ids alone);
+ * - TRIRAST_LIST_BAD_INDEX if an index is not less than its vertex_count;
+ * - TRIRAST_LIST_OUT_OF_RANGE if a number of a vertex that an index names is outside of its range, or the vertex is, as seen
+ *   from the window's corner: x - 256 * origin_x or y - 256 * origin_y is not -8388608 to 8388607;
+ * - TRIRAST_LIST_NOT_CONVEX if a quad is not strictly convex;
+ * or, outside of the draws, TRIRAST_LIST_TOO_MANY for too many draws, and last TRIRAST_LIST_WRONG_KIND if a vertex or an
+ * index is left over. */
+trirast_status trirast_canvas_draw(trirast_canvas *canvas, const trirast_batch *batch, trirast_error *error);
+
+/* Draws a batch in the same way, and stores in place of a colour the id of each triangle: first_id and its index in the batch,
+ * counted over all draws. Write masks and blending are not used. So each sample keeps the id of the last triangle that passed
+ * there, or the number of the colour to which it was cleared: white is 16,777,215.
+ *
+ * @first_id: the id of the first triangle. */
+trirast_status trirast_canvas_draw_ids(trirast_canvas *canvas, const trirast_batch *batch, uint32_t first_id,
+                                       trirast_error *error);
+
+/* Writes the colour of each pixel, the mean of its samples. Bytes between the rows of pixels are unchanged.
+ *
+ * @canvas, @format, @stride: as for trirast_canvas_load.
+ * @pixels: where the first pixel of the first row of pixels of these tile rows goes.
+ * @size: the bytes that are there.
+ *
+ * Returns what trirast_canvas_load returns. */
+trirast_status trirast_canvas_resolve(const trirast_canvas *canvas, trirast_format format, void *pixels, size_t size,
+                                      size_t stride);
+
+/* Writes the depth of one sample of each pixel. Entries between the rows of pixels are unchanged.
+ *
+ * @canvas: the tile rows.
+ * @sample: the index of the sample: less than canvas->samples.
+ * @depths: where that of the first pixel of the first row of pixels of these tile rows goes.
+ * @count: the entries that are there.
+ * @stride: the entries from the beginning of a row to that of the next: at least the width.
+ *
+ * Returns TRIRAST_STATUS_OK; or the first check that fails, then TRIRAST_STATUS_BAD_SAMPLE, then
+ * TRIRAST_STATUS_BUFFER_TOO_SMALL if the stride is less than the width, or the last row of pixels ends behind count. */
+trirast_status trirast_canvas_depths(const trirast_canvas *canvas, uint32_t sample, uint16_t *depths, size_t count,
+                                     size_t stride);
+
+/* Writes the id of one sample of each pixel: its red + 256 * green + 65536 * blue. The same otherwise. */
+trirast_status trirast_canvas_ids(const trirast_canvas *canvas, uint32_t sample, uint32_t *ids, size_t count, size_t stride);
+
+/* The corners of a triangle, in 1/256 pixel: -8388608 to 8388607 each. */
+typedef struct trirast_corners {
+    int32_t ax, ay;
+    int32_t bx, by;
+    int32_t cx, cy;
+} trirast_corners;
+
+/* The edge functions of a triangle at a point, in 1/65536 square pixel. For a point inside they have the sign of the doubled
+ * area, and a / doubled_area is the weight of the corner a there. */
+typedef struct trirast_edges {
+    int64_t a;            /* of the edge across from the corner a */
+    int64_t b;
+    int64_t c;
+    int64_t doubled_area; /* positive if the triangle runs clockwise on the screen; a + b + c */
+    uint64_t covered;     /* 1 if the triangle covers the point by the top-left rule, else 0 */
+} trirast_edges;
+
+/* Writes the edge functions of a triangle at a point. They are exact.
+ *
+ * @corners: the triangle.
+ * @x, @y: the point, in 1/256 pixel. The centre of pixel (i, j) is (256 * i + 128, 256 * j + 128).
+ * @edges: where they go.
+ *
+ * Returns TRIRAST_STATUS_OK, or TRIRAST_STATUS_BAD_POSITION if a coordinate is out of range. */
+trirast_status trirast_weights(const trirast_corners *corners, int32_t x, int32_t y, trirast_edges *edges);
 
 #ifdef __cplusplus
 }

@@ -1,18 +1,38 @@
-"""Builds the archive of the library for C over the libraries that `rt ci` leaves, so that the gate proves nothing twice.
+"""Builds the archives of the library for C over the libraries that were proved before, so that nothing is proved twice.
 
-`rt ci` proves `trirast_c` and writes no archive of it. What it proved of each crate below stands in crates/NAME/out/rlib, with no
-stamp, so that `rt lib` would prove these crates once more. `rattle build` takes them as they are: it checks `trirast_c` alone.
+    python3 -m tools.archive trirast_c|canvas_c|trirast_cli x86-64-v3|aarch64|wasm64 -o PATH [--rt rt]
+
+`make library` and `make web` run this for a processor for which `rt lib` has not built, since `rt lib` has one place for its archive.
+Of the program it builds the object file, without what the toolchain brings in C for x86-64 alone.
+
+The gate calls `build`. `rt ci` proves the crates of the library and writes no archive of them. What it proved of each crate
+below stands in crates/NAME/out/rlib, with no stamp, so that `rt lib` would prove these crates once more. `rattle build` takes
+them as they are: it checks one crate alone.
 """
 
 from __future__ import annotations
 
+import argparse
 import os
 import re
 import subprocess
+import sys
 from typing import Iterable, Mapping, Sequence
 
-CRATE = "trirast_c"
-ARCHIVE = os.path.join("crates", CRATE, "out", f"lib{CRATE}.a")
+from tools.places import TOP
+
+# The crates of the library, and the archives in which `make library` looks for them.
+CRATES = ("trirast_c", "canvas_c")
+PROGRAM = "trirast_cli"
+ARCHIVES = {crate: os.path.join("crates", crate, "out", f"lib{crate}.a") for crate in CRATES}
+# The processors besides the toolchain's default, x86-64-v2, with the flags that ask the toolchain for them.
+PROCESSORS = {
+    "x86-64-v3": ("--cpu", "x86-64-v3"),
+    "aarch64": ("--target", "aarch64-unknown-linux-gnu"),
+    "wasm64": ("--target", "wasm64-unknown-unknown"),
+}
+# Where a check of the crate keeps what it has checked, so that the next archive takes it over. rt uses the same folder.
+KEPT = os.path.join("out", "incremental")
 
 # Of each crate, the crates that it uses.
 Uses = Mapping[str, Sequence[str]]
@@ -49,28 +69,49 @@ def search_flags(folders: Iterable[str]) -> list[str]:
     return [flag for path in folders for flag in ("-L", f"dependency={path}")]
 
 
-def build_command(top: str, kit: str, uses: Uses) -> list[str]:
-    """The command that builds the archive, in the crate's folder. `kit` is the toolchain's folder."""
+def build_command(top: str, kit: str, uses: Uses, crate: str, archive: str, more: Sequence[str] = ()) -> list[str]:
+    """The command that builds an archive, in the crate's folder. `kit` is the toolchain's folder, `more` further flags."""
     rlibs = os.path.join(kit, "rlibs")
-    command = [os.path.join(kit, "bin", "rattle"), "build", "--crate-name", CRATE, "--crate-type", "staticlib", "src/lib.rt"]
-    for name in ["std", *uses[CRATE]]:
+    command = [os.path.join(kit, "bin", "rattle"), "build", "--crate-name", crate]
+    command += ["src/main.rt"] if crate == PROGRAM else ["--crate-type", "staticlib", "src/lib.rt"]
+    for name in ["std", *uses[crate]]:
         path = os.path.join(folder(top, name) if name in uses else rlibs, f"{name}.rlib")
         command += ["--extern", f"{name}={path}"]
-    command += search_flags([rlibs, *(folder(top, name) for name in sorted(below(CRATE, uses)))])
+    command += search_flags([rlibs, *(folder(top, name) for name in sorted(below(crate, uses)))])
     command += ["--antt-project", os.path.join(kit, "rattle", "logic", "antt-project.json")]
     command += ["--logic-built", os.path.join(kit, "logic_built"), "--toolchain", os.path.join(kit, "toolchain")]
-    return [*command, "-o", os.path.join(top, ARCHIVE)]
+    return [*command, "--incremental", KEPT, *more, "-o", os.path.join(top, archive)]
+
+
+def run(top: str, rt: str, crate: str, archive: str, more: Sequence[str], seconds: float | None = None) -> bool:
+    """Builds the archive of a crate over what is proved. Returns whether it was built."""
+    page = subprocess.run([rt, "doc"], stdout=subprocess.PIPE, text=True, check=True).stdout.strip()
+    command = build_command(top, os.path.dirname(page), read_uses(top), crate, archive, more)
+    place = os.path.join(top, "crates", crate)
+    return subprocess.run(command, cwd=place, timeout=seconds, stdin=subprocess.DEVNULL).returncode == 0
 
 
 def build(top: str, rt: str, seconds: float) -> bool:
-    """Builds the archive if rt ci has left all that it needs. Returns whether the archive was built."""
+    """Builds the archives if rt ci has left all that they need. Returns whether they were built."""
     uses = read_uses(top) if os.path.isfile(os.path.join(top, "crates.txt")) else {}
-    if CRATE not in uses or not all(is_left_by_ci(top, name) for name in below(CRATE, uses)):
-        return False
+    for crate in CRATES:
+        if crate not in uses or not all(is_left_by_ci(top, name) for name in below(crate, uses)):
+            return False
     try:
-        page = subprocess.run([rt, "doc"], stdout=subprocess.PIPE, text=True, check=True).stdout.strip()
-        command = build_command(top, os.path.dirname(page), uses)
-        crate = os.path.join(top, "crates", CRATE)
-        return subprocess.run(command, cwd=crate, timeout=seconds, stdin=subprocess.DEVNULL).returncode == 0
+        return all(run(top, rt, crate, ARCHIVES[crate], (), seconds) for crate in CRATES)
     except (OSError, subprocess.SubprocessError):
         return False
+
+
+def main() -> int:
+    parser = argparse.ArgumentParser(description="Builds an archive of the library for another processor.")
+    parser.add_argument("crate", choices=(*CRATES, PROGRAM))
+    parser.add_argument("processor", choices=PROCESSORS)
+    parser.add_argument("-o", dest="archive", required=True, metavar="PATH", help="where the archive goes")
+    parser.add_argument("--rt", default="rt", help="the toolchain's command (default rt)")
+    options = parser.parse_args()
+    return 0 if run(TOP, options.rt, options.crate, os.path.abspath(options.archive), PROCESSORS[options.processor]) else 1
+
+
+if __name__ == "__main__":
+    sys.exit(main())

@@ -1,10 +1,11 @@
-"""Runs the library, its header, the Python package and the examples of both, and compares every byte with the program's.
+"""Runs the library, its header, the packages in Python and Rust and the examples, and compares every byte with the program's.
 
     python3 -m tools.check_library [--only WORD ..] [--seed 1]
 
 `make check-library` builds the program and the library first. It prints a line for each check, names what is not installed
 and so was skipped, and ends in `N passed, M failed`, or `N passed, M failed, K skipped`. Exit status 1 if a check failed.
-What it builds is left in out/check-library/. It needs gcc; g++, pkg-config, nm, valgrind and numpy are used if they are there.
+What it builds is left in out/check-library/. It needs gcc. g++, pkg-config, nm, valgrind, numpy, matplotlib, cargo, SDL with Xvfb and
+xdotool for windows, and for ARM64 aarch64-linux-gnu-gcc and qemu-aarch64-static are used if they are there.
 """
 
 from __future__ import annotations
@@ -14,11 +15,11 @@ import os
 import shutil
 import sys
 
-from tools.library import examples, in_c, install
+from tools.library import arm64, canvas_examples, canvas_page, examples, from_rust, in_c, install
 from tools.library.commands import OUT, PACKAGE_ENVIRONMENT
 from tools.library.lists import write_lists
 from tools.library.tally import Tally
-from tools.places import PROGRAM, SHARED_LIBRARY, STATIC_LIBRARY, is_built
+from tools.places import PROGRAM, SECOND_LEVEL, SHARED_LIBRARY, STATIC_LIBRARY, is_built
 
 
 def check_from_python(tally: Tally) -> None:
@@ -27,16 +28,25 @@ def check_from_python(tally: Tally) -> None:
     tally.run_program("the Python package", command, PACKAGE_ENVIRONMENT)
 
 
-def check_all(tally: Tally) -> None:
+def check_all(tally: Tally, seed: int) -> None:
     in_c.check_libraries(tally)
     in_c.check_by_c(tally)
+    in_c.check_by_cpp(tally)
+    for language in ("c", "cpp", "python", "rust"):
+        tally.run(f"docs/canvas.md: the example in {language}", canvas_page.check, language)
     for threads in (1, 4, 7):
         tally.run(f"examples/c: frames by {threads} threads", examples.check_frames, threads)
     tally.run("examples/cpp: draw", examples.check_cpp)
+    tally.run("examples/cpp: canvas", examples.check_cpp_canvas)
+    canvas_examples.check(tally)
     tally.run("examples/python: coverage", examples.check_coverage)
     tally.run("examples/python: viewer", examples.check_viewer)
     tally.run("examples/python: what the viewer refuses", examples.check_viewer_refuses)
+    tally.run("examples/python: gouraud", examples.check_gouraud)
+    tally.run("examples/python: textured", examples.check_textured)
     check_from_python(tally)
+    from_rust.check(tally)
+    arm64.check(tally, seed)
     tally.run("make install, pkg-config, a program outside, make uninstall", install.check_install)
     tally.run("make install with DESTDIR", install.check_staged_install)
 
@@ -49,14 +59,14 @@ def main() -> int:
     options = parser.parse_args()
     if not is_built(PROGRAM, made_by="make check-library"):
         return 1
-    for path in (STATIC_LIBRARY, SHARED_LIBRARY):
+    for path in (STATIC_LIBRARY, SHARED_LIBRARY, SECOND_LEVEL):
         if not os.path.isfile(path):
             print(f"there is no library at {path}; run make check-library first", file=sys.stderr)
             return 1
     shutil.rmtree(OUT, ignore_errors=True)
     write_lists(options.seed)
     tally = Tally(options.only)
-    check_all(tally)
+    check_all(tally, options.seed)
     print(tally.counts, flush=True)
     return 1 if tally.counts.failed else 0
 

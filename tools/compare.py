@@ -3,9 +3,9 @@
     python3 -m tools.compare [--lists 1000] [--refused 1000] [--seed 1] [--program bin/trirast]
 
 Each list of tools/generated_lists.py is drawn with every tile size and several numbers of workers, and every byte is compared
-with the reference. A few lists at the ends of their ranges come first. Broken lists follow, with one mistake or more: of these
-the line on standard error, the status and the empty output are compared. Exit status 1 on any difference; the list is then
-left in out/compare/.
+with the reference. A few lists at the ends of their ranges come first, and those of tools/bound_triangles.py. Broken lists follow,
+with one mistake or more: of these the line on standard error, the status and the empty output are compared. Exit status 1 on any
+difference; the list is then left in out/compare/.
 """
 
 from __future__ import annotations
@@ -17,7 +17,7 @@ import random
 import sys
 from typing import Iterable
 
-from tools import answers, generated_lists, picture_file
+from tools import answers, bound_triangles, generated_lists, picture_file
 from tools.answers import Answer
 from tools.places import OUT, PROGRAM, TOP, is_built
 
@@ -89,7 +89,7 @@ def main() -> int:
         return 2
     comparison = Comparison(os.path.abspath(options.program))
     every = [(tile, workers) for tile in TILES for workers in WORKERS]
-    ends = list(generated_lists.at_the_ends())
+    ends = [*generated_lists.at_the_ends(), *bound_triangles.lists()]
     for k, scene in enumerate(ends):
         comparison.compare(json.dumps(scene).encode(), f"end-{k}", every)
     for k in range(options.lists):

@@ -23,7 +23,10 @@ HEAD = re.compile(r"(?:pub )?(impl|trait)\b(?:<(?:[^<>]|<[^<>]*>)*>)? (?:\w+(?:<
 CALL = re.compile(r'(?P<inside> {4})?(?P<public>pub )?(?:const )?(?:extern "C" )?fn (?P<name>\w+)')
 DEFINITION = re.compile(r"(?:abbrev |unfoldable )?pub (?!mod )(?:record |data |)(\S+)")
 # The crates that were split off from another, and that other.
-SPLIT_FROM = {"lanes": "shade", "raster": "tile", "model": "list", "checking_reader": "list", "fast_reader": "list"}
+SPLIT_FROM = {
+    "planes": "shade", "lanes": "shade", "raster": "tile", "model": "list", "checking_reader": "list", "fast_reader": "list",
+    "command_line": "trirast",
+}
 # Crates of tests and benchmarks, which promise nothing; so do those whose name ends in _tests.
 WITHOUT_PROMISES = ("acceptance", "cover_bench", "frames", "list_bench", "refused_tiles")
 

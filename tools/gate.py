@@ -3,7 +3,8 @@
     python3 -m tools.gate [--rt rt] [--without-proofs]
 
 `rt ci` proves every crate from nothing and leaves the programs that it built, which the checks then run. It proves the
-library for C too and leaves no archive of it, which `archive.py` builds over what it proved. The last line is
+library for C too and leaves no archives of it, which `archive.py` builds over what it proved. The checks run side by side, one a
+processor, and what each prints stands together, in the order in which they end. The last line is
 `N passed, M failed`, or `N passed, M failed, K skipped`, over all of them: what rt ci counts, and for each check the counts
 of its own last line, or one. A check is skipped if something of the system is missing, which is named;
 nothing is installed. Exit status 0 if nothing failed. With --without-proofs the checks run what stands in bin/ and lib/.
@@ -19,7 +20,8 @@ import subprocess
 import sys
 import threading
 import time
-from dataclasses import dataclass
+from concurrent.futures import ThreadPoolExecutor
+from dataclasses import dataclass, field
 from typing import Any, Sequence
 
 from tools import archive
@@ -27,7 +29,7 @@ from tools.counts import MISSING, Counts
 from tools.places import TOP
 
 # The crates whose programs the checks run, and the names under which they stand in bin/.
-PROGRAMS = {"trirast_cli": "trirast", "refused_tiles": "refused_tiles", "list_bench": "list_bench"}
+PROGRAMS = {"trirast_cli": "trirast", "trirast_why": "trirast_why", "refused_tiles": "refused_tiles", "list_bench": "list_bench"}
 # The library that `make library` builds for the checks.
 LIBRARY = (os.path.join("lib", "libtrirast.a"), os.path.join("lib", "libtrirast.so"))
 MINUTE = 60
@@ -61,14 +63,20 @@ CHECKS = (
     Check("the schema", module("check_schema"), 10 * MINUTE, runs_program=False),
     Check("what generated lists cover", module("test_compare"), 5 * MINUTE, runs_program=False),
     Check("generated lists", module("compare"), 20 * MINUTE),
+    Check("histories", (*module("compare_history"), "--lists", "60"), 15 * MINUTE),
     Check("checks of golden pictures", module("test_golden"), 5 * MINUTE, runs_program=False),
     Check("golden pictures", module("golden"), 15 * MINUTE),
     Check("mutants of the rules", module("mutants"), 20 * MINUTE),
     Check("the comparison with drivers", module("test_conformance", "conformance"), 15 * MINUTE, runs_program=False),
+    Check("the comparison with Direct3D", module("test_direct3d", "conformance.d3d11"), 15 * MINUTE, runs_program=False),
     Check("mistakes after failed allocations", module("test_injection"), 5 * MINUTE, runs_program=False),
     Check("allocation failures", module("allocation_failures"), 20 * MINUTE),
     Check("fault injection", module("fault_injection"), 20 * MINUTE),
+    Check("canvases", (*module("compare_canvas"), "--lists", "40"), 15 * MINUTE, runs_library=True, needs=("cc", "gcc")),
     Check("the library", module("check_library"), 30 * MINUTE, runs_library=True, needs=("cc", "gcc")),
+    Check("packages", module("check_packages"), 15 * MINUTE, runs_library=True, needs=("cc", "gcc")),
+    Check("posters", module("check_poster"), 30 * MINUTE, runs_library=True, needs=("cc", "gcc")),
+    Check("the page", module("check_web"), 15 * MINUTE, runs_library=True, needs=("cc", "gcc")),
 )
 
 
@@ -84,6 +92,10 @@ class Ended:
     last_line: str
 
 
+# The commands that run now.
+RUNNING: set[subprocess.Popen[bytes]] = set()
+
+
 def stop(child: subprocess.Popen[bytes]) -> None:
     try:
         os.killpg(child.pid, signal.SIGKILL)
@@ -91,8 +103,8 @@ def stop(child: subprocess.Popen[bytes]) -> None:
         pass
 
 
-def run(command: Sequence[str], top: str, seconds: float | None = None) -> Ended:
-    """Runs a command, and passes its output on line by line."""
+def run(command: Sequence[str], top: str, seconds: float | None = None, held: bytearray | None = None) -> Ended:
+    """Runs a command. Passes its output on line by line, or appends it to `held`."""
     environment = dict(os.environ, PYTHONUNBUFFERED="1")
     how: Any = {"stdin": subprocess.DEVNULL, "stdout": subprocess.PIPE, "stderr": subprocess.STDOUT}
     late = threading.Event()
@@ -104,13 +116,17 @@ def run(command: Sequence[str], top: str, seconds: float | None = None) -> Ended
             stop(child)
 
         timer = threading.Timer(seconds, end) if seconds else None
+        RUNNING.add(child)
         try:
             if timer:
                 timer.start()
             assert child.stdout
             for line in child.stdout:
-                sys.stdout.buffer.write(line)
-                sys.stdout.flush()
+                if held is None:
+                    sys.stdout.buffer.write(line)
+                    sys.stdout.flush()
+                else:
+                    held += line
                 last_line = line.decode(errors="replace").strip() or last_line
             status = child.wait()
         except BaseException:
@@ -119,6 +135,7 @@ def run(command: Sequence[str], top: str, seconds: float | None = None) -> Ended
             child.wait()
             raise
         finally:
+            RUNNING.discard(child)
             if timer:
                 timer.cancel()
             stop(child)
@@ -164,9 +181,11 @@ def has_library(top: str) -> bool:
 
 
 def build_library(top: str, rt: str) -> bool:
-    """Builds the library of the crate that rt ci has proved; whether it is there then."""
+    """Builds the library of the crates that rt ci has proved; whether it is there then."""
     if archive.build(top, rt, LIBRARY_SECONDS):
-        command = ("make", "-W", archive.ARCHIVE, "library", f"RT={rt}")
+        # Both archives are new.
+        new = [word for path in archive.ARCHIVES.values() for word in ("-W", path)]
+        command = ("make", *new, "library", f"RT={rt}")
     else:
         # As if a source were new, so that a library of another run is not taken.
         command = ("make", "-W", "crates.txt", "library", f"RT={rt}")
@@ -179,30 +198,76 @@ def missing(check: Check) -> list[str]:
     return [name for name in check.needs if shutil.which(name) is None]
 
 
-def try_check(check: Check, top: str, are_programs_built: bool, is_library_built: bool) -> Counts:
-    """Runs a check. Its counts: those of its last line, or one."""
-    say(f"{check.name}: {' '.join(check.command)}")
+@dataclass
+class Tried:
+    """What came of a check: its counts, those of its last line or one, and what is printed of it."""
+
+    counts: Counts
+    text: bytearray = field(default_factory=bytearray)
+
+    def say(self, text: str) -> None:
+        self.text += f"gate: {text}\n".encode()
+
+
+def try_check(check: Check, top: str, are_programs_built: bool, is_library_built: bool) -> Tried:
+    """Runs a check."""
+    tried = Tried(Counts(failed=1))
+    tried.say(f"{check.name}: {' '.join(check.command)}")
     if missing(check):
-        say(f"{check.name} SKIPPED: needs {' and '.join(missing(check))}")
-        return Counts(skipped=1)
-    if check.runs_program and not are_programs_built:
-        say(f"{check.name} FAILED: there is no program to run")
-        return Counts(failed=1)
-    if check.runs_library and not is_library_built:
-        say(f"{check.name} FAILED: there is no library to run")
-        return Counts(failed=1)
-    ended = run(check.command, top, check.seconds)
-    if ended.status is None:
-        say(f"{check.name} FAILED: it had not ended after {check.seconds} seconds")
-        return Counts(failed=1)
-    if ended.status == MISSING:
-        say(f"{check.name} SKIPPED: {ended.last_line}")
-        return Counts(skipped=1)
+        tried.say(f"{check.name} SKIPPED: needs {' and '.join(missing(check))}")
+        tried.counts = Counts(skipped=1)
+    elif check.runs_program and not are_programs_built:
+        tried.say(f"{check.name} FAILED: there is no program to run")
+    elif check.runs_library and not is_library_built:
+        tried.say(f"{check.name} FAILED: there is no library to run")
+    else:
+        ended = run(check.command, top, check.seconds, tried.text)
+        judge(check, ended, tried)
+    return tried
+
+
+def judge(check: Check, ended: Ended, tried: Tried) -> None:
+    """Counts a check that was run."""
     counts = Counts.in_line(ended.last_line)
-    if ended.status != 0:
-        say(f"{check.name} FAILED: status {ended.status}")
-        return counts if counts and counts.failed else (counts or Counts()) + Counts(failed=1)
-    return Counts(passed=1) if counts is None else counts
+    if ended.status is None:
+        tried.say(f"{check.name} FAILED: it had not ended after {check.seconds} seconds")
+    elif ended.status == MISSING:
+        tried.say(f"{check.name} SKIPPED: {ended.last_line}")
+        tried.counts = Counts(skipped=1)
+    elif ended.status != 0:
+        tried.say(f"{check.name} FAILED: status {ended.status}")
+        tried.counts = counts if counts and counts.failed else (counts or Counts()) + Counts(failed=1)
+    else:
+        tried.counts = Counts(passed=1) if counts is None else counts
+
+
+def try_all(checks: Sequence[Check], top: str, are_programs_built: bool, is_library_built: bool) -> Counts:
+    """Runs the checks side by side, those that may take longest first, and prints what each printed once it has ended."""
+    printing = threading.Lock()
+
+    def one(check: Check) -> Counts:
+        begun = time.monotonic()
+        tried = try_check(check, top, are_programs_built, is_library_built)
+        tried.say(f"{check.name}: {tried.counts}, in {time.monotonic() - begun:.0f} s")
+        with printing:
+            sys.stdout.buffer.write(tried.text)
+            sys.stdout.flush()
+        return tried.counts
+
+    longest_first = sorted(checks, key=lambda check: check.seconds, reverse=True)
+    total = Counts()
+    pool = ThreadPoolExecutor(len(os.sched_getaffinity(0)))
+    try:
+        for counts in pool.map(one, longest_first):
+            total += counts
+    except BaseException:
+        pool.shutdown(wait=False, cancel_futures=True)
+        for child in tuple(RUNNING):
+            child.terminate()
+        raise
+    finally:
+        pool.shutdown()
+    return total
 
 
 def pass_gate(top: str, rt: str, checks: Sequence[Check], with_proofs: bool = True) -> Counts:
@@ -217,12 +282,7 @@ def pass_gate(top: str, rt: str, checks: Sequence[Check], with_proofs: bool = Tr
     else:
         are_programs_built = all(os.access(program(top, name), os.X_OK) for name in PROGRAMS.values())
         is_library_built = has_library(top)
-    for check in checks:
-        begun = time.monotonic()
-        counts = try_check(check, top, are_programs_built, is_library_built)
-        say(f"{check.name}: {counts}, in {time.monotonic() - begun:.0f} s")
-        total += counts
-    return total
+    return total + try_all(checks, top, are_programs_built, is_library_built)
 
 
 def main() -> int:

@@ -12,7 +12,9 @@ EXAMPLES = os.path.join(TOP, "examples")
 
 # What `make` and `make checks` build.
 PROGRAM = os.path.join(TOP, "bin", "trirast")
+WHY_PROGRAM = os.path.join(TOP, "bin", "trirast_why")
 TILES_PROGRAM = os.path.join(TOP, "bin", "refused_tiles")
+HISTORY_PROGRAM = os.path.join(TOP, "bin", "trirast_why")
 READER_PROGRAM = os.path.join(TOP, "bin", "list_bench")
 # What `make frames` and `make model` build.
 FRAMES_PROGRAM = os.path.join(TOP, "crates", "frames", "out", "frames")
@@ -22,6 +24,9 @@ MODEL_PROGRAM = os.path.join(BENCH_OUT, "model")
 LIB = os.path.join(TOP, "lib")
 STATIC_LIBRARY = os.path.join(LIB, "libtrirast.a")
 SHARED_LIBRARY = os.path.join(LIB, "libtrirast.so")
+# The second level of x86-64, and the shared library for it.
+LEVEL = "x86-64-v3"
+SECOND_LEVEL = os.path.join(LIB, LEVEL, "libtrirast.so.1")
 INCLUDE = os.path.join(TOP, "include")
 PYTHON_SOURCES = os.path.join(TOP, "python", "src")
 

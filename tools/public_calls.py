@@ -13,8 +13,8 @@ from tools import places
 
 # The crates that the program and the library are made of.
 CRATES = (
-    "grid", "shade", "lanes", "cover", "raster", "canvas", "model", "checking_reader", "fast_reader", "list", "scene", "plain", "bins",
-    "pool", "tile", "trirast", "trirast_c",
+    "grid", "shade", "history", "planes", "lanes", "cover", "raster", "canvas", "model", "canvas_picture", "checking_reader",
+    "fast_reader", "list", "scene", "list_history", "plain", "bins", "pool", "tile", "command_line", "trirast", "trirast_c", "why",
 )
 HEAD = re.compile(r"(?:pub )?(impl|trait)\b(?:<(?:[^<>]|<[^<>]*>)*>)? (?!.* for )(\w+)")
 CALL = re.compile(r'( {4})?(pub )?(?:extern "C" )?fn (\w+)')

@@ -15,11 +15,11 @@ import subprocess
 import sys
 import tempfile
 import unittest
-from typing import Sequence
+from typing import Any, Sequence
 
 from tools import counts
 from tools.answers import drawn
-from tools.places import PROGRAM, bytes_of, is_built
+from tools.places import PROGRAM, TOP, bytes_of, is_built
 
 EXAMPLES = ("top_left", "scissor_and_masks", "gradient")
 WORKERS = 4
@@ -50,11 +50,15 @@ int main(void) {
 """
 
 
-def watched(tool: str, command: Sequence[str], text: bytes = b"") -> tuple[int, bytes, str]:
-    """Status, output and the tool's messages of a run."""
+def watched(
+    tool: str, command: Sequence[str], text: bytes = b"", folder: str = TOP, leaks: str = "definite,possible"
+) -> tuple[int, bytes, str]:
+    """Status, output and the tool's messages of a run in a folder. For memcheck, leaks of these kinds are errors."""
     options = [f"--tool={tool}", f"--error-exitcode={FOUND}", "--quiet"]
-    options += ["--leak-check=full"] if tool == "memcheck" else []
-    done = subprocess.run(["valgrind", *options, *command], input=text, capture_output=True, timeout=MAX_SECONDS)
+    if tool == "memcheck":
+        options += ["--leak-check=full", f"--show-leak-kinds={leaks}", f"--errors-for-leak-kinds={leaks}"]
+    how: Any = {"input": text, "capture_output": True, "cwd": folder, "timeout": MAX_SECONDS}
+    done = subprocess.run(["valgrind", *options, *command], **how)
     return done.returncode, done.stdout, done.stderr.decode(errors="replace")
 
 

@@ -43,8 +43,8 @@ HOW_TO_READ = """\
 """
 
 THEOREM_TEXT = """\
-If a run answers `Ok`, the input's bytes denote a draw list, and what was written is the file of that list's picture. If it
-answers a fault, `Explains` says what was read and written by then. `EndsAs`, the last definition of this page, is both. It
+If a run returns `Ok`, the input's bytes denote a draw list, and what was written is the file of that list's picture. If it
+returns an error, `Explains` says what was read and written by then. `EndsAs`, the last definition of this page, is both. It
 speaks of the bytes that a reader and a writer make known, as those over memory do.
 
 The rest of the page begins with what a sample is and ends with `EndsAs`; each definition uses only what stands before it. That a
@@ -182,8 +182,8 @@ GROUPS = (
         ("crates/model/specs/Denotes.antt",),
     ),
     Group(
-        "The first fault",
-        "All checks of an input stand in one list, in a fixed order. An input that fails one has the fault of the first that fails.",
+        "The first error",
+        "All checks of an input stand in one list, in a fixed order. An input that fails one has the error of the first that fails.",
         "this project's format, in words in `docs/draw-list.md`.",
         ("crates/model/src/fault.rt", "crates/model/specs/FirstFault.antt", "crates/model/specs/Checks.antt"),
     ),
@@ -197,12 +197,12 @@ GROUPS = (
     Group(
         "What a run does",
         "The input's bytes are those that the reader gave up to its end. What was written is the whole file, or as much of its "
-        "beginning as the fault says. What a device does not make known (`None`) is left open.",
+        "beginning as the error says. What a device does not make known (`None`) is left open.",
         "this project's own.",
         (
             "crates/grid/src/pixels.rt#TileSide",
             "crates/grid/specs/Pixels.antt#side_of",
-            "crates/trirast/src/command_line.rt",
+            "crates/command_line/src/drawing_options.rt",
             "crates/pool/src/fault.rt",
             "crates/trirast/src/fault.rt",
             "crates/trirast/specs/Runs.antt",

@@ -1,4 +1,4 @@
-"""Tests of what the lists of tools/generated_lists.py cover, as `make compare` draws them.
+"""Tests of what the lists of tools/generated_lists.py and tools/bound_triangles.py cover, as `make compare` draws them.
 
     python3 -m tools.test_compare
 """
@@ -13,7 +13,7 @@ import unittest
 from typing import ClassVar, Iterable, Iterator, Sequence
 from unittest import mock
 
-from tools import compare, counts, generated_lists, reference
+from tools import bound_triangles, compare, counts, generated_lists, reference
 from tools.draw_list import Draw, Vertex
 from tools.reference import Point, Sample, side
 
@@ -182,6 +182,48 @@ class Shapes(unittest.TestCase):
         thin = [width for width in widths() if width < 256]
         self.assertGreater(len(thin), 100)
         self.assertGreater(sum(width < 2 for width in thin), 50)
+
+
+class Bounds(unittest.TestCase):
+    """The triangles at the bound of whole values."""
+
+    def check(self, kind: bound_triangles.Kind, samples: int) -> None:
+        found: dict[int, int] = {}
+        below = 0
+        for one in bound_triangles.scene(kind, samples)["draws"]:
+            points = [(vertex[0], vertex[1]) for vertex in one["vertices"]]
+            first, second, third = (vertex[kind.place] for vertex in one["vertices"])
+            area = abs(side(*points))
+            by_unit = area // bound_triangles.unit(points, (first, second, third))
+            found[by_unit] = found.get(by_unit, 0) + 1
+            below += self.falls_short(one, kind, samples, by_unit)
+        self.assertEqual(set(found), set(bound_triangles.bounds(kind)))
+        self.assertEqual(sum(found.values()), bound_triangles.TRIANGLES)
+        self.assertGreater(min(found.values()), 80)
+        self.assertEqual(below, bound_triangles.TRIANGLES)
+
+    def falls_short(self, one: Draw, kind: bound_triangles.Kind, samples: int, by_unit: int) -> bool:
+        """Whether some first sample in the triangle's cell has a value that is 1 / by_unit below a whole number."""
+        a, b, c = one["vertices"]
+        left, top, right, bottom = one["scissor"]
+        dx, dy = reference.SAMPLES[samples][0]
+        area = side(a, b, c)
+        for x, y in itertools.product(range(left, right), range(top, bottom)):
+            p = (256 * x + dx, 256 * y + dy)
+            sides = side(b, c, p), side(c, a, p), side(a, b, p)
+            if all(one * area >= 0 for one in sides):
+                number = abs(sum(value * corner[kind.place] for value, corner in zip(sides, (a, b, c))))
+                if number * by_unit % abs(area) == 0 and (number * by_unit // abs(area) + 1) % by_unit == 0:
+                    return True
+        return False
+
+    def test_red(self) -> None:
+        for samples in reference.SAMPLES:
+            self.check(bound_triangles.RED, samples)
+
+    def test_depth(self) -> None:
+        for samples in reference.SAMPLES:
+            self.check(bound_triangles.DEPTH, samples)
 
 
 class Overdraw(unittest.TestCase):

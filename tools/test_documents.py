@@ -1,4 +1,5 @@
-"""Tests that what the documents name is there: files, definitions, commands, and the calls and clauses of proofs.md.
+"""Tests that what the documents name is there: files, definitions, commands, and the calls and clauses of proofs.md. Also that each
+public definition of specs/ has a sentence of its own, above it and in its crate's Lib.antt.
 
     python3 -m tools.test_documents
 """
@@ -8,10 +9,12 @@ from __future__ import annotations
 import glob
 import os
 import re
+import tempfile
 import unittest
 from typing import Iterator
+from unittest import mock
 
-from tools import counts, mutants, places, reference
+from tools import counts, definitions as lines, mutants, places, reference
 from tools.places import TOP, text_of
 from tools.public_calls import CRATES, calls_in, given_out, named_calls, public_calls
 
@@ -71,15 +74,16 @@ class Names(unittest.TestCase):
     def test_files(self) -> None:
         for name, text in documents().items():
             for path in set(PATH.findall(text)):
-                # A file is named from the top, from the document's folder, from crates/ or from a crate; one that a command makes
-                # is not there before it.
-                folders = ((), (os.path.dirname(name),), ("crates",), ("crates", "*"), ("crates", "*", "src"))
+                # A file is named from the top, from the document's folder, from crates/, from a crate, or as a wheel has it; one that
+                # a command makes is not there before it.
+                folders = ((), (os.path.dirname(name),), ("crates",), ("crates", "*"), ("crates", "*", "src"), ("python", "src"))
                 places = [os.path.join(TOP, *folder, path) for folder in folders]
-                if not path.startswith(("out/", "conformance/out/", "crates/NAME/")):
+                if not path.startswith(("out/", "conformance/out/", "crates/NAME/", "trirast/lib/")):
                     self.assertTrue(any(map(glob.glob, places)), f"{name}: {path}")
 
     def test_commands(self) -> None:
-        targets = set(re.findall(r"^([\w-]+):", text_of("Makefile"), re.MULTILINE))
+        rules = text_of("Makefile") + "".join(map(text_of, places.files("packaging", "*.mk")))
+        targets = set(re.findall(r"^([\w-]+):", rules, re.MULTILINE))
         for name, text in documents().items():
             named = re.findall(r"`make ([\w-]+)`", text) + re.findall(r"^make ([\w-]+)", text, re.MULTILINE)
             self.assertLessEqual(set(named), targets, name)
@@ -209,6 +213,67 @@ pub extern "C" fn version() {}
             clauses = set().union(*(known.get(call, set()) for call in calls))
             for word in set(re.findall(r"`(\w+)`", named)) - {"main"}:
                 self.assertTrue(word in clauses | calls | defined, f"{word} is no clause of {uses}")
+
+
+class Definitions(unittest.TestCase):
+    """The comments of the definitions in specs/, and the lines of each crate's Lib.antt, which `python3 -m tools.definitions` writes."""
+
+    def test_each_has_its_sentence_and_its_line(self) -> None:
+        self.assertGreaterEqual(len(lines.crates()), 15)
+        for crate in lines.crates():
+            self.assertEqual(list(lines.faults(crate)), [])
+
+    def test_all_are_read(self) -> None:
+        # Counted here by the word `pub` alone: a definition stands at the line's start, or in a module with parameters.
+        for path in places.files("crates", "*", "specs", "**", "*.antt"):
+            code = re.findall(r"^(?! *pub \w+ :)(?:.* )?pub (?!mod\b|use\b).*", re.sub(r"--.*", "", text_of(path)), re.MULTILINE)
+            self.assertEqual(len(list(lines.definitions_in(text_of(path)))), len(code), path)
+
+    def test_faults_are_seen(self) -> None:
+        code = "abbrev pub f : ℕ → ℕ\nf n = n\n\n"
+        for comment, fault in (
+            ("", "no comment"),
+            ("-- ---- numbers\n", "no comment"),
+            ("-- The same.\n\n", "no comment"),
+            ("-- its number.\n", "does not begin"),
+            ("-- Its number\n", "full stop"),
+            (f"-- {'Long ' * 30}number.\n", "too long"),
+        ):
+            (found,) = lines.definitions_in(comment + code)
+            self.assertRegex(" ".join(lines.faults_of(found)), fault)
+        for comment in ("-- n is its own number.\n", "-- Its number,\n-- as it is. And more.\n", "-- ---- numbers\n-- 1 if it is.\n"):
+            (found,) = lines.definitions_in(comment + code)
+            self.assertEqual(list(lines.faults_of(found)), [])
+
+    def test_first_sentence_is_the_line(self) -> None:
+        text = "-- A row\n-- of f.g. And more.\npub record Row (n : ℕ) : Type 0 where\n  pub first : ℕ\n\nmodule _ {X : Type 0} where\n"
+        text += "  -- A row in it.\n  abbrev pub inner : X → ℕ\n  inner x = 0\n"
+        self.assertEqual([one.line for one in lines.definitions_in(text)], ["--   Row: A row of f.g.", "--   inner: A row in it."])
+
+    def test_lines_of_lib_are_compared(self) -> None:
+        with tempfile.TemporaryDirectory() as top, mock.patch.object(places, "TOP", top):
+            folder = os.path.join(top, "crates", "a", "specs")
+            os.makedirs(folder)
+
+            def put(name: str, text: str) -> None:
+                with open(os.path.join(folder, name), "w", encoding="utf-8") as file:
+                    file.write(text)
+
+            put("B.antt", "use Rattle.a.specs.C.{g}\n\n-- Twice n.\nabbrev pub f : ℕ → ℕ\nf n = g n\n")
+            put("C.antt", "-- The same n.\nabbrev pub g : ℕ → ℕ\ng n = n\n")
+            put("Lib.antt", "pub mod B\npub mod C\n")
+            self.assertRegex(" ".join(lines.faults("a")), r"Lib\.antt: this line is missing: --   f: Twice n\.")
+            lines.write("a")
+            self.assertEqual(list(lines.faults("a")), [])
+            whole = text_of("crates", "a", "specs", "Lib.antt")
+            first, last = "-- B.antt\n--   f: Twice n.\n", "-- C.antt\n--   g: The same n.\n"
+            self.assertTrue(whole.endswith(f"{last}--\n{first}\npub mod B\npub mod C\n"))
+            put("Lib.antt", whole.replace(f"{last}--\n{first}", f"{first}--\n{last}"))
+            self.assertRegex(" ".join(lines.faults("a")), "reading order")
+            put("Lib.antt", whole.replace("--   g: The", "--   h: The"))
+            self.assertRegex(" ".join(lines.faults("a")), "missing: --   g: .* of no definition: --   h: ")
+            put("Lib.antt", whole.replace("pub mod B\n", ""))
+            self.assertRegex(" ".join(lines.faults("a")), "B is no module of it")
 
 
 if __name__ == "__main__":

@@ -15,7 +15,7 @@ import textwrap
 import unittest
 from typing import Any, Sequence
 
-from tools import counts, gate
+from tools import archive, counts, gate
 from tools.counts import Counts
 
 
@@ -41,6 +41,45 @@ class Lines(unittest.TestCase):
 
     def test_counts_are_added(self) -> None:
         self.assertEqual(Counts(1, 2, 3) + Counts(10, 20, 30), Counts(11, 22, 33))
+
+
+class Archives(unittest.TestCase):
+    """The archives of the library, by commands that stand for rt and for the compiler."""
+
+    def setUp(self) -> None:
+        folder = tempfile.TemporaryDirectory()
+        self.addCleanup(folder.cleanup)
+        self.top = folder.name
+        for path in ("bin", "crates/grid/out/rlib/grid.rlib", *(os.path.dirname(path) for path in archive.ARCHIVES.values())):
+            os.makedirs(os.path.join(self.top, path))
+        with open(os.path.join(self.top, "crates.txt"), "w", encoding="utf-8") as file:
+            file.write("grid:\n" + "".join(f"{crate} staticlib: grid\n" for crate in archive.CRATES))
+        self.rt = self.command("rt", f"print({os.path.join(self.top, 'page.md')!r})")
+        self.command(os.path.join("bin", "rattle"), "open(sys.argv[-1], 'w').write(' '.join(sys.argv))")
+
+    def command(self, name: str, line: str) -> str:
+        path = os.path.join(self.top, name)
+        with open(path, "w", encoding="utf-8") as file:
+            file.write(f"#!{sys.executable}\nimport sys\n{line}\n")
+        os.chmod(path, 0o755)
+        return path
+
+    def test_each_is_built_over_the_crates_that_rt_ci_left(self) -> None:
+        self.assertTrue(archive.build(self.top, self.rt, 60))
+        for crate, path in archive.ARCHIVES.items():
+            with open(os.path.join(self.top, path), encoding="utf-8") as file:
+                written = file.read()
+            self.assertIn(f"--crate-name {crate} ", written)
+            self.assertIn(f"--extern grid={os.path.join(self.top, 'crates/grid/out/rlib/grid.rlib')} ", written)
+
+    def test_none_is_built_over_crates_of_another_run(self) -> None:
+        self.command("crates/grid/out/rlib/stamp", "")
+        self.assertFalse(archive.build(self.top, self.rt, 60))
+        self.assertFalse(any(os.path.exists(os.path.join(self.top, path)) for path in archive.ARCHIVES.values()))
+
+    def test_a_failed_build_is_seen(self) -> None:
+        self.command(os.path.join("bin", "rattle"), "sys.exit(sys.argv[3] == 'canvas_c')")
+        self.assertFalse(archive.build(self.top, self.rt, 60))
 
 
 class Gate(unittest.TestCase):
@@ -110,6 +149,21 @@ class Gate(unittest.TestCase):
         self.assertEqual(self.total(self.rt("5 passed, 0 failed"), failing), Counts(12, 2, 0))
         unsaid = check("print('7 passed, 0 failed'); raise SystemExit(1)")
         self.assertEqual(self.total(self.rt("5 passed, 0 failed"), unsaid), Counts(12, 1, 0))
+
+    @unittest.skipIf(len(os.sched_getaffinity(0)) < 2, "needs two processors")
+    def test_checks_run_side_by_side_and_print_apart(self) -> None:
+        one, other = (os.path.join(self.top, name) for name in ("one", "other"))
+        meeting = """if True:
+            import os, time
+            print('{0} begins', flush=True)
+            open({0!r}, 'w').close()
+            while not os.path.exists({1!r}): time.sleep(0.01)
+            print('{0} ends')
+            """
+        checks = [check(meeting.format(*paths)) for paths in ((one, other), (other, one))]
+        self.assertEqual(self.total(self.rt("5 passed, 0 failed"), *checks), Counts(7, 0, 0))
+        for path in (one, other):
+            self.assertIn(f"{path} begins\n{path} ends\n", self.printed)
 
     def test_a_check_that_does_not_end_is_stopped(self) -> None:
         endless = check("import subprocess, sys; subprocess.run([sys.executable, '-c', 'while True: pass'])", seconds=1)

@@ -3,7 +3,7 @@
 // A plane holds 2^56 times a channel's value, or 2^48 times a depth. Its upper 32 bits are stepped over sixteen pixels at
 // once; one unit is the last of these bits. The plane stands a little higher than the value, so that a height is above the
 // value by three units at most, and below it nowhere. So the whole part of a height is right where its fraction is three units
-// or more. Elsewhere it may be one too high, and the sign of what is left over tells.
+// or more. Elsewhere it may be one too high, and the sign of the remainder decides.
 
 #pragma once
 

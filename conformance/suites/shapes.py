@@ -5,7 +5,7 @@ from __future__ import annotations
 import random
 from typing import Any, Callable, Iterator, Sequence
 
-from tools.draw_list import Draw, DrawList, Vertex
+from tools.draw_list import Draw, DrawList, Vertex, triangles_of
 from tools.reference import BAND, SAMPLES
 
 Point = tuple[int, int]
@@ -37,6 +37,12 @@ def draw(triangles: Sequence[Triangle], **state: Any) -> Draw:
     """A draw of triangles given by their vertices."""
     vertices = [corner for triangle in triangles for corner in triangle]
     return {**state, "vertices": vertices, "triangles": [[3 * n, 3 * n + 1, 3 * n + 2] for n in range(len(triangles))]}
+
+
+def is_flat(draw: Draw) -> bool:
+    """Whether each triangle of a draw has one colour, and one alpha."""
+    vertices = draw["vertices"]
+    return all(vertices[a][3:] == vertices[b][3:] == vertices[c][3:] for a, b, c in triangles_of(draw))
 
 
 def flat(points: Points, colour: Colour = WHITE, z: int = 0, alpha: int = 255) -> Triangle:

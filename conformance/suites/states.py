@@ -91,3 +91,14 @@ def order(rng: random.Random, samples: int) -> Lists:
             if rng.getrandbits(2) == 0:
                 triangles += triangles[:2]
         yield f"rectangles, {n}", scene([draw(triangles[:120]), draw(triangles[120:])], samples)
+
+
+def clear(rng: random.Random, samples: int) -> Lists:
+    """Pictures in which nothing is drawn, and a rectangle beside what was cleared."""
+    for first in range(0, 256, 32):
+        for channel in range(3):
+            values = [0, 0, 0]
+            values[channel] = first + rng.randrange(1, 32)
+            triangles = rectangle(*box_of_pixels(rng), own_colour(first + channel))
+            yield f"channel {channel} cleared to {values[channel]}", scene([draw(triangles)], samples, clear=values)
+    yield "cleared to white", scene([], samples, clear=[255, 255, 255])

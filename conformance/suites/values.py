@@ -40,6 +40,16 @@ def blending(rng: random.Random, samples: int) -> Lists:
         yield f"any alpha, {n}", scene([draw(triangles, blend="over")], samples, clear=list(any_colour(rng)))
 
 
+def one_layer(rng: random.Random, samples: int) -> Lists:
+    """Squares of 8 by 8 pixels beside each other, each with a colour and an alpha of its own over one clear colour."""
+    for n in range(8):
+        triangles = []
+        for top in range(0, SIDE, 8):
+            for left in range(0, SIDE, 8):
+                triangles += rectangle(left, top, left + 8, top + 8, any_colour(rng), alpha=rng.getrandbits(8))
+        yield f"alphas, {n}", scene([draw(triangles, blend="over")], samples, clear=list(any_colour(rng)))
+
+
 def ladder(first: int, stride: int) -> list[Draw]:
     """Layers over the whole picture at rising depths; the last one that is not behind a stored depth stays, so that the
     picture shows the depth."""

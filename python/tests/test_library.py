@@ -1,4 +1,4 @@
-"""The library is loaded at the first call, and the package's version is the header's."""
+"""The library is loaded at the first call, and the package has the repository's version and the header's interface."""
 
 import os
 import re
@@ -8,9 +8,19 @@ import unittest
 from typing import Dict
 
 import trirast
+from trirast import _version
 
 PYTHON = os.path.dirname(os.path.dirname(os.path.abspath(__file__)))
-HEADER = os.path.join(os.path.dirname(PYTHON), "include", "trirast.h")
+TOP = os.path.dirname(PYTHON)
+
+
+def text_of(*path: str) -> str:
+    """The text of a file of the repository. Skips the test if the package lies in none."""
+    whole = os.path.join(TOP, *path)
+    if not os.path.exists(whole):
+        raise unittest.SkipTest(f"there is no {os.path.join(*path)} beside the package")
+    with open(whole, encoding="ascii") as file:
+        return file.read()
 
 
 def run(text: str, **more: str) -> "subprocess.CompletedProcess[bytes]":
@@ -29,12 +39,12 @@ class Library(unittest.TestCase):
         done = run("import sys, trirast\nprint('numpy' in sys.modules)")
         self.assertEqual((done.stdout, done.returncode), (b"False\n", 0))
 
-    def test_has_the_version_of_the_header(self) -> None:
-        if not os.path.exists(HEADER):
-            self.skipTest("there is no include/trirast.h beside the package")
-        with open(HEADER, encoding="ascii") as file:
-            found = re.search(r"^#define TRIRAST_VERSION (\S+)$", file.read(), re.MULTILINE)
-        self.assertEqual(trirast.__version__, found and found[1])
+    def test_has_the_version_of_the_repository(self) -> None:
+        self.assertEqual(trirast.__version__, text_of("VERSION").strip())
+
+    def test_has_the_interface_of_the_header(self) -> None:
+        header = text_of("include", "trirast.h")
+        self.assertEqual(re.findall(r"^#define TRIRAST_VERSION (\S+)$", header, re.MULTILINE), [str(_version.INTERFACE)])
 
 
 if __name__ == "__main__":

@@ -65,8 +65,18 @@ size_t offset_of(const list_case *one, uint32_t tile_size, uint32_t row);
 // The way in which allocations fail, in memory.c.
 void compare_memory(void);
 
-// The way that draws from arrays, and a call on those of a case, in scenes.c.
+// The way that draws on canvases, in canvases.c.
+void compare_canvases(void);
+
+// The way that draws a large batch, in large_batch.c.
+void compare_large_batches(void);
+
+// Makes each call on a canvas of a case that has arrays.
+void draw_on_canvas(const list_case *one);
+
+// The way that draws from arrays, and the arrays of a case, in scenes.c.
 void compare_scenes(void);
+void scene_of(const list_case *one, trirast_scene_head *head, trirast_batch *batch);
 trirast_status draw_arrays(const list_case *one, uint32_t tile_size, marked *buffer, trirast_error *error);
 
 #endif

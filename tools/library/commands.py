@@ -6,16 +6,19 @@ import os
 import re
 import shutil
 import subprocess
+import sys
 from typing import Any, Sequence
 
-from tools import answers, picture_file, places
+from tools import answers, picture_file, places, races
 from tools.answers import Answer
 from tools.library.tally import MAX_SECONDS, CheckError, MissingError, must
-from tools.places import LIB, PROGRAM, PYTHON_SOURCES
+from tools.places import LIB, PROGRAM, PYTHON_SOURCES, TOP
 
 OUT = os.path.join(places.OUT, "check-library")
 SHARED = ("-L", LIB, "-ltrirast", f"-Wl,-rpath,{LIB}")
 WARNINGS = ("-Wall", "-Wextra", "-Wpedantic", "-Werror")
+# The Python whose packages are Debian's.
+DEBIAN_PYTHON = "/usr/bin/python3"
 # The environment in which Python finds the package without an installation.
 PACKAGE_ENVIRONMENT = {**os.environ, "PYTHONPATH": PYTHON_SOURCES}
 
@@ -25,6 +28,15 @@ def need(name: str) -> str:
     if shutil.which(name) is None:
         raise MissingError(name)
     return name
+
+
+def python_with(*packages: str) -> str:
+    """Returns a Python that has these packages: the one that runs this, else Debian's. Raises `MissingError` if neither has them all."""
+    for python in (sys.executable, DEBIAN_PYTHON):
+        imports = [python, "-c", f"import {', '.join(packages)}"]
+        if shutil.which(python) and not subprocess.run(imports, stderr=subprocess.DEVNULL, timeout=MAX_SECONDS).returncode:
+            return python
+    raise MissingError(f"Python with {' and '.join(packages)}")
 
 
 def run(command: Sequence[str], **more: Any) -> bytes:
@@ -38,6 +50,28 @@ def run(command: Sequence[str], **more: Any) -> bytes:
         message = (done.stderr or output).decode(errors="replace").strip()
         raise CheckError(f"{os.path.basename(command[0])} ended with status {done.returncode}: {message[-600:]}")
     return output
+
+
+def must_be_silent(tool: str, command: Sequence[str], text: bytes = b"", leaks: str = "definite,possible") -> bytes:
+    """Runs a command under a tool of valgrind, and returns its output. Raises `CheckError` if it fails or the tool finds something."""
+    need("valgrind")
+    status, output, messages = races.watched(tool, command, text, OUT, leaks)
+    must(status == 0 and "==" not in messages, f"status {status}: {messages[:600]}")
+    return output
+
+
+def run_package_tests(python: str = sys.executable, *more: str) -> str:
+    """Runs the package's own tests, with further arguments of unittest, and returns what they print last. Raises `CheckError` if one fails."""
+    command = [python, "-W", "error", "-m", "unittest", "discover", "-s", "python/tests", "-t", "python", *more]
+    done = subprocess.run(command, cwd=TOP, env=PACKAGE_ENVIRONMENT, capture_output=True, timeout=MAX_SECONDS)
+    lines = done.stderr.decode().splitlines()
+    must(done.returncode == 0, "\n".join(lines[-30:]))
+    return f"{lines[-3]}, {lines[-1]}"
+
+
+def make(*arguments: str) -> None:
+    """Runs make at the top of the repository."""
+    run(["make", "-s", "-C", TOP, *arguments])
 
 
 def drawn_by_program(text: bytes) -> Answer:

@@ -4,13 +4,14 @@ from __future__ import annotations
 
 import json
 import os
+import re
 import subprocess
 import sys
 
 from tools import picture_file, places, reference
 from tools.draw_list import DrawList, encode
 from tools.library.commands import (
-    OUT, PACKAGE_ENVIRONMENT, SHARED, WARNINGS, drawn_by_program, must_be_the_programs, need, run,
+    OUT, PACKAGE_ENVIRONMENT, SHARED, WARNINGS, drawn_by_program, must_be_the_programs, need, python_with, run,
 )
 from tools.library.lists import read_lists
 from tools.library.tally import MAX_SECONDS, must
@@ -18,19 +19,26 @@ from tools.places import EXAMPLES, INCLUDE, STATIC_LIBRARY
 
 C_EXAMPLE = os.path.join(EXAMPLES, "c", "frames.c")
 CPP_EXAMPLE = os.path.join(EXAMPLES, "cpp", "draw.cpp")
+CANVAS_EXAMPLE = os.path.join(EXAMPLES, "cpp", "canvas.cpp")
 PYTHON_EXAMPLES = os.path.join(EXAMPLES, "python")
 FRAMES = 6
 # What coverage.py prints of a triangle: a line of its own, and one for each row of pixels.
 COVERAGE_LINES = 9
 
 
+def build_frames() -> str:
+    """Builds the frame loop. Returns its path."""
+    program = os.path.join(OUT, "frames")
+    flags = ["-std=c11", "-O2", "-g", *WARNINGS, "-I", INCLUDE]
+    run([need("gcc"), *flags, "-o", program, C_EXAMPLE, *SHARED, "-pthread", "-lm"])
+    return program
+
+
 def check_frames(threads: int) -> None:
     """Each frame of the frame loop has the bytes that the program writes for its list."""
     folder = os.path.join(OUT, f"frames-{threads}")
     os.makedirs(folder)
-    program = os.path.join(OUT, "frames")
-    flags = ["-std=c11", "-O2", *WARNINGS, "-I", INCLUDE]
-    run([need("gcc"), *flags, "-o", program, C_EXAMPLE, *SHARED, "-pthread", "-lm"])
+    program = build_frames()
     run([program, "--frames", str(FRAMES), "--threads", str(threads), folder])
     for frame in range(FRAMES):
         path = os.path.join(folder, f"frame-{frame}")
@@ -48,6 +56,31 @@ def check_cpp() -> str:
         wanted = drawn_by_program(text)
         must((done.returncode, done.stdout, done.stderr) == wanted, f"other bytes for {text[:200]!r}")
     return f"{len(lists.drawn)} lists drawn and {len(lists.refused)} refused"
+
+
+# What canvas.cpp draws.
+SOLID = [[160, 10, 1000, 255, 0, 0, 255], [310, 200, 30000, 0, 255, 0, 255], [10, 230, 60000, 0, 0, 255, 255]]
+GLASS = [[0, 40, 20000, 255, 255, 255, 200], [320, 100, 20000, 255, 255, 0, 90], [40, 200, 20000, 0, 255, 255, 30]]
+
+
+def build_cpp_canvas() -> str:
+    """Builds the example of a canvas in C++. Returns its path."""
+    program = os.path.join(OUT, "canvas")
+    flags = ["-std=c++17", "-O2", "-g", *WARNINGS, "-I", INCLUDE, "-pthread"]
+    run([need("g++"), *flags, "-o", program, CANVAS_EXAMPLE, STATIC_LIBRARY])
+    return program
+
+
+def check_cpp_canvas() -> None:
+    """The example of a canvas in C++ writes the program's picture of its triangles."""
+    program = build_cpp_canvas()
+    states: list[DrawList] = [{"depth_write": True}, {"blend": "over"}]
+    draws = [
+        {"vertices": [[256 * row[0], 256 * row[1], *row[2:]] for row in rows], "triangles": [[0, 1, 2]], "depth_test": "less", **state}
+        for rows, state in zip((SOLID, GLASS), states)
+    ]
+    scene: DrawList = {"width": 320, "height": 240, "samples": 4, "clear": [24, 24, 32], "draws": draws}
+    must(run([program]) == drawn_by_program(encode(scene)).output, "other bytes")
 
 
 # ---- coverage.py
@@ -123,6 +156,39 @@ def check_viewer_refuses() -> None:
         must(done.returncode == 1 and message == f"{path}: {wanted}\n", f"{wanted}: {message}")
     write(path, points + "f 1 2 3\n" * 65536)
     check_view(path)
+
+
+# ---- Programs over numpy
+
+
+def printed_by(python: str, name: str, *arguments: str) -> str:
+    """Runs an example in Python, and returns what it prints."""
+    return run([python, os.path.join(PYTHON_EXAMPLES, name), *arguments], env=PACKAGE_ENVIRONMENT).decode().strip()
+
+
+def check_gouraud() -> str:
+    """gouraud.py finds no pixel of a seam in the meshes of trirast.matplotlib, and many in Agg's."""
+    path = os.path.join(OUT, "gouraud.png")
+    text = printed_by(python_with("numpy", "matplotlib"), "gouraud.py", path)
+    found = re.findall(r"^(Agg|trirast): (.*): (\d+) of (\d+) pixels", text, re.MULTILINE)
+    must(len(found) == 4 and os.path.getsize(path) > 0, text)
+    for name, mesh, seams, pixels in found:
+        must(int(seams) == 0 if name == "trirast" else int(seams) > int(pixels) // 2, f"{name}, {mesh}: {seams} of {pixels} pixels")
+    return "; ".join(f"{name}, {mesh}: {seams}" for name, mesh, seams, _pixels in found)
+
+
+def check_textured() -> str:
+    """The positions that textured.py interpolates lie at their samples, and its picture does not depend on the number of threads."""
+    python, pictures = python_with("numpy"), []
+    for threads in ("1", "3"):
+        path = os.path.join(OUT, f"textured-{threads}.ppm")
+        text = printed_by(python, "textured.py", path, "--size", "150", "130", "--threads", threads)
+        pictures.append(places.bytes_of(path))
+    off, off_on_screen = (float(number) for number in re.findall(r"\d+\.\d+", text))
+    # A vertex lies up to 1/512 pixel off in each direction, since positions on the screen are rounded.
+    must(off < 1 / 64 and off_on_screen > 5, text)
+    must(pictures[0] == pictures[1] and len(pictures[0]) == len(b"P6\n450 130\n255\n") + 450 * 130 * 3, "another picture")
+    return text.splitlines()[-1]
 
 
 def write(path: str, text: str) -> None:

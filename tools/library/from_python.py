@@ -13,7 +13,6 @@ import importlib
 import importlib.util
 import json
 import os
-import subprocess
 import sys
 import threading
 from typing import Any, Callable
@@ -21,10 +20,10 @@ from typing import Any, Callable
 import trirast
 
 from tools.draw_list import Draw, DrawList
-from tools.library.commands import OUT, PACKAGE_ENVIRONMENT, blocks_of_the_page, run
+from tools.library.commands import OUT, PACKAGE_ENVIRONMENT, blocks_of_the_page, python_with, run, run_package_tests
 from tools.library.lists import Lists, read_lists
-from tools.library.tally import MAX_SECONDS, CheckError, MissingError, Tally, must
-from tools.places import TOP, bytes_of
+from tools.library.tally import CheckError, MissingError, Tally, must
+from tools.places import bytes_of
 
 # A tile size and the threads: each list is drawn by one of these pairs.
 SIZES_AND_THREADS = ((8, 1), (16, 2), (32, 4), (64, 100))
@@ -136,11 +135,12 @@ def check_errors(lists: Lists) -> str:
 
 def check_package_tests() -> str:
     """The package's own tests pass, by the standard library alone."""
-    command = [sys.executable, "-W", "error", "-m", "unittest", "discover", "-s", "python/tests", "-t", "python"]
-    done = subprocess.run(command, cwd=TOP, env=PACKAGE_ENVIRONMENT, capture_output=True, timeout=MAX_SECONDS)
-    lines = done.stderr.decode().splitlines()
-    must(done.returncode == 0, "\n".join(lines[-30:]))
-    return f"{lines[-3]}, {lines[-1]}"
+    return run_package_tests()
+
+
+def check_matplotlib() -> str:
+    """The tests of the backend of matplotlib pass, by a Python that has matplotlib."""
+    return run_package_tests(python_with("numpy", "matplotlib"), "-p", "test_matplotlib.py")
 
 
 def check_page() -> None:
@@ -177,6 +177,25 @@ def check_numpy() -> None:
     must(depths.shape == (2, 3) and depths[1, 2] == 258, "another picture of depths")
 
 
+def check_numpy_canvas() -> None:
+    """A canvas takes numpy's arrays, and gives them."""
+    if importlib.util.find_spec("numpy") is None:
+        raise MissingError("numpy")
+    numpy: Any = importlib.import_module("numpy")
+    canvas = trirast.Canvas(3, 2, samples=4)
+    canvas.clear((1, 2, 3), 258)
+    colours, depths, ids = canvas.rgb(), canvas.depth(3), canvas.ids()
+    must((colours.shape, colours.dtype, colours[1, 2].tolist()) == ((2, 3, 3), numpy.uint8, [1, 2, 3]), "other colours")
+    must((depths.shape, depths.dtype, depths[1, 2]) == ((2, 3), numpy.uint16, 258), "other depths")
+    must((ids.shape, ids.dtype, ids[1, 2]) == ((2, 3), numpy.uint32, 1 + 256 * 2 + 65536 * 3), "other ids")
+    image = numpy.arange(24, dtype=numpy.uint8).reshape(2, 3, 4)
+    canvas.load(image)
+    must((canvas.rgba()[:, :, :3] == image[:, :, :3]).all() and canvas.depth()[0, 0] == 258, "another picture was loaded")
+    vertices = numpy.array([[0, 0, 0, 9, 9, 9, 255], [2048, 0, 0, 9, 9, 9, 255], [0, 2048, 0, 9, 9, 9, 255]], dtype=numpy.int32)
+    canvas.draw(vertices, numpy.array([[0, 1, 2]], dtype=numpy.uint32))
+    must((canvas.rgb(numpy.empty((2, 3, 3), numpy.uint8)) == 9).all(), "other pixels")
+
+
 def main() -> int:
     parser = argparse.ArgumentParser(description="Checks the Python package against the program.")
     parser.add_argument("--only", nargs="+", metavar="WORD", default=(), help="checks whose name has one of these words")
@@ -186,9 +205,11 @@ def main() -> int:
     tally.run("Python raises the program's errors", check_errors, lists)
     tally.run("Python draws in four threads at the same time", check_threads, lists)
     tally.run("python/tests", check_package_tests)
+    tally.run("python/tests: matplotlib", check_matplotlib)
     tally.run("Python of docs/library.md", check_page)
     tally.run("Python offers numpy's array protocol", check_array_interface)
     tally.run("numpy takes a picture", check_numpy)
+    tally.run("numpy takes and gives what a canvas has", check_numpy_canvas)
     print(tally.counts, flush=True)
     return 1 if tally.counts.failed else 0
 

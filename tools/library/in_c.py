@@ -1,20 +1,29 @@
-"""The header, the two libraries, and the test in C over both, also under memcheck."""
+"""The header, the two libraries, and the test in C over both, also under memcheck and drd."""
 
 from __future__ import annotations
 
 import os
 import re
 import subprocess
+from typing import Sequence
 
 from tools import places
-from tools.library.commands import OUT, SHARED, WARNINGS, need, run
+from tools.library.commands import OUT, SHARED, WARNINGS, must_be_silent, need, run
 from tools.library.tally import MAX_SECONDS, Tally, must
-from tools.places import INCLUDE, SHARED_LIBRARY, STATIC_LIBRARY, TOP
+from tools.places import INCLUDE, LEVEL, LIB, SECOND_LEVEL, SHARED_LIBRARY, STATIC_LIBRARY, TOP
 
 SOURCES = os.path.join(TOP, "tools", "library")
-WAYS = ("pictures", "rows", "buffers", "refused", "lines", "odd", "scenes", "threads", "stack", "memory")
-# Not by memcheck: the lists of 64 MiB, which take minutes there, and the stack, of which valgrind keeps its own account.
-MEMCHECKED = ("pictures", "rows", "buffers", "refused", "lines", "scenes", "threads", "memory")
+# The parts of the test but the way in which allocations fail.
+PARTS = ("main", "cases", "scenes", "canvases", "refused_canvases", "large_batch")
+WAYS = ("pictures", "rows", "buffers", "refused", "lines", "odd", "scenes", "canvases", "large", "threads", "stack", "memory")
+# Not by memcheck: the lists of 64 MiB and the large batch, which take minutes there, and the stack, of which valgrind keeps its own
+# account.
+MEMCHECKED = ("pictures", "rows", "buffers", "refused", "lines", "scenes", "canvases", "threads", "memory")
+# By drd: the ways that start threads.
+WITH_THREADS = ("canvases", "threads")
+
+# What the second level of x86-64 asks of a processor beyond the first, by the names of /proc/cpuinfo; abm is lzcnt.
+OF_THE_LEVEL = {"avx", "avx2", "bmi1", "bmi2", "f16c", "fma", "abm", "movbe", "xsave"}
 
 # What the linker and the start files name, and what the C library serves.
 OF_THE_LINKER = {
@@ -26,14 +35,14 @@ OF_THE_C_LIBRARY = {"malloc", "realloc", "free", "memcpy", "memmove", "memset", 
 # ---- The header and the libraries
 
 
-def check_header(compiler: str, language: str, standard: str) -> None:
-    """The header compiles without a warning, also if it is included twice."""
+def check_header(compiler: str, language: str, standard: str, header: str = "trirast.h") -> None:
+    """A header compiles without a warning, also if it is included twice."""
     command = [need(compiler), f"-std={standard}", *WARNINGS, "-fsyntax-only", "-I", INCLUDE, "-x", language, "-"]
-    run(command, input=b"#include <trirast.h>\n#include <trirast.h>\n")
+    run(command, input=2 * f"#include <{header}>\n".encode())
 
 
-def symbols(path: str, *flags: str) -> set[str]:
-    lines = run([need("nm"), *flags, path]).decode().splitlines()
+def symbols(path: str, *flags: str, tool: str) -> set[str]:
+    lines = run([need(tool), *flags, path]).decode().splitlines()
     return {line.split()[-1].split("@")[0] for line in lines if line.strip() and not line.endswith(":")}
 
 
@@ -43,16 +52,16 @@ def declared() -> set[str]:
     return set(re.findall(r"^(?:trirast_status|uint32_t|size_t) (trirast_\w+)\(", header, re.MULTILINE))
 
 
-def check_exports(path: str, *flags: str) -> str:
-    """A library exports the calls of the header and nothing else."""
-    found = symbols(path, *flags, "--defined-only", "--extern-only")
+def check_exports(path: str, *flags: str, tool: str = "nm") -> str:
+    """A library exports the calls of the header and nothing else. `tool` is nm for the library's processor."""
+    found = symbols(path, *flags, "--defined-only", "--extern-only", tool=tool)
     must(found == declared(), f"{sorted(found ^ declared())} in one of library and header alone")
     return f"{len(found)} calls"
 
 
-def check_needs(path: str, *flags: str) -> str:
-    """A library needs of the system only the heap and the functions that move memory."""
-    found = symbols(path, *flags, "--undefined-only") - OF_THE_LINKER
+def check_needs(path: str, *flags: str, tool: str = "nm") -> str:
+    """A library needs of the system only the heap and the functions that move memory. `tool` is as in `check_exports`."""
+    found = symbols(path, *flags, "--undefined-only", tool=tool) - OF_THE_LINKER
     must(found <= OF_THE_C_LIBRARY, f"it needs {sorted(found - OF_THE_C_LIBRARY)}")
     return ", ".join(sorted(found))
 
@@ -62,8 +71,10 @@ def check_libraries(tally: Tally) -> None:
         tally.run(f"header as {standard}", check_header, "gcc", "c", standard)
     for standard in ("c++11", "c++20"):
         tally.run(f"header as {standard}", check_header, "g++", "c++", standard)
-    for path, flags in ((SHARED_LIBRARY, ("-D",)), (STATIC_LIBRARY, ())):
-        name = os.path.basename(path)
+    for standard in ("c++17", "c++20"):
+        tally.run(f"trirast.hpp as {standard}", check_header, "g++", "c++", standard, "trirast.hpp")
+    for path, flags in ((SHARED_LIBRARY, ("-D",)), (STATIC_LIBRARY, ()), (SECOND_LEVEL, ("-D",))):
+        name = os.path.relpath(path, LIB)
         tally.run(f"{name} shows the calls of the header alone", check_exports, path, *flags)
         tally.run(f"{name} needs the heap and moves of memory alone", check_needs, path, *flags)
 
@@ -80,41 +91,68 @@ def build_test(name: str, sources: tuple[str, ...], *more: str) -> None:
 def build_tests() -> None:
     """Builds the test over the static library, in which allocations can be made to fail, and over the shared one."""
     wraps = [f"-Wl,--wrap={name}" for name in ("malloc", "realloc", "free")]
-    build_test("test_static", ("main", "cases", "scenes", "memory"), "-DWRAPPED", STATIC_LIBRARY, *wraps)
-    build_test("test_shared", ("main", "cases", "scenes"), *SHARED)
+    build_test("test_static", (*PARTS, "memory"), "-DWRAPPED", STATIC_LIBRARY, *wraps)
+    build_test("test_shared", PARTS, *SHARED)
 
 
-def check_in_c(tally: Tally, program: str, way: str, manifest: str) -> None:
-    """Runs one way of the test in C, each line of which is a check."""
-    command = [os.path.join(OUT, program), way, f"lists/{manifest}"]
+def check_in_c(tally: Tally, program: Sequence[str], name: str, way: str, manifest: str) -> None:
+    """Runs one way of the test in C, each line of which is a check. `program` is the command that runs it."""
+    command = [*program, way, f"lists/{manifest}"]
     done = subprocess.run(command, cwd=OUT, capture_output=True, timeout=MAX_SECONDS)
     lines = done.stdout.decode().splitlines()
     for line in lines:
         outcome, _, what = line.partition(" ")
         if outcome in ("ok", "failed"):
-            tally.record(outcome, f"{program}: {what}")
+            tally.record(outcome, f"{name}: {what}")
         else:
             print(f"        {line}")
     if done.returncode and not any(line.startswith("failed") for line in lines):
-        tally.record("failed", f"{program} {way}", f"status {done.returncode} {done.stderr.decode()[-600:]}")
+        tally.record("failed", f"{name} {way}", f"status {done.returncode} {done.stderr.decode()[-600:]}")
 
 
-def check_memory_use(way: str) -> None:
-    """One way of the test under memcheck has no error, and leaves no block."""
-    flags = ["-q", "--error-exitcode=9", "--leak-check=full", "--show-leak-kinds=all", "--errors-for-leak-kinds=all"]
-    command = [need("valgrind"), *flags, os.path.join(OUT, "test_static"), way, "lists/few.txt"]
-    done = subprocess.run(command, cwd=OUT, capture_output=True, timeout=MAX_SECONDS)
-    must(done.returncode == 0 and not done.stderr, f"status {done.returncode}: {done.stderr.decode()[:600]}")
+def check_by_cpp(tally: Tally) -> None:
+    """Runs the test of trirast.hpp, each line of which is a check, and once more under memcheck."""
+    program = os.path.join(OUT, "test_cpp")
+    source = os.path.join(SOURCES, "canvases.cpp")
+    flags = ["-std=c++17", "-O2", "-g", *WARNINGS, "-I", INCLUDE]
+
+    def build() -> None:
+        run([need("g++"), *flags, "-o", program, source, STATIC_LIBRARY])
+
+    if tally.run("trirast.hpp: its test builds", build):
+        check_in_c(tally, [program], "trirast.hpp", "canvases", "few.txt")
+        tally.run("memcheck finds nothing in trirast.hpp", check_watched, "memcheck", "canvases", program)
+
+
+def check_second_level(tally: Tally, program: Sequence[str]) -> None:
+    """The second level of x86-64 draws the same bytes, if this machine's processor has it."""
+    name = f"test_shared by {LEVEL}"
+    with open("/proc/cpuinfo", encoding="ascii", errors="replace") as file:
+        flags = set(re.findall(r"\w+", next((line for line in file if line.startswith("flags")), "")))
+    if not OF_THE_LEVEL <= flags:
+        tally.record("skipped", name, f"the processor has no {', '.join(sorted(OF_THE_LEVEL - flags))}")
+        return
+    for way in ("pictures", "scenes", "canvases", "threads"):
+        check_in_c(tally, ["env", f"LD_PRELOAD={SECOND_LEVEL}", *program], name, way, "all.txt")
+
+
+def check_watched(tool: str, way: str, program: str = os.path.join(OUT, "test_static")) -> None:
+    """One way of a test under memcheck, or under drd, has no error, and leaves no block."""
+    must_be_silent(tool, [program, way, "lists/few.txt"], leaks="all")
 
 
 def check_by_c(tally: Tally) -> None:
     if not tally.run("the test in C builds", build_tests):
         return
+    static, shared = ([os.path.join(OUT, name)] for name in ("test_static", "test_shared"))
     for way in WAYS:
         if not tally.only or way in tally.only:
-            check_in_c(tally, "test_static", way, "few.txt" if way == "memory" else "all.txt")
+            check_in_c(tally, static, "test_static", way, "few.txt" if way == "memory" else "all.txt")
     if not tally.only:
-        check_in_c(tally, "test_shared", "pictures", "all.txt")
-        check_in_c(tally, "test_shared", "threads", "all.txt")
+        for way in ("pictures", "canvases", "threads"):
+            check_in_c(tally, shared, "test_shared", way, "all.txt")
+        check_second_level(tally, shared)
     for way in MEMCHECKED:
-        tally.run(f"memcheck finds nothing in {way}", check_memory_use, way)
+        tally.run(f"memcheck finds nothing in {way}", check_watched, "memcheck", way)
+    for way in WITH_THREADS:
+        tally.run(f"drd finds nothing in {way}", check_watched, "drd", way)

@@ -6,18 +6,17 @@ import os
 import tempfile
 
 from tools import places
-from tools.library.commands import OUT, WARNINGS, blocks_of_the_page, drawn_by_program, need, run
+from tools.library.commands import OUT, WARNINGS, blocks_of_the_page, drawn_by_program, make, need, run
 from tools.library.tally import must
-from tools.places import EXAMPLES, TOP
+from tools.places import EXAMPLES, LEVEL
 
 INSTALLED = (
-    "bin/trirast", "include/trirast.h", "lib/libtrirast.a", "lib/libtrirast.so", "lib/libtrirast.so.1",
-    "lib/pkgconfig/trirast.pc", "share/man/man1/trirast.1", "share/trirast/draw-list.schema.json",
+    "bin/trirast", "bin/trirast_why", "include/trirast.h", "include/trirast.hpp", "lib/cmake/trirast/trirast-config-version.cmake",
+    "lib/cmake/trirast/trirast-config.cmake", f"lib/glibc-hwcaps/{LEVEL}/libtrirast.so.1", "lib/libtrirast.a",
+    "lib/libtrirast.so", "lib/libtrirast.so.1",
+    "lib/pkgconfig/trirast.pc", "share/man/man1/trirast.1", "share/man/man1/trirast_why.1",
+    "share/trirast/draw-list.schema.json", "share/trirast/history.schema.json",
 )
-
-
-def make(*arguments: str) -> None:
-    run(["make", "-s", "-C", TOP, *arguments])
 
 
 def files_below(folder: str) -> tuple[str, ...]:

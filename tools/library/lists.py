@@ -127,6 +127,14 @@ def write_lists(seed: int) -> None:
     keep("few.txt", "".join(lines[:5] + lines[30:60:10] + lines[-2:]).encode())
 
 
+def write_many(seed: int, count: int) -> None:
+    """Writes further generated lists, and the manifest many.txt of these, of the examples and of the few lists."""
+    pick = random.Random(f"many {seed}")
+    lines = [keep_list(f"many-{number}", json.dumps(generated_lists.a_list(pick)).encode()) for number in range(count)]
+    examples = [line for line in places.text_of(FOLDER, "all.txt").splitlines(keepends=True) if "lists/example-" in line]
+    keep("many.txt", (places.text_of(FOLDER, "few.txt") + "".join(examples + lines)).encode())
+
+
 def read_lists(manifest: str) -> Lists:
     """Reads the lists of a manifest that `write_lists` has written."""
     lists = Lists()

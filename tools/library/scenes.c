@@ -16,7 +16,7 @@ static trirast_status draw_scene(const scene *all, uint32_t tile_size, marked *b
 }
 
 // The arrays of a case are three counts, the head without its size, and the arrays one after another.
-trirast_status draw_arrays(const list_case *one, uint32_t tile_size, marked *buffer, trirast_error *error) {
+static scene scene_in(const list_case *one) {
     const uint32_t *numbers = (const uint32_t *)(const void *)one->arrays.bytes;
     scene all = {TRIRAST_SCENE_HEAD_INIT, TRIRAST_BATCH_INIT};
     memcpy((uint32_t *)&all.head + 1, numbers + 3, sizeof all.head - sizeof all.head.struct_size);
@@ -24,7 +24,17 @@ trirast_status draw_arrays(const list_case *one, uint32_t tile_size, marked *buf
     all.batch.draws = (const trirast_batch_draw *)(numbers + 2 + sizeof all.head / sizeof *numbers);
     all.batch.vertices = (const trirast_vertex *)(all.batch.draws + all.batch.draw_count);
     all.batch.indices = (const uint32_t *)(all.batch.vertices + all.batch.vertex_count);
+    return all;
+}
+
+trirast_status draw_arrays(const list_case *one, uint32_t tile_size, marked *buffer, trirast_error *error) {
+    scene all = scene_in(one);
     return draw_scene(&all, tile_size, buffer, error);
+}
+
+void scene_of(const list_case *one, trirast_scene_head *head, trirast_batch *batch) {
+    scene all = scene_in(one);
+    *head = all.head, *batch = all.batch;
 }
 
 static void compare_scene(const list_case *one, uint32_t tile_size, size_t size, trirast_status due) {

@@ -38,15 +38,15 @@ class Tally:
         self.counts += OUTCOMES[outcome]
         print(f"{outcome:7} {name}{': ' if remark else ''}{remark}", flush=True)
 
-    def run(self, name: str, check: Callable[..., str | None], *arguments: Any) -> bool:
-        """Runs a check, which may return a remark. Returns whether it was run and passed.
+    def run(self, name: str, check: Callable[..., str | None], *arguments: Any, **named: Any) -> bool:
+        """Runs a check with these arguments, which may return a remark. Returns whether it was run and passed.
 
         The check fails if it raises an error, and is skipped if it raises `MissingError`.
         """
         if self.only and not any(word in name for word in self.only):
             return False
         try:
-            self.record("ok", name, check(*arguments) or "")
+            self.record("ok", name, check(*arguments, **named) or "")
             return True
         except MissingError as missing:
             self.record("skipped", name, f"there is no {missing}")

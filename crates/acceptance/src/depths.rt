@@ -106,7 +106,7 @@ fn half(alloc: Global) -> Result<Vec<u8>, AllocError> {
 
 /// The header has 15 bytes, and each of the first two tile rows 32 * 65 * 2 = 4,160.
 #[test]
-fn tells_how_many_bytes_of_depths_went_out(rt: HostRuntime) -> Result<(), Fail> {
+fn reports_how_many_bytes_of_depths_went_out(rt: HostRuntime) -> Result<(), Fail> {
     let expected = half(rt.alloc())?;
     assert_eq!(rt; expected.len(), 8465);
     for room in [0, 5, 14, 15, 16, 4174, 4175, 4176, 8335, 8464usize] {

@@ -1,10 +1,13 @@
 //! Lists that are no draw lists, and lists at their limits.
 use crate::support::{PIXELS, TRIANGLE, call, draws, refuses};
 use std::alloc::{AllocError, Global};
+use std::process::Abort;
+use std::sync::Wait;
 use std::test::Fail;
+use std::thread::Threads;
 
 #[test]
-fn tells_the_first_fault_of_a_list(rt: HostRuntime) -> Result<(), Fail> {
+fn reports_the_first_fault_of_a_list(rt: HostRuntime) -> Result<(), Fail> {
     for (list, line) in [
         ("", "list fault 1 NotJson"),
         (r#"{"width":1"#, "list fault 1 NotJson"),
@@ -175,18 +178,26 @@ fn takes_lists_at_their_limits(rt: HostRuntime) -> Result<(), Fail> {
     Ok(())
 }
 
+/// Asserts that the program refuses the list of these draws with this line.
+fn refuses_crowded<R: Threads + Wait + Sync + Abort>(
+    rt: &R,
+    alloc: Global,
+    draws: &[(usize, usize)],
+    line: &str,
+) -> Result<(), Fail> {
+    let list = crowded(alloc, draws)?;
+    refuses(rt, alloc, list.as_bytes(), line)
+}
+
 #[test]
 fn refuses_lists_past_their_limits(rt: HostRuntime) -> Result<(), Fail> {
-    let alloc = rt.alloc();
-    for (first, second, line) in [
-        ((65_537, 1), (3, 1), "list fault 7 TooMany in draw 0"),
-        ((3, 65_537), (3, 1), "list fault 7 TooMany in draw 0"),
-        ((3, 40_000), (3, 25_537), "list fault 7 TooMany in draw 1"),
-    ] {
-        let list = crowded(alloc, &[first, second])?;
-        refuses(&rt, alloc, list.as_bytes(), line)?;
-    }
-    Ok(())
+    let (in_first, in_second) = (
+        "list fault 7 TooMany in draw 0",
+        "list fault 7 TooMany in draw 1",
+    );
+    refuses_crowded(&rt, rt.alloc(), &[(65_537, 1), (3, 1)], in_first)?;
+    refuses_crowded(&rt, rt.alloc(), &[(3, 65_537), (3, 1)], in_first)?;
+    refuses_crowded(&rt, rt.alloc(), &[(3, 40_000), (3, 25_537)], in_second)
 }
 
 #[test]

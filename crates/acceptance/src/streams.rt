@@ -30,7 +30,7 @@ fn run_over<R: Threads + Wait + Sync>(
 
 // The last read that fails is the one after the last byte, which would have returned the end of the input.
 #[test]
-fn tells_of_each_read_that_fails(rt: HostRuntime) -> Result<(), Fail> {
+fn reports_of_each_read_that_fails(rt: HostRuntime) -> Result<(), Fail> {
     let bytes = TRIANGLE.as_bytes();
     for a_call in [1, 7] {
         let reads = bytes.len().div_ceil(a_call) as u64 + 1;
@@ -84,7 +84,7 @@ fn column(alloc: Global) -> Result<Vec<u8>, AllocError> {
 }
 
 #[test]
-fn tells_how_much_went_out_at_each_byte(rt: HostRuntime) -> Result<(), Fail> {
+fn reports_how_much_went_out_at_each_byte(rt: HostRuntime) -> Result<(), Fail> {
     let expected = column(rt.alloc())?;
     assert_eq!(rt; expected.len(), 111);
     for room in 0..111usize {
@@ -100,7 +100,7 @@ fn tells_how_much_went_out_at_each_byte(rt: HostRuntime) -> Result<(), Fail> {
 }
 
 #[test]
-fn tells_how_much_went_out_of_a_larger_picture(rt: HostRuntime) -> Result<(), Fail> {
+fn reports_how_much_went_out_of_a_larger_picture(rt: HostRuntime) -> Result<(), Fail> {
     let expected = half(rt.alloc())?;
     assert_eq!(rt; expected.len(), 12_688);
     for room in 0..12_688usize {
@@ -119,7 +119,7 @@ const PLACES: [usize; 12] = [
 ];
 
 #[test]
-fn tells_how_much_went_out_with_seven_workers(rt: HostRuntime) -> Result<(), Fail> {
+fn reports_how_much_went_out_with_seven_workers(rt: HostRuntime) -> Result<(), Fail> {
     let expected = half(rt.alloc())?;
     for room in PLACES {
         for end in [End::Fails, End::TakesNothing] {
@@ -149,7 +149,7 @@ fn writes_in_small_pieces_and_flushes_once(rt: HostRuntime) -> Result<(), Fail> 
 }
 
 /// Calls the program without arguments over this source. Asserts that it reports this line, with status 1, and writes no picture.
-fn tells_of_the_input<R: Threads + Wait + Sync + Abort>(
+fn reports_of_the_input<R: Threads + Wait + Sync + Abort>(
     rt: &R,
     alloc: Global,
     source: Source<'_>,
@@ -170,27 +170,27 @@ fn tells_of_the_input<R: Threads + Wait + Sync + Abort>(
 }
 
 #[test]
-fn tells_on_its_line_that_the_input_failed(rt: HostRuntime) -> Result<(), Fail> {
+fn reports_on_its_line_that_the_input_failed(rt: HostRuntime) -> Result<(), Fail> {
     let bytes = TRIANGLE.as_bytes();
     let line = b"trirast: input failed\n".as_slice();
     for calls_left in 0..bytes.len() as u64 + 1 {
         let source = Source::failing(bytes, 1, calls_left);
-        tells_of_the_input(&rt, rt.alloc(), source, line)?;
+        reports_of_the_input(&rt, rt.alloc(), source, line)?;
     }
     // If the bytes so far denote no list, that is not reported.
-    tells_of_the_input(&rt, rt.alloc(), Source::failing(b"{]", 1, 2), line)
+    reports_of_the_input(&rt, rt.alloc(), Source::failing(b"{]", 1, 2), line)
 }
 
 #[test]
-fn tells_on_its_line_that_the_input_is_too_long(rt: HostRuntime) -> Result<(), Fail> {
+fn reports_on_its_line_that_the_input_is_too_long(rt: HostRuntime) -> Result<(), Fail> {
     // It is not reported that the bytes denote no list.
     let source = Source::padded(b"{]", 67_108_863);
-    tells_of_the_input(&rt, rt.alloc(), source, b"trirast: input too long\n")
+    reports_of_the_input(&rt, rt.alloc(), source, b"trirast: input too long\n")
 }
 
 /// Calls the program without arguments, with a list and an output that fails. Asserts that it reports after how many bytes the
 /// output failed, with status 1, and that exactly these bytes were written.
-fn tells_of_the_output<R: Threads + Wait + Sync + Abort>(
+fn reports_of_the_output<R: Threads + Wait + Sync + Abort>(
     rt: &R,
     alloc: Global,
     sink: Sink,
@@ -214,19 +214,19 @@ fn tells_of_the_output<R: Threads + Wait + Sync + Abort>(
 }
 
 #[test]
-fn tells_on_its_line_after_how_many_bytes_the_output_failed(rt: HostRuntime) -> Result<(), Fail> {
+fn reports_on_its_line_after_how_many_bytes_the_output_failed(rt: HostRuntime) -> Result<(), Fail> {
     let expected = half(rt.alloc())?;
     for room in PLACES {
         for end in [End::Fails, End::TakesNothing] {
             let sink = Sink::new(rt.alloc(), room, end);
             let part = expected.get(..room).unwrap_or_default();
-            tells_of_the_output(&rt, rt.alloc(), sink, part)?;
+            reports_of_the_output(&rt, rt.alloc(), sink, part)?;
         }
     }
     // A flush that fails comes after the whole file.
     let mut sink = Sink::new(rt.alloc(), 20_000, End::Fails);
     sink.can_flush = false;
-    tells_of_the_output(&rt, rt.alloc(), sink, &expected)
+    reports_of_the_output(&rt, rt.alloc(), sink, &expected)
 }
 
 /// Calls the program, and asserts that it reports this line with this status and output. Asserts that status and output are the

@@ -51,7 +51,7 @@ fn writes_the_header_of_depths_and_rows(rt: HostRuntime) -> Result<(), Fail> {
 }
 
 #[test]
-fn tells_how_much_of_a_header_went_out(rt: HostRuntime) -> Result<(), Fail> {
+fn reports_how_much_of_a_header_went_out(rt: HostRuntime) -> Result<(), Fail> {
     for (room, end) in [(0, End::Fails), (5, End::TakesNothing), (16, End::Fails)] {
         let mut out = Counted::new(Sink::in_pieces(rt.alloc(), room, 3, end));
         let fault = WriteFault {
@@ -68,7 +68,7 @@ fn tells_how_much_of_a_header_went_out(rt: HostRuntime) -> Result<(), Fail> {
 
 // The header has 13 bytes, and each row 60.
 #[test]
-fn tells_how_much_of_a_file_went_out_at_each_byte(rt: HostRuntime) -> Result<(), Fail> {
+fn reports_how_much_of_a_file_went_out_at_each_byte(rt: HostRuntime) -> Result<(), Fail> {
     let mut pixels = Vec::new(rt.alloc());
     for place in 0..1200u32 {
         pixels.push((place % 251) as u8)?;

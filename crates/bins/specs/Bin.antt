@@ -30,16 +30,17 @@ pub record IsBin (l : Scene) (IsNeeded : Placed → Type 0) (bin : List ℕ) : T
 abbrev pub IsBinOf : Scene → TileGrid → ℕ → List ℕ → Type 0
 IsBinOf l g k bin = IsBin l (λ t. MeetsRect t l.count (rect_of g k)) bin
 
--- The bins of consecutive tiles, of which this is the first.
+-- The bins of consecutive tiles, and the number of the first of these tiles.
 pub record TileBins : Type 0 where
   pub first : ℕ
   pub bins : List (List ℕ)
 
--- Tile k has its bin here.
+-- Tile k is one of those whose bins these are.
 pub record HasTile (b : TileBins) (k : ℕ) : Type 0 where
   pub from : b.first ≤ k
   pub below : k < b.first + length b.bins
 
+-- The bin of tile k, and an empty one if the tile has none here.
 abbrev pub bin_of : TileBins → ℕ → List ℕ
 bin_of b k = slice_index_or b.bins (k - b.first) []
 

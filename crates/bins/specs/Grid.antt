@@ -14,16 +14,19 @@ pub record TileGrid : Type 0 where
 abbrev pub tiles_over : ℕ → TileSide → ℕ
 tiles_over pixels side = (pixels + side_of side - 1) / side_of side
 
+-- How many columns of tiles the picture has.
 abbrev pub columns_of : TileGrid → ℕ
 columns_of g = tiles_over g.width g.side
 
+-- How many rows of tiles the picture has.
 abbrev pub rows_of : TileGrid → ℕ
 rows_of g = tiles_over g.height g.side
 
+-- How many tiles the picture has.
 abbrev pub tiles_of : TileGrid → ℕ
 tiles_of g = columns_of g * rows_of g
 
--- The tile of this column and row of tiles: a square, cut to the picture.
+-- The pixels of the tile of this column and row of tiles: a square, cut to the picture.
 abbrev pub rect_at : TileGrid → ℕ → ℕ → PixelBox
 rect_at g column row =
     let side = side_of g.side in record {
@@ -33,7 +36,7 @@ rect_at g column row =
       y1 = pos (min g.height (side * row + side));
     }
 
--- Tile k stands in column k % columns and row k / columns.
+-- The pixels of tile k, which stands in column k % columns and row k / columns of tiles.
 abbrev pub rect_of : TileGrid → ℕ → PixelBox
 rect_of g k = rect_at g (k % columns_of g) (k / columns_of g)
 
@@ -48,7 +51,7 @@ pub record IsInPicture (g : TileGrid) (i j : ℕ) : Type 0 where
   pub column : i < g.width
   pub row : j < g.height
 
--- The limits of a picture (this project's).
+-- A picture is at most 4096 by 4096 pixels, and not empty (this project's limits).
 pub record IsWithinLimits (g : TileGrid) : Type 0 where
   pub wide : 1 ≤ g.width
   pub width : g.width ≤ 4096

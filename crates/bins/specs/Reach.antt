@@ -9,6 +9,7 @@ use Rattle.grid.specs.declared.triangle.Tri.{Tri}
 use Rattle.bins.specs.declared.reach.Columns.{Columns}
 use Rattle.bins.specs.Grid.{TileGrid, rect_at}
 
+-- This column of tiles is one of the columns.
 pub record HasColumn (columns : Columns) (column : ℕ) : Type 0 where
   pub from : columns.first ≤ column
   pub below : column < columns.end

@@ -8,6 +8,7 @@ use Rattle.bins.specs.declared.tile_run.TileRun.{TileRun}
 use Rattle.bins.specs.Bin.{MeetsRect}
 use Rattle.bins.specs.Grid.{TileGrid, columns_of, rect_of}
 
+-- Whether a run has this tile.
 abbrev pub has_tile : ℕ → TileRun → Bool
 has_tile tile run = nat_le run.first tile && nat_lt tile run.end
 
@@ -24,8 +25,8 @@ pub record IsTileRunOver (tiles : ℕ) (run : TileRun) : Type 0 where
 abbrev pub IsVisitedBefore : TileGrid → ℕ → ℕ → ℕ → ℕ → Type 0
 IsVisitedBefore g n row m tile = (m < n) ⊎ ((m ≡ n) × (tile < row * columns_of g))
 
--- The runs, over the tiles of `rows` tile rows from `first_row` on, of the triangles before number n, and of triangle n in the
--- first `row` of these tile rows. Tiles are counted from the first of these tile rows on.
+-- The runs of the triangles before number n, and of triangle n in the first `row` of these tile rows. They lie over the tiles of
+-- `rows` tile rows from `first_row` on, and tiles are counted from the first of these tile rows on.
 pub record AreTileRuns (l : Scene) (g : TileGrid) (first_row rows : ℕ) (n row : ℕ) (runs : List TileRun) : Type 0 where
   pub few : length runs ≤ n * rows + row
   pub over : All (IsTileRunOver (rows * columns_of g)) runs

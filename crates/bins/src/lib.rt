@@ -9,9 +9,6 @@ mod sorting;
 mod tile_run;
 mod tiling;
 
-pub use batch::{BATCH, fetch};
+pub use batch::Batch;
 pub use bins::Bins;
 pub use tiling::Tiling;
-
-#[cfg(test)]
-mod tests;

@@ -2,7 +2,7 @@
 ghost use Rattle.std.specs.Prelude.{◌≡◌, ◌+◌, ◌≤◌, ◌^◌, length, slice_get, Some, IfOk, OnOk};
 ghost use Rattle.bins.specs.Grid.{rows_of, IsWithinLimits};
 
-use crate::batch::{BATCH, fetch};
+use crate::batch::Batch;
 use crate::reach::{Columns, overlap};
 use crate::tiling::Tiling;
 use cover::Setup;
@@ -39,22 +39,15 @@ impl TileRun {
         ensures runs { IfOk result (λ runs. AreTileRuns list.now tiling.now first_row rows (length list.now.triangles) 0 runs.items) }
     {
         let mut runs = Vec::new(alloc);
-        let Some(number) = numbers.first() else {
+        let Some(mut batch) = Batch::of(list, numbers) else {
             return Ok(runs);
         };
-        let mut batch = [list.triangle(*number as usize); BATCH];
-        let mut first = 0;
-        fetch(list, numbers, first, &mut batch);
         for place in 0..numbers.len() {
-            if place - first == BATCH {
-                first = place;
-                fetch(list, numbers, first, &mut batch);
-            }
-            let triangle = &batch[place - first];
+            batch.go_on(list, numbers, place);
             push_runs(
                 list,
                 numbers[place],
-                triangle,
+                batch.triangle(place),
                 tiling,
                 first_row,
                 rows,

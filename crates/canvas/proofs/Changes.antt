@@ -1,5 +1,5 @@
 -- Samples that are changed one after another.
-use Rattle.std.proofs.Common.{◌≡◌, ◌≢◌, ◌⊎◌, ◌∙◌, inl, inr, refl, sym, ap, subst, ℕ, ◌+◌, ◌-◌, ◌*◌, ◌/◌, ◌%◌, ◌<◌, ◌≤◌, List, [], length, slice_set, arith}
+use Rattle.std.proofs.Common.{◌≡◌, ◌≢◌, ◌⊎◌, ◌∙◌, inl, inr, refl, sym, ap, subst, ℕ, ◌+◌, ◌-◌, ◌*◌, ◌/◌, ◌%◌, ◌<◌, ◌≤◌, List, length, slice_set, arith}
 use Rattle.std.specs.Prelude.{slice_index_or}
 use Rattle.std.proofs.lemmas.Bool.{cases_lt}
 use Rattle.std.proofs.lemmas.List.{get_or-set_same, get_or-set_other}
@@ -11,7 +11,7 @@ use Rattle.lanes.specs.Block.{stored_at}
 use Rattle.canvas.specs.declared.canvas.Canvas.{Canvas}
 use Rattle.canvas.specs.declared.format.Format.{Format}
 use Rattle.canvas.specs.declared.format.Format.TheVariants.{Rgb8, Rgba8, Bgra8}
-use Rattle.canvas.specs.Layout.{HasSample, columns_of, planes_of_tile, planes_of_row, place_in_tile, place_in_row, place_of, stored}
+use Rattle.canvas.specs.Layout.{IsStoredIn, columns_of, planes_of_tile, planes_of_row, place_in_tile, place_in_row, place_of, stored}
 use Rattle.canvas.specs.Pixels.{pixel_bytes}
 use Rattle.canvas.specs.Loaded.{coloured, AreChanged}
 use Rattle.canvas.proofs.Places.{none, within_tile, within_row}
@@ -46,7 +46,7 @@ module _ (c : Canvas) (first : ℕ) where
       (omega (arith, columns, blocks, k), omega (arith, rows, blocks, k, from, from'), block.1)
 
   -- ---- one sample
-  module _ (end i j s : ℕ) (here : HasSample c first end i j s) (middle : List BlockSamples) (plane : BlockSamples) (room : place_of c first i j s < length middle) where
+  module _ (end i j s : ℕ) (here : IsStoredIn c first end i j s) (middle : List BlockSamples) (plane : BlockSamples) (room : place_of c first i j s < length middle) where
     abbrev after : List BlockSamples
     after = slice_set middle (place_of c first i j s) plane
 
@@ -54,7 +54,7 @@ module _ (c : Canvas) (first : ℕ) where
     at_sample = ap (λ p. stored_at p (pixel_in_block i j)) (get_or-set_same middle (place_of c first i j s) plane none room)
 
     module _ (kept : (n : ℕ) → n < 64 → n ≢ pixel_in_block i j → stored_at plane n ≡ stored_at (slice_index_or middle (place_of c first i j s) none) n) where
-      at_other : (i' j' s' : ℕ) → HasSample c first end i' j' s' → ((i' ≡ i) × (j' ≡ j) × (s' ≡ s) → ⊥) → stored c first after i' j' s' ≡ stored c first middle i' j' s'
+      at_other : (i' j' s' : ℕ) → IsStoredIn c first end i' j' s' → ((i' ≡ i) × (j' ≡ j) × (s' ≡ s) → ⊥) → stored c first after i' j' s' ≡ stored c first middle i' j' s'
       at_other i' j' s' h other =
           elim (cases_eq (place_of c first i' j' s') (place_of c first i j s)) [
             | inr apart ↦ ap (λ p. stored_at p (pixel_in_block i' j')) (get_or-set_other middle (place_of c first i j s) (place_of c first i' j' s') plane none apart)
@@ -87,7 +87,7 @@ module _ (c : Canvas) (first : ℕ) where
           }
 
 -- the same, by a number that is the sample's place
-pub one_sample_more : (c : Canvas) (first end i j s : ℕ) → HasSample c first end i j s → (middle old : List BlockSamples) (plane : BlockSamples) (end_of : ℕ → ℕ → Sample → Sample) (place : ℕ) → place ≡ place_of c first i j s → place < length middle
+pub one_sample_more : (c : Canvas) (first end i j s : ℕ) → IsStoredIn c first end i j s → (middle old : List BlockSamples) (plane : BlockSamples) (end_of : ℕ → ℕ → Sample → Sample) (place : ℕ) → place ≡ place_of c first i j s → place < length middle
     → ((n : ℕ) → n < 64 → n ≢ pixel_in_block i j → stored_at plane n ≡ stored_at (slice_index_or middle place none) n)
     → stored_at plane (pixel_in_block i j) ≡ end_of i j (stored_at (slice_index_or middle place none) (pixel_in_block i j))
     → AreChanged c first end (λ column row n. ((column ≡ i) × (row ≡ j)) × (n < s)) end_of old middle
@@ -121,7 +121,7 @@ pub no_change : (c : Canvas) (first end : ℕ) (V : ℕ → ℕ → ℕ → Type
 no_change c first end V end_of xs none_of = record { changed = λ i j s h v. absurd (none_of i j s v); kept = λ i j s h n. refl }
 
 pub changes_where : (c : Canvas) (first end : ℕ) (V W : ℕ → ℕ → ℕ → Type 0) (end_of : ℕ → ℕ → Sample → Sample) (old new : List BlockSamples)
-    → ((i j s : ℕ) → HasSample c first end i j s → W i j s → V i j s) → ((i j s : ℕ) → HasSample c first end i j s → V i j s → W i j s) → AreChanged c first end V end_of old new → AreChanged c first end W end_of old new
+    → ((i j s : ℕ) → IsStoredIn c first end i j s → W i j s → V i j s) → ((i j s : ℕ) → IsStoredIn c first end i j s → V i j s → W i j s) → AreChanged c first end V end_of old new → AreChanged c first end W end_of old new
 changes_where c first end V W end_of old new from into a = record {
   changed = λ i j s h w. a.changed i j s h (from i j s h w);
   kept = λ i j s h n. a.kept i j s h (λ v. n (into i j s h v));

@@ -15,7 +15,7 @@ use Rattle.raster.specs.Samples.{IsSampleOf, AreAll, stored as in_tile}
 use Rattle.raster.specs.Drawing.{DrawsTile}
 use Rattle.canvas.proofs.Cut.{put}
 use Rattle.canvas.specs.declared.canvas.Canvas.{Canvas}
-use Rattle.canvas.specs.Layout.{HasSample, columns_of, planes_of_tile, planes_of_row, planes_of_rows, place_of, stored}
+use Rattle.canvas.specs.Layout.{IsStoredIn, planes_of_tile, planes_of_row, planes_of_rows, place_of, stored}
 use Rattle.canvas.specs.Drawing.{AreCleared, HaveEnds, TileHasEnds}
 use Rattle.canvas.proofs.Places.{within_rows, row_of, tile_of, row_put, row_kept, tile_put, tile_kept}
 
@@ -35,22 +35,59 @@ tile_more ts tile n t old middle new below is before draws row column s h =
 pub tile_ends : (ts : List Placed) (tile : Tile) (n : ℕ) (old new : List BlockSamples) → length ts ≤ n → TileHasEnds (take n ts) tile old new → TileHasEnds ts tile old new
 tile_ends ts tile n old new past h = rw (take_all n ts past) at h
 
--- ---- the tiles of a row, one after another
+-- ---- parts of tile rows, one after another: the tiles of a row, or the tile rows
+module _ (ts : List Placed) (c : Canvas) (first end : ℕ) (part_of_pixel : ℕ → ℕ → ℕ) where
+  -- the parts before this one have been drawn, and the others are unchanged
+  pub record AreDrawn (n : ℕ) (old new : List BlockSamples) : Type 0 where
+    pub drawn : (i j s : ℕ) → IsStoredIn c first end i j s → part_of_pixel i j < n → Ends ts c.count i j s (stored c first old i j s) (stored c first new i j s)
+    pub kept : (i j s : ℕ) → IsStoredIn c first end i j s → n ≤ part_of_pixel i j → stored c first new i j s ≡ stored c first old i j s
+
+  -- none of the triangles meets a sample of these parts
+  abbrev pub AreMissed : (ℕ → Type 0) → Type 0
+  AreMissed IsPart = (i j s : ℕ) → IsStoredIn c first end i j s → IsPart (part_of_pixel i j) → (x : Sample) → Ends ts c.count i j s x x
+
+  pub none_drawn : (n : ℕ) (xs : List BlockSamples) → AreMissed (λ p. p < n) → AreDrawn n xs xs
+  none_drawn n xs missed = record { drawn = λ i j s h l. missed i j s h l (stored c first xs i j s); kept = λ i j s h l. refl }
+
+  pub one_missed : (n : ℕ) (old new : List BlockSamples) → AreMissed (λ p. p ≡ n) → AreDrawn n old new → AreDrawn (n + 1) old new
+  one_missed n old new missed before = record {
+    drawn = λ i j s h l. elim (cases_lt (part_of_pixel i j) n) [
+      | inl less ↦ before.drawn i j s h less
+      | inr more ↦ subst (λ x. Ends ts c.count i j s (stored c first old i j s) x) (sym (before.kept i j s h more)) (let here : part_of_pixel i j ≡ n = omega (arith, l, more) in missed i j s h here (stored c first old i j s))
+    ];
+    kept = λ i j s h l. before.kept i j s h (omega (arith, l));
+  }
+
+  pub all_drawn : (n : ℕ) (old new : List BlockSamples) → AreMissed (λ p. n ≤ p) → AreDrawn n old new → HaveEnds ts c first end old new
+  all_drawn n old new missed d i j s h =
+      elim (cases_lt (part_of_pixel i j) n) [
+        | inl less ↦ d.drawn i j s h less
+        | inr more ↦ subst (λ x. Ends ts c.count i j s (stored c first old i j s) x) (sym (d.kept i j s h more)) (missed i j s h more (stored c first old i j s))
+      ]
+
+  pub one_drawn : (n : ℕ) (old middle new : List BlockSamples)
+      → ((i j s : ℕ) → IsStoredIn c first end i j s → ¬ (part_of_pixel i j ≡ n) → stored c first new i j s ≡ stored c first middle i j s)
+      → ((i j s : ℕ) → IsStoredIn c first end i j s → part_of_pixel i j ≡ n → Ends ts c.count i j s (stored c first middle i j s) (stored c first new i j s))
+      → AreDrawn n old middle → AreDrawn (n + 1) old new
+  one_drawn n old middle new stays ends before = record {
+    drawn = λ i j s h l. elim (cases_lt (part_of_pixel i j) n) [
+      | inl less ↦ subst (λ x. Ends ts c.count i j s (stored c first old i j s) x) (sym (stays i j s h (λ e. omega (arith, e, less)))) (before.drawn i j s h less)
+      | inr more ↦ subst (λ x. Ends ts c.count i j s x (stored c first new i j s)) (before.kept i j s h more) (ends i j s h (omega (arith, l, more)))
+    ];
+    kept = λ i j s h l. stays i j s h (λ e. omega (arith, e, l)) ∙ before.kept i j s h (omega (arith, l));
+  }
+
+-- ---- the tiles of a row
+abbrev pub column_of : ℕ → ℕ → ℕ
+column_of i j = i / 64
+
 module _ (ts : List Placed) (c : Canvas) (row : ℕ) where
-  -- the tiles before this column have been drawn, and the others are unchanged
-  pub record AreTilesDrawn (column : ℕ) (old new : List BlockSamples) : Type 0 where
-    pub drawn : (i j s : ℕ) → HasSample c row (row + 1) i j s → i / 64 < column → Ends ts c.count i j s (stored c row old i j s) (stored c row new i j s)
-    pub kept : (i j s : ℕ) → HasSample c row (row + 1) i j s → column ≤ i / 64 → stored c row new i j s ≡ stored c row old i j s
-
-  pub no_tile_drawn : (xs : List BlockSamples) → AreTilesDrawn 0 xs xs
-  no_tile_drawn xs = record { drawn = λ i j s h l. absurd (omega arith); kept = λ i j s h l. refl }
-
-  pub all_tiles_drawn : (column : ℕ) (old new : List BlockSamples) → columns_of c ≤ column → AreTilesDrawn column old new → HaveEnds ts c row (row + 1) old new
-  all_tiles_drawn column old new past d i j s h = d.drawn i j s h (omega (arith, past, h.column))
+  abbrev pub AreTilesDrawn : ℕ → List BlockSamples → List BlockSamples → Type 0
+  AreTilesDrawn column old new = AreDrawn ts c row (row + 1) column_of column old new
 
   module _ (column : ℕ) (old middle part : List BlockSamples) (n a : ℕ) (room : a + n ≤ length middle) (long : length part ≡ n) (many : n ≡ planes_of_tile c.count) (at : a ≡ column * planes_of_tile c.count)
       (tile : Tile) (is : (tile.bx ≡ 8 * column) × (tile.by ≡ 8 * row) × (tile.side ≡ T64) × (tile.count ≡ c.count)) (before : AreTilesDrawn column old middle) (draws : TileHasEnds ts tile (take n (drop a middle)) part) where
-    module _ (i j s : ℕ) (h : HasSample c row (row + 1) i j s) where
+    module _ (i j s : ℕ) (h : IsStoredIn c row (row + 1) i j s) where
       in_row : j / 64 ≡ row
       in_row = omega (arith, h.from, h.below)
 
@@ -67,48 +104,31 @@ module _ (ts : List Placed) (c : Canvas) (row : ℕ) where
           ends_at ts _ _ _ _ _ _ s _ _ _ _ is.3 across down old_is new_is (draws (j % 64) (i % 64) s in_tile_here)
 
     pub one_tile_drawn : AreTilesDrawn (column + 1) old (put middle part a n)
-    one_tile_drawn = record {
-      drawn = λ i j s h l. elim (cases_lt (i / 64) column) [
-        | inl less ↦ subst (λ x. Ends ts c.count i j s (stored c row old i j s) x) (sym (sample_kept i j s h (λ e. omega (arith, e, less)))) (before.drawn i j s h less)
-        | inr more ↦ subst (λ x. Ends ts c.count i j s x (stored c row (put middle part a n) i j s)) (before.kept i j s h more) (sample_drawn i j s h (omega (arith, l, more)))
-      ];
-      kept = λ i j s h l. sample_kept i j s h (λ e. omega (arith, e, l)) ∙ before.kept i j s h (omega (arith, l));
-    }
+    one_tile_drawn = one_drawn ts c row (row + 1) column_of column old middle (put middle part a n) sample_kept sample_drawn before
 
--- ---- the tile rows, one after another
+-- ---- the tile rows
+abbrev pub row_of_tiles : ℕ → ℕ → ℕ
+row_of_tiles i j = j / 64
+
 module _ (ts : List Placed) (c : Canvas) (first end : ℕ) where
-  -- the rows before this one have been drawn, and the others are unchanged
-  pub record AreRowsDrawn (row : ℕ) (old new : List BlockSamples) : Type 0 where
-    pub drawn : (i j s : ℕ) → HasSample c first end i j s → j / 64 < row → Ends ts c.count i j s (stored c first old i j s) (stored c first new i j s)
-    pub kept : (i j s : ℕ) → HasSample c first end i j s → row ≤ j / 64 → stored c first new i j s ≡ stored c first old i j s
-
-  pub no_row_drawn : (xs : List BlockSamples) → AreRowsDrawn first xs xs
-  no_row_drawn xs = record { drawn = λ i j s h l. absurd (omega (arith, h.from, l)); kept = λ i j s h l. refl }
-
-  pub all_rows_drawn : (row : ℕ) (old new : List BlockSamples) → end ≤ row → AreRowsDrawn row old new → HaveEnds ts c first end old new
-  all_rows_drawn row old new past d i j s h = d.drawn i j s h (omega (arith, past, h.below))
+  abbrev pub AreRowsDrawn : ℕ → List BlockSamples → List BlockSamples → Type 0
+  AreRowsDrawn row old new = AreDrawn ts c first end row_of_tiles row old new
 
   module _ (row : ℕ) (from : first ≤ row) (old middle part : List BlockSamples) (n a : ℕ) (room : a + n ≤ length middle) (long : length part ≡ n) (many : n ≡ planes_of_row c) (at : a ≡ (row - first) * planes_of_row c)
       (before : AreRowsDrawn row old middle) (draws : HaveEnds ts c row (row + 1) (take n (drop a middle)) part) where
-    module _ (i j s : ℕ) (h : HasSample c first end i j s) where
+    module _ (i j s : ℕ) (h : IsStoredIn c first end i j s) where
       sample_stays : j / 64 ≢ row → stored c first (put middle part a n) i j s ≡ stored c first middle i j s
       sample_stays other = row_kept c i j s middle part n a room long first row many at from h.from h.column h.is_sample other
 
       sample_ends : j / 64 ≡ row → Ends ts c.count i j s (stored c first middle i j s) (stored c first (put middle part a n) i j s)
       sample_ends same =
-          let in_row : HasSample c row (row + 1) i j s = record { column = h.column; from = omega (arith, same); below = omega (arith, same); is_sample = h.is_sample } in
+          let in_row : IsStoredIn c row (row + 1) i j s = record { column = h.column; from = omega (arith, same); below = omega (arith, same); is_sample = h.is_sample } in
           let old_is : stored c row (take n (drop a middle)) i j s ≡ stored c first middle i j s = (row_of c i j s row first middle n a same many (at ∙ ap (λ k. (k - first) * planes_of_row c) (sym same)) h.column h.is_sample) in
           let new_is : stored c row part i j s ≡ stored c first (put middle part a n) i j s = sym (row_put c i j s middle part n a room long first row many at from h.from h.column h.is_sample same) in
           ends_at ts _ _ _ _ _ _ s _ _ _ _ refl refl refl old_is new_is (draws i j s in_row)
 
     pub one_row_drawn : AreRowsDrawn (row + 1) old (put middle part a n)
-    one_row_drawn = record {
-      drawn = λ i j s h l. elim (cases_lt (j / 64) row) [
-        | inl less ↦ subst (λ x. Ends ts c.count i j s (stored c first old i j s) x) (sym (sample_stays i j s h (λ e. omega (arith, e, less)))) (before.drawn i j s h less)
-        | inr more ↦ subst (λ x. Ends ts c.count i j s x (stored c first (put middle part a n) i j s)) (before.kept i j s h more) (sample_ends i j s h (omega (arith, l, more)))
-      ];
-      kept = λ i j s h l. sample_stays i j s h (λ e. omega (arith, e, l)) ∙ before.kept i j s h (omega (arith, l));
-    }
+    one_row_drawn = one_drawn ts c first end row_of_tiles row old middle (put middle part a n) sample_stays sample_ends before
 
 -- ---- batches
 pub nothing_drawn : (ts : List Placed) (c : Canvas) (first end : ℕ) (xs : List BlockSamples) → HaveEnds (take 0 ts) c first end xs xs
@@ -118,7 +138,7 @@ pub ends_joined : (ts us : List Placed) (c : Canvas) (first end : ℕ) (old midd
 ends_joined ts us c first end old middle new a b i j s h = ends-append c.count i j s ts us _ _ _ (a i j s h) (b i j s h)
 
 pub ends_one : (ts : List Placed) (c : Canvas) (first end : ℕ) (old new other : List BlockSamples) → HaveEnds ts c first end old new → HaveEnds ts c first end old other
-    → (i j s : ℕ) → HasSample c first end i j s → stored c first new i j s ≡ stored c first other i j s
+    → (i j s : ℕ) → IsStoredIn c first end i j s → stored c first new i j s ≡ stored c first other i j s
 ends_one ts c first end old new other a b i j s h = ends-unique c.count i j s ts _ _ _ (a i j s h) (b i j s h)
 
 pub one_chunk_more : (ts : List Placed) (c : Canvas) (first end n many : ℕ) (old middle new : List BlockSamples) → HaveEnds (take n ts) c first end old middle → HaveEnds (take many (drop n ts)) c first end middle new

@@ -8,7 +8,9 @@ pub mod Units
 pub mod Arranged
 pub mod PixelColours
 pub mod Masks
+pub mod Missed
 pub mod DrawnIds
 pub mod Mapped
 pub mod Changes
 pub mod Moved
+pub mod Windows

@@ -37,6 +37,12 @@ or_right a b k h =
 pub own_bit : (k : ℕ) → IsBitSet (2 ^ k) k
 own_bit k = is_set (2 ^ k) k (bit_at-pow_same k)
 
+pub no_bit : (n k : ℕ) → n ≡ 0 → ¬ IsBitSet n k
+no_bit n k none h =
+    let one : bit_at 0 k ≡ 1 = rw none at (is_one n k h) in
+    let least : bit_at 0 k ≡ 0 = bit_at-zero k in
+    omega (arith, one, least)
+
 -- ---- a triangle that is left out
 pub tile_past : (ts : List Placed) (tile : Tile) (n : ℕ) (t : Placed) (old new : List BlockSamples) → n < length ts → slice_get ts n ≡ Some t
     → ((row column s : ℕ) → IsSampleOf tile row column s → ¬ Meets t tile.count (8 * tile.bx + column) (8 * tile.by + row) s)
@@ -47,7 +53,7 @@ tile_past ts tile n t old new below is missed before row column s h =
 
 -- the bits that a column and a row have in common
 pub mask_of_tile : (c : Canvas) (ts : List Placed) (r : Reached) (column row : ℕ) (tile : Tile) → (tile.bx ≡ 8 * column) × (tile.by ≡ 8 * row) × (tile.side ≡ T64) × (tile.count ≡ c.count)
-    → column < columns_of c → row < rows_of c → AreReached ts r → IsMaskOf ts tile (bit_and (slice_index r.columns column) (slice_index r.rows row))
+    → column < columns_of c → row < rows_of c → AreReached ts r → IsMaskOf ts tile (bit_and (slice_index r.columns.words column) (slice_index r.rows.words row))
 mask_of_tile c ts r column row tile is wide high reached k t found unset tile_row tile_column s h m =
     let sample_wide : tile_column < 64 = rw is.2 at h.wide in
     let sample_high : tile_row < 64 = rw is.2 at h.high in
@@ -57,8 +63,8 @@ mask_of_tile c ts r column row tile is wide high reached k t found unset tile_ro
     let height = c.height_fits in
     let on_screen : MeetsOnScreen t tile.count (8 * tile.bx + tile_column) (8 * tile.by + tile_row) s =
     record { column = omega (arith, is.0, sample_wide, wide, width); row = omega (arith, is.1, sample_high, high, height); is_sample = h.is_sample; meets = m } in
-    let bits = rw (across, down) at (reached k t found tile.count (8 * tile.bx + tile_column) (8 * tile.by + tile_row) s on_screen) in
-    unset ((both_set (slice_index r.columns column) (slice_index r.rows row) k).1 bits)
+    let marks = rw (across, down) at (reached k t found tile.count (8 * tile.bx + tile_column) (8 * tile.by + tile_row) s on_screen) in
+    unset ((both_set (slice_index r.columns.words column) (slice_index r.rows.words row) k).1 (marks.0.bit, marks.1.bit))
 
 -- ---- places in the chunk
 found_when : (ts : List Placed) (k : ℕ) (t : Placed) → slice_get ts k ≡ Some t → ((x : Placed) × (k < length ts) × (slice_get ts k ≡ Some x) × (get_or ts k x ≡ x)) ⊎ ((length ts ≤ k) × (slice_get ts k ≡ None)) → k < length ts

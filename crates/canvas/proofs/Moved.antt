@@ -1,22 +1,18 @@
 -- What a triangle that is moved by whole pixels makes of the moved samples.
-use Rattle.std.proofs.Common.{◌≡◌, ◌≢◌, ◌⊎◌, ◌↔◌, ◌∙◌, inl, inr, refl, sym, ap, subst, ℕ, ◌+◌, ◌*◌, ◌<◌, ℤ, pos, ◌+ℤ◌, ◌-ℤ◌, ◌*ℤ◌, ◌<ℤ◌, ◌≤ℤ◌, List, [], ◌∷◌, map, slice_index, arith}
-use Rattle.std.specs.Int.RustNames.{unsigned_abs}
+use Rattle.std.proofs.Common.{◌≡◌, ◌∙◌, inl, inr, refl, sym, subst, ℕ, ◌<◌, ℤ, pos, ◌+ℤ◌, ◌-ℤ◌, ◌*ℤ◌, ◌<ℤ◌, List, [], ◌∷◌, map, slice_index, arith}
 use Rattle.std.proofs.lemmas.Int.{ints, clamps}
 use Rattle.grid.specs.Position.{Position}
-use Rattle.grid.specs.Samples.{sample_position, offsets_x, offsets_y}
+use Rattle.grid.specs.Samples.{sample_position}
 use Rattle.grid.specs.Edge.{side, left_excess, IsTopEdge, IsLeftEdge, PassesEdge}
 use Rattle.grid.specs.Triangle.{doubled_area, Covers}
-use Rattle.grid.specs.Cull.{IsCulled}
 use Rattle.grid.specs.Pixels.{IsInBox}
-use Rattle.grid.specs.declared.pixels.PixelBox.{PixelBox}
 use Rattle.grid.specs.declared.sample_count.SampleCount.{SampleCount}
 use Rattle.shade.specs.declared.sample.Sample.{Sample}
 use Rattle.shade.specs.declared.placed.Placed.{Placed}
-use Rattle.shade.specs.Quotient.{IsQuotient}
 use Rattle.shade.specs.Value.{weighted_sum, IsValueAt}
-use Rattle.shade.specs.Placed.{channel, IsInterpolated, IsFragmentAt, IsDrawnAt, Meets, Draws}
+use Rattle.shade.specs.Placed.{channel, IsInterpolated, IsDrawnAt, Meets, Draws}
 use Rattle.shade.specs.Ending.{Ends}
-use Rattle.canvas.specs.Window.{moved_position, saturated, moved}
+use Rattle.canvas.specs.Window.{moved}
 
 -- q is p, moved by (x, y)
 pub record IsShift (x y : ℤ) (p q : Position) : Type 0 where

@@ -1,9 +1,7 @@
 -- The bytes of pixels.
-use Rattle.std.proofs.Common.{◌++◌, ◌≡◌, ◌≢◌, ◌∙◌, inl, inr, refl, sym, ap, subst, ℕ, ◌+◌, ◌-◌, ◌*◌, ◌/◌, ◌%◌, ◌<◌, ◌≤◌, List, length, take, slice_index, get_or-take, arith}
+use Rattle.std.proofs.Common.{◌≡◌, ◌∙◌, ap, subst, ℕ, ◌+◌, ◌*◌, ◌/◌, ◌%◌, ◌<◌, ◌≤◌, List, take, slice_index, get_or-take, arith}
 use Rattle.std.proofs.Math.Nat.{mul_comm}
 use Rattle.std.proofs.lemmas.Nat.{mul-add-lt}
-use Rattle.std.proofs.lemmas.Bool.{cases_lt}
-use Rattle.std.proofs.lemmas.List.{get_or_append_left}
 use Rattle.grid.specs.Samples.{count_of}
 use Rattle.grid.specs.declared.sample_count.SampleCount.{SampleCount}
 use Rattle.grid.specs.declared.sample_count.SampleCount.TheVariants.{One, Four}
@@ -13,12 +11,11 @@ use Rattle.shade.specs.Resolve.{IsResolved}
 use Rattle.raster.specs.declared.tile.Tile.{Tile}
 use Rattle.raster.specs.Samples.{stored as in_tile}
 use Rattle.raster.specs.Colours.{IsColourAt, AreColoursAt}
-use Rattle.canvas.proofs.Cut.{put, put_here, put_elsewhere}
 use Rattle.canvas.specs.declared.canvas.Canvas.{Canvas}
 use Rattle.canvas.specs.declared.format.Format.{Format}
 use Rattle.canvas.specs.Layout.{stored}
 use Rattle.canvas.specs.Pixels.{pixel_bytes}
-use Rattle.canvas.specs.Colours.{IsColourOf, IsPixelOf, IsTilePixel, AreBytesOf, AreArranged}
+use Rattle.canvas.specs.Colours.{IsColourOfPixel, IsPixelOf, IsTilePixel, AreBytesOfColour, AreArranged}
 
 -- ---- colours of the same samples
 resolved_same : (count : SampleCount) (f g : ℕ → ℕ) (q : ℕ) → ((s : ℕ) → s < count_of count → f s ≡ g s) → IsResolved count f q → IsResolved count g q
@@ -35,7 +32,7 @@ resolved_same Four f g q same h =
 module _ (c : Canvas) (i j r g b : ℕ) where
   -- from a tile to its tile row
   pub colour_in_row : (tile : Tile) (xs part : List BlockSamples) → tile.count ≡ c.count → ((s : ℕ) → s < count_of c.count → in_tile tile part (j % 64) (i % 64) s ≡ stored c (j / 64) xs i j s)
-      → IsColourAt tile part (j % 64) (i % 64) r g b → IsColourOf c (j / 64) xs i j r g b
+      → IsColourAt tile part (j % 64) (i % 64) r g b → IsColourOfPixel c (j / 64) xs i j r g b
   colour_in_row tile xs part count same h =
       let at : (s : ℕ) → Sample = λ s. in_tile tile part (j % 64) (i % 64) s in
       let red : IsResolved c.count (λ s. (at s).r) r = subst (λ n. IsResolved n (λ s. (at s).r) r) count h.red in
@@ -49,7 +46,7 @@ module _ (c : Canvas) (i j r g b : ℕ) where
 
   -- and from there to tile rows
   pub colour_in_rows : (first : ℕ) (xs part : List BlockSamples) → ((s : ℕ) → s < count_of c.count → stored c (j / 64) part i j s ≡ stored c first xs i j s)
-      → IsColourOf c (j / 64) part i j r g b → IsColourOf c first xs i j r g b
+      → IsColourOfPixel c (j / 64) part i j r g b → IsColourOfPixel c first xs i j r g b
   colour_in_rows first xs part same h = record {
     red = resolved_same c.count _ (λ s. (stored c first xs i j s).r) r (λ s l. ap (λ (x : Sample). x.r) (same s l)) h.red;
     green = resolved_same c.count _ (λ s. (stored c first xs i j s).g) g (λ s l. ap (λ (x : Sample). x.g) (same s l)) h.green;
@@ -58,7 +55,7 @@ module _ (c : Canvas) (i j r g b : ℕ) where
 
 -- ---- the bytes of a pixel
 -- bytes that are the same as these
-pub bytes_same : (format : Format) (r g b : ℕ) (f h : ℕ → ℕ) → ((k : ℕ) → k < pixel_bytes format → h k ≡ f k) → AreBytesOf format r g b f → AreBytesOf format r g b h
+pub bytes_same : (format : Format) (r g b : ℕ) (f h : ℕ → ℕ) → ((k : ℕ) → k < pixel_bytes format → h k ≡ f k) → AreBytesOfColour format r g b f → AreBytesOfColour format r g b h
 bytes_same format r g b f h same order k l = same k l ∙ order k l
 
 pub pixel_same : (c : Canvas) (first : ℕ) (samples : List BlockSamples) (format : Format) (i j : ℕ) (f h : ℕ → ℕ) → ((k : ℕ) → k < pixel_bytes format → h k ≡ f k)

@@ -10,52 +10,52 @@ use Rattle.canvas.specs.declared.format.Format.{Format}
 use Rattle.canvas.specs.Layout.{stored}
 use Rattle.canvas.specs.Pixels.{pixel_bytes, pixel_of, AreWritten}
 
--- The colour of pixel (i, j): each channel resolved from the pixel's samples.
-pub record IsColourOf (c : Canvas) (first : ℕ) (samples : List BlockSamples) (i j : ℕ) (r g b : ℕ) : Type 0 where
+-- The colour of pixel (i, j): each channel resolved from the pixel's samples, in planes from tile row `first` on.
+pub record IsColourOfPixel (c : Canvas) (first : ℕ) (samples : List BlockSamples) (i j : ℕ) (r g b : ℕ) : Type 0 where
   pub red : IsResolved c.count (λ s. (stored c first samples i j s).r) r
   pub green : IsResolved c.count (λ s. (stored c first samples i j s).g) g
   pub blue : IsResolved c.count (λ s. (stored c first samples i j s).b) b
 
 -- The bytes have this colour in the format.
-abbrev pub AreBytesOf : Format → ℕ → ℕ → ℕ → (ℕ → ℕ) → Type 0
-AreBytesOf format r g b bytes = (k : ℕ) → k < pixel_bytes format → bytes k ≡ slice_index (pixel_of format r g b) k
+abbrev pub AreBytesOfColour : Format → ℕ → ℕ → ℕ → (ℕ → ℕ) → Type 0
+AreBytesOfColour format r g b bytes = (k : ℕ) → k < pixel_bytes format → bytes k ≡ slice_index (pixel_of format r g b) k
 
 -- The bytes of pixel (i, j) in the format.
 pub record IsPixelOf (c : Canvas) (first : ℕ) (samples : List BlockSamples) (format : Format) (i j : ℕ) (bytes : ℕ → ℕ) : Type 0 where
   pub r : ℕ
   pub g : ℕ
   pub b : ℕ
-  pub colour : IsColourOf c first samples i j r g b
-  pub order : AreBytesOf format r g b bytes
+  pub colour : IsColourOfPixel c first samples i j r g b
+  pub order : AreBytesOfColour format r g b bytes
 
--- The same of the pixel in a row and a column of a tile.
+-- The bytes of the pixel in a row and a column of a tile, in the format.
 pub record IsTilePixel (tile : Tile) (samples : List BlockSamples) (format : Format) (row column : ℕ) (bytes : ℕ → ℕ) : Type 0 where
   pub r : ℕ
   pub g : ℕ
   pub b : ℕ
   pub colour : IsColourAt tile samples row column r g b
-  pub order : AreBytesOf format r g b bytes
+  pub order : AreBytesOfColour format r g b bytes
 
--- The bytes of eight pixels in the format, by those of RGB8.
+-- The bytes of eight pixels in the format, by those of the same pixels as red, green and blue.
 abbrev pub AreArranged : Format → List ℕ → List ℕ → Type 0
 AreArranged format rgb bytes =
-    (i : ℕ) → i < 8 → AreBytesOf format (slice_index rgb (3 * i)) (slice_index rgb (3 * i + 1)) (slice_index rgb (3 * i + 2)) (λ k. slice_index bytes (i * pixel_bytes format + k))
+    (i : ℕ) → i < 8 → AreBytesOfColour format (slice_index rgb (3 * i)) (slice_index rgb (3 * i + 1)) (slice_index rgb (3 * i + 2)) (λ k. slice_index bytes (i * pixel_bytes format + k))
 
 -- The bytes of each pixel of the picture in these tile rows are its colour in the format, and all other bytes are unchanged.
 abbrev pub AreResolved : Canvas → ℕ → ℕ → List BlockSamples → Format → ℕ → List ℕ → List ℕ → Type 0
 AreResolved c first end samples format stride old new =
     AreWritten c first end (pixel_bytes format) stride (λ i j bytes. IsPixelOf c first samples format i j bytes) old new
 
--- The id that is stored in place of a colour.
+-- The id that is stored in place of a colour: red is its lowest byte.
 abbrev pub id_of : Sample → ℕ
 id_of sample = sample.r + 256 * sample.g + 65536 * sample.b
 
--- The entry of each pixel of the picture in these tile rows is the depth, or the id, of its sample s, and all other entries are
--- unchanged.
+-- In these tile rows the entry of each pixel of the picture is the depth of its sample s. All other entries are unchanged.
 abbrev pub AreDepths : Canvas → ℕ → ℕ → List BlockSamples → ℕ → ℕ → List ℕ → List ℕ → Type 0
 AreDepths c first end samples s stride old new =
     AreWritten c first end 1 stride (λ i j entries. entries 0 ≡ (stored c first samples i j s).z) old new
 
+-- In these tile rows the entry of each pixel of the picture is the id of its sample s. All other entries are unchanged.
 abbrev pub AreIds : Canvas → ℕ → ℕ → List BlockSamples → ℕ → ℕ → List ℕ → List ℕ → Type 0
 AreIds c first end samples s stride old new =
     AreWritten c first end 1 stride (λ i j entries. entries 0 ≡ id_of (stored c first samples i j s)) old new

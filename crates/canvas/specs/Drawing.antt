@@ -7,18 +7,18 @@ use Rattle.shade.specs.Ending.{Ends}
 use Rattle.raster.specs.declared.tile.Tile.{Tile}
 use Rattle.raster.specs.Samples.{IsSampleOf, stored as in_tile}
 use Rattle.canvas.specs.declared.canvas.Canvas.{Canvas}
-use Rattle.canvas.specs.Layout.{HasSample, stored}
+use Rattle.canvas.specs.Layout.{IsStoredIn, stored}
 
--- Each sample of these tile rows is the given one.
+-- Each sample of the tile rows from `first` to before `end` is this one.
 abbrev pub AreCleared : Canvas → ℕ → ℕ → Sample → List BlockSamples → Type 0
-AreCleared c first end sample samples = (i j s : ℕ) → HasSample c first end i j s → stored c first samples i j s ≡ sample
+AreCleared c first end sample samples = (i j s : ℕ) → IsStoredIn c first end i j s → stored c first samples i j s ≡ sample
 
 -- Each sample of these tile rows ends as what the triangles make, one after another, of what was stored there.
 abbrev pub HaveEnds : List Placed → Canvas → ℕ → ℕ → List BlockSamples → List BlockSamples → Type 0
 HaveEnds ts c first end old new =
-    (i j s : ℕ) → HasSample c first end i j s → Ends ts c.count i j s (stored c first old i j s) (stored c first new i j s)
+    (i j s : ℕ) → IsStoredIn c first end i j s → Ends ts c.count i j s (stored c first old i j s) (stored c first new i j s)
 
--- The same of the samples of a tile.
+-- Each sample of the tile ends as what the triangles make, one after another, of what was stored there.
 abbrev pub TileHasEnds : List Placed → Tile → List BlockSamples → List BlockSamples → Type 0
 TileHasEnds ts tile old new =
     (row column s : ℕ) → IsSampleOf tile row column s

@@ -8,7 +8,7 @@ use Rattle.shade.specs.declared.placed.Placed.{Placed}
 use Rattle.shade.specs.Depth.{Passes}
 use Rattle.shade.specs.Placed.{IsInterpolated, Meets, Draws}
 
--- An id as red, green, blue and alpha.
+-- An id as red, green, blue and alpha: red is its lowest byte, and alpha is opaque.
 abbrev pub colour_of_id : ℕ → List ℕ
 colour_of_id n = n % 256 ∷ n / 256 % 256 ∷ n / 65536 % 256 ∷ 255 ∷ []
 
@@ -24,15 +24,15 @@ abbrev pub with_ids : List Placed → ℕ → List Placed
 with_ids [] n = []
 with_ids (t ∷ ts) n = with_id t n ∷ with_ids ts (n + 1)
 
--- The triangle passes at sample s of pixel (i, j), at which `stored` is stored: it meets the sample, and its depth passes the test.
+-- The triangle passes at sample s of pixel (i, j), at which `stored` is stored. It meets the sample, and its depth passes the test.
 pub record PassesAt (t : Placed) (count : SampleCount) (i j s : ℕ) (stored : Sample) : Type 0 where
   pub meets : Meets t count i j s
   pub z : ℕ
   pub depth : IsInterpolated t (sample_position i j s count) t.z z
   pub passes : Passes t.state.merge.test z stored.z
 
--- The triangles are counted from n on and drawn one after another, in their own colours: `last` is the id of the last one that
--- passed at the sample, or `before` if none did.
+-- `last` is the id of the last triangle that passed at the sample, or `before` if none did. The triangles are counted from n on and
+-- drawn one after another, in their own colours.
 abbrev pub IsLast : List Placed → ℕ → SampleCount → ℕ → ℕ → ℕ → Sample → Option ℕ → Option ℕ → Type 0
 IsLast [] n count i j s stored before last = last ≡ before
 IsLast (t ∷ ts) n count i j s stored before last =
@@ -45,11 +45,13 @@ pub record HasColourOfId (n : ℕ) (sample : Sample) : Type 0 where
   pub green : sample.g ≡ n / 256 % 256
   pub blue : sample.b ≡ n / 65536 % 256
 
+-- The sample has the colour of `start`.
 pub record HasColourOf (start sample : Sample) : Type 0 where
   pub red : sample.r ≡ start.r
   pub green : sample.g ≡ start.g
   pub blue : sample.b ≡ start.b
 
+-- The sample has the id as its colour, or the colour of `start` if there is no id.
 abbrev pub HasId : Sample → Sample → Option ℕ → Type 0
 HasId start sample None = HasColourOf start sample
 HasId start sample (Some n) = HasColourOfId n sample

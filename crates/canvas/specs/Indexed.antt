@@ -10,10 +10,11 @@ pub record AreIndices (many : ℕ) (indices : List ℕ) : Type 0 where
   pub second : slice_index indices 1 < many
   pub third : slice_index indices 2 < many
 
+-- The vertex of index k; past the end one at the origin, without a colour.
 abbrev pub vertex_at : List Vertex → ℕ → Vertex
 vertex_at vertices k = slice_index_or vertices k (record { position = record { x = pos 0; y = pos 0 }; z = 0; rgba = [] })
 
--- The triangle whose vertices have these indices.
+-- The triangle whose vertices have these three indices, in this state.
 abbrev pub placed_by : List Vertex → State → List ℕ → Placed
 placed_by vertices state indices = record {
   tri = record { a = (vertex_at vertices (slice_index indices 0)).position; b = (vertex_at vertices (slice_index indices 1)).position; c = (vertex_at vertices (slice_index indices 2)).position };

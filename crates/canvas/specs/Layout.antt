@@ -7,17 +7,18 @@ use Rattle.lanes.specs.declared.block_samples.BlockSamples.{BlockSamples}
 use Rattle.lanes.specs.Block.{stored_at}
 use Rattle.canvas.specs.declared.canvas.Canvas.{Canvas}
 
--- The limits of a picture (this project's).
-pub record IsWithinLimits (width height : ℕ) : Type 0 where
+-- A picture is at most 4096 by 4096 pixels, and not empty (this project's limits).
+pub record IsCanvasSize (width height : ℕ) : Type 0 where
   pub some_columns : 1 ≤ width
   pub few_columns : width ≤ 4096
   pub some_rows : 1 ≤ height
   pub few_rows : height ≤ 4096
 
--- How many tiles of 64 by 64 pixels stand side by side, and how many one below the other: the quotients, rounded up.
+-- How many columns of tiles the picture has: its width by the 64 pixels of a tile, rounded up.
 abbrev pub columns_of : Canvas → ℕ
 columns_of c = (c.width + 63) / 64
 
+-- How many rows of tiles the picture has: its height by the 64 pixels of a tile, rounded up.
 abbrev pub rows_of : Canvas → ℕ
 rows_of c = (c.height + 63) / 64
 
@@ -25,36 +26,39 @@ rows_of c = (c.height + 63) / 64
 abbrev pub planes_of_tile : SampleCount → ℕ
 planes_of_tile count = 64 * count_of count
 
--- Those of a tile row, and those of the tile rows from `first` to before `end`.
+-- How many planes of samples a tile row has.
 abbrev pub planes_of_row : Canvas → ℕ
 planes_of_row c = columns_of c * planes_of_tile c.count
 
+-- How many planes of samples the tile rows from `first` to before `end` have.
 abbrev pub planes_of_rows : Canvas → ℕ → ℕ → ℕ
 planes_of_rows c first end = (end - first) * planes_of_row c
 
--- Sample s of pixel (i, j), whose tile stands in these rows. The tiles at the right and the lower border have samples of pixels to
--- the right of the picture and below it too.
-pub record HasSample (c : Canvas) (first end : ℕ) (i j s : ℕ) : Type 0 where
+-- Sample s of pixel (i, j) is in a tile of the tile rows from `first` to before `end`. The tiles at the right and the lower border
+-- have samples of pixels to the right of the picture and below it too.
+pub record IsStoredIn (c : Canvas) (first end : ℕ) (i j s : ℕ) : Type 0 where
   pub column : i / 64 < columns_of c
   pub from : first ≤ j / 64
   pub below : j / 64 < end
   pub is_sample : s < count_of c.count
 
--- Pixel (i, j) is in the picture, and its tile stands in these rows.
+-- Pixel (i, j) is in the picture, and in a tile of the tile rows from `first` to before `end`.
 pub record HasPixel (c : Canvas) (first end : ℕ) (i j : ℕ) : Type 0 where
   pub column : i < c.width
   pub row : j < c.height
   pub from : first ≤ j / 64
   pub below : j / 64 < end
 
--- Where sample s of pixel (i, j) lies among the planes of its tile, block by block, row by row, and in a block sample by sample; among
--- those of its tile row, tile by tile; and among those of the tile rows from `first` on.
+-- The index of the plane of sample s of pixel (i, j) among those of its tile. Blocks lie row by row, in a row block by block, and
+-- in a block sample by sample.
 abbrev pub place_in_tile : SampleCount → ℕ → ℕ → ℕ → ℕ
 place_in_tile count i j s = (j % 64 / 8 * 8 + i % 64 / 8) * count_of count + s
 
+-- The index of the plane of sample s of pixel (i, j) among those of its tile row. Tiles lie from left to right.
 abbrev pub place_in_row : Canvas → ℕ → ℕ → ℕ → ℕ
 place_in_row c i j s = i / 64 * planes_of_tile c.count + place_in_tile c.count i j s
 
+-- The index of the plane of sample s of pixel (i, j) among those of the tile rows from `first` on.
 abbrev pub place_of : Canvas → ℕ → ℕ → ℕ → ℕ → ℕ
 place_of c first i j s = (j / 64 - first) * planes_of_row c + place_in_row c i j s
 

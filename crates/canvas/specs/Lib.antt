@@ -1,3 +1,79 @@
+-- The definitions of this crate, each file behind those that it uses; `python3 -m tools.definitions` writes these lines.
+--
+-- Layout.antt
+--   IsCanvasSize: A picture is at most 4096 by 4096 pixels, and not empty (this project's limits).
+--   columns_of: How many columns of tiles the picture has: its width by the 64 pixels of a tile, rounded up.
+--   rows_of: How many rows of tiles the picture has: its height by the 64 pixels of a tile, rounded up.
+--   planes_of_tile: How many planes of samples a tile has: for each of its 64 blocks of 8 by 8 pixels one for each sample of a pixel.
+--   planes_of_row: How many planes of samples a tile row has.
+--   planes_of_rows: How many planes of samples the tile rows from `first` to before `end` have.
+--   IsStoredIn: Sample s of pixel (i, j) is in a tile of the tile rows from `first` to before `end`.
+--   HasPixel: Pixel (i, j) is in the picture, and in a tile of the tile rows from `first` to before `end`.
+--   place_in_tile: The index of the plane of sample s of pixel (i, j) among those of its tile.
+--   place_in_row: The index of the plane of sample s of pixel (i, j) among those of its tile row.
+--   place_of: The index of the plane of sample s of pixel (i, j) among those of the tile rows from `first` on.
+--   stored: Sample s of pixel (i, j), as it is stored.
+--
+-- Drawing.antt
+--   AreCleared: Each sample of the tile rows from `first` to before `end` is this one.
+--   HaveEnds: Each sample of these tile rows ends as what the triangles make, one after another, of what was stored there.
+--   TileHasEnds: Each sample of the tile ends as what the triangles make, one after another, of what was stored there.
+--
+-- Pixels.antt
+--   pixel_bytes: How many bytes a pixel has in a format.
+--   pixel_of: The bytes of a pixel of this red, green and blue, which is opaque if the format has alpha.
+--   shown_rows: How many rows of pixels of the picture stand in the tile rows from `first` to before `end`.
+--   IsLargeEnough: A row of pixels, of `unit` entries each, fits between the starts of two rows, and the last row ends within the slice.
+--   entry_of: The index of the first entry of pixel (i, j), of which there are `unit`.
+--   AreWritten: The entries of each pixel of the picture in these tile rows are as `IsPixel` says, and all other entries are unchanged.
+--
+-- Colours.antt
+--   IsColourOfPixel: The colour of pixel (i, j): each channel resolved from the pixel's samples, in planes from tile row `first` on.
+--   AreBytesOfColour: The bytes have this colour in the format.
+--   IsPixelOf: The bytes of pixel (i, j) in the format.
+--   IsTilePixel: The bytes of the pixel in a row and a column of a tile, in the format.
+--   AreArranged: The bytes of eight pixels in the format, by those of the same pixels as red, green and blue.
+--   AreResolved: The bytes of each pixel of the picture in these tile rows are its colour in the format, and all other bytes are unchanged.
+--   id_of: The id that is stored in place of a colour: red is its lowest byte.
+--   AreDepths: In these tile rows the entry of each pixel of the picture is the depth of its sample s.
+--   AreIds: In these tile rows the entry of each pixel of the picture is the id of its sample s.
+--
+-- Reach.antt
+--   IsInSpan: n is in the span, from its first number to before its end.
+--   MeetsOnScreen: The triangle meets sample s of pixel (i, j) of the screen, which is 4096 by 4096 pixels.
+--   HaveMet: The tiles of each sample that the triangle meets are in these columns and rows of tiles.
+--   IsMarked: Column n of the tiles, or tile row n, bears the mark of triangle k.
+--   AreReached: A column of tiles and a tile row bear the mark of triangle k if it meets a sample in them.
+--   IsMaskOf: A triangle whose bit is not set meets no sample of the tile.
+--
+-- Loaded.antt
+--   coloured: The sample in the colour of these bytes of a pixel.
+--   AreChanged: The samples of some pixels in these tile rows end as `end_of` makes them, and all other samples are unchanged.
+--   AreLoaded: All samples of each pixel of the picture in these tile rows have the colour of the pixel's bytes.
+--
+-- Ids.antt
+--   colour_of_id: An id as red, green, blue and alpha: red is its lowest byte, and alpha is opaque.
+--   with_id: The triangle in the colour of its id, which replaces what is stored.
+--   with_ids: The triangles in the colours of their ids, which are counted from n on.
+--   PassesAt: The triangle passes at sample s of pixel (i, j), at which `stored` is stored.
+--   IsLast: `last` is the id of the last triangle that passed at the sample, or `before` if none did.
+--   HasColourOfId: The sample has the id as its colour: red is its lowest byte.
+--   HasColourOf: The sample has the colour of `start`.
+--   HasId: The sample has the id as its colour, or the colour of `start` if there is no id.
+--
+-- Indexed.antt
+--   AreIndices: The first three indices are indices of vertices, of which there are `many`.
+--   vertex_at: The vertex of index k; past the end one at the origin, without a colour.
+--   placed_by: The triangle whose vertices have these three indices, in this state.
+--
+-- Window.antt
+--   moved_position: A position of the screen, as seen from the corner of pixel (x, y), in 1/256 pixel.
+--   saturated: The number, or the nearest one that has 32 bits.
+--   moved_box: A rectangle of the screen's pixels, as seen from pixel (x, y).
+--   moved: The triangle, with its scissor, as seen from the corner of pixel (x, y).
+--   CanMove: All vertices of the triangle are in the guard band as seen from the corner of pixel (x, y).
+--   HaveEndsOnScreen: Each sample ends as what the triangles make of it as a sample of the screen.
+
 pub mod Layout
 pub mod Drawing
 pub mod Pixels

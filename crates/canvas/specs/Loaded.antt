@@ -5,7 +5,7 @@ use Rattle.lanes.specs.declared.block_samples.BlockSamples.{BlockSamples}
 use Rattle.canvas.specs.declared.canvas.Canvas.{Canvas}
 use Rattle.canvas.specs.declared.format.Format.{Format}
 use Rattle.canvas.specs.declared.format.Format.TheVariants.{Rgb8, Rgba8, Bgra8}
-use Rattle.canvas.specs.Layout.{HasSample, HasPixel, stored}
+use Rattle.canvas.specs.Layout.{IsStoredIn, HasPixel, stored}
 use Rattle.canvas.specs.Pixels.{pixel_bytes, entry_of}
 
 -- The sample in the colour of these bytes of a pixel. Its depth is unchanged, and alpha is not read.
@@ -14,11 +14,11 @@ coloured Rgb8 bytes old = record { r = bytes 0; g = bytes 1; b = bytes 2; z = ol
 coloured Rgba8 bytes old = record { r = bytes 0; g = bytes 1; b = bytes 2; z = old.z }
 coloured Bgra8 bytes old = record { r = bytes 2; g = bytes 1; b = bytes 0; z = old.z }
 
--- The samples of some pixels in these tile rows end as `end_of` says, by what was stored there, and all other samples are
--- unchanged.
+-- The samples of some pixels in these tile rows end as `end_of` makes them, and all other samples are unchanged. `end_of` makes
+-- them of what was stored there.
 pub record AreChanged (c : Canvas) (first end : ℕ) (IsSome : ℕ → ℕ → ℕ → Type 0) (end_of : ℕ → ℕ → Sample → Sample) (old new : List BlockSamples) : Type 0 where
-  pub changed : (i j s : ℕ) → HasSample c first end i j s → IsSome i j s → stored c first new i j s ≡ end_of i j (stored c first old i j s)
-  pub kept : (i j s : ℕ) → HasSample c first end i j s → ¬ IsSome i j s → stored c first new i j s ≡ stored c first old i j s
+  pub changed : (i j s : ℕ) → IsStoredIn c first end i j s → IsSome i j s → stored c first new i j s ≡ end_of i j (stored c first old i j s)
+  pub kept : (i j s : ℕ) → IsStoredIn c first end i j s → ¬ IsSome i j s → stored c first new i j s ≡ stored c first old i j s
 
 -- All samples of each pixel of the picture in these tile rows have the colour of the pixel's bytes. Their depths are unchanged, and
 -- so are the samples of pixels outside of the picture.

@@ -11,7 +11,7 @@ pixel_bytes Rgb8 = 3
 pixel_bytes Rgba8 = 4
 pixel_bytes Bgra8 = 4
 
--- The bytes of a pixel of this red, green and blue, which is opaque.
+-- The bytes of a pixel of this red, green and blue, which is opaque if the format has alpha.
 abbrev pub pixel_of : Format → ℕ → ℕ → ℕ → List ℕ
 pixel_of Rgb8 r g b = r ∷ g ∷ b ∷ []
 pixel_of Rgba8 r g b = r ∷ g ∷ b ∷ 255 ∷ []
@@ -26,7 +26,8 @@ pub record IsLargeEnough (c : Canvas) (first end : ℕ) (unit stride size : ℕ)
   pub wide : c.width * unit ≤ stride
   pub high : shown_rows c first end * stride + c.width * unit ≤ size + stride
 
--- Where the first entry of pixel (i, j) stands. The first pixel of the first tile row stands at 0.
+-- The index of the first entry of pixel (i, j), of which there are `unit`. The first pixel of the first tile row has index 0, and
+-- rows begin `stride` entries apart.
 abbrev pub entry_of : ℕ → ℕ → ℕ → ℕ → ℕ → ℕ
 entry_of first unit stride i j = (j - 64 * first) * stride + i * unit
 

@@ -7,13 +7,15 @@ use Rattle.raster.specs.Samples.{IsSampleOf}
 use Rattle.shade.specs.declared.placed.Placed.{Placed}
 use Rattle.shade.specs.Placed.{Meets}
 use Rattle.canvas.specs.declared.reach.Span.{Span}
+use Rattle.canvas.specs.declared.chunk.Marks.{Marks}
 use Rattle.canvas.specs.declared.chunk.Reached.{Reached}
 
-pub record IsIn (span : Span) (n : ℕ) : Type 0 where
+-- n is in the span, from its first number to before its end.
+pub record IsInSpan (span : Span) (n : ℕ) : Type 0 where
   pub from : span.first ≤ n
   pub below : n < span.end
 
--- Sample s of pixel (i, j) of the screen is met.
+-- The triangle meets sample s of pixel (i, j) of the screen, which is 4096 by 4096 pixels.
 pub record MeetsOnScreen (t : Placed) (count : SampleCount) (i j s : ℕ) : Type 0 where
   pub column : i < 4096
   pub row : j < 4096
@@ -22,13 +24,18 @@ pub record MeetsOnScreen (t : Placed) (count : SampleCount) (i j s : ℕ) : Type
 
 -- The tiles of each sample that the triangle meets are in these columns and rows of tiles.
 abbrev pub HaveMet : Placed → Span → Span → Type 0
-HaveMet t columns rows = (count : SampleCount) (i j s : ℕ) → MeetsOnScreen t count i j s → IsIn columns (i / 64) × IsIn rows (j / 64)
+HaveMet t columns rows = (count : SampleCount) (i j s : ℕ) → MeetsOnScreen t count i j s → IsInSpan columns (i / 64) × IsInSpan rows (j / 64)
 
--- Bit k of a column of tiles and of a tile row is set if triangle k meets a sample in them.
+-- Column n of the tiles, or tile row n, bears the mark of triangle k.
+pub record IsMarked (marks : Marks) (n k : ℕ) : Type 0 where
+  pub in_span : IsInSpan marks.span n
+  pub bit : IsBitSet (slice_index marks.words n) k
+
+-- A column of tiles and a tile row bear the mark of triangle k if it meets a sample in them.
 abbrev pub AreReached : List Placed → Reached → Type 0
 AreReached ts r =
     (k : ℕ) (t : Placed) → slice_get ts k ≡ Some t → (count : SampleCount) (i j s : ℕ) → MeetsOnScreen t count i j s
-    → IsBitSet (slice_index r.columns (i / 64)) k × IsBitSet (slice_index r.rows (j / 64)) k
+    → IsMarked r.columns (i / 64) k × IsMarked r.rows (j / 64) k
 
 -- A triangle whose bit is not set meets no sample of the tile.
 abbrev pub IsMaskOf : List Placed → Tile → ℕ → Type 0

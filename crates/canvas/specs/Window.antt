@@ -1,11 +1,16 @@
 -- Triangles of the screen on a canvas whose first pixel is some pixel of the screen.
-use Rattle.std.specs.Prelude.{◌≡◌, ℤ, pos, negsuc, ◌-ℤ◌, ◌*ℤ◌, List}
+use Rattle.std.specs.Prelude.{◌≡◌, ℕ, ℤ, pos, negsuc, ◌+ℤ◌, ◌-ℤ◌, ◌*ℤ◌, List}
 use Rattle.std.specs.Int.{int_min, int_max}
-use Rattle.std.specs.List.{All}
 use Rattle.grid.specs.Position.{Position, IsInGuardBand}
+use Rattle.grid.specs.declared.pixels.PixelBox.{PixelBox}
+use Rattle.lanes.specs.declared.block_samples.BlockSamples.{BlockSamples}
 use Rattle.shade.specs.declared.placed.Placed.{Placed}
+use Rattle.shade.specs.Ending.{Ends}
+use Rattle.canvas.specs.declared.canvas.Canvas.{Canvas}
+use Rattle.canvas.specs.declared.window.Origin.{Origin}
+use Rattle.canvas.specs.Layout.{IsStoredIn, stored}
 
--- A position of the screen, as seen from the corner of pixel (x, y).
+-- A position of the screen, as seen from the corner of pixel (x, y), in 1/256 pixel.
 abbrev pub moved_position : ℤ → ℤ → Position → Position
 moved_position x y p = record { x = p.x -ℤ pos 256 *ℤ x; y = p.y -ℤ pos 256 *ℤ y }
 
@@ -13,22 +18,26 @@ moved_position x y p = record { x = p.x -ℤ pos 256 *ℤ x; y = p.y -ℤ pos 25
 abbrev pub saturated : ℤ → ℤ
 saturated z = int_max (int_min z (pos 2147483647)) (negsuc 2147483647)
 
+-- A rectangle of the screen's pixels, as seen from pixel (x, y).
+abbrev pub moved_box : ℤ → ℤ → PixelBox → PixelBox
+moved_box x y r = record { x0 = saturated (r.x0 -ℤ x); y0 = saturated (r.y0 -ℤ y); x1 = saturated (r.x1 -ℤ x); y1 = saturated (r.y1 -ℤ y) }
+
 -- The triangle, with its scissor, as seen from the corner of pixel (x, y).
 abbrev pub moved : ℤ → ℤ → Placed → Placed
 moved x y t = record t {
   tri = record { a = moved_position x y t.tri.a; b = moved_position x y t.tri.b; c = moved_position x y t.tri.c };
-  state = record t.state {
-    scissor = record {
-      x0 = saturated (t.state.scissor.x0 -ℤ x);
-      y0 = saturated (t.state.scissor.y0 -ℤ y);
-      x1 = saturated (t.state.scissor.x1 -ℤ x);
-      y1 = saturated (t.state.scissor.y1 -ℤ y);
-    };
-  };
+  state = record t.state { scissor = moved_box x y t.state.scissor };
 }
 
--- All its moved vertices are in the guard band.
+-- All vertices of the triangle are in the guard band as seen from the corner of pixel (x, y).
 pub record CanMove (x y : ℤ) (t : Placed) : Type 0 where
   pub a : IsInGuardBand (moved_position x y t.tri.a)
   pub b : IsInGuardBand (moved_position x y t.tri.b)
   pub c : IsInGuardBand (moved_position x y t.tri.c)
+
+-- Each sample ends as what the triangles make of it as a sample of the screen.
+-- Pixel (0, 0) of the canvas is the screen's pixel `origin`, so sample s of pixel (i, j) is sample s of pixel (i + x, j + y) of the screen.
+abbrev pub HaveEndsOnScreen : Origin → List Placed → Canvas → ℕ → ℕ → List BlockSamples → List BlockSamples → Type 0
+HaveEndsOnScreen origin ts c first end old new =
+    (i j s column row : ℕ) → IsStoredIn c first end i j s → pos column ≡ pos i +ℤ origin.x → pos row ≡ pos j +ℤ origin.y
+    → Ends ts c.count column row s (stored c first old i j s) (stored c first new i j s)

@@ -22,11 +22,11 @@ pub struct Canvas {
 
 impl Canvas {
     ghost use Rattle.grid.specs.declared.pixels.TileSide.TheVariants.{T64};
-    ghost use Rattle.canvas.specs.Layout.{IsWithinLimits, columns_of, rows_of, planes_of_tile, planes_of_row};
+    ghost use Rattle.canvas.specs.Layout.{IsCanvasSize, columns_of, rows_of, planes_of_tile, planes_of_row};
 
     /// The picture of this size, or `None` if it has no pixels or more than 4096 in a row or a column.
     pub fn new(width: u32, height: u32, count: SampleCount) -> Option<Canvas>
-        ensures some { IsSome result ↔ IsWithinLimits width height }
+        ensures some { IsSome result ↔ IsCanvasSize width height }
         ensures size { IfSome result (λ c. (c.width ≡ width) × (c.height ≡ height) × (c.count ≡ count)) }
     {
         if 1 <= width && width <= 4096 && 1 <= height && height <= 4096 {

@@ -67,15 +67,7 @@ impl TileRows {
             ⊎ ((misfit ≡ Misfit.Sample) × (count_of self.now.canvas.count ≤ s))
             ⊎ ((misfit ≡ Misfit.Pixels) × ¬ IsLargeEnough self.now.canvas self.now.first self.now.end 1 stride (length depths.old))) }
     {
-        if samples.len() != self.planes() {
-            return Err(Misfit::Planes);
-        }
-        if self.canvas.count.count() <= s {
-            return Err(Misfit::Sample);
-        }
-        if !self.is_large_enough(1, stride, depths.len()) {
-            return Err(Misfit::Pixels);
-        }
+        self.fits_entries(samples.len(), s, stride, depths.len())?;
         let each = self.canvas.planes_of_row();
         let width = self.canvas.width as usize;
         for row in 0..self.shown_rows() {
@@ -109,15 +101,7 @@ impl TileRows {
             ⊎ ((misfit ≡ Misfit.Sample) × (count_of self.now.canvas.count ≤ s))
             ⊎ ((misfit ≡ Misfit.Pixels) × ¬ IsLargeEnough self.now.canvas self.now.first self.now.end 1 stride (length ids.old))) }
     {
-        if samples.len() != self.planes() {
-            return Err(Misfit::Planes);
-        }
-        if self.canvas.count.count() <= s {
-            return Err(Misfit::Sample);
-        }
-        if !self.is_large_enough(1, stride, ids.len()) {
-            return Err(Misfit::Pixels);
-        }
+        self.fits_entries(samples.len(), s, stride, ids.len())?;
         let each = self.canvas.planes_of_row();
         let width = self.canvas.width as usize;
         for row in 0..self.shown_rows() {

@@ -6,7 +6,7 @@ ghost use Rattle.shade.specs.declared.sample.Sample.{Sample};
 ghost use Rattle.shade.specs.declared.placed.Placed.{Placed};
 ghost use Rattle.shade.specs.Ending.{Ends};
 ghost use Rattle.canvas.specs.declared.canvas.Canvas.{Canvas};
-ghost use Rattle.canvas.specs.Layout.{HasSample, stored};
+ghost use Rattle.canvas.specs.Layout.{IsStoredIn, stored};
 ghost use Rattle.canvas.specs.Drawing.{HaveEnds};
 ghost use Rattle.canvas.specs.Window.{moved};
 ghost use Rattle.canvas.specs.Ids.{with_ids, IsLast, HasId};
@@ -18,7 +18,7 @@ pub fn joins_batches()
         → HaveEnds ts c first end old middle → HaveEnds us c first end middle new → HaveEnds (ts ++ us) c first end old new }
     ensures one { (ts : List Placed) (c : Canvas) (first end : ℕ) (old new other : List BlockSamples)
         → HaveEnds ts c first end old new → HaveEnds ts c first end old other
-        → (i j s : ℕ) → HasSample c first end i j s → stored c first new i j s ≡ stored c first other i j s }
+        → (i j s : ℕ) → IsStoredIn c first end i j s → stored c first new i j s ≡ stored c first other i j s }
 {}
 
 /// What triangles in the colours of their ids make of a sample: it has the id of the last one that would have passed there, drawn

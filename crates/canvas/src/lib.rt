@@ -20,6 +20,7 @@ mod sample;
 mod tile_rows;
 mod triangles;
 mod vertex;
+mod window;
 
 pub use canvas::Canvas;
 pub use format::Format;
@@ -27,6 +28,7 @@ pub use laws::{joins_batches, moves_by_pixels, tells_last};
 pub use misfit::Misfit;
 pub use tile_rows::TileRows;
 pub use vertex::Vertex;
+pub use window::{Origin, seen_point};
 
 #[cfg(test)]
 mod tests;

@@ -88,12 +88,7 @@ impl TileRows {
             ⊎ ((misfit ≡ Misfit.Pixels) × ¬ IsLargeEnough self.now.canvas self.now.first self.now.end (pixel_bytes format) stride (length bytes.now))) }
     {
         let unit = format.pixel_bytes();
-        if samples.len() != self.planes() {
-            return Err(Misfit::Planes);
-        }
-        if !self.is_large_enough(unit, stride, bytes.len()) {
-            return Err(Misfit::Pixels);
-        }
+        self.fits(samples.len(), unit, stride, bytes.len())?;
         let width = self.canvas.width as usize * unit;
         for row in 0..self.shown_rows() {
             let at = row as usize * stride;

@@ -11,4 +11,6 @@ pub enum Misfit {
     Ids,
     /// An index of a triangle names no vertex.
     Indices,
+    /// A vertex of a triangle is outside of the guard band, as seen from the canvas's origin.
+    OutOfRange,
 }

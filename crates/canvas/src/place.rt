@@ -1,7 +1,7 @@
 //! Where a sample is stored.
 ghost use Rattle.std.specs.Prelude.{◌≡◌, ◌↔◌, ◌/◌, ◌<◌, IsTrue};
 ghost use Rattle.grid.specs.Samples.{count_of};
-ghost use Rattle.canvas.specs.Layout.{HasPixel, HasSample, columns_of, planes_of_row, planes_of_rows, place_in_row, place_of};
+ghost use Rattle.canvas.specs.Layout.{HasPixel, IsStoredIn, columns_of, planes_of_row, planes_of_rows, place_in_row, place_of};
 
 use crate::canvas::Canvas;
 use crate::tile_rows::TileRows;
@@ -24,7 +24,7 @@ impl Canvas {
 impl TileRows {
     /// In which plane sample `s` of pixel (i, j) is.
     pub(crate) fn place(&self, i: u32, j: u32, s: u32) -> usize
-        requires { HasSample self.now.canvas self.now.first self.now.end i j s }
+        requires { IsStoredIn self.now.canvas self.now.first self.now.end i j s }
         ensures value { result ≡ place_of self.now.canvas self.now.first i j s }
         ensures within { result < planes_of_rows self.now.canvas self.now.first self.now.end }
     {

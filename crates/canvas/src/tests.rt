@@ -1,6 +1,6 @@
 //! Pictures of many triangles compared with the definition, drawn sample by sample: batches, pieces, formats, strides, ids, and
 //! calls that do nothing.
-use crate::{Canvas, Format, Misfit, TileRows, Vertex};
+use crate::{Canvas, Format, Misfit, Origin, TileRows, Vertex};
 use grid::{Cull, PixelBox, Point, SampleCount, Tri, sample_at};
 use lanes::BlockSamples;
 use shade::{DepthTest, Merge, Placed, Sample, State, apply, mean_of_four};
@@ -137,17 +137,30 @@ fn end_at(triangles: &[Placed], count: SampleCount, i: u32, j: u32, s: u32) -> S
     sample
 }
 
-/// Whether each sample of a canvas, of the pixels that are compared, is what the triangles make of the clear sample.
-fn are_ends(rows: &TileRows, samples: &[BlockSamples], triangles: &[Placed]) -> bool {
+/// Whether each sample of a canvas at the origin, of the pixels that are compared and lie on the screen, is what the triangles make
+/// of the clear sample there.
+fn are_ends_from(
+    origin: Origin,
+    rows: &TileRows,
+    samples: &[BlockSamples],
+    triangles: &[Placed],
+) -> bool {
     for j in 0..rows.canvas.height {
         for i in 0..rows.canvas.width {
+            let place = (
+                i.checked_add_signed(origin.x),
+                j.checked_add_signed(origin.y),
+            );
+            let (Some(column), Some(row)) = place else {
+                continue;
+            };
             let samples_compared = if is_compared(i, j) {
                 rows.canvas.count.count()
             } else {
                 0
             };
             for s in 0..samples_compared {
-                let end = end_at(triangles, rows.canvas.count, i, j, s);
+                let end = end_at(triangles, rows.canvas.count, column, row, s);
                 if rows.sample(samples, i, j, s) != Some(end) {
                     return false;
                 }
@@ -155,6 +168,11 @@ fn are_ends(rows: &TileRows, samples: &[BlockSamples], triangles: &[Placed]) -> 
         }
     }
     true
+}
+
+/// The same of a canvas that has the screen's upper left corner.
+fn are_ends(rows: &TileRows, samples: &[BlockSamples], triangles: &[Placed]) -> bool {
+    are_ends_from(Origin { x: 0, y: 0 }, rows, samples, triangles)
 }
 
 /// The sample planes of tile rows, all samples the clear one.
@@ -192,6 +210,40 @@ fn draws_batches(rt: &impl Abort, alloc: Global, count: SampleCount) -> Result<b
 fn draws_batches_over_samples_that_stay(rt: HostRuntime) -> Result<(), Fail> {
     assert!(rt; draws_batches(&rt, rt.alloc(), SampleCount::One)?);
     assert!(rt; draws_batches(&rt, rt.alloc(), SampleCount::Four)?);
+    Ok(())
+}
+
+/// Whether a canvas at the origin is drawn as the screen's samples there are defined.
+fn draws_window(rt: &impl Abort, alloc: Global, origin: Origin) -> Result<bool, Fail> {
+    let rows = canvas(rt, SampleCount::Four).all();
+    let triangles = Numbers { state: 9 }.triangles(rt, alloc, 70)?;
+    let mut samples = cleared(alloc, &rows)?;
+    let drawn = rows.draw_window(&origin, &triangles, &mut samples);
+    Ok(drawn.is_ok() && are_ends_from(origin, &rows, &samples, &triangles))
+}
+
+#[test]
+fn draws_a_window_anywhere_on_the_screen(rt: HostRuntime) -> Result<(), Fail> {
+    assert!(rt; draws_window(&rt, rt.alloc(), Origin { x: 21, y: 10 })?);
+    assert!(rt; draws_window(&rt, rt.alloc(), Origin { x: -5, y: -9 })?);
+    Ok(())
+}
+
+#[test]
+fn refuses_a_batch_that_leaves_the_guard_band(rt: HostRuntime) -> Result<(), Fail> {
+    let rows = canvas(&rt, SampleCount::One).all();
+    let triangles = Numbers { state: 10 }.triangles(&rt, rt.alloc(), 70)?;
+    let mut samples = cleared(rt.alloc(), &rows)?;
+    let left = Origin { x: -32_700, y: 0 };
+    let right = Origin {
+        x: i32::MAX,
+        y: i32::MIN,
+    };
+    for origin in [left, right] {
+        let refused = rows.draw_window(&origin, &triangles, &mut samples);
+        assert_eq!(rt; refused, Err(Misfit::OutOfRange));
+    }
+    assert!(rt; are_ends(&rows, &samples, &[]));
     Ok(())
 }
 

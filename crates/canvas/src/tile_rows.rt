@@ -18,7 +18,7 @@ pub struct TileRows {
 
 impl TileRows {
     ghost use Rattle.lanes.specs.declared.block_samples.BlockSamples.{BlockSamples as Planes};
-    ghost use Rattle.canvas.specs.Layout.{HasSample, planes_of_rows, stored};
+    ghost use Rattle.canvas.specs.Layout.{IsStoredIn, planes_of_rows, stored};
 
     /// How many planes of samples these tile rows have.
     pub fn planes(&self) -> usize
@@ -35,9 +35,9 @@ impl TileRows {
         ensures upper { IfSome result (λ parts. (parts.0.canvas ≡ self.now.canvas) × (parts.0.first ≡ self.now.first) × (parts.0.end ≡ at)) }
         ensures lower { IfSome result (λ parts. (parts.1.canvas ≡ self.now.canvas) × (parts.1.first ≡ at) × (parts.1.end ≡ self.now.end)) }
         ensures planes { IfSome result (λ parts. planes_of_rows self.now.canvas self.now.first self.now.end ≡ planes_of_rows self.now.canvas self.now.first at + planes_of_rows self.now.canvas at self.now.end) }
-        ensures in_upper { IfSome result (λ parts. (xs ys : List Planes) (i j s : ℕ) → length xs ≡ planes_of_rows self.now.canvas self.now.first at → HasSample self.now.canvas self.now.first at i j s
+        ensures in_upper { IfSome result (λ parts. (xs ys : List Planes) (i j s : ℕ) → length xs ≡ planes_of_rows self.now.canvas self.now.first at → IsStoredIn self.now.canvas self.now.first at i j s
             → stored self.now.canvas self.now.first (xs ++ ys) i j s ≡ stored self.now.canvas self.now.first xs i j s) }
-        ensures in_lower { IfSome result (λ parts. (xs ys : List Planes) (i j s : ℕ) → length xs ≡ planes_of_rows self.now.canvas self.now.first at → HasSample self.now.canvas at self.now.end i j s
+        ensures in_lower { IfSome result (λ parts. (xs ys : List Planes) (i j s : ℕ) → length xs ≡ planes_of_rows self.now.canvas self.now.first at → IsStoredIn self.now.canvas at self.now.end i j s
             → stored self.now.canvas self.now.first (xs ++ ys) i j s ≡ stored self.now.canvas at ys i j s) }
     {
         if self.first <= at && at <= self.end {

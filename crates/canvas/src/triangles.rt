@@ -36,7 +36,7 @@ fn draw_tile(chunk: &[Placed], mask: u64, tile: &Tile, samples: &mut [BlockSampl
 }
 
 impl Canvas {
-    /// Draws the triangles at the samples of a tile row, tile by tile.
+    /// Draws the triangles at the samples of a tile row, tile by tile. Tiles that none reaches are left out.
     fn draw_row(&self, row: u32, chunk: &[Placed], reached: &Reached, samples: &mut [BlockSamples])
         requires row { row < rows_of self.now }
         requires few { length chunk.now ≤ 64 }
@@ -45,11 +45,14 @@ impl Canvas {
         ensures { HaveEnds chunk.now self.now row (row + 1) samples.old samples.new }
     {
         let each = self.planes_of_tile();
-        for column in 0..self.column_count() {
-            let mask = reached.columns[column as usize] & reached.rows[row as usize];
-            let from = column as usize * each;
-            let tile = self.tile(column, row);
-            draw_tile(chunk, mask, &tile, &mut samples[from..from + each]);
+        let span = reached.columns.span;
+        for column in span.first..span.end.min(self.column_count()) {
+            let mask = reached.columns.words[column as usize] & reached.rows.words[row as usize];
+            if mask != 0 {
+                let from = column as usize * each;
+                let tile = self.tile(column, row);
+                draw_tile(chunk, mask, &tile, &mut samples[from..from + each]);
+            }
         }
     }
 }
@@ -63,10 +66,14 @@ impl TileRows {
     {
         let reached = reach_of(chunk);
         let each = self.canvas.planes_of_row();
-        for row in self.first..self.end {
-            let from = (row - self.first) as usize * each;
-            self.canvas
-                .draw_row(row, chunk, &reached, &mut samples[from..from + each]);
+        let span = reached.rows.span;
+        for row in self.first.max(span.first)..self.end.min(span.end) {
+            let marks = reached.rows.words[row as usize];
+            if marks != 0 {
+                let from = (row - self.first) as usize * each;
+                self.canvas
+                    .draw_row(row, chunk, &reached, &mut samples[from..from + each]);
+            }
         }
     }
 

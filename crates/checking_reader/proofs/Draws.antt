@@ -4,10 +4,10 @@ use Rattle.std.specs.Option.{option_or, option_map}
 use Rattle.serde_json.specs.View.{view, items_view}
 use Rattle.serde_json.specs.declared.value.Value.{Value}
 use Rattle.model.specs.declared.fault.ReadKind.{ReadKind}
-use Rattle.model.specs.FirstFault.{first_fault, told_as}
+use Rattle.model.specs.FirstFault.{first_fault, reported_as}
 use Rattle.model.specs.Checks.{draw_checks, draws_checks, triangles_counted, in_draw}
 use Rattle.checking_reader.proofs.Elements.{from_here}
-use Rattle.model.proofs.Faults.{first_fault_of_both, first_fault_told_as}
+use Rattle.model.proofs.Faults.{first_fault_of_both, first_fault_reported_as}
 
 -- no draw before i fails, and those draws have `earlier` triangles
 abbrev pub DrawsPassed : List Value → ℕ → ℕ → Type 0
@@ -21,8 +21,8 @@ fault_here : (vs : List Value) (i earlier : ℕ) (v : Value) → i < length vs �
     ≡ option_or (option_map (in_draw i) (first_fault (draw_checks earlier (view v)))) (first_fault (draws_checks (i + 1) (earlier + triangles_of v) (items_view (drop (i + 1) vs))))
 fault_here vs i earlier v lt is =
     ap (λ ds. first_fault (draws_checks i earlier ds)) (from_here vs i v lt is)
-    ∙ (first_fault_of_both (told_as (in_draw i) (draw_checks earlier (view v))) _
-    ∙ ap (λ o. option_or o (first_fault (draws_checks (i + 1) (earlier + triangles_of v) (items_view (drop (i + 1) vs))))) (first_fault_told_as (in_draw i) (draw_checks earlier (view v))))
+    ∙ (first_fault_of_both (reported_as (in_draw i) (draw_checks earlier (view v))) _
+    ∙ ap (λ o. option_or o (first_fault (draws_checks (i + 1) (earlier + triangles_of v) (items_view (drop (i + 1) vs))))) (first_fault_reported_as (in_draw i) (draw_checks earlier (view v))))
 
 pub draw_fails : (vs : List Value) (i earlier : ℕ) (v : Value) (kind : ReadKind) → i < length vs → v ≡ get_or vs i v → DrawsPassed vs i earlier
     → first_fault (draw_checks earlier (view v)) ≡ Some kind → first_fault (draws_checks 0 0 (items_view vs)) ≡ Some (in_draw i kind)

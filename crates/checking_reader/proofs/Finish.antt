@@ -15,11 +15,11 @@ use Rattle.model.proofs.FaultKinds.{no_other}
 use Rattle.model.proofs.OneList.{denotes-unique}
 
 is_first-cons : {T : Type 0} (p : Check T) (ps : List (Check T)) (fault : T) (b : Bool) → p.fails ≡ b → (first_fault ps ≡ Some fault → IsFirstFault ps fault)
-    → cond b (Some p.told) (first_fault ps) ≡ Some fault → IsFirstFault (p ∷ ps) fault
-is_first-cons p ps fault true fails later is = record { before = []; here = p; after = ps; order = refl; passed = tt; fails = fails; told = cc }
+    → cond b (Some p.reported) (first_fault ps) ≡ Some fault → IsFirstFault (p ∷ ps) fault
+is_first-cons p ps fault true fails later is = record { before = []; here = p; after = ps; order = refl; passed = tt; fails = fails; reported = cc }
 is_first-cons p ps fault false fails later is =
     let rest = later is in
-    record { before = p ∷ rest.before; here = rest.here; after = rest.after; order = ap (λ qs. p ∷ qs) rest.order; passed = (fails, rest.passed); fails = rest.fails; told = rest.told }
+    record { before = p ∷ rest.before; here = rest.here; after = rest.after; order = ap (λ qs. p ∷ qs) rest.order; passed = (fails, rest.passed); fails = rest.fails; reported = rest.reported }
 
 pub is_first : {T : Type 0} (ps : List (Check T)) (fault : T) → first_fault ps ≡ Some fault → IsFirstFault ps fault
 is_first [] fault is = absurd (cc)

@@ -13,20 +13,20 @@ use Rattle.model.specs.Checks.{Checks, where_there, word_checks, truth_checks, w
 use Rattle.model.proofs.Faults.{all_pass, both_pass, both_passed}
 
 -- no check reports out of memory
-abbrev NoneTellsMemory : Checks → Type 0
-NoneTellsMemory checks = AllByRecursion (λ p. p.told ≢ OutOfMemory) checks
+abbrev NoneReportsMemory : Checks → Type 0
+NoneReportsMemory checks = AllByRecursion (λ p. p.reported ≢ OutOfMemory) checks
 
-not_told : (b : Bool) (kind : ReadKind) (rest : Option ReadKind) → kind ≢ OutOfMemory → (rest ≡ Some OutOfMemory → ⊥) → cond b (Some kind) rest ≡ Some OutOfMemory → ⊥
-not_told true kind rest other later e = other (cc)
-not_told false kind rest other later e = later e
+not_reported : (b : Bool) (kind : ReadKind) (rest : Option ReadKind) → kind ≢ OutOfMemory → (rest ≡ Some OutOfMemory → ⊥) → cond b (Some kind) rest ≡ Some OutOfMemory → ⊥
+not_reported true kind rest other later e = other (cc)
+not_reported false kind rest other later e = later e
 
-never : (ps : Checks) → NoneTellsMemory ps → first_fault ps ≡ Some OutOfMemory → ⊥
+never : (ps : Checks) → NoneReportsMemory ps → first_fault ps ≡ Some OutOfMemory → ⊥
 never [] none e = cc
-never (p ∷ ps) none e = not_told p.fails p.told (first_fault ps) none.0 (never ps none.1) e
+never (p ∷ ps) none e = not_reported p.fails p.reported (first_fault ps) none.0 (never ps none.1) e
 
-both_tell : (ps qs : Checks) → NoneTellsMemory ps → NoneTellsMemory qs → NoneTellsMemory (ps ++ qs)
-both_tell [] qs p q = q
-both_tell (x ∷ ps) qs p q = (p.0, both_tell ps qs p.1 q)
+both_report : (ps qs : Checks) → NoneReportsMemory ps → NoneReportsMemory qs → NoneReportsMemory (ps ++ qs)
+both_report [] qs p q = q
+both_report (x ∷ ps) qs p q = (p.0, both_report ps qs p.1 q)
 
 wrong_kind : WrongKind ≢ OutOfMemory
 wrong_kind e = cc
@@ -34,69 +34,69 @@ wrong_kind e = cc
 out_of_range : OutOfRange ≢ OutOfMemory
 out_of_range e = cc
 
-there_tells : (checks : Option Data → Checks) (value : Option Data) → ((v : Data) → NoneTellsMemory (checks (Some v))) → NoneTellsMemory (where_there checks value)
-there_tells checks None each = tt
-there_tells checks (Some v) each = each v
+there_reports : (checks : Option Data → Checks) (value : Option Data) → ((v : Data) → NoneReportsMemory (checks (Some v))) → NoneReportsMemory (where_there checks value)
+there_reports checks None each = tt
+there_reports checks (Some v) each = each v
 
 -- ---- a draw's state
 
-merge_tells : (d : Data) → NoneTellsMemory (merge_checks d)
+merge_reports : (d : Data) → NoneReportsMemory (merge_checks d)
 unfolding merge_checks
-merge_tells d =
+merge_reports d =
     let tests : Checks = where_there (word_checks depth_test_words) (get (codes "depth_test") d) in
     let depths : Checks = where_there truth_checks (get (codes "depth_write") d) in
     let blends : Checks = where_there (word_checks blend_words) (get (codes "blend") d) in
     let masks : Checks = where_there write_mask_checks (get (codes "write") d) in
-    let test = there_tells (word_checks depth_test_words) (get (codes "depth_test") d) (λ v. (wrong_kind, (out_of_range, tt))) in
-    let depth = there_tells truth_checks (get (codes "depth_write") d) (λ v. (wrong_kind, tt)) in
-    let blend = there_tells (word_checks blend_words) (get (codes "blend") d) (λ v. (wrong_kind, (out_of_range, tt))) in
-    let mask = there_tells write_mask_checks (get (codes "write") d) (λ v. (wrong_kind, (wrong_kind, (wrong_kind, (wrong_kind, tt))))) in
-    both_tell tests (depths ++ (blends ++ masks)) test (both_tell depths (blends ++ masks) depth (both_tell blends masks blend mask))
+    let test = there_reports (word_checks depth_test_words) (get (codes "depth_test") d) (λ v. (wrong_kind, (out_of_range, tt))) in
+    let depth = there_reports truth_checks (get (codes "depth_write") d) (λ v. (wrong_kind, tt)) in
+    let blend = there_reports (word_checks blend_words) (get (codes "blend") d) (λ v. (wrong_kind, (out_of_range, tt))) in
+    let mask = there_reports write_mask_checks (get (codes "write") d) (λ v. (wrong_kind, (wrong_kind, (wrong_kind, (wrong_kind, tt))))) in
+    both_report tests (depths ++ (blends ++ masks)) test (both_report depths (blends ++ masks) depth (both_report blends masks blend mask))
 
-state_tells : (d : Data) → NoneTellsMemory (state_checks d)
+state_reports : (d : Data) → NoneReportsMemory (state_checks d)
 unfolding state_checks
-state_tells d =
+state_reports d =
     let culls : Checks = where_there (word_checks cull_words) (get (codes "cull") d) in
     let masks : Checks = where_there sample_mask_checks (get (codes "sample_mask") d) in
     let scissors : Checks = where_there scissor_checks (get (codes "scissor") d) in
-    let sides : (v : Data) → NoneTellsMemory (scissor_checks (Some v)) = λ v. (wrong_kind, (wrong_kind, (out_of_range, (wrong_kind, (out_of_range, (wrong_kind, (out_of_range, (wrong_kind, (out_of_range, tt))))))))) in
-    let scissor = there_tells scissor_checks (get (codes "scissor") d) sides in
-    let mask = there_tells sample_mask_checks (get (codes "sample_mask") d) (λ v. (wrong_kind, (out_of_range, tt))) in
-    let cull = there_tells (word_checks cull_words) (get (codes "cull") d) (λ v. (wrong_kind, (out_of_range, tt))) in
-    both_tell culls (merge_checks d ++ (masks ++ scissors)) cull
-    (both_tell (merge_checks d) (masks ++ scissors) (merge_tells d) (both_tell masks scissors mask scissor))
+    let sides : (v : Data) → NoneReportsMemory (scissor_checks (Some v)) = λ v. (wrong_kind, (wrong_kind, (out_of_range, (wrong_kind, (out_of_range, (wrong_kind, (out_of_range, (wrong_kind, (out_of_range, tt))))))))) in
+    let scissor = there_reports scissor_checks (get (codes "scissor") d) sides in
+    let mask = there_reports sample_mask_checks (get (codes "sample_mask") d) (λ v. (wrong_kind, (out_of_range, tt))) in
+    let cull = there_reports (word_checks cull_words) (get (codes "cull") d) (λ v. (wrong_kind, (out_of_range, tt))) in
+    both_report culls (merge_checks d ++ (masks ++ scissors)) cull
+    (both_report (merge_checks d) (masks ++ scissors) (merge_reports d) (both_report masks scissors mask scissor))
 
 pub state_never : (d : Data) → first_fault (state_checks d) ≡ Some OutOfMemory → ⊥
-state_never d = never (state_checks d) (state_tells d)
+state_never d = never (state_checks d) (state_reports d)
 
 -- ---- the top object
 
-clear_tells : (d : Data) → NoneTellsMemory (clear_checks d)
+clear_reports : (d : Data) → NoneReportsMemory (clear_checks d)
 unfolding clear_checks
-clear_tells d =
+clear_reports d =
     let counts : Checks = where_there sample_count_checks (get (codes "samples") d) in
     let colours : Checks = where_there colour_checks (get (codes "clear") d) in
     let depths : Checks = where_there depth_checks (get (codes "clear_depth") d) in
     let outputs : Checks = where_there (word_checks output_words) (get (codes "output") d) in
-    let channels : (v : Data) → NoneTellsMemory (colour_checks (Some v)) = λ v. (wrong_kind, (wrong_kind, (out_of_range, (wrong_kind, (out_of_range, (wrong_kind, (out_of_range, tt))))))) in
-    let count = there_tells sample_count_checks (get (codes "samples") d) (λ v. (wrong_kind, (out_of_range, tt))) in
-    let colour = there_tells colour_checks (get (codes "clear") d) channels in
-    let depth = there_tells depth_checks (get (codes "clear_depth") d) (λ v. (wrong_kind, (out_of_range, tt))) in
-    let output = there_tells (word_checks output_words) (get (codes "output") d) (λ v. (wrong_kind, (out_of_range, tt))) in
-    both_tell counts (colours ++ (depths ++ outputs)) count (both_tell colours (depths ++ outputs) colour (both_tell depths outputs depth output))
+    let channels : (v : Data) → NoneReportsMemory (colour_checks (Some v)) = λ v. (wrong_kind, (wrong_kind, (out_of_range, (wrong_kind, (out_of_range, (wrong_kind, (out_of_range, tt))))))) in
+    let count = there_reports sample_count_checks (get (codes "samples") d) (λ v. (wrong_kind, (out_of_range, tt))) in
+    let colour = there_reports colour_checks (get (codes "clear") d) channels in
+    let depth = there_reports depth_checks (get (codes "clear_depth") d) (λ v. (wrong_kind, (out_of_range, tt))) in
+    let output = there_reports (word_checks output_words) (get (codes "output") d) (λ v. (wrong_kind, (out_of_range, tt))) in
+    both_report counts (colours ++ (depths ++ outputs)) count (both_report colours (depths ++ outputs) colour (both_report depths outputs depth output))
 
-array_tells : (most : ℕ) (value : Option Data) → NoneTellsMemory (array_checks most value)
-array_tells most value = (wrong_kind, ((λ e. cc), tt))
+array_reports : (most : ℕ) (value : Option Data) → NoneReportsMemory (array_checks most value)
+array_reports most value = (wrong_kind, ((λ e. cc), tt))
 
-top_tells : (d : Data) → NoneTellsMemory (top_checks d)
+top_reports : (d : Data) → NoneReportsMemory (top_checks d)
 unfolding top_checks
-top_tells d =
+top_reports d =
     let draws = get (codes "draws") d in
-    let rest = both_tell (clear_checks d) (array_checks 1024 draws) (clear_tells d) (array_tells 1024 draws) in
+    let rest = both_report (clear_checks d) (array_checks 1024 draws) (clear_reports d) (array_reports 1024 draws) in
     (wrong_kind, ((λ e. cc), ((λ e. cc), (wrong_kind, (out_of_range, (wrong_kind, (out_of_range, rest)))))))
 
 pub top_never : (d : Data) → first_fault (top_checks d) ≡ Some OutOfMemory → ⊥
-top_never d = never (top_checks d) (top_tells d)
+top_never d = never (top_checks d) (top_reports d)
 
 -- ---- what has passed when vertices are begun
 

@@ -10,7 +10,7 @@ use Rattle.model.specs.declared.fault.ReadKind.{ReadKind}
 use Rattle.model.specs.declared.fault.ReadKind.TheVariants.{OutOfMemory}
 use Rattle.model.specs.declared.fault.ReadFault.{ReadFault}
 use Rattle.model.specs.Json.{elements}
-use Rattle.model.specs.FirstFault.{Check, first_fault, told_as, PassesBefore}
+use Rattle.model.specs.FirstFault.{Check, first_fault, reported_as, PassesBefore}
 use Rattle.model.specs.Checks.{draw_checks, checks_before_vertices, draws_checks, triangles_counted, in_draw, top_checks, IsReached, Reaches}
 use Rattle.checking_reader.proofs.Elements.{from_here}
 use Rattle.model.proofs.Faults.{passed_here, all_pass}
@@ -19,22 +19,22 @@ pub both_before : (n : ℕ) (ps qs : List (Check ReadFault)) → PassesBefore n 
 both_before n [] qs p q = q
 both_before n (x ∷ ps) qs p q = (p.0, both_before n ps qs p.1 q)
 
-pub passed_before : (n : ℕ) (f : ReadKind → ReadFault) (ps : List (Check ReadKind)) → first_fault ps ≡ None → PassesBefore n (told_as f ps)
+pub passed_before : (n : ℕ) (f : ReadKind → ReadFault) (ps : List (Check ReadKind)) → first_fault ps ≡ None → PassesBefore n (reported_as f ps)
 passed_before n f [] none = tt
-passed_before n f (p ∷ ps) none = let both = passed_here p.fails p.told (first_fault ps) none in ((λ before. both.0), passed_before n f ps both.1)
+passed_before n f (p ∷ ps) none = let both = passed_here p.fails p.reported (first_fault ps) none in ((λ before. both.0), passed_before n f ps both.1)
 
 not_below : (m n : ℕ) → n ≤ m → nat_lt m n ≡ false
 not_below m n h = grind (arith, nat_tests)
 
-told_from : (n number : ℕ) (ps : List (Check ReadKind)) → n ≤ number → PassesBefore n (told_as (in_draw number) ps)
-told_from n number [] h = tt
-told_from n number (p ∷ ps) h = ((λ before. let at = not_below number n h in absurd (cc)), told_from n number ps h)
+reported_from : (n number : ℕ) (ps : List (Check ReadKind)) → n ≤ number → PassesBefore n (reported_as (in_draw number) ps)
+reported_from n number [] h = tt
+reported_from n number (p ∷ ps) h = ((λ before. let at = not_below number n h in absurd (cc)), reported_from n number ps h)
 
 -- the draws from n on have no check before draw n
 pub draws_from : (n number earlier : ℕ) (ds : Items) → n ≤ number → PassesBefore n (draws_checks number earlier ds)
 draws_from n number earlier no_items h = tt
 draws_from n number earlier (item d ds) h =
-    both_before n (told_as (in_draw number) (draw_checks earlier d)) _ (told_from n number (draw_checks earlier d) h) (draws_from n (number + 1) _ ds (omega arith))
+    both_before n (reported_as (in_draw number) (draw_checks earlier d)) _ (reported_from n number (draw_checks earlier d) h) (draws_from n (number + 1) _ ds (omega arith))
 
 -- the draws before i have passed
 abbrev pub AllPassedTo : List Value → ℕ → ℕ → Type 0
@@ -43,7 +43,7 @@ AllPassedTo vs i earlier = (n : ℕ) → PassesBefore n (draws_checks i earlier 
 pub one_more_passed : (vs : List Value) (i earlier : ℕ) (v : Value) → i < length vs → v ≡ get_or vs i v → AllPassedTo vs i earlier
     → first_fault (draw_checks earlier (view v)) ≡ None → AllPassedTo vs (i + 1) (earlier + triangles_counted (view v))
 one_more_passed vs i earlier v lt is before none n rest =
-    before n (rw (from_here vs i v lt is) (both_before n (told_as (in_draw i) (draw_checks earlier (view v))) _ (passed_before n (in_draw i) (draw_checks earlier (view v)) none) rest))
+    before n (rw (from_here vs i v lt is) (both_before n (reported_as (in_draw i) (draw_checks earlier (view v))) _ (passed_before n (in_draw i) (draw_checks earlier (view v)) none) rest))
 
 -- the reading reached draw i
 pub reached_draw : (vs : List Value) (i earlier : ℕ) (v : Value) (kind : ReadKind) → i < length vs → v ≡ get_or vs i v → AllPassedTo vs i earlier

@@ -6,13 +6,13 @@ use Rattle.model.specs.declared.fault.ReadKind.TheVariants.{OutOfMemory}
 use Rattle.model.specs.FirstFault.{Check, first_fault}
 
 -- The result is right: no check fails, or the first that fails has this kind.
-abbrev pub Tells : {X : Type 0} → List (Check ReadKind) → (X → Type 0) → Result X ReadKind → Type 0
-Tells checks P answer = MatchResult answer (λ x. (first_fault checks ≡ None) × P x) (λ kind. first_fault checks ≡ Some kind)
+abbrev pub Answers : {X : Type 0} → List (Check ReadKind) → (X → Type 0) → Result X ReadKind → Type 0
+Answers checks P answer = MatchResult answer (λ x. (first_fault checks ≡ None) × P x) (λ kind. first_fault checks ≡ Some kind)
 
--- the same of a result that may also be out of memory
+-- The result is right, or out of memory: no check fails, or the first that fails has this kind.
 abbrev pub Reads : {X : Type 0} → List (Check ReadKind) → (X → Type 0) → Result X ReadKind → Type 0
 Reads checks P answer = MatchResult answer (λ x. (first_fault checks ≡ None) × P x) (λ kind. kind ≢ OutOfMemory → first_fault checks ≡ Some kind)
 
--- the same of a result whose fault also names the draw
+-- The result is right, or out of memory: no check fails, or the first that fails reports this kind and this draw.
 abbrev pub ReadsAll : {X : Type 0} → List (Check ReadFault) → (X → Type 0) → Result X ReadFault → Type 0
 ReadsAll checks P answer = MatchResult answer (λ x. (first_fault checks ≡ None) × P x) (λ fault. fault.kind ≢ OutOfMemory → first_fault checks ≡ Some fault)

@@ -6,24 +6,25 @@ use Rattle.serde_json.specs.View.{view}
 use Rattle.checking_reader.specs.declared.primitives.PrimitiveArray.{PrimitiveArray}
 use Rattle.checking_reader.specs.declared.primitives.PrimitiveArray.TheVariants.{Triangles, Strip, Quads}
 
--- what stands under `triangles`
+-- The value of `triangles`, if that is the list of primitives.
 abbrev pub given_triangles : PrimitiveArray → Option Data
 given_triangles (Triangles array) = Some (view array.now)
 given_triangles (Strip array) = None
 given_triangles (Quads array) = None
 
--- what stands under `strip`
+-- The value of `strip`, if that is the list of primitives.
 abbrev pub given_strip : PrimitiveArray → Option Data
 given_strip (Triangles array) = None
 given_strip (Strip array) = Some (view array.now)
 given_strip (Quads array) = None
 
--- what stands under `quads`
+-- The value of `quads`, if that is the list of primitives.
 abbrev pub given_quads : PrimitiveArray → Option Data
 given_quads (Triangles array) = None
 given_quads (Strip array) = None
 given_quads (Quads array) = Some (view array.now)
 
+-- The draw has this list of primitives, and no other.
 pub record IsGiven (value : Data) (given : PrimitiveArray) : Type 0 where
   pub triangles : get (codes "triangles") value ≡ given_triangles given
   pub strip : get (codes "strip") value ≡ given_strip given

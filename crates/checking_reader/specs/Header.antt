@@ -9,6 +9,7 @@ use Rattle.model.specs.Beginning.{IsBeginning}
 use Rattle.model.specs.Denotes.{IsSize}
 use Rattle.checking_reader.specs.declared.header.Header.{Header}
 
+-- The value is a top object with this size, these samples, clear values and output, and these draws as JSON values.
 pub record IsHeader (value : Data) (h : Header) : Type 0 where
   pub object : IsSome (as_object value)
   pub keys : has_other_key top_keys (as_object value) ≡ false

@@ -27,7 +27,7 @@ fn parts(
     earlier: usize,
 ) -> Result<(Vec<Vertex>, Primitives), ReadKind>
     requires { earlier ≤ MOST_TRIANGLES }
-    ensures told { let vertices = Some (view vertex_array.now) in
+    ensures reported { let vertices = Some (view vertex_array.now) in
         let triangles = given_triangles given.entry in
         let strip = given_strip given.entry in let quads = given_quads given.entry in
         Reads (part_checks earlier vertices triangles strip quads)
@@ -51,7 +51,7 @@ pub(crate) fn read_draw(
     earlier: usize,
 ) -> Result<Draw, ReadKind>
     requires { earlier ≤ MOST_TRIANGLES }
-    ensures told { Reads (draw_checks earlier (view value.now))
+    ensures reported { Reads (draw_checks earlier (view value.now))
         (λ d. IsDraw picture (view value.now) (draw_listing d)) result }
     ensures memory { IfErr result (λ kind. kind ≡ OutOfMemory
         → first_fault (checks_before_vertices (view value.now)) ≡ None) }

@@ -2,7 +2,7 @@ ghost use Rattle.std.specs.Prelude.{◌≡◌, ◌≤◌, pos, Some, length, opt
 ghost use Rattle.serde_json.specs.View.{view, items_view};
 ghost use Rattle.grid.specs.declared.sample_count.SampleCount.TheVariants as count_of;
 ghost use Rattle.model.specs.Beginning.{IsBeginning};
-ghost use Rattle.checking_reader.specs.Answer.{Tells};
+ghost use Rattle.checking_reader.specs.Answer.{Answers};
 ghost use Rattle.model.specs.Checks.{where_there, size_checks, sample_count_checks, colour_checks, depth_checks, clear_checks, top_checks};
 ghost use Rattle.model.specs.Denotes.{OrDefault, IsSize, IsSampleCount, IsClearColour, IsDepthNumber};
 
@@ -27,7 +27,7 @@ pub(crate) struct Header<'v> {
 /// The width or the height of a picture, in pixels.
 fn size(value: Option<&Value>) -> Result<u32, ReadKind>
     ensures { let seen = option_map (λ v. view v.now) value.entry in
-        Tells (size_checks seen) (IsSize seen) result }
+        Answers (size_checks seen) (IsSize seen) result }
 {
     Ok(whole_number(value, 1, i64::from(MOST_PIXELS), ReadKind::OutOfRange)? as u32)
 }
@@ -35,7 +35,7 @@ fn size(value: Option<&Value>) -> Result<u32, ReadKind>
 /// The number of samples of a pixel; the default if the key is absent.
 fn sample_count(value: Option<&Value>) -> Result<SampleCount, ReadKind>
     ensures { let seen = option_map (λ v. view v.now) value.entry in
-        Tells (where_there sample_count_checks seen) (OrDefault count_of.One IsSampleCount seen) result }
+        Answers (where_there sample_count_checks seen) (OrDefault count_of.One IsSampleCount seen) result }
 {
     if value.is_none() {
         return Ok(DEFAULT_SAMPLE_COUNT);
@@ -50,7 +50,7 @@ fn sample_count(value: Option<&Value>) -> Result<SampleCount, ReadKind>
 /// The colour that each sample begins with, apart from the default depth; the default if the key is absent.
 fn clear_colour(value: Option<&Value>) -> Result<Sample, ReadKind>
     ensures { let seen = option_map (λ v. view v.now) value.entry in
-        Tells (where_there colour_checks seen) (λ found. OrDefault (0 ∷ 0 ∷ 0 ∷ []) IsClearColour seen (found.r ∷ found.g ∷ found.b ∷ [])) result }
+        Answers (where_there colour_checks seen) (λ found. OrDefault (0 ∷ 0 ∷ 0 ∷ []) IsClearColour seen (found.r ∷ found.g ∷ found.b ∷ [])) result }
 {
     let Some(value) = value else {
         return Ok(DEFAULT_CLEAR);
@@ -72,7 +72,7 @@ fn clear_colour(value: Option<&Value>) -> Result<Sample, ReadKind>
 /// The depth that each sample begins with; the default if the key is absent.
 fn clear_depth(value: Option<&Value>) -> Result<u16, ReadKind>
     ensures { let seen = option_map (λ v. view v.now) value.entry in
-        Tells (where_there depth_checks seen) (OrDefault 65535 IsDepthNumber seen) result }
+        Answers (where_there depth_checks seen) (OrDefault 65535 IsDepthNumber seen) result }
 {
     if value.is_none() {
         return Ok(DEFAULT_CLEAR.z);
@@ -83,7 +83,7 @@ fn clear_depth(value: Option<&Value>) -> Result<u16, ReadKind>
 /// The number of samples of a pixel, what each begins with, and what the picture shows.
 #[tactic(auto, using(model::proofs::Faults::first_fault_of_both), unfolding(model::specs::Checks::clear_checks))]
 fn beginning(value: &Value) -> Result<(SampleCount, Sample, Output), ReadKind>
-    ensures { Tells (clear_checks (view value.now)) (λ found. IsBeginning (view value.now) found.0 found.1 found.2) result }
+    ensures { Answers (clear_checks (view value.now)) (λ found. IsBeginning (view value.now) found.0 found.1 found.2) result }
 {
     let count = sample_count(value.get("samples"))?;
     let colour = clear_colour(value.get("clear"))?;
@@ -99,7 +99,7 @@ impl<'v> Header<'v> {
     /// The parts of the top object, or the first fault of it outside of its draws.
     #[tactic(auto, using(model::proofs::Faults::first_fault_of_both), unfolding(model::specs::Checks::top_checks))]
     pub(crate) fn read(value: &'v Value) -> Result<Header<'v>, ReadKind>
-        ensures { Tells (top_checks (view value.now)) (IsHeader (view value.now)) result }
+        ensures { Answers (top_checks (view value.now)) (IsHeader (view value.now)) result }
     {
         let Some(object) = value.as_object() else {
             return Err(ReadKind::WrongKind);

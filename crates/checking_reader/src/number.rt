@@ -1,6 +1,6 @@
 ghost use Rattle.std.specs.Prelude.{◌≡◌, pos, ◌≤ℤ◌, option_map};
 ghost use Rattle.serde_json.specs.View.{view};
-ghost use Rattle.checking_reader.specs.Answer.{Tells};
+ghost use Rattle.checking_reader.specs.Answer.{Answers};
 ghost use Rattle.model.specs.Checks.{number_checks, coordinate_checks, depth_checks, channel_checks, is_from_to};
 ghost use Rattle.model.specs.Denotes.{IsWhole, IsCoordinate, IsDepthNumber, IsChannel};
 
@@ -16,7 +16,7 @@ pub(crate) fn whole_number(
     outside: ReadKind,
 ) -> Result<i64, ReadKind>
     ensures { let seen = option_map (λ v. view v.now) value.entry in
-        Tells (number_checks (is_from_to low high) outside seen) (IsWhole low high seen) result }
+        Answers (number_checks (is_from_to low high) outside seen) (IsWhole low high seen) result }
 {
     let Some(value) = value else {
         return Err(ReadKind::WrongKind);
@@ -32,7 +32,7 @@ pub(crate) fn whole_number(
 /// A coordinate of the guard band, in 1/256 pixel: a number at which there can be a point.
 pub(crate) fn coordinate(value: Option<&Value>) -> Result<i32, ReadKind>
     ensures { let seen = option_map (λ v. view v.now) value.entry in
-        Tells (coordinate_checks seen) (IsCoordinate seen) result }
+        Answers (coordinate_checks seen) (IsCoordinate seen) result }
 {
     let (low, high) = (i64::from(i32::MIN), i64::from(i32::MAX));
     let number = whole_number(value, low, high, ReadKind::OutOfRange)? as i32;
@@ -44,7 +44,7 @@ pub(crate) fn coordinate(value: Option<&Value>) -> Result<i32, ReadKind>
 
 pub(crate) fn depth(value: Option<&Value>) -> Result<u16, ReadKind>
     ensures { let seen = option_map (λ v. view v.now) value.entry in
-        Tells (depth_checks seen) (IsDepthNumber seen) result }
+        Answers (depth_checks seen) (IsDepthNumber seen) result }
 {
     Ok(whole_number(value, 0, i64::from(u16::MAX), ReadKind::OutOfRange)? as u16)
 }
@@ -52,7 +52,7 @@ pub(crate) fn depth(value: Option<&Value>) -> Result<u16, ReadKind>
 /// A colour channel or an alpha.
 pub(crate) fn channel(value: Option<&Value>) -> Result<u8, ReadKind>
     ensures { let seen = option_map (λ v. view v.now) value.entry in
-        Tells (channel_checks seen) (IsChannel seen) result }
+        Answers (channel_checks seen) (IsChannel seen) result }
 {
     Ok(whole_number(value, 0, i64::from(u8::MAX), ReadKind::OutOfRange)? as u8)
 }

@@ -1,7 +1,7 @@
 ghost use Rattle.std.specs.Prelude.{◌≤◌, ◌+◌, [], ◌∷◌, IfOk, length, map};
 ghost use Rattle.serde_json.specs.View.{view};
 ghost use Rattle.model.specs.declared.fault.ReadKind.TheVariants.{MissingKey, TwoLists};
-ghost use Rattle.checking_reader.specs.Answer.{Tells, Reads};
+ghost use Rattle.checking_reader.specs.Answer.{Answers, Reads};
 ghost use Rattle.model.specs.FirstFault.{check};
 ghost use Rattle.model.specs.Primitives.{primitive_listing, count_of_triangles};
 ghost use Rattle.checking_reader.specs.Given.{given_triangles, given_strip, given_quads, IsGiven};
@@ -26,7 +26,7 @@ pub(crate) enum PrimitiveArray<'v> {
 /// The list of primitives of a draw, which has exactly one.
 pub(crate) fn primitive_array(value: &Value) -> Result<PrimitiveArray<'_>, ReadKind>
     ensures { let seen = view value.now in
-        Tells (check (has_no_list seen) MissingKey ∷ check (has_two_lists seen) TwoLists ∷ []) (IsGiven seen) result }
+        Answers (check (has_no_list seen) MissingKey ∷ check (has_two_lists seen) TwoLists ∷ []) (IsGiven seen) result }
 {
     match (
         value.get("triangles"),
@@ -51,7 +51,7 @@ pub(crate) fn read_primitives(
 ) -> Result<Primitives, ReadKind>
     requires earlier { earlier ≤ MOST_TRIANGLES }
     requires count { length vertices.now ≤ MOST_VERTICES }
-    ensures told { let count = length vertices.now in let positions = map (λ v. v.at) vertices.now in
+    ensures reported { let count = length vertices.now in let positions = map (λ v. v.at) vertices.now in
         let triangles = given_triangles given.entry in
         let strip = given_strip given.entry in let quads = given_quads given.entry in
         Reads (primitive_checks earlier count positions triangles strip quads)

@@ -1,6 +1,6 @@
 ghost use Rattle.std.specs.Prelude.{◌≡◌, ◌≤◌, ◌+◌, Some, IfOk, length, vec_len, map};
 ghost use Rattle.serde_json.specs.View.{view, items_view};
-ghost use Rattle.checking_reader.specs.Answer.{Tells, Reads};
+ghost use Rattle.checking_reader.specs.Answer.{Answers, Reads};
 ghost use Rattle.model.specs.Primitives.{quads_count as count_of_quads};
 ghost use Rattle.model.specs.Checks.{quad_checks_over, quads_checks, each};
 ghost use Rattle.model.specs.Denotes.{IsQuad, IsArrayOf, Each};
@@ -14,7 +14,7 @@ use std::alloc::Global;
 /// A strictly convex quad, by the indices of four of the vertices.
 fn quad(value: &Value, vertices: &[Vertex]) -> Result<[u32; 4], ReadKind>
     requires { length vertices.now ≤ MOST_VERTICES }
-    ensures { Tells (quad_checks_over vertices.now (view value.now)) (IsQuad vertices.now (view value.now)) result }
+    ensures { Answers (quad_checks_over vertices.now (view value.now)) (IsQuad vertices.now (view value.now)) result }
 {
     if !has_length(value, 4) {
         return Err(ReadKind::WrongKind);
@@ -53,7 +53,7 @@ pub(crate) fn read_quads(
 ) -> Result<Vec<[u32; 4]>, ReadKind>
     requires earlier { earlier ≤ MOST_TRIANGLES }
     requires count { length vertices.now ≤ MOST_VERTICES }
-    ensures told { let seen = Some (view value.now) in
+    ensures reported { let seen = Some (view value.now) in
         let count = length vertices.now in let positions = map (λ v. v.at) vertices.now in
         Reads (quads_checks earlier count positions seen)
         (λ found. IsArrayOf MOST_QUADS (IsQuad vertices.now) seen found.items) result }

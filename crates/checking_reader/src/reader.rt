@@ -27,7 +27,7 @@ fn numbered_draw(
     earlier: usize,
 ) -> Result<Draw, ReadFault>
     requires { earlier ≤ MOST_TRIANGLES }
-    ensures told { let checks = draw_checks earlier (view value.now) in MatchResult result
+    ensures reported { let checks = draw_checks earlier (view value.now) in MatchResult result
         (λ d. (first_fault checks ≡ None) × IsDraw picture (view value.now) (draw_listing d))
         (λ fault. fault.kind ≢ OutOfMemory → first_fault checks ≡ Some fault.kind) }
     ensures named { IfErr result (λ fault. fault.draw ≡ Some number) }
@@ -41,7 +41,7 @@ fn numbered_draw(
 /// The draws on a picture of these pixels. Each fault names its draw.
 fn draws_of(alloc: Global, list: &[Value], picture: PixelBox) -> Result<Vec<Draw>, ReadFault>
     requires { length list.now ≤ 1024 }
-    ensures told { let items = items_view list.now in ReadsAll (draws_checks 0 0 items)
+    ensures reported { let items = items_view list.now in ReadsAll (draws_checks 0 0 items)
         (λ found. let draws = map draw_listing found.items in
         Each (IsDraw picture) items draws × (sum_by (λ d. count_of_triangles d.primitives) draws ≤ MOST_TRIANGLES)) result }
     ensures reached { IfErr result (λ fault. (n : ℕ) × (fault.draw ≡ Some n) × IsReached (items_view list.now) fault.kind n) }
@@ -59,9 +59,9 @@ fn draws_of(alloc: Global, list: &[Value], picture: PixelBox) -> Result<Vec<Draw
 }
 
 /// The draw list that a value denotes, or the first fault of it.
-#[tactic(auto, using(model::proofs::Faults::first_fault_of_both, model::proofs::Faults::first_fault_told_as, crate::proofs::Memory::top_never))]
+#[tactic(auto, using(model::proofs::Faults::first_fault_of_both, model::proofs::Faults::first_fault_reported_as, crate::proofs::Memory::top_never))]
 fn read_value(alloc: Global, value: &Value) -> Result<DrawList, ReadFault>
-    ensures told { ReadsAll (value_checks (view value.now)) (IsDrawList (view value.now)) result }
+    ensures reported { ReadsAll (value_checks (view value.now)) (IsDrawList (view value.now)) result }
     ensures reached { IfErr result (Reaches (Some (view value.now))) }
     // `OutOfMemory` names no draw only after the last.
     ensures after_all { IfErr result (λ fault. fault ≡ outside OutOfMemory → first_fault (value_checks (view value.now)) ≡ None) }

@@ -1,6 +1,6 @@
 ghost use Rattle.std.specs.Prelude.{◌≡◌, pos, option_map, true, false, [], ◌∷◌};
 ghost use Rattle.serde_json.specs.View.{view};
-ghost use Rattle.checking_reader.specs.Answer.{Tells};
+ghost use Rattle.checking_reader.specs.Answer.{Answers};
 ghost use Rattle.model.specs.Checks.{where_there, truth_checks, write_mask_checks, sample_mask_checks, scissor_side_checks, scissor_checks, merge_checks, state_checks};
 ghost use Rattle.model.specs.Denotes.{OrDefault, IsTruth, IsWriteMask, IsSampleMask, IsScissorSide, IsScissor, IsMerge, IsState};
 
@@ -14,7 +14,7 @@ use shade::{Merge, State};
 
 fn truth(value: Option<&Value>) -> Result<bool, ReadKind>
     ensures { let seen = option_map (λ v. view v.now) value.entry in
-        Tells (truth_checks seen) (IsTruth seen) result }
+        Answers (truth_checks seen) (IsTruth seen) result }
 {
     match value.and_then(Value::as_bool) {
         Some(truth) => Ok(truth),
@@ -25,7 +25,7 @@ fn truth(value: Option<&Value>) -> Result<bool, ReadKind>
 /// Whether a draw stores depths; the default if the key is absent.
 fn depth_write(value: Option<&Value>) -> Result<bool, ReadKind>
     ensures { let seen = option_map (λ v. view v.now) value.entry in
-        Tells (where_there truth_checks seen) (OrDefault false IsTruth seen) result }
+        Answers (where_there truth_checks seen) (OrDefault false IsTruth seen) result }
 {
     if value.is_none() {
         return Ok(DEFAULT_STATE.merge.depth_write);
@@ -36,7 +36,7 @@ fn depth_write(value: Option<&Value>) -> Result<bool, ReadKind>
 /// Which of red, green and blue a draw writes; the default if the key is absent.
 fn write_mask(value: Option<&Value>) -> Result<[bool; 3], ReadKind>
     ensures { let seen = option_map (λ v. view v.now) value.entry in
-        Tells (where_there write_mask_checks seen) (OrDefault (true ∷ true ∷ true ∷ []) IsWriteMask seen) result }
+        Answers (where_there write_mask_checks seen) (OrDefault (true ∷ true ∷ true ∷ []) IsWriteMask seen) result }
 {
     let Some(value) = value else {
         return Ok(DEFAULT_STATE.merge.write);
@@ -54,7 +54,7 @@ fn write_mask(value: Option<&Value>) -> Result<[bool; 3], ReadKind>
 /// also with one sample, of which only bit 0 counts.
 fn sample_mask(value: Option<&Value>) -> Result<u8, ReadKind>
     ensures { let seen = option_map (λ v. view v.now) value.entry in
-        Tells (where_there sample_mask_checks seen) (OrDefault 15 IsSampleMask seen) result }
+        Answers (where_there sample_mask_checks seen) (OrDefault 15 IsSampleMask seen) result }
 {
     if value.is_none() {
         return Ok(DEFAULT_STATE.sample_mask);
@@ -65,7 +65,7 @@ fn sample_mask(value: Option<&Value>) -> Result<u8, ReadKind>
 /// A side of a scissor, in pixels.
 fn scissor_side(value: Option<&Value>) -> Result<i32, ReadKind>
     ensures { let seen = option_map (λ v. view v.now) value.entry in
-        Tells (scissor_side_checks seen) (IsScissorSide seen) result }
+        Answers (scissor_side_checks seen) (IsScissorSide seen) result }
 {
     Ok(whole_number(value, 0, i64::from(MOST_PIXELS), ReadKind::OutOfRange)? as i32)
 }
@@ -73,7 +73,7 @@ fn scissor_side(value: Option<&Value>) -> Result<i32, ReadKind>
 /// The scissor of a draw; all pixels of the picture if the key is absent. It may reach past the picture, and be empty.
 fn scissor(value: Option<&Value>, picture: PixelBox) -> Result<PixelBox, ReadKind>
     ensures { let seen = option_map (λ v. view v.now) value.entry in
-        Tells (where_there scissor_checks seen) (OrDefault picture IsScissor seen) result }
+        Answers (where_there scissor_checks seen) (OrDefault picture IsScissor seen) result }
 {
     let Some(value) = value else {
         return Ok(picture);
@@ -96,7 +96,7 @@ fn scissor(value: Option<&Value>, picture: PixelBox) -> Result<PixelBox, ReadKin
 /// How a draw's fragments are merged with what is stored.
 #[tactic(auto, using(model::proofs::Faults::first_fault_of_both), unfolding(model::specs::Checks::merge_checks))]
 fn merge(value: &Value) -> Result<Merge, ReadKind>
-    ensures { Tells (merge_checks (view value.now)) (IsMerge (view value.now)) result }
+    ensures { Answers (merge_checks (view value.now)) (IsMerge (view value.now)) result }
 {
     let test = depth_test(value.get("depth_test"))?;
     let depth_write = depth_write(value.get("depth_write"))?;
@@ -113,7 +113,7 @@ fn merge(value: &Value) -> Result<Merge, ReadKind>
 /// The state of a draw on a picture of these pixels.
 #[tactic(auto, using(model::proofs::Faults::first_fault_of_both), unfolding(model::specs::Checks::state_checks))]
 pub(crate) fn read_state(value: &Value, picture: PixelBox) -> Result<State, ReadKind>
-    ensures { Tells (state_checks (view value.now)) (IsState picture (view value.now)) result }
+    ensures { Answers (state_checks (view value.now)) (IsState picture (view value.now)) result }
 {
     let cull = cull(value.get("cull"))?;
     let merge = merge(value)?;

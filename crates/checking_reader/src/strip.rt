@@ -34,7 +34,7 @@ pub(crate) fn read_strip(
 ) -> Result<Vec<u32>, ReadKind>
     requires earlier { earlier ≤ MOST_TRIANGLES }
     requires count { count ≤ MOST_VERTICES }
-    ensures told { let seen = Some (view value.now) in
+    ensures reported { let seen = Some (view value.now) in
         Reads (strip_checks earlier count seen)
         (λ found. IsArrayOf MOST_STRIP_INDICES (IsStripIndex count) seen found.items) result }
     ensures room { IfOk result (λ found. earlier + count_of_strip (vec_len found) ≤ MOST_TRIANGLES) }

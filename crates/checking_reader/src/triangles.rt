@@ -1,6 +1,6 @@
 ghost use Rattle.std.specs.Prelude.{◌≡◌, ◌≤◌, ◌+◌, Some, IfOk, vec_len};
 ghost use Rattle.serde_json.specs.View.{view, items_view};
-ghost use Rattle.checking_reader.specs.Answer.{Tells, Reads};
+ghost use Rattle.checking_reader.specs.Answer.{Answers, Reads};
 ghost use Rattle.model.specs.Checks.{triangle_checks, triangles_checks, each};
 ghost use Rattle.model.specs.Denotes.{IsTriangle, IsArrayOf, Each};
 
@@ -13,7 +13,7 @@ use std::alloc::Global;
 /// A triangle, by the indices of three of `count` vertices.
 fn triangle(value: &Value, count: usize) -> Result<[u32; 3], ReadKind>
     requires { count ≤ MOST_VERTICES }
-    ensures { Tells (triangle_checks count (view value.now)) (IsTriangle count (view value.now)) result }
+    ensures { Answers (triangle_checks count (view value.now)) (IsTriangle count (view value.now)) result }
 {
     if !has_length(value, 3) {
         return Err(ReadKind::WrongKind);
@@ -47,7 +47,7 @@ pub(crate) fn read_triangles(
 ) -> Result<Vec<[u32; 3]>, ReadKind>
     requires earlier { earlier ≤ MOST_TRIANGLES }
     requires count { count ≤ MOST_VERTICES }
-    ensures told { let seen = Some (view value.now) in
+    ensures reported { let seen = Some (view value.now) in
         Reads (triangles_checks earlier count seen)
         (λ found. IsArrayOf MOST_TRIANGLES (IsTriangle count) seen found.items) result }
     ensures room { IfOk result (λ found. earlier + vec_len found ≤ MOST_TRIANGLES) }

@@ -2,7 +2,7 @@ ghost use Rattle.std.specs.Prelude.{◌≡◌, ◌≤◌, length, slice_index, S
 ghost use Rattle.serde_json.specs.View.{view, items_view};
 ghost use Rattle.serde_json.specs.Find.{at};
 ghost use Rattle.model.specs.declared.fault.ReadKind.TheVariants.{OutOfMemory};
-ghost use Rattle.checking_reader.specs.Answer.{Tells, Reads};
+ghost use Rattle.checking_reader.specs.Answer.{Answers, Reads};
 ghost use Rattle.model.specs.FirstFault.{first_fault};
 ghost use Rattle.model.specs.Checks.{array_checks, rgba_checks, vertex_checks, vertices_checks, each};
 ghost use Rattle.model.specs.Denotes.{IsChannel, IsVertex, IsArrayOf, Each};
@@ -16,7 +16,7 @@ use std::alloc::Global;
 
 /// The channels and the alpha of a vertex, its last four elements.
 fn rgba(value: &Value) -> Result<[u8; 4], ReadKind>
-    ensures { let seen = view value.now in Tells (rgba_checks seen)
+    ensures { let seen = view value.now in Answers (rgba_checks seen)
         (λ rgba. (length rgba ≡ 4) × IsChannel (at 3 seen) (slice_index rgba 0) × IsChannel (at 4 seen) (slice_index rgba 1)
         × IsChannel (at 5 seen) (slice_index rgba 2) × IsChannel (at 6 seen) (slice_index rgba 3)) result }
 {
@@ -29,7 +29,7 @@ fn rgba(value: &Value) -> Result<[u8; 4], ReadKind>
 
 /// A vertex, written as [x, y, z, red, green, blue, alpha].
 fn vertex(value: &Value) -> Result<Vertex, ReadKind>
-    ensures { Tells (vertex_checks (view value.now)) (IsVertex (view value.now)) result }
+    ensures { Answers (vertex_checks (view value.now)) (IsVertex (view value.now)) result }
 {
     if !has_length(value, 7) {
         return Err(ReadKind::WrongKind);
@@ -56,7 +56,7 @@ fn vertices_of(alloc: Global, list: &[Value]) -> Result<Vec<Vertex>, ReadKind>
 /// The vertices of a draw.
 #[tactic(auto, using(model::proofs::Counts::items_len_each), unfolding(model::specs::Checks::vertices_checks))]
 pub(crate) fn read_vertices(alloc: Global, value: &Value) -> Result<Vec<Vertex>, ReadKind>
-    ensures told { let seen = Some (view value.now) in
+    ensures reported { let seen = Some (view value.now) in
         Reads (vertices_checks seen) (λ found. IsArrayOf MOST_VERTICES IsVertex seen found.items) result }
     ensures memory { IfErr result (λ kind. kind ≡ OutOfMemory
         → first_fault (array_checks MOST_VERTICES (Some (view value.now))) ≡ None) }

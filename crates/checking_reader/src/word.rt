@@ -6,7 +6,7 @@ ghost use Rattle.model.specs.declared.fault.ReadKind.TheVariants.{WrongKind};
 ghost use Rattle.model.specs.declared.output.Output.TheVariants as output_of;
 ghost use Rattle.model.specs.Json.{text};
 ghost use Rattle.model.specs.Keys.{output_words, cull_words, depth_test_words, blend_words};
-ghost use Rattle.checking_reader.specs.Answer.{Tells};
+ghost use Rattle.checking_reader.specs.Answer.{Answers};
 ghost use Rattle.model.specs.Checks.{where_there, word_checks};
 ghost use Rattle.model.specs.Denotes.{OrDefault, IsOutput, IsCull, IsDepthTest, IsBlend};
 
@@ -29,7 +29,7 @@ fn word(value: &Value) -> Result<&str, ReadKind>
 /// What the picture shows; the default if the key is absent.
 pub(crate) fn output(value: Option<&Value>) -> Result<Output, ReadKind>
     ensures { let seen = option_map (λ v. view v.now) value.entry in
-        Tells (where_there (word_checks output_words) seen) (OrDefault output_of.Color IsOutput seen) result }
+        Answers (where_there (word_checks output_words) seen) (OrDefault output_of.Color IsOutput seen) result }
 {
     let Some(value) = value else {
         return Ok(DEFAULT_OUTPUT);
@@ -40,7 +40,7 @@ pub(crate) fn output(value: Option<&Value>) -> Result<Output, ReadKind>
 /// The culling of a draw; the default if the key is absent.
 pub(crate) fn cull(value: Option<&Value>) -> Result<Cull, ReadKind>
     ensures { let seen = option_map (λ v. view v.now) value.entry in
-        Tells (where_there (word_checks cull_words) seen) (OrDefault cull_of.None IsCull seen) result }
+        Answers (where_there (word_checks cull_words) seen) (OrDefault cull_of.None IsCull seen) result }
 {
     let Some(value) = value else {
         return Ok(DEFAULT_STATE.cull);
@@ -51,7 +51,7 @@ pub(crate) fn cull(value: Option<&Value>) -> Result<Cull, ReadKind>
 /// The depth test of a draw; the default if the key is absent.
 pub(crate) fn depth_test(value: Option<&Value>) -> Result<DepthTest, ReadKind>
     ensures { let seen = option_map (λ v. view v.now) value.entry in
-        Tells (where_there (word_checks depth_test_words) seen) (OrDefault test_of.Always IsDepthTest seen) result }
+        Answers (where_there (word_checks depth_test_words) seen) (OrDefault test_of.Always IsDepthTest seen) result }
 {
     let Some(value) = value else {
         return Ok(DEFAULT_STATE.merge.test);
@@ -62,7 +62,7 @@ pub(crate) fn depth_test(value: Option<&Value>) -> Result<DepthTest, ReadKind>
 /// Whether a draw is blended over what is stored; the default if the key is absent.
 pub(crate) fn blends_over(value: Option<&Value>) -> Result<bool, ReadKind>
     ensures { let seen = option_map (λ v. view v.now) value.entry in
-        Tells (where_there (word_checks blend_words) seen) (OrDefault false IsBlend seen) result }
+        Answers (where_there (word_checks blend_words) seen) (OrDefault false IsBlend seen) result }
 {
     let Some(value) = value else {
         return Ok(DEFAULT_STATE.merge.over);

@@ -100,7 +100,7 @@ pub quad_covered : (q : Corners) (e : Sides) (bx by x y : ℕ) (count : SampleCo
     → AreMasksWhere (λ s row column. IsInsideAt e x y (to_column count s column) (to_row count s row)) count m → AreMasksOfQuad q bx by count m
 quad_covered q e bx by x y count m test ex ey h = record {
   covered = λ s row column lt below within.
-      let bit = h.tells s row column lt below within in
+      let bit = h.exact s row column lt below within in
       let p = sample_position (8 * bx + column) (8 * by + row) s count in
       let across = (λ i. ex i + to_column count s column) ∙ place_x count s bx column lt in
       let along = (λ i. ey i + to_row count s row) ∙ place_y count s by row lt in

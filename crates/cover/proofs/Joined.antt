@@ -97,7 +97,7 @@ Passes e at count s row column = pos 0 ≤ℤ grown e at (to_column count s colu
 pub all_pass : (e : Edge) (at : ℤ) (count : SampleCount) (m : Masks) → ((k l : ℕ) → k ≤ box_reach T8 count → l ≤ box_reach T8 count → pos 0 ≤ℤ grown e at k l)
     → ((s : ℕ) → s < count_of count → slice_index m.plane s ≡ 2 ^ 64 - 1) → ((s : ℕ) → count_of count ≤ s → slice_index m.plane s ≡ 0) → AreMasksWhere (Passes e at count) count m
 all_pass e at count m pass each empty = record {
-  tells = λ s row column lt below within.
+  exact = λ s row column lt below within.
       (λ set. pass (to_column count s column) (to_row count s row) (column_in_reach count s column lt within) (row_in_reach count s row lt below), λ h. full _ (8 * row + column) (each s lt) (omega arith));
   empty = empty;
 }
@@ -114,7 +114,7 @@ all_pass_kept e at least reach count m small is over bound each empty =
 pub none_pass : (e : Edge) (at : ℤ) (count : SampleCount) (m : Masks) → ((k l : ℕ) → k ≤ box_reach T8 count → l ≤ box_reach T8 count → grown e at k l <ℤ pos 0)
     → ((s : ℕ) → s < count_of count → slice_index m.plane s ≡ 0) → ((s : ℕ) → count_of count ≤ s → slice_index m.plane s ≡ 0) → AreMasksWhere (Passes e at count) count m
 none_pass e at count m fail each empty = record {
-  tells = λ s row column lt below within. (
+  exact = λ s row column lt below within. (
     λ set. absurd (empty_word _ _ (each s lt) set),
     λ h. absurd (let under = fail (to_column count s column) (to_row count s row) (column_in_reach count s column lt within) (row_in_reach count s row lt below) in omega (arith, ints)),
   );
@@ -173,13 +173,13 @@ plane_bit {B} e at w count s row column m n is x y bit =
     subst (λ (z : ℤ). B ↔ (pos 0 ≤ℤ z)) value bit
 
 -- ---- edges joined
-pub both_tell : {P Q : ℕ → ℕ → ℕ → Type 0} (count : SampleCount) (m n r : Masks) → AreMasksWhere P count m → AreMasksWhere Q count n
+pub both_exact : {P Q : ℕ → ℕ → ℕ → Type 0} (count : SampleCount) (m n r : Masks) → AreMasksWhere P count m → AreMasksWhere Q count n
     → ((s : ℕ) → slice_index r.plane s ≡ bit_and (slice_index m.plane s) (slice_index n.plane s)) → AreMasksWhere (λ s row column. P s row column × Q s row column) count r
-both_tell {P} {Q} count m n r h k is = record {
-  tells = λ s row column lt below within.
+both_exact {P} {Q} count m n r h k is = record {
+  exact = λ s row column lt below within.
       let both = set_in_both (slice_index m.plane s) (slice_index n.plane s) (8 * row + column) in
-      let first = h.tells s row column lt below within in
-      let second = k.tells s row column lt below within in (
+      let first = h.exact s row column lt below within in
+      let second = k.exact s row column lt below within in (
         λ set. (let parts = both.0 (rw is at set) in (first.0 parts.0, second.0 parts.1)),
         λ p. rw is (both.1 (first.1 p.0, second.1 p.1)),
       );
@@ -188,8 +188,8 @@ both_tell {P} {Q} count m n r h k is = record {
 
 pub means : {P Q : ℕ → ℕ → ℕ → Type 0} (count : SampleCount) (m : Masks) → ((s row column : ℕ) → P s row column ↔ Q s row column) → AreMasksWhere P count m → AreMasksWhere Q count m
 means {P} {Q} count m same h = record {
-  tells = λ s row column lt below within.
-      let bit = h.tells s row column lt below within in let to = same s row column in (λ set. to.0 (bit.0 set), λ q. bit.1 (to.1 q));
+  exact = λ s row column lt below within.
+      let bit = h.exact s row column lt below within in let to = same s row column in (λ set. to.0 (bit.0 set), λ q. bit.1 (to.1 q));
   empty = h.empty;
 }
 
@@ -208,7 +208,7 @@ pub masks_of_square : (t : Tri) (e : Edges) (at : Values) (bx by : ℕ) (side : 
     → AreMasksWhere (λ s row column. IsInsideAfter e at (to_column count s column) (to_row count s row)) count m → AreMasksOf t bx by count m
 masks_of_square t e at bx by side count m h k = record {
   covered = λ s lt row column below within.
-      let bit = k.tells s row column lt below within in
+      let bit = k.exact s row column lt below within in
       let test = sample_test t e at bx by side count h s row column (to_column count s column) (to_row count s row) (place_x count s bx column lt) (place_y count s by row lt) in
       (λ set. test.0 (bit.0 set), λ c. bit.1 (test.1 c));
   empty = k.empty;

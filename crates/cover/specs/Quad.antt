@@ -8,12 +8,13 @@ use Rattle.cover.specs.declared.masks.Masks.{Masks}
 use Rattle.cover.specs.Masks.{AreMasksOf}
 use Rattle.cover.specs.Pair.{HasSample, HaveNoCommonSample}
 
--- Sample s of the pixel in a column and a row of block (bx, by), whose first pixel is (8 bx, 8 by), is covered.
+-- The quad covers sample s of the pixel in a column and a row of block (bx, by), whose first pixel is (8 bx, 8 by).
 abbrev pub QuadCoversInBlock : Corners → ℕ → ℕ → SampleCount → ℕ → ℕ → ℕ → Type 0
 QuadCoversInBlock q bx by count s row column =
     QuadCovers q.a q.b q.c q.d (sample_position (8 * bx + column) (8 * by + row) s count)
 
--- One word for each sample below the count, whose bit 8 row + column is set if and only if it is covered, and zero for the others.
+-- The masks say which samples of block (bx, by) the quad covers. There is one word for each sample below the count, whose bit 8 row
+-- + column is set if and only if it is covered, and the others are zero.
 pub record AreMasksOfQuad (q : Corners) (bx by : ℕ) (count : SampleCount) (m : Masks) : Type 0 where
   pub covered : (s row column : ℕ) → s < count_of count → row < 8 → column < 8 → (HasSample m s row column ↔ QuadCoversInBlock q bx by count s row column)
   pub empty : (s : ℕ) → count_of count ≤ s → slice_index m.plane s ≡ 0

@@ -16,7 +16,7 @@ pub record IsInside (e : Sides) (p : Position) : Type 0 where
 abbrev pub AreSidesOf : Corners → Sides → Type 0
 AreSidesOf q e = (p : Position) → (IsInside e p ↔ QuadCovers q.a q.b q.c q.d p)
 
--- None of them is negative `m` to the right of and `n` below the position (x, y).
+-- None of the four functions is negative `m` to the right of and `n` below the position (x, y), in 1/256 pixel.
 pub record IsInsideAt (e : Sides) (x y m n : ℕ) : Type 0 where
   pub ab : pos 0 ≤ℤ grown e.ab (value_at e.ab (record { x = pos x; y = pos y })) m n
   pub bc : pos 0 ≤ℤ grown e.bc (value_at e.bc (record { x = pos x; y = pos y })) m n

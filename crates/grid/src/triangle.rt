@@ -87,7 +87,7 @@ fn is_top_left(a: Point, b: Point, third: Point) -> bool
 }
 
 /// The top-left rule at the edge ab of a triangle with this third vertex.
-pub(crate) fn passes_edge(a: Point, b: Point, third: Point, p: Point) -> bool
+pub fn passes_edge(a: Point, b: Point, third: Point, p: Point) -> bool
     ensures { IsTrue result ↔ PassesEdge a b third p }
 {
     let at_point = side(a, b, p);

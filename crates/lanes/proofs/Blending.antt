@@ -1,8 +1,8 @@
 -- Blending, lane by lane.
 use Rattle.std.proofs.Common.{◌≡◌, ℕ, ◌+◌, ◌-◌, ◌*◌, ◌/◌, ◌%◌, ◌^◌, List, length, get_or, replicate}
 use Rattle.std.specs.Simd.Lanes.{zip2}
-use Rattle.lanes.specs.Lanes.{HasLanes}
-use Rattle.lanes.proofs.Lanes.{itself, zipped, splat}
+use Rattle.planes.specs.Lanes.{HasLanes}
+use Rattle.planes.proofs.Lanes.{itself, zipped, splat}
 use Rattle.lanes.proofs.LaneNumbers.{lane_sum, lane_quotient}
 
 abbrev pub plus : ℕ → ℕ → ℕ

@@ -9,7 +9,10 @@ use Rattle.shade.specs.declared.placed.Placed.{Placed}
 use Rattle.shade.specs.Placed.{IsDrawnAt}
 use Rattle.grid.specs.Triangle.{Covers}
 use Rattle.lanes.specs.Lanes.{IsMask}
-use Rattle.lanes.specs.Block.{stored_at, position_in, CoversMask, AreDrawn}
+use Rattle.planes.specs.Multiple.{IsEighth}
+use Rattle.planes.specs.Group.{position_in, IsGroupOnScreen}
+use Rattle.planes.proofs.WholeValues.{multiple_sum}
+use Rattle.lanes.specs.Block.{IsOnScreen, stored_at, CoversMask, AreDrawn}
 
 -- the pixels before k are done, and the others are unchanged
 pub record IsDrawnBefore (t : Placed) (p : Position) (mask : ℕ) (old new : BlockSamples) (k : ℕ) : Type 0 where
@@ -81,6 +84,18 @@ all_done t p mask old new done = record {
 abbrev pub group_at : Position → ℕ → Position
 group_at p g = record { x = p.x; y = p.y +ℤ pos (512 * g) }
 
+pub group_on_screen : (p : Position) (g : ℕ) → g < 4 → IsOnScreen p → IsGroupOnScreen (group_at p g)
+group_on_screen p g less h =
+    let rows : IsEighth (pos (512 * g)) = record { times = pos (16 * g); is = omega (arith, ints) } in
+    record {
+      left = h.left;
+      top = omega (arith, ints, h.top);
+      right = h.right;
+      bottom = omega (arith, ints, h.bottom, less);
+      eighth_x = h.eighth_x;
+      eighth_y = multiple_sum 32 p.y (pos (512 * g)) h.eighth_y rows;
+    }
+
 pub in_rows : (p : Position) (g i : ℕ) → i < 16 → position_in (group_at p g) i ≡ position_in p (16 * g + i)
 in_rows p g i l =
     let x : p.x +ℤ pos (256 * (i % 8)) ≡ p.x +ℤ pos (256 * ((16 * g + i) % 8)) = omega (arith, ints) in
@@ -102,17 +117,17 @@ pub record AreLanesDrawn (t : Placed) (q : Position) (lanes : List ℕ) (old new
   pub elsewhere : (k : ℕ) → (k < at) ⊎ (at + 16 ≤ k) → stored_at new k ≡ stored_at old k
 
 module _ (t : Placed) (p : Position) (mask g : ℕ) (lanes : List ℕ) (old new : BlockSamples) (few : g < 4) (covers : CoversMask t p mask)
-    (told : IsMask lanes (λ i. IsBitSet mask (16 * g + i))) (all : AreLanesDrawn t (group_at p g) lanes old new (16 * g)) where
+    (reported : IsMask lanes (λ i. IsBitSet mask (16 * g + i))) (all : AreLanesDrawn t (group_at p g) lanes old new (16 * g)) where
   lane_drawn : (i : ℕ) → i < 16 → IsBitSet mask (16 * g + i) → IsDrawnAt t (position_in p (16 * g + i)) (stored_at old (16 * g + i)) (stored_at new (16 * g + i))
   lane_drawn i l set =
       let place = in_rows p g i l in
-      elim (told.each i l) [
+      elim (reported.each i l) [
         | inl holds ↦ subst (λ q. IsDrawnAt t q (stored_at old (16 * g + i)) (stored_at new (16 * g + i))) place (all.set i l holds.0 (rw place (covers (16 * g + i) (omega arith) set)))
         | inr fails ↦ absurd (fails.1 set)
       ]
 
   lane_kept : (i : ℕ) → i < 16 → ¬ IsBitSet mask (16 * g + i) → stored_at new (16 * g + i) ≡ stored_at old (16 * g + i)
-  lane_kept i l clear = elim (told.each i l) [ inl holds ↦ absurd (clear holds.1) | inr fails ↦ all.clear i l fails.0 ]
+  lane_kept i l clear = elim (reported.each i l) [ inl holds ↦ absurd (clear holds.1) | inr fails ↦ all.clear i l fails.0 ]
 
   pub rows_drawn : AreDrawn t p mask old new (16 * g) 16
   rows_drawn = record {

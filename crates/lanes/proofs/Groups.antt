@@ -19,13 +19,13 @@ use Rattle.shade.proofs.Merged.{same_blended}
 use Rattle.shade.proofs.Values.{quotient-unique}
 
 -- ---- the depth test
-pub tested_lane : (m : Merge) (z old read new lane told : ℕ) → read ≡ old → IsMaskLane told (Passes m.test z read) → lane ≡ told
+pub tested_lane : (m : Merge) (z old read new lane reported : ℕ) → read ≡ old → IsMaskLane reported (Passes m.test z read) → lane ≡ reported
     → (lane ≡ 65535 → new ≡ (if m.depth_write then z else old)) → (lane ≡ 0 → new ≡ old) → IsTested m z old new lane
-tested_lane m z old read new lane told e (inl pass) same stored kept = record {
+tested_lane m z old read new lane reported e (inl pass) same stored kept = record {
   passed = λ _. (same ∙ pass.0, stored (same ∙ pass.0));
   failed = λ fails. absurd (fails (subst (Passes m.test z) e pass.1));
 }
-tested_lane m z old read new lane told e (inr fail) same stored kept = record {
+tested_lane m z old read new lane reported e (inr fail) same stored kept = record {
   passed = λ holds. absurd (fail.1 (subst (Passes m.test z) (sym e) holds));
   failed = λ _. (same ∙ fail.0, kept (same ∙ fail.0));
 }

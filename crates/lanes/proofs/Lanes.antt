@@ -1,51 +1,18 @@
--- Sixteen lanes, operation by operation.
-use Rattle.std.proofs.Common.{◌≡◌, ◌≢◌, ◌↔◌, ℕ, zero, suc, ◌+◌, ◌*◌, ◌/◌, ◌%◌, ◌^◌, ◌<◌, ◌≤◌, List, [], ◌∷◌, Bool, true, false, not, cond, eqb, leb, length, get_or, map, replicate, refl, sym, ap, ◌∙◌, arith, inl, inr, ◌⊎◌, Decides}
-use Rattle.std.specs.Int.{bit_at}
-use Rattle.std.specs.Simd.Lanes.{zip2, sel_l, Each1, mask_l, put_chunk}
-use Rattle.std.proofs.lemmas.Simd.{length-zip2, get_or-zip2, get_or-replicate, length-replicate, length-sel_l, get_or-sel_l, Each1-from_get_or, bit_mask_l, get_or-put_chunk_at, get_or-put_chunk_below, get_or-put_chunk_above}
-use Rattle.std.proofs.lemmas.List.{get_or-map}
+-- Masks of sixteen lanes, and lanes that are stored.
+use Rattle.std.proofs.Common.{◌≡◌, ◌≢◌, ◌↔◌, ℕ, ◌+◌, ◌<◌, ◌≤◌, List, Bool, true, false, not, cond, eqb, leb, length, get_or, replicate, refl, ap, ◌∙◌, arith, inl, inr, ◌⊎◌, Decides}
+use Rattle.std.specs.Simd.Lanes.{zip2, sel_l, put_chunk}
+use Rattle.std.proofs.lemmas.Simd.{get_or-put_chunk_at, get_or-put_chunk_below, get_or-put_chunk_above}
 use Rattle.std.proofs.lemmas.Bool.{leb-true}
 use Rattle.std.proofs.lemmas.Bool.Decides.{Decides-not, Decides-eqb, nat_tests}
-use Rattle.std.proofs.lemmas.Nat.Bits.{bit_at-zero}
-use Rattle.lanes.specs.Lanes.{HasLanes, IsMaskLane, IsMask}
-
-pub itself : (v : List ℕ) → length v ≡ 16 → HasLanes v (λ k. get_or v k 0)
-itself v long = record { long = long; each = λ k l. refl }
-
--- an operator on two vectors
-pub zipped : (g : ℕ → ℕ → ℕ) (xs ys : List ℕ) (f h : ℕ → ℕ) → HasLanes xs f → HasLanes ys h → HasLanes (zip2 g xs ys) (λ k. g (f k) (h k))
-zipped g xs ys f h a b =
-    let p = a.long in
-    let q = b.long in
-    record {
-      long = length-zip2 g xs ys (p ∙ sym q) ∙ p;
-      each = λ k l. get_or-zip2 g xs ys k 0 0 0 (omega arith) (omega arith) ∙ (λ i. g (a.each k l i) (b.each k l i));
-    }
-
-pub splat : (x : ℕ) → HasLanes (replicate 16 x) (λ k. x)
-splat x = record { long = length-replicate 16 x; each = λ k l. get_or-replicate 16 k x 0 l }
-
--- a choice by lanes' tests
-pub chosen : (t : ℕ → ℕ → Bool) (a b ys ns : List ℕ) → length a ≡ 16 → length b ≡ 16 → length ys ≡ 16 → length ns ≡ 16
-    → HasLanes (sel_l (zip2 t a b) ys ns) (λ k. cond (t (get_or a k 0) (get_or b k 0)) (get_or ys k 0) (get_or ns k 0))
-chosen t a b ys ns p q r s =
-    let long : length (zip2 t a b) ≡ 16 = length-zip2 t a b (p ∙ sym q) ∙ p in
-    record {
-      long = length-sel_l (zip2 t a b) ys ns (long ∙ sym r) (long ∙ sym s) ∙ long;
-      each = λ k l.
-          get_or-sel_l (zip2 t a b) ys ns k 0 (omega arith) (omega arith) (omega arith)
-          ∙ ap (λ m. cond m (get_or ys k 0) (get_or ns k 0)) (get_or-zip2 t a b k 0 0 false (omega arith) (omega arith));
-    }
-
--- a fact of each lane
-pub of_each : (P : ℕ → Type 0) (v : List ℕ) → length v ≡ 16 → ((k : ℕ) → k < 16 → P (get_or v k 0)) → Each1 P v
-of_each P v long h = Each1-from_get_or P v 0 (λ i l. h i (omega arith))
+use Rattle.planes.specs.Lanes.{HasLanes}
+use Rattle.planes.proofs.Lanes.{chosen, splat}
+use Rattle.lanes.specs.Lanes.{IsMaskLane, IsMask}
 
 -- ---- masks
 -- a choice of all ones and 0 by a test that decides P
-pub told : (t : ℕ → ℕ → Bool) (P : ℕ → ℕ → Type 0) → ((x y : ℕ) → Decides (t x y) (P x y)) → (a b : List ℕ) (f h : ℕ → ℕ) → HasLanes a f → HasLanes b h
+pub reported : (t : ℕ → ℕ → Bool) (P : ℕ → ℕ → Type 0) → ((x y : ℕ) → Decides (t x y) (P x y)) → (a b : List ℕ) (f h : ℕ → ℕ) → HasLanes a f → HasLanes b h
     → IsMask (sel_l (zip2 t a b) (replicate 16 65535) (replicate 16 0)) (λ i. P (f i) (h i))
-told t P decides a b f h p q =
+reported t P decides a b f h p q =
     let all = chosen t a b (replicate 16 65535) (replicate 16 0) p.long q.long (splat 65535).long (splat 0).long in
     record {
       long = all.long;
@@ -92,29 +59,6 @@ high_chosen m ys ns h half all le some p r s k l =
   where
     over : (x y : ℕ) → y < x → leb x y ≡ false
     over x y less = grind (arith, nat_tests)
-
--- ---- some lane
-pub some_set : (p : ℕ → Bool) (xs : List ℕ) → 0 < mask_l (map p xs) → (i : ℕ) × (i < length xs) × (p (get_or xs i 0) ≡ true)
-some_set p [] h = absurd (omega (arith, h))
-some_set p (x ∷ xs) h = first (p x) refl (λ rest. some_set p xs rest)
-  where
-    first : (b : Bool) → p x ≡ b → (0 < mask_l (map p xs) → (i : ℕ) × (i < length xs) × (p (get_or xs i 0) ≡ true)) → (i : ℕ) × (i < length (x ∷ xs)) × (p (get_or (x ∷ xs) i 0) ≡ true)
-    first true e later = (0, omega arith, e)
-    first false e later =
-        let more : 0 < cond {A = ℕ} (p x) 1 0 + 2 * mask_l (map p xs) = h in
-        let rest : 0 < 0 + 2 * mask_l (map p xs) = rw e at more in
-        let found = later (omega (arith, rest)) in
-        (suc found.0, omega (arith, found.1), found.2)
-
-pub is_set : (p : ℕ → Bool) (xs : List ℕ) (i : ℕ) → i < length xs → p (get_or xs i 0) ≡ true → 0 < mask_l (map p xs)
-is_set p xs i l e =
-    let bit : mask_l (map p xs) / 2 ^ i % 2 ≡ cond (get_or (map p xs) i false) 1 0 = bit_mask_l (map p xs) i in
-    let one : get_or (map p xs) i false ≡ true = get_or-map p xs i 0 false l ∙ e in
-    positive (mask_l (map p xs)) i (bit ∙ ap (λ b. cond b 1 0) one)
-  where
-    positive : (n i : ℕ) → bit_at n i ≡ 1 → 0 < n
-    positive zero i e = let bad : ◌≡◌ {A = ℕ} 0 1 = sym (bit_at-zero i) ∙ e in absurd (omega (arith, bad))
-    positive (suc n) i e = omega arith
 
 -- ---- sixteen lanes stored from a place on
 pub stored_here : (i : ℕ) (xs ys : List ℕ) (k : ℕ) → length ys ≡ 16 → i + 16 ≤ length xs → k < 16 → get_or (put_chunk i xs ys) (i + k) 0 ≡ get_or ys k 0

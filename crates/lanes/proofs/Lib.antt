@@ -5,13 +5,3 @@ pub mod Lanes
 pub mod Blending
 pub mod Flat
 pub mod Groups
-pub mod Certificate
-pub mod Reciprocals
-pub mod Gradients
-pub mod Modulos
-pub mod Heights
-pub mod Exactness
-pub mod FixedPoint
-pub mod CandidateLanes
-pub mod Slopes
-pub mod AttributePlanes

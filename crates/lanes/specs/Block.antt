@@ -1,19 +1,17 @@
 -- The samples of a block of 8 by 8 pixels.
-use Rattle.std.specs.Prelude.{◌≡◌, ℕ, ◌+◌, ◌<◌, ◌≤◌, IsBitSet, ◌*◌, ◌/◌, ◌%◌, ◌^◌, pos, ◌+ℤ◌, ◌≤ℤ◌, ◌<ℤ◌, slice_index}
+use Rattle.std.specs.Prelude.{◌≡◌, ℕ, ◌+◌, ◌<◌, ◌≤◌, IsBitSet, ◌^◌, pos, ◌+ℤ◌, ◌≤ℤ◌, ◌<ℤ◌, slice_index}
 use Rattle.grid.specs.Position.{Position}
+use Rattle.planes.specs.Multiple.{IsEighth}
 use Rattle.grid.specs.Triangle.{Covers}
 use Rattle.shade.specs.declared.sample.Sample.{Sample}
 use Rattle.shade.specs.declared.placed.Placed.{Placed}
 use Rattle.shade.specs.Placed.{IsDrawnAt}
+use Rattle.planes.specs.Group.{position_in}
 use Rattle.lanes.specs.declared.block_samples.BlockSamples.{BlockSamples}
 
 -- The stored sample of pixel k, counted row by row.
 abbrev pub stored_at : BlockSamples → ℕ → Sample
 stored_at s k = record { r = slice_index s.r k; g = slice_index s.g k; b = slice_index s.b k; z = slice_index s.z k }
-
--- The sample of pixel k of a block whose first pixel has its sample at p: pixel k stands in row k / 8 and column k % 8.
-abbrev pub position_in : Position → ℕ → Position
-position_in p k = record { x = p.x +ℤ pos (256 * (k % 8)); y = p.y +ℤ pos (256 * (k / 8)) }
 
 -- A block whose first sample is at p lies on the screen, which is 4096 by 4096 pixels.
 pub record IsOnScreen (p : Position) : Type 0 where
@@ -21,12 +19,14 @@ pub record IsOnScreen (p : Position) : Type 0 where
   pub top : pos 0 ≤ℤ p.y
   pub right : (p.x +ℤ pos 1792) <ℤ pos (2 ^ 20)
   pub bottom : (p.y +ℤ pos 1792) <ℤ pos (2 ^ 20)
+  pub eighth_x : IsEighth p.x
+  pub eighth_y : IsEighth p.y
 
--- The triangle covers the samples in the mask.
+-- The triangle covers the samples in the mask, of a block whose first sample is at p.
 abbrev pub CoversMask : Placed → Position → ℕ → Type 0
 CoversMask t p mask = (k : ℕ) → k < 64 → IsBitSet mask k → Covers t.tri.a t.tri.b t.tri.c (position_in p k)
 
--- Of the n samples from k on those in the mask are drawn. All other samples are unchanged.
+-- Of the n samples from k on those in the mask are drawn, and all other samples are unchanged.
 pub record AreDrawn (t : Placed) (p : Position) (mask : ℕ) (old new : BlockSamples) (k n : ℕ) : Type 0 where
   pub drawn : (j : ℕ) → k ≤ j → j < k + n → IsBitSet mask j → IsDrawnAt t (position_in p j) (stored_at old j) (stored_at new j)
   pub kept : (j : ℕ) → k ≤ j → j < k + n → ¬ IsBitSet mask j → stored_at new j ≡ stored_at old j

@@ -7,7 +7,7 @@ use Rattle.lanes.specs.declared.block_mask.BlockMask.{BlockMask}
 use Rattle.shade.specs.declared.placed.Placed.{Placed}
 use Rattle.lanes.specs.Block.{CoversMask, AreDrawn}
 
--- Where sample s of the first pixel lies.
+-- Where sample s of the first pixel of the block lies.
 abbrev pub first_of : BlockMask → ℕ → Position
 first_of m s = sample_position (8 * m.bx) (8 * m.by) s m.count
 
@@ -15,11 +15,11 @@ first_of m s = sample_position (8 * m.bx) (8 * m.by) s m.count
 abbrev pub plane_of : List BlockSamples → ℕ → BlockSamples
 plane_of samples s = slice_index_or samples s (record { z = []; r = []; g = []; b = [] })
 
--- The triangle covers the samples in the mask.
+-- The triangle covers the samples in the masks of a block, of all sample indices.
 abbrev pub CoversBlock : Placed → BlockMask → Type 0
 CoversBlock t m = (s : ℕ) → s < count_of m.count → CoversMask t (first_of m s) (slice_index m.plane s)
 
--- The samples in the mask are drawn, and the others are unchanged.
+-- The samples in the masks of a block are drawn, and the others are unchanged.
 abbrev pub IsBlockDrawn : Placed → BlockMask → List BlockSamples → List BlockSamples → Type 0
 IsBlockDrawn t m old new =
     (s : ℕ) → s < count_of m.count → AreDrawn t (first_of m s) (slice_index m.plane s) (plane_of old s) (plane_of new s) 0 64

@@ -1,10 +1,5 @@
--- Sixteen lanes.
+-- Masks of sixteen lanes.
 use Rattle.std.specs.Prelude.{◌≡◌, ◌⊎◌, ℕ, ◌<◌, List, length, slice_index}
-
--- v has sixteen lanes, and lane k holds f k.
-pub record HasLanes (v : List ℕ) (f : ℕ → ℕ) : Type 0 where
-  pub long : length v ≡ 16
-  pub each : (k : ℕ) → k < 16 → slice_index v k ≡ f k
 
 -- A lane of a mask says whether P holds: all its bits are set if it does, and none if it does not.
 abbrev pub IsMaskLane : ℕ → Type 0 → Type 0

@@ -4,15 +4,15 @@ use Rattle.shade.specs.declared.placed.Placed.{Placed}
 use Rattle.shade.specs.declared.sample.Merge.{Merge}
 use Rattle.lanes.specs.declared.sources.DepthSource.{DepthSource}
 use Rattle.lanes.specs.declared.sources.ColourSource.{ColourSource}
-use Rattle.lanes.specs.declared.depth_plane.DepthPlane.{DepthPlane}
-use Rattle.lanes.specs.declared.colour_planes.ColourPlanes.{ColourPlanes}
+use Rattle.planes.specs.declared.depth_plane.DepthPlane.{DepthPlane}
+use Rattle.planes.specs.declared.colour_planes.ColourPlanes.{ColourPlanes}
 use Rattle.lanes.specs.declared.mode.DepthMode.{DepthMode}
 use Rattle.lanes.specs.declared.mode.DepthMode.TheVariants.{Unused, Flat, Plane}
 use Rattle.lanes.specs.declared.mode.ColourMode.{ColourMode}
 use Rattle.lanes.specs.declared.mode.ColourMode.TheVariants as colour
 use Rattle.lanes.specs.declared.mode.DrawMode.{DrawMode}
 use Rattle.lanes.specs.declared.mode.DrawMode.TheVariants.{Each, Groups}
-use Rattle.lanes.specs.AttributePlane.{IsDepthPlane, AreColourPlanes}
+use Rattle.planes.specs.AttributePlane.{IsDepthPlane, AreColourPlanes}
 use Rattle.lanes.specs.Sources.{NeedsNoDepth, IsFlat, IsFlatColour, IsDepthOf, IsColourOf}
 
 -- What has to hold so that a triangle's depth can be computed in this mode.
@@ -21,6 +21,7 @@ IsDepthMode t Unused = NeedsNoDepth t
 IsDepthMode t (Flat z) = IsFlat t.z z
 IsDepthMode t Plane = Unit {0}
 
+-- The mode takes the depth from a plane.
 abbrev pub IsByPlane : DepthMode → Type 0
 IsByPlane mode = mode ≡ Plane
 
@@ -29,20 +30,22 @@ pub record IsDepthBy (t : Placed) (mode : DepthMode) (p : DepthPlane) : Type 0 w
   pub is_mode : IsDepthMode t mode
   pub is_plane : IsByPlane mode → IsDepthPlane t p
 
--- The same of its colour, in the channels that the draw reads.
+-- What has to hold so that a triangle's colour can be computed in this mode, in the channels that the draw reads.
 abbrev pub IsColourMode : Placed → ColourMode → Type 0
 IsColourMode t (colour.Flat rgba) = IsFlatColour t rgba
 IsColourMode t colour.Planes = Unit {0}
 
+-- The mode takes the colour from planes.
 abbrev pub IsByPlanes : ColourMode → Type 0
 IsByPlanes mode = mode ≡ colour.Planes
 
+-- The triangle's colour can be computed in this mode, by these planes if the mode needs them.
 pub record IsColourBy (t : Placed) (mode : ColourMode) (p : ColourPlanes) : Type 0 where
   pub is_mode : IsColourMode t mode
   pub are_planes : IsByPlanes mode → AreColourPlanes t p
 
--- The triangle is drawn in this mode: its samples one after another by the definition, or sixteen at once by its depth and its
--- colour.
+-- The triangle can be drawn in this mode: sample by sample, or sixteen samples at once by these planes. One after another, the
+-- samples are drawn by the definition; at once, by the modes of the triangle's depth and its colour.
 abbrev pub IsDrawModeOf : Placed → DrawMode → DepthPlane → ColourPlanes → Type 0
 IsDrawModeOf t Each p q = Unit {0}
 IsDrawModeOf t (Groups depth colour) p q = IsDepthBy t depth p × IsColourBy t colour q

@@ -4,13 +4,13 @@ use Rattle.shade.specs.declared.depth.DepthTest.TheVariants.{Always}
 use Rattle.shade.specs.declared.placed.Placed.{Placed}
 use Rattle.shade.specs.Merging.{Writes}
 use Rattle.shade.specs.Placed.{channel}
-use Rattle.lanes.specs.AttributePlane.{IsDepthPlane, AreColourPlanes}
+use Rattle.planes.specs.AttributePlane.{IsDepthPlane, AreColourPlanes}
 use Rattle.lanes.specs.declared.sources.DepthSource.{DepthSource}
 use Rattle.lanes.specs.declared.sources.DepthSource.TheVariants.{Unused, Flat, Plane}
 use Rattle.lanes.specs.declared.sources.ColourSource.{ColourSource}
 use Rattle.lanes.specs.declared.sources.ColourSource.TheVariants as colour
 
--- The three vertices have the same value.
+-- The three vertices have the same value v.
 pub record IsFlat (values : List ℕ) (v : ℕ) : Type 0 where
   pub first : slice_index values 0 ≡ v
   pub second : slice_index values 1 ≡ v

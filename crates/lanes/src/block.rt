@@ -2,7 +2,8 @@
 ghost use Rattle.std.specs.Prelude.{◌≡◌, ℕ, ◌+◌, ◌*◌, ◌<◌, IsBitSet, IsTrue, false, length};
 ghost use Rattle.grid.specs.Samples.{count_of};
 ghost use Rattle.shade.specs.declared.placed.Placed.{Placed as Triangle};
-ghost use Rattle.lanes.specs.Block.{position_in, IsOnScreen, CoversMask, AreDrawn};
+ghost use Rattle.planes.specs.Group.{position_in};
+ghost use Rattle.lanes.specs.Block.{IsOnScreen, CoversMask, AreDrawn};
 ghost use Rattle.lanes.specs.BlockMask.{CoversBlock, IsBlockDrawn};
 ghost use Rattle.lanes.specs.Lanes.{IsMask};
 ghost use Rattle.lanes.specs.Mode.{AreSourcesOf, WritesAllChannels};
@@ -16,6 +17,7 @@ use crate::mode::DrawMode;
 use crate::one_by_one::draw_each;
 use crate::sources::{ColourSource, DepthSource};
 use grid::Point;
+use planes::Corrections;
 use shade::Merge;
 use std::simd::prelude::*;
 
@@ -53,6 +55,7 @@ fn draw_rows(
     mask: u64,
     group: u64,
     samples: &mut BlockSamples,
+    corrections: &mut Corrections,
 )
     requires group { group < 4 }
     requires on_screen { IsOnScreen p }
@@ -73,6 +76,7 @@ fn draw_rows(
         y,
         samples,
         16 * group as usize,
+        corrections,
     );
 }
 
@@ -86,13 +90,24 @@ fn draw_block(
     p: Point,
     mask: u64,
     samples: &mut BlockSamples,
+    corrections: &mut Corrections,
 )
     requires on_screen { IsOnScreen p }
     requires whole { IsTrue whole → (k : ℕ) → k < 64 → IsBitSet mask k }
     ensures { (t : Triangle) → AreSourcesOf t merge.now depth.now colour.now → CoversMask t p mask → AreDrawn t p mask samples.old samples.new 0 64 }
 {
     for group in 0..4u64 {
-        draw_rows(merge, depth, colour, whole, p, mask, group, samples);
+        draw_rows(
+            merge,
+            depth,
+            colour,
+            whole,
+            p,
+            mask,
+            group,
+            samples,
+            corrections,
+        );
     }
 }
 
@@ -113,14 +128,15 @@ fn draw_by_mask(
     p: Point,
     mask: u64,
     samples: &mut BlockSamples,
+    corrections: &mut Corrections,
 )
     requires { IsOnScreen p }
     ensures { (t : Triangle) → AreSourcesOf t merge.now depth.now colour.now → CoversMask t p mask → AreDrawn t p mask samples.old samples.new 0 64 }
 {
     if is_whole(mask) {
-        draw_block(merge, depth, colour, true, p, mask, samples);
+        draw_block(merge, depth, colour, true, p, mask, samples, corrections);
     } else if mask != 0 {
-        draw_block(merge, depth, colour, false, p, mask, samples);
+        draw_block(merge, depth, colour, false, p, mask, samples, corrections);
     }
 }
 
@@ -132,6 +148,7 @@ fn draw_planes(
     colour: &ColourSource<'_>,
     mask: &BlockMask,
     samples: &mut [BlockSamples],
+    corrections: &mut Corrections,
 )
     requires { length samples.old ≡ count_of mask.now.count }
     ensures drawn { (t : Triangle) → AreSourcesOf t merge.now depth.now colour.now → CoversBlock t mask.now → IsBlockDrawn t mask.now samples.old samples.new }
@@ -146,6 +163,7 @@ fn draw_planes(
             mask.first(s),
             plane,
             &mut samples[s as usize],
+            corrections,
         );
     }
 }
@@ -183,6 +201,7 @@ fn draw_by_sources<const OVER: bool>(
     colour: &ColourSource<'_>,
     mask: &BlockMask,
     samples: &mut [BlockSamples],
+    corrections: &mut Corrections,
 )
     requires over { merge.now.over ≡ OVER }
     requires all { WritesAllChannels merge.now }
@@ -196,14 +215,28 @@ fn draw_by_sources<const OVER: bool>(
             let colour = &ColourSource::Flat(*rgba);
             match depth {
                 DepthSource::Unused => {
-                    draw_planes(merge, &DepthSource::Unused, colour, mask, samples);
+                    draw_planes(
+                        merge,
+                        &DepthSource::Unused,
+                        colour,
+                        mask,
+                        samples,
+                        corrections,
+                    );
                 }
                 DepthSource::Flat(z) => {
-                    draw_planes(merge, &DepthSource::Flat(*z), colour, mask, samples);
+                    draw_planes(
+                        merge,
+                        &DepthSource::Flat(*z),
+                        colour,
+                        mask,
+                        samples,
+                        corrections,
+                    );
                 }
                 DepthSource::Plane(placed, plane) => {
                     let depth = &DepthSource::Plane(placed, plane);
-                    draw_planes(merge, depth, colour, mask, samples);
+                    draw_planes(merge, depth, colour, mask, samples, corrections);
                 }
             }
         }
@@ -211,14 +244,28 @@ fn draw_by_sources<const OVER: bool>(
             let colour = &ColourSource::Planes(placed, planes);
             match depth {
                 DepthSource::Unused => {
-                    draw_planes(merge, &DepthSource::Unused, colour, mask, samples);
+                    draw_planes(
+                        merge,
+                        &DepthSource::Unused,
+                        colour,
+                        mask,
+                        samples,
+                        corrections,
+                    );
                 }
                 DepthSource::Flat(z) => {
-                    draw_planes(merge, &DepthSource::Flat(*z), colour, mask, samples);
+                    draw_planes(
+                        merge,
+                        &DepthSource::Flat(*z),
+                        colour,
+                        mask,
+                        samples,
+                        corrections,
+                    );
                 }
                 DepthSource::Plane(placed, plane) => {
                     let depth = &DepthSource::Plane(placed, plane);
-                    draw_planes(merge, depth, colour, mask, samples);
+                    draw_planes(merge, depth, colour, mask, samples, corrections);
                 }
             }
         }
@@ -232,24 +279,30 @@ fn draw_by_merge(
     colour: &ColourSource<'_>,
     mask: &BlockMask,
     samples: &mut [BlockSamples],
+    corrections: &mut Corrections,
 )
     requires { length samples.old ≡ count_of mask.now.count }
     ensures drawn { (t : Triangle) → AreSourcesOf t merge.now depth.now colour.now → CoversBlock t mask.now → IsBlockDrawn t mask.now samples.old samples.new }
     ensures samples { length samples.new ≡ length samples.old }
 {
     if !writes_all(merge) {
-        draw_planes(merge, depth, colour, mask, samples);
+        draw_planes(merge, depth, colour, mask, samples, corrections);
     } else if merge.over {
-        draw_by_sources::<true>(merge, depth, colour, mask, samples);
+        draw_by_sources::<true>(merge, depth, colour, mask, samples, corrections);
     } else {
-        draw_by_sources::<false>(merge, depth, colour, mask, samples);
+        draw_by_sources::<false>(merge, depth, colour, mask, samples, corrections);
     }
 }
 
 impl Interpolants {
     /// Draws the triangle at the samples of a block that are in the mask, each of which it covers. `samples` holds those of the
-    /// block, sample index by sample index.
-    pub fn draw(&self, mask: &BlockMask, samples: &mut [BlockSamples])
+    /// block, sample index by sample index. Corrections are counted.
+    pub fn draw(
+        &self,
+        mask: &BlockMask,
+        samples: &mut [BlockSamples],
+        corrections: &mut Corrections,
+    )
         requires samples { length samples.old ≡ count_of mask.now.count }
         requires covered { CoversBlock self.now mask.now }
         ensures drawn { IsBlockDrawn self.now mask.now samples.old samples.new }
@@ -260,7 +313,14 @@ impl Interpolants {
             DrawMode::Groups(depth, colour) => {
                 let depth = depth.source(&self.placed, &self.depth);
                 let colour = colour.source(&self.placed, &self.colour);
-                draw_by_merge(&self.placed.state.merge, &depth, &colour, mask, samples);
+                draw_by_merge(
+                    &self.placed.state.merge,
+                    &depth,
+                    &colour,
+                    mask,
+                    samples,
+                    corrections,
+                );
             }
         }
     }

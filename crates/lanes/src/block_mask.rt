@@ -22,7 +22,7 @@ pub struct BlockMask {
 impl BlockMask {
     /// Where sample `s` of the block's first pixel lies.
     #[inline(always)]
-    pub(crate) fn first(&self, s: u32) -> Point
+    pub fn first(&self, s: u32) -> Point
         requires { s < count_of self.now.count }
         ensures value { result ≡ sample_position (8 * self.now.bx) (8 * self.now.by) s self.now.count }
         ensures on_screen { IsOnScreen result }

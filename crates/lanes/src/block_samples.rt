@@ -5,6 +5,7 @@ use shade::Sample;
 
 /// One sample of each pixel of a block of 8 by 8 pixels, row by row: those of one sample index. Depths and the three channels
 /// are each kept apart, so that many are read at once.
+#[repr(C)]
 #[derive(Clone, Copy, Debug, PartialEq, Eq)]
 pub struct BlockSamples {
     /// Depths.
@@ -46,7 +47,7 @@ impl BlockSamples {
     }
 
     /// Stores the sample of pixel `k`.
-    pub(crate) fn set(&mut self, k: usize, sample: Sample)
+    pub fn set(&mut self, k: usize, sample: Sample)
         requires { k < 64 }
         ensures stored { stored_at self.new k ≡ sample }
         ensures kept { (j : ℕ) → j < 64 → j ≢ k → stored_at self.new j ≡ stored_at self.old j }

@@ -6,8 +6,8 @@ ghost use Rattle.shade.specs.Blend.{IsBlended};
 ghost use Rattle.lanes.specs.Merging.{IsTested};
 ghost use Rattle.shade.specs.declared.placed.Placed.{Placed as Triangle};
 ghost use Rattle.shade.specs.Placed.{IsInterpolated, IsDrawnAt};
-ghost use Rattle.lanes.specs.Block.{stored_at, position_in};
-ghost use Rattle.lanes.specs.Group.{IsGroupOnScreen};
+ghost use Rattle.planes.specs.Group.{position_in, IsGroupOnScreen};
+ghost use Rattle.lanes.specs.Block.{stored_at};
 ghost use Rattle.lanes.specs.Sources.{IsDepthOf, IsColourOf};
 
 use crate::blend::over_lanes;
@@ -16,6 +16,7 @@ use crate::lane_bytes::{narrow, widen};
 use crate::lane_mask::{both, choose, choose_bytes, is_clear};
 use crate::merging::passes_lanes;
 use crate::sources::{ColourSource, DepthSource};
+use planes::Corrections;
 use shade::{Merge, Placed};
 use std::simd::prelude::*;
 
@@ -106,6 +107,7 @@ fn test_depths_of(
     y: i32,
     stored: &mut [u16],
     at: usize,
+    corrections: &mut Corrections,
 ) -> u16x16
     requires room { at + 16 ≤ length stored.old }
     requires on_screen { IsGroupOnScreen (record { x = x; y = y }) }
@@ -122,7 +124,7 @@ fn test_depths_of(
         DepthSource::Plane(placed, plane) => test_depths(
             merge,
             mask,
-            plane.values(placed, x, y),
+            plane.values(placed, x, y, corrections),
             stored,
             at,
         ),
@@ -140,6 +142,7 @@ pub(crate) fn draw_group(
     y: i32,
     samples: &mut BlockSamples,
     at: usize,
+    corrections: &mut Corrections,
 )
     requires room { at + 16 ≤ 64 }
     requires on_screen { IsGroupOnScreen (record { x = x; y = y }) }
@@ -149,11 +152,11 @@ pub(crate) fn draw_group(
     ensures clear { (i : ℕ) → i < 16 → slice_index mask i ≡ 0 → stored_at samples.new (at + i) ≡ stored_at samples.old (at + i) }
     ensures elsewhere { (k : ℕ) → (k < at) ⊎ (at + 16 ≤ k) → stored_at samples.new k ≡ stored_at samples.old k }
 {
-    let drawn = test_depths_of(depth, merge, mask, x, y, &mut samples.z, at);
+    let drawn = test_depths_of(depth, merge, mask, x, y, &mut samples.z, at, corrections);
     if is_clear(drawn) {
         return;
     }
-    let c = colour.values(merge, x, y);
+    let c = colour.values(merge, x, y, corrections);
     draw_channel(
         merge.write[0],
         merge.over,

@@ -2,11 +2,8 @@ ghost use Rattle.std.specs.Prelude.{◌≡◌, pos};
 ghost use Rattle.std.specs.Int.RustNames.{unsigned_abs};
 ghost use Rattle.grid.specs.Triangle.{doubled_area};
 
-use crate::colour_planes::{ColourPlanes, ColourSlopes};
-use crate::depth_plane::DepthPlane;
 use crate::mode::{ColourMode, DepthMode, DrawMode};
-use crate::reciprocal::Reciprocal;
-use crate::slope::Slope;
+use planes::{ColourPlanes, ColourSlopes, DepthPlane, Reciprocal, Slope};
 use shade::Placed;
 use std::marker::Model;
 
@@ -47,6 +44,25 @@ impl Interpolants {
         requires { ¬ (doubled_area placed.now.tri.a placed.now.tri.b placed.now.tri.c ≡ pos 0) }
         ensures { result ≡ placed.now }
     {
+        Interpolants::of(placed, false)
+    }
+
+    /// Makes a triangle ready anew of which much was corrected: if its values are found to be whole, nothing is corrected any more.
+    #[cold]
+    #[inline(never)]
+    pub fn raise(&mut self)
+        requires { ¬ (doubled_area self.old.tri.a self.old.tri.b self.old.tri.c ≡ pos 0) }
+        ensures { self.new ≡ self.old }
+    {
+        *self = Interpolants::of(&self.placed, true);
+    }
+
+    /// The interpolants of a triangle that has an area. If `search` is set, whole values are searched for.
+    #[inline(always)]
+    fn of(placed: &Placed, search: bool) -> Interpolants
+        requires { ¬ (doubled_area placed.now.tri.a placed.now.tri.b placed.now.tri.c ≡ pos 0) }
+        ensures { result ≡ placed.now }
+    {
         let (depth, colour) = (DepthMode::of(placed), ColourMode::of(placed));
         let (by_plane, by_planes) = (depth.is_by_plane(), colour.is_by_planes());
         if !by_plane && !by_planes {
@@ -71,8 +87,8 @@ impl Interpolants {
         Interpolants {
             placed: *placed,
             mode: DrawMode::Groups(depth, colour),
-            depth: DepthPlane::new(&depth_slope, reciprocal),
-            colour: ColourPlanes::new(&slopes, reciprocal),
+            depth: DepthPlane::new(&depth_slope, reciprocal, search),
+            colour: ColourPlanes::new(&slopes, reciprocal, search),
         }
     }
 

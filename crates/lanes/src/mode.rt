@@ -3,9 +3,8 @@ ghost use Rattle.std.specs.Prelude.{◌≡◌, ◌<◌, IsTrue, slice_index};
 ghost use Rattle.shade.specs.Placed.{channel, rgba_of};
 ghost use Rattle.lanes.specs.Sources.{IsDepthOf, IsColourOf, IsFlat};
 
-use crate::colour_planes::ColourPlanes;
-use crate::depth_plane::DepthPlane;
 use crate::sources::{ColourSource, DepthSource};
+use planes::{ColourPlanes, DepthPlane};
 use shade::{DepthTest, Placed};
 
 /// How the depth is computed.

@@ -1,7 +1,8 @@
 //! A triangle drawn at the samples of a block, one after another by the definition.
 ghost use Rattle.std.specs.Prelude.{◌≡◌, ◌+◌, ◌*◌, ◌<◌, length};
 ghost use Rattle.grid.specs.Samples.{count_of};
-ghost use Rattle.lanes.specs.Block.{position_in, IsOnScreen, CoversMask, AreDrawn};
+ghost use Rattle.planes.specs.Group.{position_in};
+ghost use Rattle.lanes.specs.Block.{IsOnScreen, CoversMask, AreDrawn};
 ghost use Rattle.lanes.specs.BlockMask.{CoversBlock, IsBlockDrawn};
 
 use crate::block::has_some;
@@ -11,7 +12,7 @@ use grid::Point;
 use shade::Placed;
 
 /// The sample of pixel `k` of a block whose first sample is at `p`.
-pub(crate) fn sample_position(p: Point, k: u32) -> Point
+pub fn sample_position(p: Point, k: u32) -> Point
     requires on_screen { IsOnScreen p }
     requires pixel { k < 64 }
     ensures { result ≡ position_in p k }

@@ -4,13 +4,11 @@ ghost use Rattle.std.specs.Simd.Lanes.{Each1};
 ghost use Rattle.grid.specs.Triangle.{Covers};
 ghost use Rattle.shade.specs.declared.placed.Placed.{Placed as Triangle};
 ghost use Rattle.shade.specs.Placed.{channel, IsInterpolated};
-ghost use Rattle.lanes.specs.Block.{position_in};
-ghost use Rattle.lanes.specs.Group.{IsGroupOnScreen};
+ghost use Rattle.planes.specs.Group.{position_in, IsGroupOnScreen};
 ghost use Rattle.shade.specs.Merging.{Writes};
 ghost use Rattle.lanes.specs.Sources.{IsFlatColour};
 
-use crate::colour_planes::{ColourPlanes, Colours};
-use crate::depth_plane::DepthPlane;
+use planes::{ColourPlanes, Colours, Corrections, DepthPlane};
 use shade::{Merge, Placed};
 use std::simd::prelude::*;
 
@@ -59,7 +57,13 @@ impl<'a> ColourSource<'a> {
     /// The colours at sixteen samples, the first of which is at (x, y), each at most 255: right wherever the triangle covers the
     /// sample, in what the merge of its draw reads.
     #[inline(always)]
-    pub(crate) fn values(&self, merge: &Merge, x: i32, y: i32) -> Colours
+    pub(crate) fn values(
+        &self,
+        merge: &Merge,
+        x: i32,
+        y: i32,
+        corrections: &mut Corrections,
+    ) -> Colours
         requires { IsGroupOnScreen (record { x = x; y = y }) }
         ensures length { (length result.r ≡ 16) × (length result.g ≡ 16) × (length result.b ≡ 16) × (length result.a ≡ 16) }
         ensures bytes { Each1 (λ n. n ≤ 255) result.r × Each1 (λ n. n ≤ 255) result.g × Each1 (λ n. n ≤ 255) result.b × Each1 (λ n. n ≤ 255) result.a }
@@ -74,7 +78,9 @@ impl<'a> ColourSource<'a> {
     {
         match self {
             ColourSource::Flat(rgba) => flat_colours(*rgba),
-            ColourSource::Planes(placed, planes) => planes.values(placed, merge, x, y),
+            ColourSource::Planes(placed, planes) => {
+                planes.values(placed, merge, x, y, corrections)
+            }
         }
     }
 }

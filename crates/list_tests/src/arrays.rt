@@ -155,7 +155,7 @@ fn in_draw(kind: ReadKind, number: u32) -> Option<ReadFault> {
 }
 
 #[test]
-fn tells_faults_outside_of_draws(rt: HostRuntime) {
+fn reports_faults_outside_of_draws(rt: HostRuntime) {
     let alloc = rt.alloc();
     let narrow = SceneHead { width: 0, ..HEAD };
     let doubled = SceneHead { samples: 2, ..HEAD };
@@ -169,7 +169,7 @@ fn tells_faults_outside_of_draws(rt: HostRuntime) {
 }
 
 #[test]
-fn tells_faults_of_draws(rt: HostRuntime) {
+fn reports_faults_of_draws(rt: HostRuntime) {
     let alloc = rt.alloc();
     let more = SceneDraw {
         vertices: 5,

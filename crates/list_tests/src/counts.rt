@@ -7,7 +7,7 @@ use std::process::Abort;
 
 #[test]
 fn counts_draws(rt: HostRuntime) {
-    for (part, count, told) in [
+    for (part, count, reported) in [
         (r#"{"vertices":[],"triangles":[]}"#, 1024, None),
         (r#"{"vertices":[],"triangles":[]}"#, 1025, outside(TooMany)),
         ("7", 1025, outside(TooMany)),
@@ -17,13 +17,13 @@ fn counts_draws(rt: HostRuntime) {
         let text = format!(in rt.alloc(); r#"{{"width":1,"height":1,"draws":[{draws}]}}"#).expect(
             &rt, "memory",
         );
-        assert_eq!(rt; fault(&rt, text.as_str()), told, "{count} of {part}");
+        assert_eq!(rt; fault(&rt, text.as_str()), reported, "{count} of {part}");
     }
 }
 
 #[test]
 fn counts_vertices(rt: HostRuntime) {
-    for (part, count, told) in [
+    for (part, count, reported) in [
         ("[0,0,0,0,0,0,0]", 65_536, None),
         ("[0,0,0,0,0,0,0]", 65_537, in_draw(TooMany, 0)),
         ("7", 65_537, in_draw(TooMany, 0)),
@@ -34,7 +34,7 @@ fn counts_vertices(rt: HostRuntime) {
         );
         assert_eq!(rt;
             draw_fault(&rt, members.as_str()),
-            told,
+            reported,
             "{count} of {part}"
         );
     }
@@ -42,7 +42,7 @@ fn counts_vertices(rt: HostRuntime) {
 
 #[test]
 fn counts_triangles(rt: HostRuntime) {
-    for (first, part, second, told) in [
+    for (first, part, second, reported) in [
         (65_535, "[0,0,0]", 1, None),
         (0, "[0,0,0]", 65_536, None),
         (65_536, "[0,0,0]", 1, in_draw(TooMany, 1)),
@@ -56,7 +56,7 @@ fn counts_triangles(rt: HostRuntime) {
         let text = format!(in rt.alloc();
             r#"{{"width":1,"height":1,"draws":[{{{vertices},"triangles":[{first}]}},{{{vertices},"triangles":[{second}]}}]}}"#
         ).expect(&rt, "memory");
-        assert_eq!(rt; fault(&rt, text.as_str()), told);
+        assert_eq!(rt; fault(&rt, text.as_str()), reported);
     }
 }
 
@@ -79,7 +79,7 @@ fn sum_fault(
 
 #[test]
 fn counts_the_triangles_of_strips(rt: HostRuntime) {
-    for (first, second, told) in [
+    for (first, second, reported) in [
         (("strip", "0", 65_538), ("strip", "0", 2), None),
         (
             ("strip", "7", 65_539),
@@ -109,13 +109,13 @@ fn counts_the_triangles_of_strips(rt: HostRuntime) {
             in_draw(TooMany, 1),
         ),
     ] {
-        assert_eq!(rt; sum_fault(&rt, first, second), told);
+        assert_eq!(rt; sum_fault(&rt, first, second), reported);
     }
 }
 
 #[test]
 fn counts_two_triangles_for_each_quad(rt: HostRuntime) {
-    for (first, second, told) in [
+    for (first, second, reported) in [
         (("quads", "[0,1,2,3]", 32_768), ("strip", "0", 2), None),
         (
             ("quads", "7", 32_769),
@@ -134,6 +134,6 @@ fn counts_two_triangles_for_each_quad(rt: HostRuntime) {
             in_draw(TooMany, 1),
         ),
     ] {
-        assert_eq!(rt; sum_fault(&rt, first, second), told);
+        assert_eq!(rt; sum_fault(&rt, first, second), reported);
     }
 }

@@ -142,7 +142,7 @@ fn rows(rt: &impl Abort, alloc: Global, a: i32, b: i32, c: i32) -> Result<(u16, 
 }
 
 #[test]
-fn tells_rows(rt: HostRuntime) -> Result<(), Fail> {
+fn reports_rows(rt: HostRuntime) -> Result<(), Fail> {
     let alloc = rt.alloc();
     assert_eq!(rt; rows(&rt, alloc, 128, 128, 640)?, (0, 3));
     assert_eq!(rt; rows(&rt, alloc, 767, 256, 512)?, (1, 3));

@@ -4,7 +4,7 @@ use list::ReadKind::{OutOfRange, UnknownKey, WrongKind};
 
 #[test]
 fn checks_words(rt: HostRuntime) {
-    for (member, told) in [
+    for (member, reported) in [
         (r#""cull":"none""#, None),
         (r#""cull":"front""#, None),
         (r#""cull":"back""#, None),
@@ -23,13 +23,13 @@ fn checks_words(rt: HostRuntime) {
         (r#""fog":1"#, in_draw(UnknownKey, 0)),
         (r#""width":1"#, in_draw(UnknownKey, 0)),
     ] {
-        assert_eq!(rt; state_fault(&rt, member), told, "{member}");
+        assert_eq!(rt; state_fault(&rt, member), reported, "{member}");
     }
 }
 
 #[test]
 fn checks_masks_and_scissors(rt: HostRuntime) {
-    for (member, told) in [
+    for (member, reported) in [
         (r#""depth_write":false"#, None),
         (r#""depth_write":0"#, in_draw(WrongKind, 0)),
         (r#""depth_write":"true""#, in_draw(WrongKind, 0)),
@@ -52,13 +52,13 @@ fn checks_masks_and_scissors(rt: HostRuntime) {
         (r#""scissor":[0,0,1,1,1]"#, in_draw(WrongKind, 0)),
         (r#""scissor":[0,0,1,"1"]"#, in_draw(WrongKind, 0)),
     ] {
-        assert_eq!(rt; state_fault(&rt, member), told, "{member}");
+        assert_eq!(rt; state_fault(&rt, member), reported, "{member}");
     }
 }
 
 #[test]
 fn checks_vertices(rt: HostRuntime) {
-    for (vertex, told) in [
+    for (vertex, reported) in [
         ("[8388607,-8388608,65535,255,255,255,255]", None),
         ("[-8388608,8388607,0,0,0,0,0]", None),
         ("[8388608,0,0,0,0,0,0]", in_draw(OutOfRange, 0)),
@@ -78,6 +78,6 @@ fn checks_vertices(rt: HostRuntime) {
         ("[0,0,0,0,0,0,null]", in_draw(WrongKind, 0)),
         (r#"{"x":0}"#, in_draw(WrongKind, 0)),
     ] {
-        assert_eq!(rt; vertex_fault(&rt, vertex), told, "{vertex}");
+        assert_eq!(rt; vertex_fault(&rt, vertex), reported, "{vertex}");
     }
 }

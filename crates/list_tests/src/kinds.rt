@@ -36,7 +36,7 @@ fn refuses_what_is_no_json(rt: HostRuntime) {
 
 #[test]
 fn needs_an_object_with_its_keys(rt: HostRuntime) {
-    for (text, told) in [
+    for (text, reported) in [
         ("[]", outside(WrongKind)),
         ("null", outside(WrongKind)),
         (r#"{"height":1,"draws":[]}"#, outside(MissingKey)),
@@ -55,13 +55,13 @@ fn needs_an_object_with_its_keys(rt: HostRuntime) {
             in_draw(MissingKey, 0),
         ),
     ] {
-        assert_eq!(rt; fault(&rt, text), told, "{text}");
+        assert_eq!(rt; fault(&rt, text), reported, "{text}");
     }
 }
 
 #[test]
 fn checks_a_size(rt: HostRuntime) {
-    for (size, told) in [
+    for (size, reported) in [
         ("1", None),
         ("4096", None),
         ("0", outside(OutOfRange)),
@@ -76,17 +76,17 @@ fn checks_a_size(rt: HostRuntime) {
         let wide = format!(in rt.alloc(); r#"{{"width":{size},"height":1,"draws":[]}}"#).expect(
             &rt, "memory",
         );
-        assert_eq!(rt; fault(&rt, wide.as_str()), told, "width {size}");
+        assert_eq!(rt; fault(&rt, wide.as_str()), reported, "width {size}");
         let high = format!(in rt.alloc(); r#"{{"width":1,"height":{size},"draws":[]}}"#).expect(
             &rt, "memory",
         );
-        assert_eq!(rt; fault(&rt, high.as_str()), told, "height {size}");
+        assert_eq!(rt; fault(&rt, high.as_str()), reported, "height {size}");
     }
 }
 
 #[test]
 fn checks_the_top_object(rt: HostRuntime) {
-    for (members, told) in [
+    for (members, reported) in [
         ("", None),
         (r#","samples":1"#, None),
         (r#","samples":4"#, None),
@@ -118,6 +118,6 @@ fn checks_the_top_object(rt: HostRuntime) {
         (r#","fog":1"#, outside(UnknownKey)),
         (r#","Samples":1"#, outside(UnknownKey)),
     ] {
-        assert_eq!(rt; top_fault(&rt, members), told, "{members}");
+        assert_eq!(rt; top_fault(&rt, members), reported, "{members}");
     }
 }

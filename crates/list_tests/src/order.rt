@@ -8,8 +8,8 @@ use std::alloc::AllocGlobal;
 use std::process::Abort;
 
 #[test]
-fn tells_the_first_fault(rt: HostRuntime) {
-    for (text, told) in [
+fn reports_the_first_fault(rt: HostRuntime) {
+    for (text, reported) in [
         (r#"{"width":0,"fog":1,"draws":[]}"#, outside(UnknownKey)),
         (r#"{"width":0,"draws":[]}"#, outside(MissingKey)),
         (
@@ -38,13 +38,13 @@ fn tells_the_first_fault(rt: HostRuntime) {
             in_draw(OutOfRange, 0),
         ),
     ] {
-        assert_eq!(rt; fault(&rt, text), told, "{text}");
+        assert_eq!(rt; fault(&rt, text), reported, "{text}");
     }
 }
 
 #[test]
-fn tells_the_first_of_two_faults_of_the_top_object(rt: HostRuntime) {
-    for (text, told) in [
+fn reports_the_first_of_two_faults_of_the_top_object(rt: HostRuntime) {
+    for (text, reported) in [
         (r#"{"width":"x","draws":[]}"#, outside(MissingKey)),
         (r#"{"width":"x","height":0,"draws":[]}"#, outside(WrongKind)),
         (
@@ -93,13 +93,13 @@ fn tells_the_first_of_two_faults_of_the_top_object(rt: HostRuntime) {
             in_draw(BadIndex, 0),
         ),
     ] {
-        assert_eq!(rt; fault(&rt, text), told, "{text}");
+        assert_eq!(rt; fault(&rt, text), reported, "{text}");
     }
 }
 
 #[test]
-fn tells_the_first_of_two_faults_of_a_draw(rt: HostRuntime) {
-    for (members, told) in [
+fn reports_the_first_of_two_faults_of_a_draw(rt: HostRuntime) {
+    for (members, reported) in [
         (r#""fog":1"#, UnknownKey),
         (r#""cull":1,"vertices":[]"#, MissingKey),
         (
@@ -154,7 +154,7 @@ fn tells_the_first_of_two_faults_of_a_draw(rt: HostRuntime) {
             WrongKind,
         ),
     ] {
-        assert_eq!(rt; draw_fault(&rt, members), in_draw(told, 0), "{members}");
+        assert_eq!(rt; draw_fault(&rt, members), in_draw(reported, 0), "{members}");
     }
 }
 
@@ -198,7 +198,7 @@ fn fault_between(
 
 /// Each array, as what stands before and after it in a list, its length, a sound element, and two faults of an element.
 #[test]
-fn tells_the_first_of_two_neighbouring_elements(rt: HostRuntime) {
+fn reports_the_first_of_two_neighbouring_elements(rt: HostRuntime) {
     for (before, after, length, sound, first, second) in [
         (
             r#""clear":"#,
@@ -268,8 +268,8 @@ fn tells_the_first_of_two_neighbouring_elements(rt: HostRuntime) {
         for place in 0..length {
             for (one, other) in [(first, second), (second, first)] {
                 let array = with_two_faults(&rt, length, sound, place, (one.0, other.0));
-                let told = fault_between(&rt, before, array.as_str(), after);
-                assert_eq!(rt; told, one.1, "{before}{array}{after}");
+                let reported = fault_between(&rt, before, array.as_str(), after);
+                assert_eq!(rt; reported, one.1, "{before}{array}{after}");
             }
         }
     }
@@ -288,7 +288,7 @@ fn checks_the_length_of_an_array_before_its_elements(rt: HostRuntime) {
 
 /// Two draws with a fault each, of which the first is reported.
 #[test]
-fn tells_the_fault_of_the_first_of_two_draws(rt: HostRuntime) {
+fn reports_the_fault_of_the_first_of_two_draws(rt: HostRuntime) {
     let sound = r#"{"vertices":[],"triangles":[]}"#;
     let bad_index = r#"{"vertices":[],"triangles":[[0,0,0]]}"#;
     for place in 0..3 {
@@ -299,8 +299,8 @@ fn tells_the_fault_of_the_first_of_two_draws(rt: HostRuntime) {
             (("{}", r#"{"fog":1}"#), MissingKey),
         ] {
             let draws = with_two_faults(&rt, 4, sound, place, faults);
-            let told = fault_between(&rt, r#""draws":"#, draws.as_str(), "");
-            assert_eq!(rt; told, in_draw(kind, place), "{draws}");
+            let reported = fault_between(&rt, r#""draws":"#, draws.as_str(), "");
+            assert_eq!(rt; reported, in_draw(kind, place), "{draws}");
         }
     }
 }

@@ -4,7 +4,7 @@ use list::ReadKind::{BadIndex, MissingKey, NotConvex, TwoLists, WrongKind};
 
 #[test]
 fn checks_triangles(rt: HostRuntime) {
-    for (triangle, told) in [
+    for (triangle, reported) in [
         ("[0,1,2]", None),
         ("[2,2,2]", None),
         ("[0,1,3]", in_draw(BadIndex, 0)),
@@ -17,13 +17,13 @@ fn checks_triangles(rt: HostRuntime) {
         ("[0,1,2,0]", in_draw(WrongKind, 0)),
         ("7", in_draw(WrongKind, 0)),
     ] {
-        assert_eq!(rt; triangle_fault(&rt, triangle), told, "{triangle}");
+        assert_eq!(rt; triangle_fault(&rt, triangle), reported, "{triangle}");
     }
 }
 
 #[test]
 fn checks_strips(rt: HostRuntime) {
-    for (strip, told) in [
+    for (strip, reported) in [
         ("[]", None),
         ("[2]", None),
         ("[0,1]", None),
@@ -41,13 +41,13 @@ fn checks_strips(rt: HostRuntime) {
         (r#"{"0":0}"#, in_draw(WrongKind, 0)),
         ("7", in_draw(WrongKind, 0)),
     ] {
-        assert_eq!(rt; strip_fault(&rt, strip), told, "{strip}");
+        assert_eq!(rt; strip_fault(&rt, strip), reported, "{strip}");
     }
 }
 
 #[test]
 fn checks_quads(rt: HostRuntime) {
-    for (quad, told) in [
+    for (quad, reported) in [
         ("[0,1,2,3]", None),
         ("[1,2,3,0]", None),
         ("[2,3,0,1]", None),
@@ -83,26 +83,26 @@ fn checks_quads(rt: HostRuntime) {
         ("[]", in_draw(WrongKind, 0)),
         ("7", in_draw(WrongKind, 0)),
     ] {
-        assert_eq!(rt; quad_fault(&rt, quad), told, "{quad}");
+        assert_eq!(rt; quad_fault(&rt, quad), reported, "{quad}");
     }
 }
 
 #[test]
-fn tells_the_first_of_two_quads(rt: HostRuntime) {
-    for (quads, told) in [
+fn reports_the_first_of_two_quads(rt: HostRuntime) {
+    for (quads, reported) in [
         ("[0,1,2,8],[0,2,1,3]", BadIndex),
         ("[0,2,1,3],[0,1,2,8]", NotConvex),
         ("[0,1,2,3],[0,2,1,3],[0,1,2]", NotConvex),
         ("[0,1,2,3],[0,1,2],[0,2,1,3]", WrongKind),
         ("[0,0,0,0],[7]", NotConvex),
     ] {
-        assert_eq!(rt; quad_fault(&rt, quads), in_draw(told, 0), "{quads}");
+        assert_eq!(rt; quad_fault(&rt, quads), in_draw(reported, 0), "{quads}");
     }
 }
 
 #[test]
 fn needs_one_list_of_primitives(rt: HostRuntime) {
-    for (members, told) in [
+    for (members, reported) in [
         (r#""vertices":[],"triangles":[]"#, None),
         (r#""vertices":[],"strip":[]"#, None),
         (r#""vertices":[]"#, in_draw(MissingKey, 0)),
@@ -135,6 +135,6 @@ fn needs_one_list_of_primitives(rt: HostRuntime) {
             in_draw(TwoLists, 0),
         ),
     ] {
-        assert_eq!(rt; draw_fault(&rt, members), told, "{members}");
+        assert_eq!(rt; draw_fault(&rt, members), reported, "{members}");
     }
 }

@@ -25,16 +25,16 @@ use Rattle.model.specs.declared.output.Output.TheVariants as output
 use Rattle.model.specs.Keys.{output_words, cull_words, depth_test_words, blend_words}
 use Rattle.model.specs.Primitives.{PrimitiveListing, triangle_list, triangle_strip, quad_list, strip_count, quads_count, count_of_triangles, IsConvexOver}
 use Rattle.model.specs.Listing.{DrawListing, Listing}
-use Rattle.model.specs.FirstFault.{Check, first_fault, told_as}
+use Rattle.model.specs.FirstFault.{Check, first_fault, reported_as}
 use Rattle.model.specs.Checks.{Checks, each, is_from_to, number_checks, depth_checks, vertex_checks, triangle_checks, strip_index_checks, quad_checks, quad_checks_over, has_length, corner_written, positions_written, is_strictly_convex, is_none_there, are_two_there, array_checks, sum_check, where_there, word_checks, truth_checks, colour_checks, write_mask_checks, sample_mask_checks, scissor_checks, sample_count_checks, merge_checks, state_checks, vertices_checks, triangles_checks, strip_checks, quads_checks, primitive_checks, part_checks, triangles_counted, draw_checks, clear_checks, top_checks, in_draw, outside, draws_checks, value_checks}
 use Rattle.model.specs.Denotes.{Each, OrDefault, IsWhole, IsDepthNumber, IsTruth, IsVertex, IsIndex, IsTriangle, IsStripIndex, IsQuad, IsPrimitives, IsArrayOf, IsCull, IsDepthTest, IsBlend, IsWriteMask, IsSampleMask, IsScissor, IsMerge, IsState, IsDraw, IsSampleCount, IsClearColour, IsOutput, IsListing}
 use Rattle.model.proofs.Convex.{convex_is_true, convex_is_false}
 use Rattle.model.proofs.Corners.{same_places, same_corner}
 use Rattle.model.proofs.Counts.{items_len_each, given_is}
-use Rattle.model.proofs.Faults.{first_fault_told_as, both_pass}
+use Rattle.model.proofs.Faults.{first_fault_reported_as, both_pass}
 
-told_pass : {T U : Type 0} (f : T → U) (ps : List (Check T)) → first_fault ps ≡ None → first_fault (told_as f ps) ≡ None
-told_pass f ps p = first_fault_told_as f ps ∙ ap (option_map f) p
+reported_pass : {T U : Type 0} (f : T → U) (ps : List (Check T)) → first_fault ps ≡ None → first_fault (reported_as f ps) ≡ None
+reported_pass f ps p = first_fault_reported_as f ps ∙ ap (option_map f) p
 
 there : {A : Type 0} (o : Option A) → IsSome o → is_none o ≡ false
 there None h = absurd (cc)
@@ -344,7 +344,7 @@ draws_pass picture number earlier (item d ds) [] h room = absurd h
 draws_pass picture number earlier (item d ds) (x ∷ xs) h room =
     let many = given_is x.vertices _ _ _ x.primitives h.0.primitives in
     let total = sum_by-append (λ (d : DrawListing). count_of_triangles d.primitives) (x ∷ []) xs in
-    both_pass (told_as (in_draw number) (draw_checks earlier d)) _ (told_pass (in_draw number) (draw_checks earlier d) (draw_passes picture earlier d x h.0 (omega (arith, total))))
+    both_pass (reported_as (in_draw number) (draw_checks earlier d)) _ (reported_pass (in_draw number) (draw_checks earlier d) (draw_passes picture earlier d x h.0 (omega (arith, total))))
     (draws_pass picture (number + 1) (earlier + triangles_counted d) ds xs h.1 (omega (arith, many, total)))
 
 -- ---- the whole list
@@ -389,7 +389,7 @@ top_passes d l is =
 pub value_passes : (d : Data) (draws : Items) → draws ≡ elements (get (codes "draws") d) → first_fault (top_checks d) ≡ None → first_fault (draws_checks 0 0 draws) ≡ None
     → first_fault (value_checks d) ≡ None
 value_passes d draws are top later =
-    both_pass (told_as outside (top_checks d)) (draws_checks 0 0 (elements (get (codes "draws") d))) (told_pass outside (top_checks d) top) (rw are at later)
+    both_pass (reported_as outside (top_checks d)) (draws_checks 0 0 (elements (get (codes "draws") d))) (reported_pass outside (top_checks d) top) (rw are at later)
 
 pub listing_passes : (d : Data) (l : Listing) → IsListing d l → first_fault (value_checks d) ≡ None
 listing_passes d l is =

@@ -9,7 +9,7 @@ use Rattle.model.specs.declared.output.Output.{Output}
 use Rattle.model.specs.declared.output.Output.TheVariants as output
 use Rattle.model.specs.Denotes.{OrDefault, IsSampleCount, IsClearColour, IsDepthNumber, IsOutput}
 
--- How many samples a pixel has, what each sample begins with, and what the picture shows.
+-- What a value says of the picture: the samples of a pixel, what each sample begins with, and what the picture shows.
 pub record IsBeginning (value : Data) (count : SampleCount) (clear : Sample) (shows : Output) : Type 0 where
   pub samples : OrDefault samples.One IsSampleCount (get (codes "samples") value) count
   pub colour : OrDefault (0 ∷ 0 ∷ 0 ∷ []) IsClearColour (get (codes "clear") value) (clear.r ∷ clear.g ∷ clear.b ∷ [])

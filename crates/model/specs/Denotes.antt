@@ -32,10 +32,11 @@ IsWhole low high value z = (whole value ≡ Some z) × (low ≤ℤ z) × (z ≤�
 abbrev pub IsCoordinate : Option Data → ℤ → Type 0
 IsCoordinate value z = (whole value ≡ Some z) × IsInBand z
 
+-- The value is a depth, from 0 to 65535.
 abbrev pub IsDepthNumber : Option Data → ℕ → Type 0
 IsDepthNumber value n = IsWhole (pos 0) (pos 65535) value (pos n)
 
--- The value is a colour channel or an alpha.
+-- The value is a colour channel or an alpha, from 0 to 255.
 abbrev pub IsChannel : Option Data → ℕ → Type 0
 IsChannel value n = IsWhole (pos 0) (pos 255) value (pos n)
 
@@ -43,10 +44,11 @@ IsChannel value n = IsWhole (pos 0) (pos 255) value (pos n)
 abbrev pub IsIndex : ℕ → Option Data → ℕ → Type 0
 IsIndex n value k = (whole value ≡ Some (pos k)) × (k < n)
 
--- The value is a picture's width or height in pixels.
+-- The value is a picture's width or height, from 1 to 4096 pixels.
 abbrev pub IsSize : Option Data → ℕ → Type 0
 IsSize value n = IsWhole (pos 1) (pos 4096) value (pos n)
 
+-- The value is this boolean.
 abbrev pub IsTruth : Option Data → Bool → Type 0
 IsTruth value b = truth value ≡ Some b
 
@@ -57,7 +59,7 @@ OrDefault default Is (Some value) x = Is (Some value) x
 
 -- ---- arrays
 
--- Element by element, each is what the value at its place denotes.
+-- Each element is what the value at its index denotes, and there are as many elements as values.
 abbrev pub Each : {X : Type 0} → (Data → X → Type 0) → Items → List X → Type 0
 Each Is no_items [] = Unit {0}
 Each Is no_items (x ∷ xs) = ⊥
@@ -70,7 +72,7 @@ pub record IsArrayOf {X : Type 0} (most : ℕ) (Is : Data → X → Type 0) (val
   pub parts : Each Is (elements value) found
   pub at_most : length found ≤ most
 
--- The value is [x, y, z, red, green, blue, alpha].
+-- The value is this vertex: [x, y, z, red, green, blue, alpha], with x and y in 1/256 pixel.
 pub record IsVertex (value : Data) (v : Vertex) : Type 0 where
   pub array : length_of (Some value) ≡ Some 7
   pub x : IsCoordinate (at 0 value) v.at.x
@@ -82,7 +84,7 @@ pub record IsVertex (value : Data) (v : Vertex) : Type 0 where
   pub blue : IsChannel (at 5 value) (slice_index v.rgba 2)
   pub alpha : IsChannel (at 6 value) (slice_index v.rgba 3)
 
--- The value is [a, b, c], the indices of three of n vertices.
+-- The value is this triangle: [a, b, c], the indices of three of n vertices.
 pub record IsTriangle (n : ℕ) (value : Data) (triangle : List ℕ) : Type 0 where
   pub array : length_of (Some value) ≡ Some 3
   pub indices : length triangle ≡ 3
@@ -94,7 +96,7 @@ pub record IsTriangle (n : ℕ) (value : Data) (triangle : List ℕ) : Type 0 wh
 abbrev pub IsStripIndex : ℕ → Data → ℕ → Type 0
 IsStripIndex n value k = IsIndex n (Some value) k
 
--- The value is [a, b, c, d], the indices of four of the vertices, which are the corners of a strictly convex quad.
+-- The value is this quad: [a, b, c, d], the indices of four of the vertices, which are the corners of a strictly convex quad.
 pub record IsQuad (vertices : List Vertex) (value : Data) (quad : List ℕ) : Type 0 where
   pub array : length_of (Some value) ≡ Some 4
   pub indices : length quad ≡ 4
@@ -104,8 +106,8 @@ pub record IsQuad (vertices : List Vertex) (value : Data) (quad : List ℕ) : Ty
   pub fourth : IsIndex (length vertices) (at 3 value) (slice_index quad 3)
   pub convex : IsConvexOver vertices quad
 
--- The primitives of a draw with these vertices, whose keys `triangles`, `strip` and `quads` have these values: one of the three is
--- there, and it is this triangle list, triangle strip or list of quads.
+-- The values of a draw's keys `triangles`, `strip` and `quads` are these primitives, and one of the three is there. They are a
+-- triangle list, a triangle strip or a list of quads, over the draw's vertices.
 abbrev pub IsPrimitives : List Vertex → Option Data → Option Data → Option Data → PrimitiveListing → Type 0
 IsPrimitives vertices triangles strip quads (triangle_list found) =
     IsArrayOf 65536 (IsTriangle (length vertices)) triangles found × (strip ≡ None) × (quads ≡ None)
@@ -116,16 +118,19 @@ IsPrimitives vertices triangles strip quads (quad_list found) =
 
 -- ---- the state of a draw
 
+-- The value is the word for this culling.
 abbrev pub IsCull : Option Data → Cull → Type 0
 IsCull value mode = text value ≡ Some (cull_word mode)
 
+-- The value is the word for this depth test.
 abbrev pub IsDepthTest : Option Data → DepthTest → Type 0
 IsDepthTest value t = text value ≡ Some (depth_test_word t)
 
+-- The value is the word for this blending: over what is stored if `over` holds, else in its place.
 abbrev pub IsBlend : Option Data → Bool → Type 0
 IsBlend value over = text value ≡ Some (blend_word over)
 
--- The value is [red, green, blue], whether each is written.
+-- The value is this write mask: [red, green, blue], each a boolean that says whether the channel is written.
 pub record IsWriteMask (value : Option Data) (write : List Bool) : Type 0 where
   pub array : length_of value ≡ Some 3
   pub channels : length write ≡ 3
@@ -133,15 +138,15 @@ pub record IsWriteMask (value : Option Data) (write : List Bool) : Type 0 where
   pub green : IsTruth (element 1 value) (slice_index_or write 1 false)
   pub blue : IsTruth (element 2 value) (slice_index_or write 2 false)
 
--- The value is a number of four bits, bit s for sample s.
+-- The value is this sample mask, a number of four bits: bit s is that of sample s.
 abbrev pub IsSampleMask : Option Data → ℕ → Type 0
 IsSampleMask value n = IsWhole (pos 0) (pos 15) value (pos n)
 
--- A side of a scissor, in pixels. It may lie past the picture.
+-- The value is a side of a scissor, in pixels. It may lie past the picture.
 abbrev pub IsScissorSide : Option Data → ℤ → Type 0
 IsScissorSide value z = IsWhole (pos 0) (pos 4096) value z
 
--- The value is [left, top, right, bottom].
+-- The value is this scissor: [left, top, right, bottom], in pixels.
 pub record IsScissor (value : Option Data) (scissor : PixelBox) : Type 0 where
   pub array : length_of value ≡ Some 4
   pub left : IsScissorSide (element 0 value) scissor.x0
@@ -173,13 +178,15 @@ pub record IsDraw (picture : PixelBox) (value : Data) (draw : DrawListing) : Typ
   pub vertices : IsArrayOf 65536 IsVertex (get (codes "vertices") value) draw.vertices
   pub primitives : IsPrimitives draw.vertices (get (codes "triangles") value) (get (codes "strip") value) (get (codes "quads") value) draw.primitives
 
+-- The value is the word for what the picture shows.
 abbrev pub IsOutput : Option Data → Output → Type 0
 IsOutput value output = text value ≡ Some (output_word output)
 
+-- The value is this number of samples of a pixel.
 abbrev pub IsSampleCount : Option Data → SampleCount → Type 0
 IsSampleCount value n = whole value ≡ Some (pos (count_of n))
 
--- The value is [red, green, blue].
+-- The value is this clear colour: [red, green, blue], each from 0 to 255.
 pub record IsClearColour (value : Option Data) (colour : List ℕ) : Type 0 where
   pub array : length_of value ≡ Some 3
   pub red : IsChannel (element 0 value) (slice_index colour 0)
@@ -203,14 +210,14 @@ pub record IsListing (value : Data) (l : Listing) : Type 0 where
   pub draws : IsArrayOf 1024 (IsDraw (picture_box l.width l.height)) (get (codes "draws") value) l.draws
   pub triangles : sum_by (λ d. count_of_triangles d.primitives) l.draws ≤ 65536
 
--- The value is the draw list of this scene: its triangles in draw order, each with the vertices that its indices name and the
--- state of its draw.
+-- The value is the draw list of this scene. The scene's triangles stand in draw order, each with the vertices that its indices name
+-- and the state of its draw.
 pub record IsDrawList (value : Data) (list : Scene) : Type 0 where
   pub listing : Listing
   pub is : IsListing value listing
   pub scene : list ≡ scene_of listing
 
--- serde_json reads the bytes, at most 64 MiB, as a value, which denotes this draw list.
+-- The bytes are at most 64 MiB, and serde_json reads them as a value that denotes this draw list.
 pub record Denotes (bytes : List ℕ) (list : Scene) : Type 0 where
   pub size : length bytes ≤ 67108864
   pub value : Data

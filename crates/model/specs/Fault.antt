@@ -1,8 +1,9 @@
--- The numbers and names of the faults of a draw list.
+-- The numbers and names of the errors of a draw list.
 use Rattle.std.specs.Prelude.{ℕ, List, codes}
 use Rattle.model.specs.declared.fault.ReadKind.{ReadKind}
 use Rattle.model.specs.declared.fault.ReadKind.TheVariants.{NotJson, UnknownKey, MissingKey, WrongKind, OutOfRange, BadIndex, TooMany, OutOfMemory, TwoLists, NotConvex}
 
+-- The number of each kind of error in a draw list. It never changes its meaning.
 abbrev pub number_of : ReadKind → ℕ
 number_of NotJson = 1
 number_of UnknownKey = 2
@@ -15,6 +16,7 @@ number_of OutOfMemory = 8
 number_of TwoLists = 9
 number_of NotConvex = 10
 
+-- The name of each kind of error in a draw list.
 abbrev pub name_of : ReadKind → List ℕ
 name_of NotJson = codes "NotJson"
 name_of UnknownKey = codes "UnknownKey"

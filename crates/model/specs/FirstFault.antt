@@ -7,16 +7,17 @@ use Rattle.model.specs.declared.fault.ReadFault.{ReadFault}
 -- A check: whether it fails, and what it then reports.
 pub record Check (T : Type 0) : Type 0 where
   pub fails : Bool
-  pub told : T
+  pub reported : T
 
+-- A check by whether it fails, and by what it then reports.
 abbrev pub check : {T : Type 0} → Bool → T → Check T
-check fails told = record { fails = fails; told = told }
+check fails reported = record { fails = fails; reported = reported }
 
 -- No check fails.
 abbrev pub AllPass : {T : Type 0} → List (Check T) → Type 0
 AllPass checks = AllByRecursion (λ p. p.fails ≡ false) checks
 
--- The fault is what a failing check reports, and no check before it fails.
+-- The error is what a failing check reports, and no check before it fails.
 pub record IsFirstFault {T : Type 0} (checks : List (Check T)) (fault : T) : Type 0 where
   pub before : List (Check T)
   pub here : Check T
@@ -24,20 +25,21 @@ pub record IsFirstFault {T : Type 0} (checks : List (Check T)) (fault : T) : Typ
   pub order : checks ≡ before ++ here ∷ after
   pub passed : AllPass before
   pub fails : here.fails ≡ true
-  pub told : here.told ≡ fault
+  pub reported : here.reported ≡ fault
 
--- The fault of the first check that fails, as a function: what proofs compute with.
+-- The error of the first check that fails, as a function: what proofs compute with.
 abbrev pub first_fault : {T : Type 0} → List (Check T) → Option T
 first_fault [] = None
-first_fault (p ∷ ps) = if p.fails then Some p.told else first_fault ps
+first_fault (p ∷ ps) = if p.fails then Some p.reported else first_fault ps
 
-abbrev pub told_as : {T U : Type 0} → (T → U) → List (Check T) → List (Check U)
-told_as f checks = map (λ p. check p.fails (f p.told)) checks
+-- The same checks, of which each reports what f makes of its report.
+abbrev pub reported_as : {T U : Type 0} → (T → U) → List (Check T) → List (Check U)
+reported_as f checks = map (λ p. check p.fails (f p.reported)) checks
 
--- reported without a draw, or in a draw before this one
+-- Whether an error is in no draw, or in a draw before draw n.
 abbrev pub is_before : ℕ → ReadFault → Bool
 is_before n fault = option_map_or (λ m. nat_lt m n) fault.draw true
 
--- no check fails that reports no draw or a draw before this one
+-- No check fails that reports an error in no draw or in a draw before draw n.
 abbrev pub PassesBefore : ℕ → List (Check ReadFault) → Type 0
-PassesBefore n checks = AllByRecursion (λ p. is_before n p.told ≡ true → p.fails ≡ false) checks
+PassesBefore n checks = AllByRecursion (λ p. is_before n p.reported ≡ true → p.fails ≡ false) checks

@@ -1,8 +1,222 @@
+-- The definitions of this crate, each file behind those that it uses; `python3 -m tools.definitions` writes these lines.
+--
+-- Primitives.antt
+--   PrimitiveListing: Primitives by the indices of their vertices, wherever they lie in memory.
+--   strip_triangle: The indices of triangle m of a strip: those at m, m + 1, m + 2 if m is even, and at m, m + 2, m + 1 if m is odd.
+--   strip_count: How many triangles a strip of this many indices has.
+--   quad_triangles: The quad abcd is drawn as the two triangles on either side of its diagonal ac: abc, and then cda.
+--   quads_count: How many triangles this many quads have.
+--   triangles_of: The triangles of primitives in draw order, each by the indices of its vertices.
+--   count_of_triangles: How many triangles primitives are.
+--   position_of: The position of the vertex of this index; the origin past the end.
+--   IsConvexOver: The vertices that a quad names are the corners of a strictly convex quad, in its order.
+--   IsQuadOver: The quad names four of the vertices, and is strictly convex.
+--   AreOver: Primitives over these vertices: each names vertices that there are, and each quad is strictly convex.
+--   primitive_listing: The listing of primitives in memory.
+--
+-- Scene.antt
+--   Scene: What the picture of a draw list is drawn from.
+--
+-- Listing.antt
+--   DrawListing: A draw, wherever it lies in memory: its state, its vertices and its primitives.
+--   Listing: A draw list, wherever it lies in memory.
+--   vertex_of: The vertex of this index; the origin past the end, which no triangle of a draw list names.
+--   triangle_of: The triangle of three vertices in this state.
+--   placed: A triangle of a draw, with the vertices that its indices name and the draw's state.
+--   placed_all: The triangles of a draw, in the order of its primitives.
+--   scene_of: The scene of a draw list.
+--   IsDrawWithinLimits: A draw has at most 65536 vertices, and primitives over these alone (this project's limits).
+--   AreWithinLimits: There are at most 1024 draws, each within its limits, and 65536 triangles (this project's limits).
+--   IsWithinLimits: A picture is at most 4096 by 4096 pixels and not empty, and the draws are within their limits (this project's).
+--   draw_listing: The listing of a draw in memory.
+--   listing_of: The listing of draws in memory, with the picture's size, samples, clear values and output.
+--   listing_on: The listing of draws in memory on a target, which has the picture's size, samples, clear values and output.
+--
+-- Rows.antt
+--   row_of: The row of pixels of a y in 1/256 pixel: the y by 256, rounded down.
+--   least_y: The least y of a triangle's vertices, in 1/256 pixel.
+--   greatest_y: The greatest y of a triangle's vertices, in 1/256 pixel.
+--   IsRowSpan: The span has the rows of pixels from that of the triangle's least y to that of its greatest, cut to the screen.
+--   AreRows: The rows of triangles, in the triangles' order.
+--
+-- Starts.antt
+--   AreStarts: The number of each draw's first triangle: how many triangles the draws before it have.
+--   IsOwner: The draw in which the triangle of a number stands: the last one that starts at the number or before it.
+--   AreOwners: The draws of the triangles at every sixteenth number.
+--
+-- Place.antt
+--   IsPlace: The triangle of this number in draw order stands in this draw, and behind as many triangles of the draw as its number there.
+--
+-- Picture.antt
+--   IsEnd: The final value of sample s of pixel (i, j): what all triangles make of the clear colour and depth.
+--   IsColour: The colour of pixel (i, j): each channel resolved from the final values of the pixel's samples.
+--   IsColourPixel: Pixel (i, j) of a picture of colours: red, green and blue.
+--   IsDepthPixel: Pixel (i, j) of a picture of depths: the final depth of the pixel's sample 0, in two bytes.
+--   PixelOf: The bytes of pixel (i, j) of a picture that shows this: a colour or a depth.
+--   IsPixel: The bytes of pixel (i, j), by what the picture shows.
+--   pixel_bytes: How many bytes a pixel has: three of a colour, two of a depth.
+--   pixel_at: The bytes of pixel n, of the bytes of pixels one after another.
+--   IsPart: The bytes of a rectangle of the picture, whose upper left pixel is (x, y).
+--   IsPicture: The bytes of the whole picture.
+--
+-- View.antt
+--   listing: What a draw list in memory holds.
+--   IsKept: What each draw list in memory keeps: its limits, and what look-ups need.
+--
+-- PixelPrefix.antt
+--   IsPixelPrefix: The bytes of the first n pixels of a rectangle of this width, whose upper left pixel is (x, y), row by row.
+--   IsPixelRun: The bytes of `many` pixels of one row, from pixel (i, j) to the right.
+--   AddsPixel: The new bytes are the old ones, and behind them those of pixel (i, j).
+--
+-- Json.antt
+--   json_of: The JSON value (RFC 8259) that serde_json reads from the bytes: `None` if they are no UTF-8 or no JSON text.
+--   whole: The integer that the value is: signed or unsigned, of 64 bits.
+--   text: The string that the value is, and `None` for another value.
+--   truth: The boolean that the value is, and `None` for another value.
+--   array_of: The elements of the array that the value is, and `None` for another value.
+--   length_of: How many elements the array has that the value is, and `None` for another value.
+--   element: Element k of an array, and `None` past its end and of another value.
+--   elements: The elements of an array, and none of another value.
+--   count: How many elements an array has, and 0 for another value.
+--   is_among: Whether one of the names is this one.
+--   has_other_member: Whether one of the members has a key that is not among the names.
+--   has_other_key: Whether the object has a key that is not among the names.
+--
+-- Keys.antt
+--   top_keys: The keys of the top object.
+--   draw_keys: The keys of a draw.
+--   output_word: The word for what a picture shows.
+--   output_words: The words for all that a picture can show.
+--   cull_word: The word for each culling.
+--   cull_words: The words for all cullings.
+--   depth_test_word: The word for each depth test.
+--   depth_test_words: The words for all depth tests.
+--   blend_word: The word for a blending: over what is stored if true, in its place if false.
+--   blend_words: The words for both blendings.
+--
+-- Fault.antt
+--   number_of: The number of each kind of error in a draw list.
+--   name_of: The name of each kind of error in a draw list.
+--
+-- FirstFault.antt
+--   Check: A check: whether it fails, and what it then reports.
+--   check: A check by whether it fails, and by what it then reports.
+--   AllPass: No check fails.
+--   IsFirstFault: The error is what a failing check reports, and no check before it fails.
+--   first_fault: The error of the first check that fails, as a function: what proofs compute with.
+--   reported_as: The same checks, of which each reports what f makes of its report.
+--   is_before: Whether an error is in no draw, or in a draw before draw n.
+--   PassesBefore: No check fails that reports an error in no draw or in a draw before draw n.
+--
+-- Checks.antt
+--   Checks: Checks of a draw list, each with the kind of error that it reports.
+--   is_from_to: Whether z lies from low to high, both included.
+--   number_checks: The value is an integer, else `WrongKind` is reported, and it is in its range, else `outside` is.
+--   coordinate_checks: A coordinate of the guard band in 1/256 pixel, else `OutOfRange` is reported.
+--   depth_checks: A depth from 0 to 65535, else `OutOfRange` is reported.
+--   channel_checks: A colour channel or an alpha from 0 to 255, else `OutOfRange` is reported.
+--   size_checks: The width or height of a picture from 1 to 4096 pixels, else `OutOfRange` is reported.
+--   is_sample_count: Whether a pixel may have z samples: 1 or 4.
+--   sample_count_checks: The samples of a pixel, 1 or 4, else `OutOfRange` is reported.
+--   sample_mask_checks: A sample mask from 0 to 15, else `OutOfRange` is reported.
+--   scissor_side_checks: A side of a scissor from 0 to 4096 pixels, else `OutOfRange` is reported.
+--   index_checks: The index of one of n vertices, else `BadIndex` is reported.
+--   word_checks: A string, else `WrongKind` is reported, and one of the words, else `OutOfRange` is.
+--   truth_checks: A boolean, else `WrongKind` is reported.
+--   where_there: The checks of a key that may be absent: none if it is.
+--   is_absent: Whether the value has no key of this name.
+--   has_length: Whether the value is an array of exactly n elements.
+--   length_check: An array of exactly n elements, else `WrongKind` is reported.
+--   array_checks: An array, and of at most `most` elements, else `TooMany` is reported.
+--   each: The checks of each element in turn.
+--   rgba_checks: The red, green, blue and alpha of a vertex, which are its elements 3 to 6.
+--   vertex_checks: A vertex: [x, y, z, red, green, blue, alpha].
+--   triangle_checks: A triangle: [a, b, c], the indices of three of n vertices.
+--   position_written: The position of a vertex as it is written, in 1/256 pixel.
+--   positions_written: The positions of vertices as they are written, in their order.
+--   corner_written: The position that an index names; the origin past the end.
+--   each_turn: Whether all four turns of the quad abcd pass the test.
+--   is_strictly_convex: Whether the quad abcd is strictly convex.
+--   quad_checks: A quad: [a, b, c, d], the indices of four of n vertices, else `NotConvex` is reported if it is not strictly convex.
+--   quad_checks_over: A quad over vertices that were read.
+--   strip_index_checks: An index in a strip over n vertices.
+--   colour_checks: A clear colour: [red, green, blue], each from 0 to 255.
+--   write_mask_checks: A write mask: [red, green, blue], each a boolean.
+--   scissor_checks: A scissor: [left, top, right, bottom], in pixels.
+--   merge_checks: How a draw's fragments are merged: the depth test, depth writes, the blending and the write mask.
+--   state_checks: The state of a draw: culling, how its fragments are merged, the sample mask and the scissor.
+--   vertices_checks: The vertices of a draw: an array of at most 65536, and each of them.
+--   sum_check: A draw's triangles and the `earlier` ones of the draws before are at most 65536, else `TooMany` is reported.
+--   triangles_checks: The triangle list of a draw of n vertices, before which the draws have `earlier` triangles.
+--   strip_checks: The triangle strip of a draw of n vertices, before which the draws have `earlier` triangles.
+--   quads_checks: The quads of a draw of n vertices at these positions, before which the draws have `earlier` triangles.
+--   primitive_checks: The primitives of a draw of n vertices at these positions: the one of the three lists that is there.
+--   part_checks: The vertices of a draw and its primitives over them, before which the draws have `earlier` triangles.
+--   triangles_given: How many triangles the values of `triangles`, `strip` and `quads` have, of which one is there.
+--   triangles_counted: How many triangles a draw has, by its values.
+--   is_none_there: Whether none of the three lists of primitives is there.
+--   are_two_there: Whether more than one of the three lists of primitives is there.
+--   has_no_list: Whether a draw has no list of primitives.
+--   has_two_lists: Whether a draw has more than one list of primitives.
+--   opening_checks: The checks of a draw that come before its vertices and primitives: its keys, its lists and its state.
+--   draw_checks: The checks of a draw before which the draws have `earlier` triangles.
+--   checks_before_vertices: The checks of a draw that come before those of its single vertices.
+--   clear_checks: The keys of the top object that may be absent: samples, clear colour, clear depth and output.
+--   top_checks: The checks of the top object, without those of the draws themselves.
+--   outside: An error of this kind that is in no draw.
+--   in_draw: An error of this kind in the draw of this number.
+--   draws_checks: The checks of the draws from this number on, before which the draws have `earlier` triangles.
+--   value_checks: All checks of a JSON value: those of the top object, and then those of the draws in their order.
+--   all_checks: All checks of an input, in their order: first whether its bytes are JSON.
+--   IsReached: Draw n is one of these, and no check of a draw before it fails.
+--   Reaches: The draw that an error names was reached, and no check of the top object fails.
+--
+-- Denotes.antt
+--   IsWhole: The value is this integer, which lies from low to high.
+--   IsCoordinate: The value is a coordinate of the guard band, in 1/256 pixel.
+--   IsDepthNumber: The value is a depth, from 0 to 65535.
+--   IsChannel: The value is a colour channel or an alpha, from 0 to 255.
+--   IsIndex: The value is the index of one of n vertices.
+--   IsSize: The value is a picture's width or height, from 1 to 4096 pixels.
+--   IsTruth: The value is this boolean.
+--   OrDefault: What the value of a key denotes, and the default if the key is absent.
+--   Each: Each element is what the value at its index denotes, and there are as many elements as values.
+--   IsArrayOf: The value is an array of at most `most` elements, each of which denotes its part.
+--   IsVertex: The value is this vertex: [x, y, z, red, green, blue, alpha], with x and y in 1/256 pixel.
+--   IsTriangle: The value is this triangle: [a, b, c], the indices of three of n vertices.
+--   IsStripIndex: The value is the index of one of n vertices in a strip.
+--   IsQuad: The value is this quad: [a, b, c, d], the indices of four of the vertices, which are the corners of a strictly convex quad.
+--   IsPrimitives: The values of a draw's keys `triangles`, `strip` and `quads` are these primitives, and one of the three is there.
+--   IsCull: The value is the word for this culling.
+--   IsDepthTest: The value is the word for this depth test.
+--   IsBlend: The value is the word for this blending: over what is stored if `over` holds, else in its place.
+--   IsWriteMask: The value is this write mask: [red, green, blue], each a boolean that says whether the channel is written.
+--   IsSampleMask: The value is this sample mask, a number of four bits: bit s is that of sample s.
+--   IsScissorSide: The value is a side of a scissor, in pixels.
+--   IsScissor: The value is this scissor: [left, top, right, bottom], in pixels.
+--   IsMerge: The value says how its fragments are merged with what is stored.
+--   IsState: The state of the draw that the value is, on a picture of these pixels.
+--   IsDraw: The value is this draw, on a picture of these pixels.
+--   IsOutput: The value is the word for what the picture shows.
+--   IsSampleCount: The value is this number of samples of a pixel.
+--   IsClearColour: The value is this clear colour: [red, green, blue], each from 0 to 255.
+--   picture_box: All pixels of a picture of this size.
+--   IsListing: The value is this draw list, draw by draw.
+--   IsDrawList: The value is the draw list of this scene.
+--   Denotes: The bytes are at most 64 MiB, and serde_json reads them as a value that denotes this draw list.
+--
+-- Beginning.antt
+--   IsBeginning: What a value says of the picture: the samples of a pixel, what each sample begins with, and what the picture shows.
+--
+-- Defaults.antt
+--   default_state: The state of a draw without any key of a state, on a picture of these pixels.
+
 pub mod Primitives
 pub mod Listing
 pub mod Scene
 pub mod Rows
 pub mod Starts
+pub mod Place
 pub mod Picture
 pub mod View
 pub mod PixelPrefix

@@ -12,11 +12,14 @@ use Rattle.shade.specs.declared.placed.Placed.{Placed}
 use Rattle.model.specs.Primitives.{PrimitiveListing, triangles_of, count_of_triangles, AreOver, primitive_listing}
 use Rattle.model.specs.Scene.{Scene}
 
+-- A draw, wherever it lies in memory: its state, its vertices and its primitives.
 pub record DrawListing : Type 0 where
   pub state : State
   pub vertices : List Vertex
   pub primitives : PrimitiveListing
 
+-- A draw list, wherever it lies in memory. It has the picture's size in pixels, the samples of a pixel, what each sample begins
+-- with, what the picture shows, and the draws.
 pub record Listing : Type 0 where
   pub width : ℕ
   pub height : ℕ
@@ -43,10 +46,11 @@ abbrev pub placed : DrawListing → List ℕ → Placed
 placed d indices =
     triangle_of d.state (vertex_of d (slice_index indices 0)) (vertex_of d (slice_index indices 1)) (vertex_of d (slice_index indices 2))
 
+-- The triangles of a draw, in the order of its primitives.
 abbrev pub placed_all : DrawListing → List Placed
 placed_all d = map (placed d) (triangles_of d.primitives)
 
--- The triangles of a draw list in draw order: draw by draw, and in a draw as its primitives are listed.
+-- The scene of a draw list. Its triangles stand in draw order: draw by draw, and in a draw as its primitives are listed.
 abbrev pub scene_of : Listing → Scene
 scene_of l = record {
   width = l.width;
@@ -55,20 +59,22 @@ scene_of l = record {
   clear = l.clear;
   output = l.output;
   triangles = flat_map placed_all l.draws;
+  draws = map (λ d. count_of_triangles d.primitives) l.draws;
 }
 
--- The limits of a draw (this project's).
+-- A draw has at most 65536 vertices, and primitives over these alone (this project's limits).
 pub record IsDrawWithinLimits (d : DrawListing) : Type 0 where
   pub vertices : length d.vertices ≤ 65536
   pub primitives : AreOver d.vertices d.primitives
 
--- The limits of the draws of a draw list (this project's). The triangles are those of all draws together, so no draw has more.
+-- There are at most 1024 draws, each within its limits, and 65536 triangles (this project's limits). The triangles are those of all
+-- draws together, so no draw has more.
 pub record AreWithinLimits (draws : List DrawListing) : Type 0 where
   pub number : length draws ≤ 1024
   pub each : All IsDrawWithinLimits draws
   pub triangles : sum_by (λ d. count_of_triangles d.primitives) draws ≤ 65536
 
--- The limits of a draw list (this project's).
+-- A picture is at most 4096 by 4096 pixels and not empty, and the draws are within their limits (this project's).
 pub record IsWithinLimits (l : Listing) : Type 0 where
   pub wide : 1 ≤ l.width
   pub width : l.width ≤ 4096
@@ -84,6 +90,6 @@ draw_listing d = record { state = d.state; vertices = d.vertices.items; primitiv
 abbrev pub listing_of : ℕ → ℕ → SampleCount → Sample → Output → List Draw → Listing
 listing_of width height count clear output draws = record { width = width; height = height; count = count; clear = clear; output = output; draws = map draw_listing draws }
 
--- The same on a target.
+-- The listing of draws in memory on a target, which has the picture's size, samples, clear values and output.
 abbrev pub listing_on : Target → List Draw → Listing
 listing_on target draws = listing_of target.width target.height target.count target.clear target.output draws

@@ -28,8 +28,8 @@ pub record IsColourPixel (l : Scene) (i j : ℕ) (bytes : List ℕ) : Type 0 whe
   pub colour : IsColour l i j red green blue
   pub order : bytes ≡ red ∷ green ∷ blue ∷ []
 
--- Pixel (i, j) of a picture of depths: the final depth of the pixel's sample 0, in two bytes, of which the more significant comes
--- first (Netpbm, pgm(5)). No sample is resolved.
+-- Pixel (i, j) of a picture of depths: the final depth of the pixel's sample 0, in two bytes. The more significant byte comes first
+-- (Netpbm, pgm(5)). No sample is resolved.
 pub record IsDepthPixel (l : Scene) (i j : ℕ) (bytes : List ℕ) : Type 0 where
   pub end : Sample
   pub is_end : IsEnd l i j 0 end
@@ -39,6 +39,7 @@ pub record IsDepthPixel (l : Scene) (i j : ℕ) (bytes : List ℕ) : Type 0 wher
   pub is_byte : low < 256
   pub order : bytes ≡ high ∷ low ∷ []
 
+-- The bytes of pixel (i, j) of a picture that shows this: a colour or a depth.
 abbrev pub PixelOf : Output → Scene → ℕ → ℕ → List ℕ → Type 0
 PixelOf Color = IsColourPixel
 PixelOf Depth = IsDepthPixel
@@ -47,17 +48,17 @@ PixelOf Depth = IsDepthPixel
 abbrev pub IsPixel : Scene → ℕ → ℕ → List ℕ → Type 0
 IsPixel l = PixelOf l.output l
 
--- How many bytes a pixel has.
+-- How many bytes a pixel has: three of a colour, two of a depth.
 abbrev pub pixel_bytes : Output → ℕ
 pixel_bytes Color = 3
 pixel_bytes Depth = 2
 
--- Of the bytes of pixels one after another, those of pixel n.
+-- The bytes of pixel n, of the bytes of pixels one after another.
 abbrev pub pixel_at : Output → ℕ → List ℕ → List ℕ
 pixel_at output n bytes = take (pixel_bytes output) (drop (pixel_bytes output * n) bytes)
 
--- The bytes of a rectangle of the picture, whose upper left pixel is (x, y): its rows from top to bottom, and the pixels of a
--- row from left to right.
+-- The bytes of a rectangle of the picture, whose upper left pixel is (x, y). The rows of the rectangle stand from top to bottom,
+-- and the pixels of a row from left to right.
 pub record IsPart (l : Scene) (x y width height : ℕ) (bytes : List ℕ) : Type 0 where
   pub size : length bytes ≡ pixel_bytes l.output * (height * width)
   pub pixels : (i j : ℕ) → i < width → j < height → IsPixel l (x + i) (y + j) (pixel_at l.output (j * width + i) bytes)

@@ -13,8 +13,8 @@ pub data PrimitiveListing : Type 0 where
   triangle_strip : List ℕ → PrimitiveListing
   quad_list : List (List ℕ) → PrimitiveListing
 
--- Triangle m of a strip has the indices at m, m + 1, m + 2 if m is even, and those at m, m + 2, m + 1 if m is odd, so that a strip
--- keeps its orientation (Vulkan 1.3, triangle strips).
+-- The indices of triangle m of a strip: those at m, m + 1, m + 2 if m is even, and at m, m + 2, m + 1 if m is odd. So a strip keeps
+-- its orientation (Vulkan 1.3, triangle strips).
 abbrev pub strip_triangle : List ℕ → ℕ → List ℕ
 strip_triangle indices m = slice_index indices m ∷ slice_index indices (m + 1 + m % 2) ∷ slice_index indices (m + 2 - m % 2) ∷ []
 

@@ -4,8 +4,8 @@ use Rattle.shade.specs.declared.sample.Sample.{Sample}
 use Rattle.shade.specs.declared.placed.Placed.{Placed}
 use Rattle.model.specs.declared.output.Output.{Output}
 
--- What the picture of a draw list is drawn from: the size in pixels, the samples of a pixel, the colour and depth that each sample
--- begins with, what the picture shows, and all triangles in draw order.
+-- What the picture of a draw list is drawn from. It has the size in pixels, the samples of a pixel, the colour and depth that each
+-- sample begins with, what the picture shows, all triangles in draw order, and how many of them each draw has.
 pub record Scene : Type 0 where
   pub width : ℕ
   pub height : ℕ
@@ -13,3 +13,4 @@ pub record Scene : Type 0 where
   pub clear : Sample
   pub output : Output
   pub triangles : List Placed
+  pub draws : List ℕ

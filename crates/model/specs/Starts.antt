@@ -13,7 +13,7 @@ pub record IsOwner (starts : List ℕ) (number draw : ℕ) : Type 0 where
   pub start : slice_index starts draw ≤ number
   pub last : (k : ℕ) → draw < k → k < length starts → number < slice_index starts k
 
--- The draws of the triangles at every sixteenth number, so far that a number of these triangles lies between two of them.
+-- The draws of the triangles at every sixteenth number. They go so far that a number of these triangles lies between two of them.
 pub record AreOwners (starts : List ℕ) (triangles : ℕ) (owners : List ℕ) : Type 0 where
   pub far : triangles ≤ 16 * (length owners - 1)
   pub each : (group : ℕ) → group < length owners → IsOwner starts (16 * group) (slice_index owners group)

@@ -8,8 +8,8 @@ use Rattle.model.specs.Starts.{AreStarts, AreOwners}
 abbrev pub listing : Inside → Listing
 listing l = listing_on l.target l.draws.items
 
--- What each draw list keeps: the limits, and for the look-ups where each draw starts, the draw of every sixteenth triangle, and the
--- rows of each.
+-- What each draw list in memory keeps: its limits, and what look-ups need. For these it has the start of each draw, the draw of
+-- every sixteenth triangle, and the rows of each triangle.
 pub record IsKept (l : Inside) : Type 0 where
   pub limits : IsWithinLimits (listing l)
   pub starts : AreStarts l.draws.items l.starts.items

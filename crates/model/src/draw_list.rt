@@ -1,10 +1,12 @@
 ghost use Rattle.std.specs.Prelude.{◌≡◌, ◌↔◌, ◌<◌, ◌≤◌, length, slice_get, Some, IfSome, IfOk};
 ghost use Rattle.model.specs.Listing.{listing_of, listing_on, scene_of, IsWithinLimits};
 ghost use Rattle.model.specs.Rows.{IsRowSpan};
+ghost use Rattle.model.specs.Place.{IsPlace};
 
 use crate::draw::Draw;
 use crate::limits::{are_within_limits, is_side};
 use crate::output::Output;
+use crate::place::TrianglePlace;
 use crate::rows::{RowSpan, rows_of};
 use crate::starts::{owner, owners_of, starts_of};
 use crate::target::Target;
@@ -167,6 +169,18 @@ impl DrawList {
     {
         let draw = owner(&self.starts, &self.owners, number);
         self.draws[draw].triangle(number - self.starts[draw] as usize)
+    }
+
+    /// The draw of the triangle of this number, and its number in that draw.
+    pub fn place(&self, number: usize) -> TrianglePlace
+        requires { number < length self.now.triangles }
+        ensures { IsPlace self.now number result }
+    {
+        let draw = owner(&self.starts, &self.owners, number);
+        TrianglePlace {
+            draw,
+            triangle: number - self.starts[draw] as usize,
+        }
     }
 
     /// The rows of pixels of the screen from that of the least y of this triangle's vertices to that of the greatest. The row of a

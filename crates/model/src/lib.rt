@@ -7,6 +7,7 @@ mod draw_list;
 mod fault;
 mod limits;
 mod output;
+mod place;
 mod primitives;
 mod rows;
 mod starts;
@@ -24,6 +25,7 @@ pub use limits::{
     MOST_TRIANGLES, MOST_VERTICES, is_side,
 };
 pub use output::{Output, depth_bytes};
+pub use place::TrianglePlace;
 pub use primitives::{Primitives, is_convex, name_vertices, quads_count, strip_count};
 pub use rows::RowSpan;
 pub use shade::{Placed, State};

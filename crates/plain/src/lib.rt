@@ -8,6 +8,3 @@ mod triangle_sample;
 pub use picture::render;
 pub use pixel::{Colour, colour_at, end_at};
 pub use triangle_sample::draw;
-
-#[cfg(test)]
-mod tests;

@@ -10,15 +10,15 @@ use Rattle.pool.specs.declared.counter.CounterHandle.{CounterHandle}
 use Rattle.pool.specs.declared.desks.Desks.{Desks}
 use Rattle.pool.specs.declared.desks.DeskSeat.{DeskSeat}
 
--- y comes after x: its desk does, or it is greater at the same desk
+-- Seat s comes to number x before number y: the desk of x is earlier in its turn, or x is less at the same desk.
 abbrev pub PrecedesInTurn : ℕ → ℕ → ℕ → ℕ → Type 0
 PrecedesInTurn w s x y = (turns_to w s x < turns_to w s y) ⊎ ((turns_to w s x ≡ turns_to w s y) × (x < y))
 
--- along the list the desks come in turn, and at each desk the numbers ascend
+-- Along the list of seat s the desks come in turn, and at each desk the numbers ascend.
 abbrev pub GoesRound : ℕ → ℕ → List ℕ → Type 0
 GoesRound w s xs = AllPairs (PrecedesInTurn w s) xs
 
--- The seat has a handle in each counter, has marked those that it passed, and its numbers are those that its handles were given
+-- The seat has a handle in each counter, has marked those that it passed, and has the numbers of its handles.
 pub record IsDeskSeat (n : ℕ) (counters : List Counter) (number passed : ℕ) (handles : List CounterHandle) (numbers : List ℕ) : Type 0 where
   pub row : IsRow counters handles
   pub within : number < length counters
@@ -30,33 +30,39 @@ pub record IsDeskSeat (n : ℕ) (counters : List Counter) (number passed : ℕ) 
   pub turn : All (λ k. turns_to (length counters) number k ≤ passed) numbers
   pub order : GoesRound (length counters) number numbers
 
+-- The seat is one of these desks, and its list has the capacity for all their numbers.
 abbrev pub IsSeatOf : Desks → DeskSeat → Type 0
 IsSeatOf dealer seat =
     IsDeskSeat dealer.count dealer.counters.items seat.number seat.passed seat.handles.items seat.numbers.items × (dealer.count ≤ vec_capacity seat.numbers)
 
+-- How many numbers the desks have.
 abbrev pub desks_count : Desks → ℕ
 desks_count dealer = dealer.count
 
+-- How many seats share the desks: as many as there are desks.
 abbrev pub desks_seats : Desks → ℕ
 desks_seats dealer = length dealer.counters.items
 
+-- The number of a seat, which is also that of its own desk.
 abbrev pub seat_number : DeskSeat → ℕ
 seat_number seat = seat.number
 
+-- The numbers that a seat was given, in their order.
 abbrev pub seat_given : DeskSeat → List ℕ
 seat_given seat = seat.numbers.items
 
--- it has passed all desks
+-- Whether a seat has passed all desks, so that no number is left.
 abbrev pub seat_ended : DeskSeat → Bool
 seat_ended seat = seat.passed == length seat.handles.items
 
+-- The numbers that a seat was given, and whether it has passed all desks.
 abbrev pub seat_list : DeskSeat → List ℕ × Bool
 seat_list seat = (seat_given seat, seat_ended seat)
 
--- the handle at desk d has what the lists have of the desk's numbers, and a mark of each that has ended
+-- The handle at desk d has what the lists have of the desk's numbers, and at least a mark for each that has ended.
 abbrev pub GathersAt : ℕ → ℕ → Known → List (List ℕ × Bool) → Type 0
 GathersAt w d v lists = (v.seats ≡ length lists) × ((j : ℕ) → times j v.numbers ≡ times_in (d + j * w) lists) × (marks_in lists ≤ v.marks)
 
--- the same at each desk
+-- At each desk the handle has what the lists have of the desk's numbers, and at least a mark for each that has ended.
 abbrev pub Gathers : ℕ → List CounterHandle → List (List ℕ × Bool) → Type 0
 Gathers w whole lists = (d : ℕ) (p : CounterHandle) → d < w → GathersAt w d (known_of (slice_index_or whole d p)) lists

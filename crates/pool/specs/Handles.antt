@@ -4,17 +4,18 @@ use Rattle.pool.specs.declared.known.Known.{Known}
 use Rattle.pool.specs.declared.counter.Counter.{Counter}
 use Rattle.pool.specs.declared.counter.CounterHandle.{CounterHandle}
 
--- how many numbers the counter has
+-- How many numbers the counter has.
 abbrev pub count_of : Counter → ℕ
 count_of counter = counter.table.shared.key.count
 
--- how many seats share the counter
+-- How many seats share the counter.
 abbrev pub seats_of : Counter → ℕ
 seats_of counter = counter.table.shared.key.seats
 
+-- What a handle knows of its counter.
 abbrev pub known_of : CounterHandle → Known
 known_of handle = handle.seat.me.0
 
--- the handle is one of this counter
+-- The handle is one of this counter.
 abbrev pub IsIn : Counter → CounterHandle → Type 0
 IsIn counter handle = (handle.seat.table_id ≡ counter.table.shared.table_id) × ((known_of handle).count ≡ count_of counter)

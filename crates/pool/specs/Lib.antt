@@ -1,3 +1,85 @@
+-- The definitions of this crate, each file behind those that it uses; `python3 -m tools.definitions` writes these lines.
+--
+-- Counters.antt
+--   times: How often x stands in the list.
+--   once_below: 1 if x is below n, else 0.
+--   known: What a handle knows of its counter: the count of numbers, its seats, its own numbers in their order, and its marks.
+--   total: f of each view, added up.
+--   FitsCounter: The view fits a counter of this count: each of its seats marks at most once.
+--   IsCounted: The word counts the numbers that were given, and the seats that marked the counter.
+--   CounterInvariant: What always holds of a counter: it has one word, which counts what the views of its handles have.
+--   first_handle: What the first handle knows, which stands for all seats.
+--   with_number: What a handle knows after it was given number k.
+--   with_mark: What a handle knows after it marked the counter, since no number was left.
+--   DrawsNumber: What a draw returns: a number greater than all that this handle has, or a mark.
+--   without_one: What a handle knows after one of its seats was cut off.
+--   one_seat: What the handle of a seat knows that was cut off: no number yet.
+--   both: What a handle knows that was joined from two.
+--   spent: What is left of a handle that was joined to another: no seat and no number.
+--
+-- Dealing.antt
+--   list_of: The numbers that a seat was given, as a list, and whether it has seen that none is left.
+--   lists_of: The numbers that each seat was given, as lists, and whether it has seen that none is left.
+--   times_in: How often x stands in the lists.
+--   NoneTwice: No number stands twice in the lists, and each is below n.
+--   DealtOnce: Each number below n stands once in the lists, and no other stands there.
+--   SomeEnded: Some seat has seen that no number is left.
+--   Ascends: Each number is greater than all before it.
+--   marks_in: How many seats have seen that no number is left.
+--   Gathered: The handle stands for as many seats as there are lists, and has what they have.
+--
+-- Handles.antt
+--   count_of: How many numbers the counter has.
+--   seats_of: How many seats share the counter.
+--   known_of: What a handle knows of its counter.
+--   IsIn: The handle is one of this counter.
+--
+-- Rows.antt
+--   desk_count: How many of the numbers d, d + w, d + 2 * w and so on are below n.
+--   turns_to: How many desks seat s comes to before it comes to desk d.
+--   AreDesks: Each counter is a desk, which all seats share.
+--   IsRow: The row has one handle in each counter.
+--   AreJoined: Each handle of the last row has what those of the two rows have.
+--   IsClosed: The handle of all seats has each number at most once, and exactly once if a seat has marked the counter.
+--   AreUncut: Each handle stands for `seats` seats, which were given nothing.
+--
+-- Desks.antt
+--   PrecedesInTurn: Seat s comes to number x before number y: the desk of x is earlier in its turn, or x is less at the same desk.
+--   GoesRound: Along the list of seat s the desks come in turn, and at each desk the numbers ascend.
+--   IsDeskSeat: The seat has a handle in each counter, has marked those that it passed, and has the numbers of its handles.
+--   IsSeatOf: The seat is one of these desks, and its list has the capacity for all their numbers.
+--   desks_count: How many numbers the desks have.
+--   desks_seats: How many seats share the desks: as many as there are desks.
+--   seat_number: The number of a seat, which is also that of its own desk.
+--   seat_given: The numbers that a seat was given, in their order.
+--   seat_ended: Whether a seat has passed all desks, so that no number is left.
+--   seat_list: The numbers that a seat was given, and whether it has passed all desks.
+--   GathersAt: The handle at desk d has what the lists have of the desk's numbers, and at least a mark for each that has ended.
+--   Gathers: At each desk the handle has what the lists have of the desk's numbers, and at least a mark for each that has ended.
+--
+-- Tickets.antt
+--   tickets_count: How many numbers the counter has.
+--   tickets_seats: How many seats share the counter.
+--   IsSeatOf: The seat has a handle on the counter.
+--   seat_number: The number of a seat, from 0 on.
+--   seat_given: The numbers that a seat was given, in their order.
+--   seat_ended: Whether a seat has seen that no number is left.
+--   seat_list: The numbers that a seat was given, and whether it has seen that none is left.
+--
+-- Work.antt
+--   RightInOrder: The answer at each place is right for the number of the place.
+--   IsRight: A number below n, with an answer that is right for it.
+--   EachFrom: The fact holds of each element and its number, counted from a first number.
+--   AreDealt: New seats of this dealer, in their order: they were given nothing, and are at most 16.
+--   AreWorkerAnswers: What a worker returns: exactly the numbers that its seat was given have an answer, in their order.
+--   IsWorkerResult: The result of a worker: its answers, or that it is out of memory.
+--   AreWorkerResults: The results of the workers, in the order of the workers' numbers.
+--   CanWork: The worker of this number can do the job for each number of the dealer, once it has entered for it.
+--   AllCanWork: Each of this many workers can do the job for each number of the dealer, once it has entered for it.
+--   IsPromised: The worker of this number has promised to work for this dealer and this job.
+--   AreRight: Each answer is right for the number of its place.
+--   HasAnswer: There is an answer at place k.
+
 pub mod Counters
 pub mod Dealing
 pub mod Desks

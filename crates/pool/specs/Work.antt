@@ -9,28 +9,28 @@ use Rattle.pool.specs.declared.job.Job as Job
 use Rattle.pool.specs.declared.worker.WorkerAnswers.{WorkerAnswers}
 use Rattle.pool.specs.declared.worker.WorksThrough.{WorksThrough}
 
--- the answer at each place is right for the number of the place
+-- The answer at each place is right for the number of the place.
 abbrev pub RightInOrder : {Out : Type 0} → (ℕ → Out → Type 0) → List Out → Type 0
 RightInOrder {Out} right answers = (k : ℕ) (answer : Out) → slice_get answers k ≡ Some answer → right k answer
 
--- a number below n, with an answer that is right for it
+-- A number below n, with an answer that is right for it.
 abbrev pub IsRight : {Out : Type 0} → (ℕ → Out → Type 0) → ℕ → ℕ × Out → Type 0
 IsRight right n pair = (pair.0 < n) × right pair.0 pair.1
 
--- the fact holds of each element and its number, counted from a first number
+-- The fact holds of each element and its number, counted from a first number.
 abbrev pub EachFrom : {X : Type 0} → (ℕ → X → Type 0) → ℕ → List X → Type 0
 EachFrom fact first [] = Unit {0}
 EachFrom fact first (x ∷ xs) = fact first x × EachFrom fact (first + 1) xs
 
--- New seats of this dealer, in their order: they were given nothing, and are not more than there may be
+-- New seats of this dealer, in their order: they were given nothing, and are at most 16.
 pub record AreDealt {D Seat : Type 0} (d : Dealer.Ghosts D Seat) (dealer : D) (seats : List Seat) : Type 0 where
   pub fresh : All (λ s. d.fits dealer s × (d.given s ≡ [])) seats
   pub numbers : map d.number seats ≡ range_with_len 0 (length seats)
   pub few : length seats ≤ 16
 
 module _ {D Seat : Type 0} (d : Dealer.Ghosts D Seat) {J Out Scratch : Type 0} (j : Job.Ghosts J Out Scratch) where
-  -- What a worker returns: its seat has seen that none is left, and exactly the numbers that it was given have an answer, in their
-  -- order
+  -- What a worker returns: exactly the numbers that its seat was given have an answer, in their order. Its seat has seen that none
+  -- is left.
   pub record AreWorkerAnswers (dealer : D) (job : J) (worker : ℕ) (answers : WorkerAnswers Seat Out) : Type 0 where
     pub fits : d.fits dealer answers.seat
     pub number : d.number answers.seat ≡ worker
@@ -38,31 +38,31 @@ module _ {D Seat : Type 0} (d : Dealer.Ghosts D Seat) {J Out Scratch : Type 0} (
     pub numbers : map (λ pair. pair.0) answers.pairs.items ≡ d.given answers.seat
     pub right : All (IsRight (j.right job) (d.count dealer)) answers.pairs.items
 
-  -- the same, if no allocation of the worker failed
+  -- The result of a worker: its answers, or that it is out of memory.
   abbrev pub IsWorkerResult : D → J → ℕ → Result (WorkerAnswers Seat Out) OutOfMemory → Type 0
   IsWorkerResult dealer job worker result = IfOk result (AreWorkerAnswers dealer job worker)
 
-  -- the workers' results, in the order of their numbers
+  -- The results of the workers, in the order of the workers' numbers.
   abbrev pub AreWorkerResults : D → J → ℕ → List (Result (WorkerAnswers Seat Out) OutOfMemory) → Type 0
   AreWorkerResults dealer job workers results = EachFrom (IsWorkerResult dealer job) 0 results × (length results ≡ workers)
 
   module _ {G : Type 0} (g : Gate.Ghosts G) where
-    -- the worker of this number can do the job for each number of the dealer, once it has entered for it
+    -- The worker of this number can do the job for each number of the dealer, once it has entered for it.
     abbrev pub CanWork : D → J → G → ℕ → Type 0
     CanWork dealer job gate worker = (k : ℕ) → k < d.count dealer → g.entered gate worker k → j.can_work job k
 
-    -- each of this many workers can
+    -- Each of this many workers can do the job for each number of the dealer, once it has entered for it.
     abbrev pub AllCanWork : D → J → G → ℕ → Type 0
     AllCanWork dealer job gate workers = (worker : ℕ) → worker < workers → CanWork dealer job gate worker
 
--- the worker of this number has promised to work for this dealer and this job
+-- The worker of this number has promised to work for this dealer and this job.
 abbrev pub IsPromised : {D J T : Type 0} → D → J → ℕ → PromisedHandle T (WorksThrough D J) → Type 0
 IsPromised dealer job number worker = (worker.promise.dealer.value ≡ dealer) × (worker.promise.job.value ≡ job) × (worker.promise.number ≡ number)
 
--- each answer is right for the number of its place
+-- Each answer is right for the number of its place.
 abbrev pub AreRight : {Out : Type 0} → (ℕ → Out → Type 0) → List (Option Out) → Type 0
 AreRight {Out} right places = (k : ℕ) (answer : Out) → slice_index_or places k None ≡ Some answer → right k answer
 
--- there is an answer at place k
+-- There is an answer at place k.
 abbrev pub HasAnswer : {Out : Type 0} → List (Option Out) → ℕ → Type 0
 HasAnswer places k = IsTrue (is_some (slice_index_or places k None))

@@ -10,7 +10,8 @@ use Rattle.cover.specs.Masks.{IsPlaneOf}
 use Rattle.lanes.specs.declared.block_samples.BlockSamples.{BlockSamples}
 use Rattle.lanes.specs.declared.block_mask.BlockMask.{BlockMask}
 use Rattle.shade.specs.declared.placed.Placed.{Placed}
-use Rattle.lanes.specs.Block.{stored_at, position_in, AreDrawn}
+use Rattle.planes.specs.Group.{position_in}
+use Rattle.lanes.specs.Block.{stored_at, AreDrawn}
 use Rattle.lanes.specs.BlockMask.{CoversBlock, IsBlockDrawn, first_of, plane_of}
 use Rattle.shade.specs.Placed.{Meets}
 use Rattle.raster.specs.declared.tile.Tile.{Tile}

@@ -16,7 +16,7 @@ abbrev pub AreColoursAt : Tile → List BlockSamples → ℕ → ℕ → List �
 AreColoursAt tile samples row column bytes =
     (i : ℕ) → i < 8 → IsColourAt tile samples row (8 * column + i) (slice_index bytes (3 * i)) (slice_index bytes (3 * i + 1)) (slice_index bytes (3 * i + 2))
 
--- The first eight of three lists, one of each after another.
+-- The bytes are the first eight of three lists, one of each after another.
 abbrev pub AreInterleaved : List ℕ → List ℕ → List ℕ → List ℕ → Type 0
 AreInterleaved r g b bytes =
     (i : ℕ) → i < 8 → (slice_index bytes (3 * i) ≡ slice_index r i) × (slice_index bytes (3 * i + 1) ≡ slice_index g i) × (slice_index bytes (3 * i + 2) ≡ slice_index b i)

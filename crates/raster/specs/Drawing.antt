@@ -19,6 +19,7 @@ abbrev pub DrawsAt : Placed → Tile → List BlockSamples → List BlockSamples
 DrawsAt t tile old new row column s =
     Draws t tile.count (8 * tile.bx + column) (8 * tile.by + row) s (stored tile old row column s) (stored tile new row column s)
 
+-- Sample s of the pixel in a row and a column of the tile is unchanged.
 abbrev pub KeepsAt : Tile → List BlockSamples → List BlockSamples → ℕ → ℕ → ℕ → Type 0
 KeepsAt tile old new row column s = stored tile new row column s ≡ stored tile old row column s
 
@@ -32,6 +33,7 @@ abbrev pub DrawsTile : Placed → Tile → List BlockSamples → List BlockSampl
 DrawsTile t tile old new = (row column s : ℕ) → IsSampleOf tile row column s → DrawsAt t tile old new row column s
 
 -- ---- parts of a tile
+
 -- The pixel in a row and a column of the tile is in the square of this size that begins at pixel (8 bx, 8 by).
 pub record IsInSquare (tile : Tile) (bx by side : ℕ) (row column s : ℕ) : Type 0 where
   pub left : 8 * bx ≤ 8 * tile.bx + column
@@ -39,18 +41,18 @@ pub record IsInSquare (tile : Tile) (bx by side : ℕ) (row column s : ℕ) : Ty
   pub top : 8 * by ≤ 8 * tile.by + row
   pub bottom : 8 * tile.by + row < 8 * by + side
 
--- A square lies in the tile.
+-- A square of this size that begins at pixel (8 bx, 8 by) lies in the tile.
 pub record LiesIn (tile : Tile) (bx by side : ℕ) : Type 0 where
   pub left : tile.bx ≤ bx
   pub right : 8 * bx + side ≤ 8 * tile.bx + side_of tile.side
   pub top : tile.by ≤ by
   pub bottom : 8 * by + side ≤ 8 * tile.by + side_of tile.side
 
--- The samples of the tile, and a triangle.
+-- The square of the tile's samples, and the triangle that they are tested with.
 abbrev pub square_of : Tri → Tile → TestedSquare
 square_of t tile = record { triangle = t; bx = tile.bx; by = tile.by; side = tile.side; count = tile.count }
 
--- The samples of block (bx, by) of the tile, and a triangle.
+-- The square of the samples of block (bx, by) of the tile, and the triangle that they are tested with.
 abbrev pub block_of : Tri → Tile → ℕ → ℕ → TestedSquare
 block_of t tile bx by = record { triangle = t; bx = bx; by = by; side = T8; count = tile.count }
 

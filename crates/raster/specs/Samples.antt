@@ -13,18 +13,18 @@ use Rattle.raster.specs.declared.tile.Tile.{Tile}
 abbrev pub planes_of : TileSide → SampleCount → ℕ
 planes_of side count = side_of side / 8 * (side_of side / 8) * count_of count
 
--- Sample s of the pixel in a row and a column of the tile.
+-- The tile has a sample s of a pixel in this row and this column.
 pub record IsSampleOf (tile : Tile) (row column s : ℕ) : Type 0 where
   pub high : row < side_of tile.side
   pub wide : column < side_of tile.side
   pub is_sample : s < count_of tile.count
 
--- Where the samples s of the block in a row and a column of blocks lie: row by row, in a row block by block, and in a block
--- sample by sample.
+-- The index of the plane of samples s of the block in a row and a column of the tile's blocks. Blocks lie row by row, in a row
+-- block by block, and in a block sample by sample.
 abbrev pub place_of : Tile → ℕ → ℕ → ℕ → ℕ
 place_of tile row column s = (row * (side_of tile.side / 8) + column) * count_of tile.count + s
 
--- Each sample is this one.
+-- Each sample of these planes is this one.
 abbrev pub AreAll : List BlockSamples → Sample → Type 0
 AreAll samples sample =
     (place k : ℕ) → place < length samples → k < 64 → stored_at (slice_index_or samples place (record { z = []; r = []; g = []; b = [] })) k ≡ sample

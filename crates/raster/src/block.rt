@@ -12,6 +12,7 @@ use crate::scissor::in_scissor_of_tile;
 use crate::tile::Tile;
 use grid::SampleCount;
 use lanes::{BlockMask, BlockSamples, Interpolants};
+use planes::Corrections;
 use shade::Placed;
 
 /// All pixels of a block if sample `s` of a pixel is drawn, else none.
@@ -68,6 +69,7 @@ pub(crate) fn draw_block(
     covered: &[u64; 4],
     whole: bool,
     samples: &mut [BlockSamples],
+    corrections: &mut Corrections,
 )
     requires samples { length samples.old ≡ planes_of tile.now.side tile.now.count }
     requires block { LiesIn tile.now bx by 8 }
@@ -83,5 +85,6 @@ pub(crate) fn draw_block(
     triangle.draw(
         &mask,
         &mut samples[first..first + tile.count.count() as usize],
+        corrections,
     );
 }

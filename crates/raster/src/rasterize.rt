@@ -13,6 +13,7 @@ use crate::tile::Tile;
 use cover::{Class, Setup, Square};
 use grid::TileSide;
 use lanes::{BlockSamples, Interpolants};
+use planes::Corrections;
 use shade::Placed;
 
 /// The masks of a block whose samples are all covered.
@@ -69,6 +70,17 @@ fn covers_tile(setup: &Setup, tile: &Tile, region: &Region) -> bool
     }
 }
 
+/// Makes the triangle ready anew, once, if much of it was corrected: with whole values searched for.
+#[inline]
+fn raise_if_asked(interpolants: &mut Interpolants, corrections: &mut Corrections)
+    requires { IsRasterized interpolants.old.tri interpolants.old.state.cull }
+    ensures { interpolants.new ≡ interpolants.old }
+{
+    if corrections.ask_for_search() {
+        interpolants.raise();
+    }
+}
+
 /// Draws the triangle at the samples of the tile that it meets: block by block of the region in which its box and its scissor meet
 /// the tile. It is made ready at the first block that it does not leave out.
 fn draw_blocks(triangle: &Placed, setup: &Setup, tile: &Tile, samples: &mut [BlockSamples])
@@ -81,11 +93,22 @@ fn draw_blocks(triangle: &Placed, setup: &Setup, tile: &Tile, samples: &mut [Blo
     let all = covers_tile(setup, tile, &region);
     let whole = holds_tile(&triangle.state.scissor, tile);
     let mut interpolants = None;
+    let mut corrections = Corrections::none();
     for by in region.top..region.bottom {
         for bx in region.left..region.right {
             if let Some(covered) = covered(setup, tile, all, bx, by) {
                 let interpolants = interpolants.get_or_insert_with(|| Interpolants::new(triangle));
-                draw_block(interpolants, tile, bx, by, &covered, whole, samples);
+                draw_block(
+                    interpolants,
+                    tile,
+                    bx,
+                    by,
+                    &covered,
+                    whole,
+                    samples,
+                    &mut corrections,
+                );
+                raise_if_asked(interpolants, &mut corrections);
             }
         }
     }

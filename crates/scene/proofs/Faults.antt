@@ -13,8 +13,8 @@ use Rattle.scene.specs.Checks.{draw_checks, DrawsPass, IsFirstOfDraws, IsFirstFa
 
 not_both : (checks : Checks) (kind : ReadKind) → FirstIs checks kind → Pass checks → ⊥
 not_both done kind first pass = first
-not_both (check holds told rest) kind (inl here) pass = here.0 pass.0
-not_both (check holds told rest) kind (inr later) pass = not_both rest kind later.1 pass.1
+not_both (check holds reported rest) kind (inl here) pass = here.0 pass.0
+not_both (check holds reported rest) kind (inr later) pass = not_both rest kind later.1 pass.1
 
 not_both_draws : (ds : List SceneDraw) (number earlier : ℕ) (vs : List SceneVertex) (is : List ℕ) (fault : ReadFault) → IsFirstOfDraws number earlier ds vs is fault
     → DrawsPass earlier ds vs is → ⊥
@@ -24,9 +24,9 @@ not_both_draws (d ∷ ds) number earlier vs is fault (inr later) pass = not_both
 
 module _ (head : SceneHead) (draws : List SceneDraw) (vs : List SceneVertex) (is : List ℕ) (list : Scene) (listed : IsListOf head draws vs is list) (fault : ReadFault) where
   nothing_listed : IsFirstFault head draws vs is fault → ⊥
-  nothing_listed (in_head out told) = out listed.in_range
-  nothing_listed (in_number inside many told) = many listed.number
+  nothing_listed (in_head out reported) = out listed.in_range
+  nothing_listed (in_number inside many reported) = many listed.number
   nothing_listed (in_draws inside few first) = not_both_draws draws 0 0 vs is fault first listed.passed
 
   pub only_memory : (fault.kind ≢ OutOfMemory → IsFirstFault head draws vs is fault) → fault.kind ≡ OutOfMemory
-  only_memory told = no_other fault.kind (λ other. nothing_listed (told other))
+  only_memory reported = no_other fault.kind (λ other. nothing_listed (reported other))

@@ -8,19 +8,20 @@ pub data Checks : Type 1 where
   done : Checks
   check : Type 0 → ReadKind → Checks → Checks
 
+-- The checks of one list, and then those of another.
 abbrev pub followed_by : Checks → Checks → Checks
 followed_by done later = later
-followed_by (check holds told rest) later = check holds told (followed_by rest later)
+followed_by (check holds reported rest) later = check holds reported (followed_by rest later)
 
 -- Each check holds.
 abbrev pub Pass : Checks → Type 0
 Pass done = Unit {0}
-Pass (check holds told rest) = holds × Pass rest
+Pass (check holds reported rest) = holds × Pass rest
 
 -- A check does not hold, and the first that does not reports this.
 abbrev pub FirstIs : Checks → ReadKind → Type 0
 FirstIs done kind = ⊥
-FirstIs (check holds told rest) kind = ((holds → ⊥) × (told ≡ kind)) ⊎ (holds × FirstIs rest kind)
+FirstIs (check holds reported rest) kind = ((holds → ⊥) × (reported ≡ kind)) ⊎ (holds × FirstIs rest kind)
 
 -- The result is right: each check holds, or the first that does not is reported, unless memory ran out.
 abbrev pub Reads : {X : Type 0} → Checks → (X → Type 0) → Result X ReadKind → Type 0

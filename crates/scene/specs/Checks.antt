@@ -15,10 +15,11 @@ use Rattle.scene.specs.Listed.{vertex_listed, corners_of, primitives_listed, sce
 use Rattle.scene.specs.Ranges.{IsHeadInRange, IsVertexInRange, IsDrawInRange}
 use Rattle.scene.specs.Checking.{Checks, done, check, followed_by, Pass, FirstIs}
 
--- Whether they are too many.
+-- There are at most 65536 vertices, else `TooMany` is reported.
 abbrev pub number_checks : List SceneVertex → Checks
 number_checks vertices = check (length vertices ≤ 65536) TooMany done
 
+-- There are at most 65536 vertices, and each is in range, else `OutOfRange` is reported.
 abbrev pub vertices_checks : List SceneVertex → Checks
 vertices_checks vertices = followed_by (number_checks vertices) (check (All IsVertexInRange vertices) OutOfRange done)
 
@@ -32,25 +33,25 @@ primitives_checks earlier vertices kind indices =
     check (AreOver vertices (primitives_listed kind indices)) NotConvex
     done)))
 
--- The checks of a draw that come before its vertices and primitives.
-abbrev pub opening_checks : SceneDraw → List SceneVertex → List ℕ → Checks
-opening_checks d vertices indices =
+-- The checks of a draw that come before its vertices and primitives. The edges of its scissor are at most `farthest` pixels away.
+abbrev pub opening_checks : ℕ → SceneDraw → List SceneVertex → List ℕ → Checks
+opening_checks farthest d vertices indices =
     check ((d.vertices ≤ length vertices) × (d.indices ≤ length indices)) WrongKind (
-    check (IsDrawInRange d) OutOfRange
+    check (IsDrawInRange farthest d) OutOfRange
     done)
 
--- A draw, whose vertices and indices are the first of these.
+-- The checks of a draw, whose vertices and indices are the first of these. The draws before have `earlier` triangles.
 abbrev pub draw_checks : ℕ → SceneDraw → List SceneVertex → List ℕ → Checks
 draw_checks earlier d vertices indices =
-    followed_by (opening_checks d vertices indices) (
+    followed_by (opening_checks 4096 d vertices indices) (
     followed_by (vertices_checks (take d.vertices vertices))
     (primitives_checks earlier (map vertex_listed (take d.vertices vertices)) d.primitives (take d.indices indices)))
 
--- The checks of a draw that come before its vertices themselves.
+-- The checks of a draw that come before those of its single vertices.
 abbrev pub checks_before_vertices : SceneDraw → List SceneVertex → List ℕ → Checks
-checks_before_vertices d vertices indices = followed_by (opening_checks d vertices indices) (number_checks (take d.vertices vertices))
+checks_before_vertices d vertices indices = followed_by (opening_checks 4096 d vertices indices) (number_checks (take d.vertices vertices))
 
--- How many triangles such a draw has.
+-- How many triangles a draw has, whose indices are the first of these.
 abbrev pub triangles_listed : SceneDraw → List ℕ → ℕ
 triangles_listed d indices = count_of_triangles (primitives_listed d.primitives (take d.indices indices))
 
@@ -61,7 +62,7 @@ DrawsPass earlier (d ∷ ds) vertices indices =
     Pass (draw_checks earlier d vertices indices)
     × DrawsPass (earlier + triangles_listed d indices) ds (drop d.vertices vertices) (drop d.indices indices)
 
--- The first check of draws that fails reports this fault. The draws are numbered from `number` on.
+-- The first check of draws that fails reports this error. The draws are numbered from `number` on.
 abbrev pub IsFirstOfDraws : ℕ → ℕ → List SceneDraw → List SceneVertex → List ℕ → ReadFault → Type 0
 IsFirstOfDraws number earlier [] vertices indices fault =
     ((vertices ≡ []) × (indices ≡ []) → ⊥) × (fault ≡ record { kind = WrongKind; draw = None })
@@ -70,8 +71,8 @@ IsFirstOfDraws number earlier (d ∷ ds) vertices indices fault =
     ⊎ (Pass (draw_checks earlier d vertices indices)
     × IsFirstOfDraws (number + 1) (earlier + triangles_listed d indices) ds (drop d.vertices vertices) (drop d.indices indices) fault)
 
--- Draw n is one of these, which are numbered from here on, and no check of a draw before it fails. If the kind is out of memory,
--- none of its own that come before its vertices fails either.
+-- Draw n is one of these, which are numbered from `number` on, and no check of a draw before it fails. If the kind is out of
+-- memory, no check of draw n that comes before its vertices fails either.
 abbrev pub IsReached : ℕ → ℕ → List SceneDraw → List SceneVertex → List ℕ → ReadKind → ℕ → Type 0
 IsReached number earlier [] vertices indices kind n = ⊥
 IsReached number earlier (d ∷ ds) vertices indices kind n =
@@ -79,19 +80,19 @@ IsReached number earlier (d ∷ ds) vertices indices kind n =
     ⊎ (Pass (draw_checks earlier d vertices indices)
     × IsReached (number + 1) (earlier + triangles_listed d indices) ds (drop d.vertices vertices) (drop d.indices indices) kind n)
 
--- A draw that a fault names was reached: the numbers of the picture and the number of draws pass their checks too.
+-- The draw that an error names was reached: the numbers of the picture and the number of draws pass their checks too.
 abbrev pub Reaches : SceneHead → List SceneDraw → List SceneVertex → List ℕ → ReadFault → Type 0
 Reaches head draws vertices indices fault =
     IfSome fault.draw (λ n. IsHeadInRange head × (length draws ≤ 1024) × IsReached 0 0 draws vertices indices fault.kind n)
 
--- The first check of a scene that fails reports this fault.
+-- The first check of a scene that fails reports this error.
 pub data IsFirstFault (head : SceneHead) (draws : List SceneDraw) (vertices : List SceneVertex) (indices : List ℕ) (fault : ReadFault) : Type 0 where
   in_head : (IsHeadInRange head → ⊥) → fault ≡ record { kind = OutOfRange; draw = None } → IsFirstFault head draws vertices indices fault
   in_number : IsHeadInRange head → (length draws ≤ 1024 → ⊥) → fault ≡ record { kind = TooMany; draw = None } → IsFirstFault head draws vertices indices fault
   in_draws : IsHeadInRange head → length draws ≤ 1024 → IsFirstOfDraws 0 0 draws vertices indices fault → IsFirstFault head draws vertices indices fault
 
--- The arrays pass each check, and list this scene: its triangles in draw order, each with the vertices that its indices name and
--- the state of its draw.
+-- The arrays pass each check, and list this scene. The scene's triangles stand in draw order, each with the vertices that its
+-- indices name and the state of its draw.
 pub record IsListOf (head : SceneHead) (draws : List SceneDraw) (vertices : List SceneVertex) (indices : List ℕ) (list : Scene) : Type 0 where
   pub in_range : IsHeadInRange head
   pub number : length draws ≤ 1024

@@ -21,18 +21,24 @@ use Rattle.scene.specs.declared.vertex.SceneVertex.{SceneVertex}
 
 -- ---- numbers for words
 
+-- The samples of a pixel by their number, 1 or 4.
 abbrev pub samples_listed : ℕ → SampleCount
 samples_listed n = if n == 4 then samples.Four else samples.One
 
+-- What a picture shows, by its number: 0 is colour, and 1 is depth.
 abbrev pub output_listed : ℕ → Output
 output_listed n = if n == 1 then output.Depth else output.Color
 
+-- A boolean by its number: 0 is false, and 1 is true.
 abbrev pub truth_listed : ℕ → Bool
 truth_listed n = n == 1
 
+-- A culling by its number: 0 is none, 1 is front, and 2 is back.
 abbrev pub cull_listed : ℕ → Cull
 cull_listed n = if n == 0 then cull.None else (if n == 1 then cull.Front else cull.Back)
 
+-- A depth test by its number: 0 never, 1 <, 2 =, 3 at most, 4 >, 5 not =, 6 at least, 7 always. They compare the new depth with the
+-- stored one.
 abbrev pub depth_test_listed : ℕ → DepthTest
 depth_test_listed n =
     if n == 0 then test.Never
@@ -46,9 +52,11 @@ depth_test_listed n =
 
 -- ---- a vertex, a draw's state and its primitives
 
+-- A vertex by the caller's numbers.
 abbrev pub vertex_listed : SceneVertex → Vertex
 vertex_listed v = record { at = record { x = v.x; y = v.y }; z = v.z; rgba = v.r ∷ v.g ∷ v.b ∷ v.a ∷ [] }
 
+-- The state of a draw by the caller's numbers.
 abbrev pub state_listed : SceneDraw → State
 state_listed d = record {
   merge = record {
@@ -90,9 +98,11 @@ draws_listed (d ∷ ds) vertices indices = draw_listed d vertices indices ∷ dr
 
 -- ---- the whole
 
+-- What each sample begins with, by the numbers of the scene's head.
 abbrev pub clear_listed : SceneHead → Sample
 clear_listed head = record { r = head.clear_red; g = head.clear_green; b = head.clear_blue; z = head.clear_depth }
 
+-- The size in pixels, the samples, what each begins with and the output, by the numbers of the scene's head.
 abbrev pub target_listed : SceneHead → Target
 target_listed head = record {
   width = head.width;
@@ -102,6 +112,7 @@ target_listed head = record {
   output = output_listed head.output;
 }
 
+-- The draw list of the caller's arrays: head, draws, vertices and indices.
 abbrev pub scene_listed : SceneHead → List SceneDraw → List SceneVertex → List ℕ → Listing
 scene_listed head draws vertices indices = record {
   width = head.width;

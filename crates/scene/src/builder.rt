@@ -22,7 +22,7 @@ fn numbered_draw(
     earlier: usize,
 ) -> Result<Draw, ReadFault>
     requires { earlier ≤ 65536 }
-    ensures told { let checks = draw_checks earlier draw.now vertices.now indices.now in MatchResult result
+    ensures reported { let checks = draw_checks earlier draw.now vertices.now indices.now in MatchResult result
         (λ found. Pass checks × (draw_listing found ≡ draw_listed draw.now vertices.now indices.now))
         (λ fault. fault.kind ≢ OutOfMemory → FirstIs checks fault.kind) }
     ensures named { IfErr result (λ fault. fault.draw ≡ Some number) }

@@ -78,22 +78,26 @@ fn depth_test(number: u32) -> DepthTest
 }
 
 impl SceneDraw {
-    /// Whether each number of the state is in its range.
-    fn is_in_range(&self) -> bool
-        ensures { IsTrue result ↔ IsDrawInRange self.now }
+    /// Whether each number of the state is in its range, the edges of the scissor up to `farthest`.
+    pub fn is_in_range(&self, farthest: u32) -> bool
+        ensures { IsTrue result ↔ IsDrawInRange farthest self.now }
     {
         let tests = self.primitives <= 2 && self.cull <= 2 && self.depth_test <= 7;
         let merge = self.depth_write <= 1 && self.blend <= 1;
         let write = self.write_red <= 1 && self.write_green <= 1 && self.write_blue <= 1;
         let samples = self.sample_mask <= u32::from(ALL_SAMPLES);
-        let upper_left = self.scissor_left <= MOST_PIXELS && self.scissor_top <= MOST_PIXELS;
-        let lower_right = self.scissor_right <= MOST_PIXELS && self.scissor_bottom <= MOST_PIXELS;
+        let upper_left = self.scissor_left <= farthest && self.scissor_top <= farthest;
+        let lower_right = self.scissor_right <= farthest && self.scissor_bottom <= farthest;
         tests && merge && write && samples && upper_left && lower_right
     }
 
     /// The state.
-    fn state(&self) -> State
-        requires { IsDrawInRange self.now }
+    pub fn state(&self) -> State
+        requires mask { self.now.sample_mask ≤ 15 }
+        requires left { self.now.scissor_left ≤ 32768 }
+        requires top { self.now.scissor_top ≤ 32768 }
+        requires right { self.now.scissor_right ≤ 32768 }
+        requires bottom { self.now.scissor_bottom ≤ 32768 }
         ensures { result ≡ state_listed self.now }
     {
         State {
@@ -127,7 +131,7 @@ impl SceneDraw {
         earlier: usize,
     ) -> Result<Draw, ReadKind>
         requires { earlier ≤ 65536 }
-        ensures told { Reads (draw_checks earlier self.now vertices.now indices.now)
+        ensures reported { Reads (draw_checks earlier self.now vertices.now indices.now)
             (λ found. draw_listing found ≡ draw_listed self.now vertices.now indices.now) result }
         ensures memory { IfErr result (λ kind. kind ≡ OutOfMemory
             → Pass (checks_before_vertices self.now vertices.now indices.now)) }
@@ -136,7 +140,7 @@ impl SceneDraw {
         if own_vertices > vertices.len() || own_indices > indices.len() {
             return Err(ReadKind::WrongKind);
         }
-        if !self.is_in_range() {
+        if !self.is_in_range(MOST_PIXELS) {
             return Err(ReadKind::OutOfRange);
         }
         let vertices = vertices_of(alloc, &vertices[..own_vertices])?;

@@ -31,7 +31,7 @@ pub struct SceneVertex {
 
 impl SceneVertex {
     /// The vertex, or `None` if a number is outside of its range.
-    fn vertex(&self) -> Option<Vertex>
+    pub fn vertex(&self) -> Option<Vertex>
         ensures some { IsSome result ↔ IsVertexInRange self.now }
         ensures value { IfSome result (λ v. v ≡ vertex_listed self.now) }
     {
@@ -49,7 +49,7 @@ impl SceneVertex {
 
 /// The vertices of a draw.
 pub(crate) fn vertices_of(alloc: Global, vertices: &[SceneVertex]) -> Result<Vec<Vertex>, ReadKind>
-    ensures told { Reads (vertices_checks vertices.now) (λ found. found.items ≡ map vertex_listed vertices.now) result }
+    ensures reported { Reads (vertices_checks vertices.now) (λ found. found.items ≡ map vertex_listed vertices.now) result }
     ensures memory { IfErr result (λ kind. kind ≡ OutOfMemory → Pass (number_checks vertices.now)) }
 {
     if vertices.len() > MOST_VERTICES {

@@ -49,7 +49,7 @@ fragment t p h =
     let a = interpolated t p (channel t 3) h in
     (record { r = r.0; g = g.0; b = b.0; a = a.0; z = z.0 }, record { depth = z.1; red = r.1; green = g.1; blue = b.1; alpha = a.1 })
 
-fragment-unique : (t : Placed) (p : Position) (f f' : Shaded) → IsFragmentAt t p f → IsFragmentAt t p f' → f ≡ f'
+pub fragment-unique : (t : Placed) (p : Position) (f f' : Shaded) → IsFragmentAt t p f → IsFragmentAt t p f' → f ≡ f'
 fragment-unique t p f f' h k =
     same_shaded f f' (quotient-unique _ _ _ _ h.red k.red) (quotient-unique _ _ _ _ h.green k.green) (quotient-unique _ _ _ _ h.blue k.blue) (quotient-unique _ _ _ _ h.alpha k.alpha) (quotient-unique _ _ _ _ h.depth k.depth)
 

@@ -1,8 +1,8 @@
 use Rattle.std.specs.Prelude.{◌≡◌, ℕ, ◌+◌, ◌-◌, ◌*◌, Bool, true, false}
 use Rattle.shade.specs.Quotient.{IsQuotient}
 
--- The source over the stored channel by the source's alpha, of which 255 is opaque (source-over of Porter and Duff 1984), rounded
--- to nearest. 255 is odd, so there are no halves (the rounding is this project's rule).
+-- The source over the stored channel by the source's alpha, of which 255 is opaque, rounded to nearest. This is source-over of
+-- Porter and Duff 1984. 255 is odd, so there are no halves (the rounding is this project's rule).
 abbrev pub IsOver : ℕ → ℕ → ℕ → ℕ → Type 0
 IsOver source alpha stored = IsQuotient (source * alpha + stored * (255 - alpha) + 127) 255
 

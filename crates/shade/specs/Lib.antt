@@ -1,3 +1,56 @@
+-- The definitions of this crate, each file behind those that it uses; `python3 -m tools.definitions` writes these lines.
+--
+-- Quotient.antt
+--   IsQuotient: q is the quotient of n by d, rounded down.
+--
+-- Depth.antt
+--   Passes: The new depth passes the test against the stored one (Direct3D 11, depth comparison functions).
+--
+-- Value.antt
+--   weighted_sum: The sum of the values u, v, w at a, b, c, each times the absolute edge function of the opposite edge at p.
+--   IsValueAt: The value at a covered point p of an attribute that is u, v, w at the vertices a, b, c.
+--
+-- Weights.antt
+--   TriangleAndPoint: The triangle abc and a point p.
+--   AreWeights: The weights of the vertices a, b, c at the covered point p: the absolute edge functions of the opposite edges there.
+--
+-- Row.antt
+--   Attribute: The values u, v, w of an attribute at the vertices a, b, c of a triangle.
+--   AttributeAt: The values u, v, w of an attribute at the vertices a, b, c of a triangle, and a point p.
+--   IsDivided: n divided by d is q, with the remainder r.
+--   IsSplit: The step adds `change`, of either sign, as a quotient by the area and a remainder.
+--   IsChange: Between two covered points, the second a pixel to the right of the first, the weighted sum changes by this number.
+--   IsStep: The step adds what the weighted sum changes by with a pixel to the right.
+--   Are16Bit: The values of an attribute fit 16 bits.
+--   IsRowAt: A value at the covered point p, with the remainder of the weighted sum, and the step from there.
+--
+-- Blend.antt
+--   IsOver: The source over the stored channel by the source's alpha, of which 255 is opaque, rounded to nearest.
+--   IsBlended: The channel that a drawn sample takes: unchanged if it is not written, else the source, or the source over it.
+--
+-- Merging.antt
+--   Writes: Whether a draw writes red, green or blue, which are the channels 0 to 2 (Direct3D 11, write mask).
+--   IsChannelMerged: What a channel of a sample becomes, by its index in the write mask: red is 0, green is 1, blue is 2.
+--   IsMerged: The sample after a fragment that passed the depth test (Direct3D 11, output merger).
+--   IsApplied: The sample after a fragment: if the depth test fails, nothing changes (Direct3D 11, output merger).
+--
+-- Resolve.antt
+--   IsResolved: A channel of a pixel, resolved from that channel of its samples: the one sample's, or the mean of four.
+--
+-- Placed.antt
+--   rgba_of: Red, green, blue and alpha of a vertex.
+--   channel: What the three vertices have as red, green, blue or alpha, which are the channels 0 to 3.
+--   IsInterpolated: The value at p of an attribute that has these values at the three vertices.
+--   IsFragmentAt: The fragment of a triangle at p: depth, colour and alpha, each the value at p of what the vertices have.
+--   IsNeededAt: What a draw reads of a fragment at p: the depth, each channel that is written, and alpha if the draw blends.
+--   AreWeightsOf: The weights are those of this triangle, at their point.
+--   IsDrawnAt: What the triangle makes of a sample at a point p that it covers.
+--   Meets: The triangle meets sample s of pixel (i, j), whatever depth is stored there.
+--   Draws: What the triangle makes of sample s of pixel (i, j).
+--
+-- Ending.antt
+--   Ends: What the triangles make of sample s of pixel (i, j), one after another in draw order.
+
 pub mod Quotient
 pub mod Depth
 pub mod Value

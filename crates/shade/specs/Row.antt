@@ -7,7 +7,7 @@ use Rattle.grid.specs.Triangle.{doubled_area, Covers}
 use Rattle.shade.specs.declared.step.Step.{Step}
 use Rattle.shade.specs.Value.{weighted_sum}
 
--- What the vertices a, b, c of a triangle have: the values u, v, w.
+-- The values u, v, w of an attribute at the vertices a, b, c of a triangle.
 pub record Attribute : Type 0 where
   pub a : Position
   pub b : Position
@@ -16,7 +16,7 @@ pub record Attribute : Type 0 where
   pub v : ℕ
   pub w : ℕ
 
--- An attribute at a point p.
+-- The values u, v, w of an attribute at the vertices a, b, c of a triangle, and a point p.
 pub record AttributeAt : Type 0 where
   pub a : Position
   pub b : Position
@@ -26,12 +26,12 @@ pub record AttributeAt : Type 0 where
   pub v : ℕ
   pub w : ℕ
 
--- n by d is q, with the remainder r.
+-- n divided by d is q, with the remainder r.
 pub record IsDivided (n d q r : ℕ) : Type 0 where
   pub sum : n ≡ q * d + r
   pub less : r < d
 
--- The step adds this number of either sign, as a quotient by the area and a remainder.
+-- The step adds `change`, of either sign, as a quotient by the area and a remainder.
 pub record IsSplit (change : ℤ) (area : ℕ) (step : Step) : Type 0 where
   pub of_area : step.area ≡ area
   pub sum : change ≡ step.quotient *ℤ pos area +ℤ pos step.remainder
@@ -44,7 +44,7 @@ IsChange a b c u v w change =
     (p : Position) → Covers a b c p → Covers a b c (right_of p)
     → pos (weighted_sum a b c (right_of p) u v w) ≡ pos (weighted_sum a b c p u v w) +ℤ change
 
--- The step adds what the weighted sum changes by.
+-- The step adds what the weighted sum changes by with a pixel to the right.
 pub record IsStep (a b c : Position) (u v w : ℕ) (step : Step) : Type 0 where
   pub change : ℤ
   pub is_change : IsChange a b c u v w change

@@ -25,10 +25,3 @@ pub use sample::{Merge, Sample, Shaded};
 pub use state::State;
 pub use value::floor_at;
 pub use weights::Weights;
-
-#[cfg(test)]
-mod row_tests;
-#[cfg(test)]
-mod test_support;
-#[cfg(test)]
-mod tests;

@@ -1,10 +1,7 @@
 -- The bytes of eight pixels.
-use Rattle.std.proofs.Common.{◌≡◌, inl, inr, zero, suc, refl, sym, ap, subst, ◌∙◌, ℕ, ◌+◌, ◌*◌, ◌/◌, ◌%◌, ◌<◌, ◌≤◌, List, [], ◌∷◌, ◌++◌, length, take, slice_index, slice_index_or, slice_set, get_or-set_same, get_or-set_other, Result, Ok, Err, OnOk, length-take, length-set, arith}
+use Rattle.std.proofs.Common.{◌≡◌, inl, inr, refl, sym, ap, ◌∙◌, ℕ, ◌+◌, ◌*◌, ◌/◌, ◌%◌, ◌<◌, ◌≤◌, List, [], ◌∷◌, ◌++◌, length, take, slice_index, slice_index_or, slice_set, get_or-set_same, get_or-set_other, Result, Ok, Err, OnOk, length-take, length-set, arith}
 use Rattle.std.proofs.lemmas.Bool.{cases_lt}
-use Rattle.grid.specs.declared.sample_count.SampleCount.TheVariants.{One, Four}
 use Rattle.lanes.specs.declared.block_samples.BlockSamples.{BlockSamples}
-use Rattle.shade.specs.Quotient.{IsQuotient}
-use Rattle.shade.specs.Resolve.{IsResolved}
 use Rattle.model.specs.PixelPrefix.{IsPixelPrefix, IsPixelRun}
 use Rattle.model.specs.Picture.{pixel_at}
 use Rattle.model.specs.Scene.{Scene}
@@ -14,7 +11,7 @@ use Rattle.model.proofs.Pixels.{same_pixel, pixel_of_part, pixel_of_three, pixel
 use Rattle.raster.specs.declared.tile.Tile.{Tile}
 use Rattle.raster.specs.Samples.{place_of, stored}
 use Rattle.tile.specs.Picture.{IsShown, AreEnds, AreDepthsAt, AddsPixelRun}
-use Rattle.raster.specs.Colours.{IsColourAt, AreColoursAt}
+use Rattle.raster.specs.Colours.{AreColoursAt}
 use Rattle.tile.proofs.Shown.{colour_shown}
 
 -- ---- lists

@@ -3,7 +3,6 @@ use Rattle.std.specs.Prelude.{◌≡◌, ℕ, ◌+◌, ◌*◌, ◌/◌, ◌%◌
 use Rattle.grid.specs.Pixels.{side_of}
 use Rattle.grid.specs.declared.pixels.PixelBox.{PixelBox}
 use Rattle.lanes.specs.declared.block_samples.BlockSamples.{BlockSamples}
-use Rattle.shade.specs.Resolve.{IsResolved}
 use Rattle.shade.specs.Placed.{Meets}
 use Rattle.model.specs.Scene.{Scene}
 use Rattle.model.specs.PixelPrefix.{IsPixelRun}
@@ -13,7 +12,7 @@ use Rattle.bins.specs.Bin.{IsBin}
 use Rattle.raster.specs.declared.tile.Tile.{Tile}
 use Rattle.raster.specs.Samples.{IsSampleOf, stored}
 
--- A tile lies where tile k of the picture does.
+-- The tile lies where tile k of the picture does, and has its size.
 pub record IsTileAt (g : TileGrid) (k : ℕ) (tile : Tile) : Type 0 where
   pub left : 8 * tile.bx ≡ side_of g.side * (k % columns_of g)
   pub top : 8 * tile.by ≡ side_of g.side * (k / columns_of g)
@@ -47,8 +46,8 @@ abbrev pub AreEnds : Scene → Tile → List BlockSamples → Type 0
 AreEnds l tile samples =
     (row column s : ℕ) → IsShown l tile row column s → IsEnd l (8 * tile.bx + column) (8 * tile.by + row) s (stored tile samples row column s)
 
--- The bytes of the eight pixels in a row of the tile and a column of its blocks: of each the more and the less significant byte of
--- the depth of sample 0.
+-- The bytes of the depths of the eight pixels in a row of the tile and a column of its blocks. Of each pixel they are the more and
+-- the less significant byte of the depth of sample 0.
 abbrev pub AreDepthsAt : Tile → List BlockSamples → ℕ → ℕ → List ℕ → Type 0
 AreDepthsAt tile samples row column bytes =
     (i : ℕ) → i < 8

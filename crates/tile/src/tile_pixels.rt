@@ -9,7 +9,7 @@ ghost use Rattle.tile.specs.Picture.{IsTileAt, IsPictureIn, IsTileBin, AreEnds};
 
 use crate::pixels::resolve;
 use crate::store::Store;
-use bins::{BATCH, Bins, Tiling, fetch};
+use bins::{Batch, Bins, Tiling};
 use grid::{OutOfMemory, PixelBox, SampleCount, TileSide};
 use lanes::BlockSamples;
 use model::DrawList;
@@ -35,18 +35,12 @@ fn draw_bin(list: &DrawList, numbers: &[u32], tile: &Tile, samples: &mut [BlockS
     requires bin { IsTileBin list.now tile.now numbers.now }
     ensures { AreEnds list.now tile.now samples.new }
 {
-    let Some(number) = numbers.first() else {
+    let Some(mut batch) = Batch::of(list, numbers) else {
         return;
     };
-    let mut batch = [list.triangle(*number as usize); BATCH];
-    let mut first = 0;
-    fetch(list, numbers, first, &mut batch);
     for place in 0..numbers.len() {
-        if place - first == BATCH {
-            first = place;
-            fetch(list, numbers, first, &mut batch);
-        }
-        draw_triangle(&batch[place - first], tile, samples);
+        batch.go_on(list, numbers, place);
+        draw_triangle(batch.triangle(place), tile, samples);
     }
 }
 

@@ -2,7 +2,7 @@ ghost use Rattle.std.specs.Prelude.{◌<◌};
 
 use bins::{Bins, Tiling};
 use grid::{Cull, OutOfMemory, PixelBox, Point, SampleCount, TileSide};
-use model::{Draw, DrawList, Output, Primitives, State, Vertex};
+use model::{DEFAULT_CLEAR, DEFAULT_STATE, Draw, DrawList, Output, Primitives, State, Vertex};
 use shade::{DepthTest, Merge, Sample};
 use std::alloc::Global;
 use std::process::Abort;
@@ -11,31 +11,7 @@ use tile::{Store, TilePixels, render};
 
 pub(crate) const SIDES: [TileSide; 4] = [TileSide::T8, TileSide::T16, TileSide::T32, TileSide::T64];
 
-const BLACK: Sample = Sample {
-    r: 0,
-    g: 0,
-    b: 0,
-    z: 65535,
-};
-
 const WHITE: [u8; 4] = [255, 255, 255, 255];
-
-const PLAIN: State = State {
-    merge: Merge {
-        test: DepthTest::Always,
-        depth_write: false,
-        write: [true, true, true],
-        over: false,
-    },
-    cull: Cull::None,
-    sample_mask: 15,
-    scissor: PixelBox {
-        x0: 0,
-        y0: 0,
-        x1: 4096,
-        y1: 4096,
-    },
-};
 
 /// The index of a byte of a pixel in the picture's bytes, if a pixel has `pixel_bytes`.
 fn place(width: u32, pixel_bytes: u32, x: i32, y: i32, byte: u32) -> Option<usize> {
@@ -102,15 +78,21 @@ fn white(
     }
     let mut draws = Vec::new(alloc);
     draws.push(Draw {
-        state: PLAIN,
+        state: DEFAULT_STATE,
         vertices,
         primitives: Primitives::Triangles(vec![in alloc; [0, 1, 2]]?),
     })?;
     let (width, height) = size;
-    Ok(DrawList::new(alloc, width, height, count, BLACK, Output::Color, draws).expect(
-        rt,
-        "within the limits",
-    ))
+    Ok(DrawList::new(
+        alloc,
+        width,
+        height,
+        count,
+        DEFAULT_CLEAR,
+        Output::Color,
+        draws,
+    )
+    .expect(rt, "within the limits"))
 }
 
 #[test]
@@ -221,7 +203,7 @@ impl Numbers {
 
     fn scissor(&mut self) -> PixelBox {
         if self.is_heads() {
-            return PLAIN.scissor;
+            return DEFAULT_STATE.scissor;
         }
         PixelBox {
             x0: self.below(40) as i32,

@@ -5,15 +5,17 @@ use Rattle.model.specs.declared.output.Output.TheVariants.{Color, Depth}
 use Rattle.model.specs.Scene.{Scene}
 use Rattle.model.specs.Picture.{IsPicture}
 
--- The header of a picture of colours of this width and height: the magic number, the size in decimal digits, and the greatest
--- value.
+-- The header of a picture of colours: the magic number, the size in decimal digits, and the greatest value. The width comes before
+-- the height (Netpbm, ppm(5)).
 abbrev pub ppm_header : ℕ → ℕ → List ℕ
 ppm_header width height = codes "P6\n" ++ decimal width ++ codes " " ++ decimal height ++ codes "\n255\n"
 
--- The header of a picture of depths. As its greatest value is above 255, a pixel has two bytes, the more significant one first.
+-- The header of a picture of depths, of 16 bits each (Netpbm, pgm(5)). As its greatest value is above 255, a pixel has two bytes,
+-- the more significant one first.
 abbrev pub pgm_header : ℕ → ℕ → List ℕ
 pgm_header width height = codes "P5\n" ++ decimal width ++ codes " " ++ decimal height ++ codes "\n65535\n"
 
+-- The header of a picture's file, by what the picture shows.
 abbrev pub header_of : Output → ℕ → ℕ → List ℕ
 header_of Color = ppm_header
 header_of Depth = pgm_header

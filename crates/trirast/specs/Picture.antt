@@ -10,14 +10,16 @@ use Rattle.trirast.specs.declared.fault.Fault.TheVariants.{OutOfMemory as NoMemo
 use Rattle.trirast.specs.declared.picture.PictureFault.{PictureFault}
 use Rattle.trirast.specs.declared.picture.PictureFault.TheVariants.{NotBegun, OutOfMemory, WriteFailed}
 
--- What was written is the bytes of the tile rows from `first` to before `end`; with the bytes that were written before they are `count`.
+-- What was written is the bytes of the tile rows from `first` to before `end`. With the bytes that were written before they are
+-- `count`.
 pub record WritesRows (l : Scene) (side : TileSide) (first end before count : ℕ) (held held_after : Option (List ℕ)) : Type 0 where
   pub rows : List ℕ
   pub are : AreTileRows l side first end rows
   pub many : count ≡ before + length rows
   pub written : Appends held held_after rows
 
--- What was written is a beginning of them; with the bytes that were written before it is `count`.
+-- What was written is a beginning of the bytes of the tile rows from `first` on. With the bytes that were written before it is
+-- `count`.
 pub record CutsRows (l : Scene) (side : TileSide) (first before count : ℕ) (held held_after : Option (List ℕ)) : Type 0 where
   pub end : ℕ
   pub ordered : first ≤ end
@@ -26,20 +28,20 @@ pub record CutsRows (l : Scene) (side : TileSide) (first before count : ℕ) (he
   pub within : (before ≤ count) × (count ≤ before + length rows)
   pub written : Appends held held_after (take (count - before) rows)
 
--- What was written of tile rows from `first` to before `end` before this fault.
+-- What was written of the tile rows from `first` to before `end` before this error.
 abbrev pub ExplainsRows : Scene → TileSide → ℕ → ℕ → ℕ → PictureFault → Option (List ℕ) → Option (List ℕ) → Type 0
 ExplainsRows l side first end before NotBegun held held_after = ⊥
 ExplainsRows l side first end before (OutOfMemory row) held held_after = (first ≤ row) × (row < end) × ((count : ℕ) × WritesRows l side first row before count held held_after)
 ExplainsRows l side first end before (WriteFailed count) held held_after = CutsRows l side first before count held held_after
 
--- What was written of a list's picture file before this fault: if memory ran out for a tile row, exactly the header and the tile
--- rows before it.
+-- What was written of the file of a list's picture before this error. If memory ran out for a tile row, it is exactly the header
+-- and the tile rows before it.
 abbrev pub ExplainsPicture : Scene → TileSide → PictureFault → Option (List ℕ) → Option (List ℕ) → Type 0
 ExplainsPicture l side NotBegun held held_after = Keeps held held_after
 ExplainsPicture l side (OutOfMemory row) held held_after = WritesTileRows l side row held held_after
 ExplainsPicture l side (WriteFailed count) held held_after = WritesFileUpTo l count held held_after
 
--- The run's fault.
+-- The error of a run for an error of its picture.
 abbrev pub fault_of : PictureFault → Fault
 fault_of NotBegun = NoMemory
 fault_of (OutOfMemory row) = NoMemory

@@ -6,9 +6,11 @@ use Rattle.trirast.specs.declared.fault.Fault.{Fault}
 use Rattle.trirast.specs.declared.fault.Fault.TheVariants.{InputFailed, WriteFailed}
 use Rattle.trirast.specs.Runs.{Explains}
 
+-- The line that the program writes if its arguments ask for help.
 abbrev pub usage_line : List ℕ
 usage_line = codes "usage: trirast [--tile 8|16|32|64] [--workers 1..16] < list.json > picture.ppm\n"
 
+-- The line that the program writes if its arguments are refused.
 abbrev pub refusal_line : List ℕ
 refusal_line = codes "trirast: command line refused\n"
 
@@ -17,7 +19,7 @@ pub record WritesLine (line : List ℕ) (held held_after : Option (List ℕ)) : 
   pub count : ℕ
   pub written : Appends held held_after (take count line)
 
--- There is a fault, of a run with some tile size, that explains what the input gave and what was written. It is a failed input if
+-- There is an error, of a run with some tile size, that explains what the input gave and what was written. It is a failed input if
 -- and only if a read failed, and a failed output if and only if a write did.
 pub record EndsByFault (left left_after held held_after : Option (List ℕ)) (ReadHasFailed WriteHasFailed : Type 0) : Type 0 where
   pub side : TileSide

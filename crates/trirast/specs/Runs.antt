@@ -14,12 +14,12 @@ use Rattle.model.specs.Json.{json_of}
 use Rattle.model.specs.FirstFault.{IsFirstFault}
 use Rattle.trirast.specs.File.{header_of, IsPictureFile}
 
--- a reader with the bytes `left` gave these bytes, and then was at its end
+-- A reader with the bytes `left` gave these bytes, and then was at its end.
 pub record GivesAll (left left_after : Option (List ℕ)) (bytes : List ℕ) : Type 0 where
   pub given : Consumes left left_after bytes
   pub ended : IsAtEnd left_after
 
--- what the reader gave stands behind the old bytes
+-- What the reader gave stands behind the old bytes.
 pub record TakesOver (left left_after : Option (List ℕ)) (old new : List ℕ) : Type 0 where
   pub more : List ℕ
   pub given : Consumes left left_after more
@@ -31,14 +31,14 @@ pub record WritesFile (list : Scene) (held held_after : Option (List ℕ)) : Typ
   pub picture : IsPictureFile list file
   pub written : Appends held held_after file
 
--- What was written is the first `count` bytes of that file.
+-- What was written is the first `count` bytes of the file of the draw list's picture.
 pub record WritesFileUpTo (list : Scene) (count : ℕ) (held held_after : Option (List ℕ)) : Type 0 where
   pub file : List ℕ
   pub picture : IsPictureFile list file
   pub within : count ≤ length file
   pub written : Appends held held_after (take count file)
 
--- What was written is that file, which has `count` bytes.
+-- What was written is the file of the draw list's picture, which has `count` bytes.
 pub record WritesAll (list : Scene) (count : ℕ) (held held_after : Option (List ℕ)) : Type 0 where
   pub file : List ℕ
   pub picture : IsPictureFile list file
@@ -49,7 +49,8 @@ pub record WritesAll (list : Scene) (count : ℕ) (held held_after : Option (Lis
 abbrev pub bytes_before : Scene → TileSide → ℕ → ℕ
 bytes_before list side row = length (header_of list.output list.width list.height) + pixel_bytes list.output * (side_of side * row * list.width)
 
--- What was written is the header of that file and all tile rows before this one of the picture's, each whole.
+-- What was written is the header of the file of the draw list's picture, and all tile rows before this one. Each of these tile rows
+-- is whole.
 pub record WritesTileRows (list : Scene) (side : TileSide) (row : ℕ) (held held_after : Option (List ℕ)) : Type 0 where
   pub file : List ℕ
   pub picture : IsPictureFile list file
@@ -64,7 +65,7 @@ pub record WritesPicture (left left_after held held_after : Option (List ℕ)) :
   pub denoted : Denotes bytes list
   pub output : WritesFile list held held_after
 
--- The same, cut short after `count` bytes.
+-- The input's bytes, up to its end, denote a draw list, and the first `count` bytes of its picture's file were written.
 pub record WritesBeginning (left left_after held held_after : Option (List ℕ)) (count : ℕ) : Type 0 where
   pub bytes : List ℕ
   pub list : Scene
@@ -72,7 +73,8 @@ pub record WritesBeginning (left left_after held held_after : Option (List ℕ))
   pub denoted : Denotes bytes list
   pub output : WritesFileUpTo list count held held_after
 
--- The same, cut short before a tile row.
+-- The input's bytes denote a draw list, and whole tile rows of its picture's file were written. They are the first ones, behind the
+-- header, and not all.
 pub record WritesWholeTileRows (side : TileSide) (left left_after held held_after : Option (List ℕ)) : Type 0 where
   pub bytes : List ℕ
   pub list : Scene
@@ -81,7 +83,7 @@ pub record WritesWholeTileRows (side : TileSide) (left left_after held held_afte
   pub row : ℕ
   pub output : WritesTileRows list side row held held_after
 
--- The input's bytes, up to its end, have this first fault.
+-- The input's bytes, up to its end, have this first error.
 pub record HasFault (left left_after : Option (List ℕ)) (fault : ReadFault) : Type 0 where
   pub bytes : List ℕ
   pub input : GivesAll left left_after bytes
@@ -93,7 +95,7 @@ pub record Gives (left left_after : Option (List ℕ)) (count : ℕ) : Type 0 wh
   pub given : Consumes left left_after bytes
   pub many : length bytes ≡ count
 
--- What each fault says of the input's and the output's bytes, with tiles of this size. A run never ends in a fault of the pool:
+-- What each error says of the input's and the output's bytes, with tiles of this size. A run never ends in an error of the pool:
 -- what workers could not draw is drawn by the calling thread.
 abbrev pub Explains : TileSide → Fault → Option (List ℕ) → Option (List ℕ) → Option (List ℕ) → Option (List ℕ) → Type 0
 Explains side (BadList fault) left left_after held held_after = HasFault left left_after fault × Keeps held held_after
@@ -103,7 +105,7 @@ Explains side InputTooLong left left_after held held_after = Gives left left_aft
 Explains side (WriteFailed count) left left_after held held_after = WritesBeginning left left_after held held_after count
 Explains side OutOfMemory left left_after held held_after = Keeps held held_after ⊎ WritesWholeTileRows side left left_after held held_after
 
--- How a run ends: the picture's file was written, or the fault explains what was. It is a failed input if and only if a read
+-- How a run ends: the picture's file was written, or the error explains what was. It is a failed input if and only if a read
 -- failed, and a failed output if and only if a write did.
 pub record EndsAs {Done : Type 0} (side : TileSide) (result : Result Done Fault) (left left_after held held_after : Option (List ℕ)) (ReadHasFailed WriteHasFailed : Type 0) : Type 0 where
   pub picture : OnOk result (WritesPicture left left_after held held_after)

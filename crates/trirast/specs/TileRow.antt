@@ -11,14 +11,15 @@ use Rattle.tile.specs.declared.tile_pixels.TilePixels.{TilePixels}
 abbrev pub tile_row_top : TileGrid → ℕ → ℕ
 tile_row_top g row = side_of g.side * row
 
--- How many rows of pixels it has: those of its tiles, cut to the picture.
+-- How many rows of pixels a tile row has: those of its tiles, cut to the picture.
 abbrev pub tile_row_height : TileGrid → ℕ → ℕ
 tile_row_height g row = min g.height (tile_row_top g row + side_of g.side) - tile_row_top g row
 
--- The first column of pixels of the tiles of this number in their tile rows.
+-- The first column of pixels of the tiles in this column of tiles.
 abbrev pub column_left : TileGrid → ℕ → ℕ
 column_left g column = side_of g.side * column
 
+-- How many columns of pixels the tiles in this column of tiles have: those of a tile, cut to the picture.
 abbrev pub column_width : TileGrid → ℕ → ℕ
 column_width g column = min g.width (column_left g column + side_of g.side) - column_left g column
 

@@ -21,20 +21,20 @@ pub record AreTiles (l : Scene) (g : TileGrid) (first end : ℕ) (tiles : List T
 abbrev pub tiles_in : TileRows → ℕ
 tiles_in rows = (rows.end - rows.first) * columns_of rows.tiling.now
 
--- The pixels of all their tiles.
+-- The pixels of all tiles of these tile rows.
 abbrev pub AreTilesOf : TileRows → List TilePixels → Type 0
 AreTilesOf rows tiles = AreTiles rows.list.now rows.tiling.now rows.first rows.end tiles
 
--- The bins of their tiles.
+-- The bins of all tiles of these tile rows.
 abbrev pub AreBinsOf : TileRows → TileBins → Type 0
 AreBinsOf rows bins = AreBins rows.list.now rows.tiling.now rows.first (rows.end - rows.first) bins
 
--- The bytes of their rows of pixels.
+-- The bytes of the rows of pixels of these tile rows.
 abbrev pub AreBytesOf : TileRows → List ℕ → Type 0
 AreBytesOf rows bytes = AreTileRows rows.list.now rows.tiling.now.side rows.first rows.end bytes
 
--- What the calling thread makes while these tile rows are drawn: the bytes of those above, from `above` on, whose allocation can
--- fail only if there are some, and the bins of those below, to before `below`.
+-- What the calling thread makes while these tile rows are drawn: the bytes of those above, and the bins of those below. The bytes
+-- are those from `above` on, whose allocation can fail only if there are some, and the bins are those to before `below`.
 pub record IsBeside (rows : TileRows) (above below : ℕ) (beside : Beside) : Type 0 where
   pub joined : IfOk beside.joined (λ bytes. AreTileRows rows.list.now rows.tiling.now.side above rows.first bytes.items)
   pub refused : IfErr beside.joined (λ _. above < rows.first)

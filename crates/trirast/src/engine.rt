@@ -7,11 +7,11 @@ ghost use Rattle.model.specs.Json.{json_of};
 ghost use Rattle.model.specs.FirstFault.{IsFirstFault};
 ghost use Rattle.trirast.specs.Runs.{EndsAs};
 
-use crate::command_line::Options;
 use crate::counted::Counted;
 use crate::fault::Fault;
 use crate::input::read_input;
 use crate::picture::write_picture;
+use command_line::Options;
 use list::{DrawList, MOST_BYTES, read};
 use pool::{Gate, Open};
 use std::alloc::Global;

@@ -41,8 +41,9 @@ fn read_part<R: Read>(
     Ok(count)
 }
 
-/// Reads an input to its end, unless it is too long.
-pub(crate) fn read_input<R: Read>(alloc: Global, input: &mut Counted<R>) -> Result<Vec<u8>, Fault>
+/// The bytes of an input up to its end. Fails with `InputTooLong` after 64 MiB and a byte, with `InputFailed` if the reader failed, and with
+/// `OutOfMemory` if an allocation failed.
+pub fn read_input<R: Read>(alloc: Global, input: &mut Counted<R>) -> Result<Vec<u8>, Fault>
     requires { input.old.failures < u64.MAX }
     ensures whole { IfOk result (λ bytes. GivesAll (R.remaining input.old.inner) (R.remaining input.new.inner) bytes.items) }
     ensures short { IfOk result (λ bytes. vec_len bytes ≤ MOST_BYTES) }

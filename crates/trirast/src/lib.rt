@@ -1,14 +1,11 @@
-//! From the bytes of a draw list to the bytes of its picture: the engine, the writer of picture files, and the command line.
+//! From the bytes of a draw list to the bytes of its picture: the engine, the writer of picture files, and the program.
 #![tactic(auto)]
 
-mod args;
-mod command_line;
 mod counted;
 mod engine;
 mod fault;
 mod header;
 mod input;
-mod messages;
 mod picture;
 mod picture_bytes;
 mod ppm;
@@ -17,13 +14,14 @@ mod tile_row;
 mod tile_rows;
 mod write_all;
 
-pub use args::options;
-pub use command_line::{LineFault, Options};
+pub use command_line::{
+    FaultLine, LINE_BYTES, LineFault, Options, as_slices, fault_line, options, own_arguments,
+};
 pub use counted::Counted;
 pub use engine::{read_list, run, run_with};
 pub use fault::Fault;
 pub use header::{HEADER_BYTES, file_header, pgm_header, ppm_header};
-pub use messages::{FaultLine, LINE_BYTES, fault_line};
+pub use input::read_input;
 pub use picture::{PictureFault, write_picture};
 pub use picture_bytes::{draw, draw_rows};
 pub use ppm::{ppm_rows, write_ppm};

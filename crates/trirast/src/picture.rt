@@ -5,7 +5,6 @@ ghost use Rattle.trirast.specs.Picture.{ExplainsPicture, ExplainsRows, WritesRow
 ghost use Rattle.trirast.specs.Runs.{WritesAll, WritesFile};
 ghost use Rattle.trirast.specs.declared.picture.PictureFault.TheVariants as picture;
 
-use crate::command_line::Options;
 use crate::counted::Counted;
 use crate::fault::Fault;
 use crate::header::write_header;
@@ -13,6 +12,7 @@ use crate::ppm::ppm_rows;
 use crate::tile_rows::{Beside, TileRows, rows_together};
 use crate::write_all::WriteFault;
 use bins::Tiling;
+use command_line::Options;
 use list::DrawList;
 use pool::Gate;
 use std::alloc::Global;

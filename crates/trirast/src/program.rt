@@ -2,14 +2,12 @@
 ghost use Rattle.std.specs.Prelude.{◌≡◌, ◌<◌, ◌⊎◌, map};
 ghost use Rattle.trirast.specs.Program.{EndsByFault, WritesLine, refusal_line, usage_line};
 ghost use Rattle.trirast.specs.Runs.{WritesPicture};
-ghost use Rattle.trirast.specs.Args.{AsksForHelp, status_of};
+ghost use Rattle.command_line.specs.Args.{AsksForHelp, status_of};
 
-use crate::args::options;
-use crate::command_line::LineFault;
 use crate::counted::Counted;
 use crate::engine::run;
 use crate::fault::Fault;
-use crate::messages::fault_line;
+use command_line::{LineFault, fault_line, options};
 use std::alloc::Global;
 use std::io::{Read, Write};
 use std::sync::Wait;

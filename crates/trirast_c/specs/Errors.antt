@@ -1,9 +1,10 @@
 -- The errors of the library's calls, as numbers.
-use Rattle.std.specs.Prelude.{◌≡◌, ℕ, ⊤, Option, Some, None, Result, Ok, Err}
+use Rattle.std.specs.Prelude.{◌≡◌, ℕ, ⊤, Result, Ok, Err}
 use Rattle.model.specs.Fault.{number_of as list_number_of}
+use Rattle.batch.specs.Errors.{alone, reported_in}
+use Rattle.batch.specs.declared.error.LibraryError.{LibraryError}
 use Rattle.trirast_c.specs.declared.error.CallError.{CallError}
 use Rattle.trirast_c.specs.declared.error.CallError.TheVariants.{List as BadList, InputTooLong, OutOfMemory, BufferTooSmall, TileSize, TileRows, StructSize}
-use Rattle.trirast_c.specs.declared.error.LibraryError.{LibraryError}
 
 -- The status of a call that ends in this error.
 abbrev pub number_of : CallError → ℕ
@@ -15,19 +16,11 @@ number_of TileSize = 5
 number_of TileRows = 6
 number_of StructSize = 7
 
--- An error of which the status says all.
-abbrev pub alone : ℕ → LibraryError
-alone status = record { status = status; list_error = 0; in_draw = 0; draw = 0 }
-
+-- The error that the caller gets of a call that did not fail.
 abbrev pub no_error : LibraryError
 no_error = alone 0
 
--- An error of the list with this number, in this draw, if it is in one.
-abbrev pub reported_in : ℕ → Option ℕ → LibraryError
-reported_in list_error None = record { status = 1; list_error = list_error; in_draw = 0; draw = 0 }
-reported_in list_error (Some draw) = record { status = 1; list_error = list_error; in_draw = 1; draw = draw }
-
--- The error as the caller gets it.
+-- What the caller gets of each error.
 abbrev pub reported : CallError → LibraryError
 reported (BadList fault) = reported_in (list_number_of fault.kind) fault.draw
 reported InputTooLong = alone 2

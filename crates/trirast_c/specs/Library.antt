@@ -17,15 +17,16 @@ use Rattle.scene.specs.declared.vertex.SceneVertex.{SceneVertex}
 use Rattle.bins.specs.Grid.{tiles_over}
 use Rattle.trirast.specs.TileRow.{AreTileRows}
 use Rattle.trirast.specs.File.{header_of, IsPictureFile}
-use Rattle.trirast_c.specs.declared.batch.Batch.{Batch}
-use Rattle.trirast_c.specs.declared.batch.PictureHead.{PictureHead}
+use Rattle.batch.specs.Arrays.{HasSizes as HasBatchSizes}
+use Rattle.batch.specs.declared.arrays.Batch.{Batch}
 use Rattle.trirast_c.specs.declared.error.CallError.{CallError}
 use Rattle.trirast_c.specs.declared.error.CallError.TheVariants.{List as BadList, InputTooLong, OutOfMemory, BufferTooSmall, TileSize, TileRows, StructSize}
 use Rattle.trirast_c.specs.declared.image_info.ImageInfo.{ImageInfo}
+use Rattle.trirast_c.specs.declared.scene_picture.PictureHead.{PictureHead}
 
 -- ---- the picture's bytes in the caller's buffer
 
--- There are tiles of this size.
+-- There are tiles of this size in pixels: 8, 16, 32 or 64.
 abbrev pub IsTileSize : ℕ → Type 0
 IsTileSize tile_size = (side : TileSide) × (side_of side ≡ tile_size)
 
@@ -39,7 +40,7 @@ pub record HoldsFile (list : Scene) (old new : List ℕ) : Type 0 where
   pub picture : IsPictureFile list file
   pub put : IsPut file old new
 
--- The same of the list that the caller gave.
+-- The buffer begins with the file of the picture of the list that the caller gave. Behind it the buffer holds what it held before.
 pub record DrawsFile (Means : Scene → Type 0) (old new : List ℕ) : Type 0 where
   pub list : Scene
   pub means : Means list
@@ -49,14 +50,15 @@ pub record DrawsFile (Means : Scene → Type 0) (old new : List ℕ) : Type 0 wh
 abbrev pub HasRows : Scene → TileSide → ℕ → ℕ → Type 0
 HasRows list side first end = (first < end) × (end ≤ tiles_over list.height side)
 
--- The buffer begins with the bytes of the rows of pixels in these tile rows, and holds behind them what it held before.
+-- The buffer begins with the bytes of the rows of pixels in these tile rows. Behind them it holds what it held before.
 pub record HoldsRows (list : Scene) (side : TileSide) (first end : ℕ) (old new : List ℕ) : Type 0 where
   pub has : HasRows list side first end
   pub rows : List ℕ
   pub are : AreTileRows list side first end rows
   pub put : IsPut rows old new
 
--- The same of the list that the caller gave, and of the tile size that it named.
+-- The buffer begins with the bytes of these tile rows of the list that the caller gave. The tiles have the size that it named, and
+-- behind the bytes the buffer holds what it held before.
 pub record DrawsRows (Means : Scene → Type 0) (tile_size first end : ℕ) (old new : List ℕ) : Type 0 where
   pub list : Scene
   pub means : Means list
@@ -74,7 +76,7 @@ pub record IsInfoOf (list : Scene) (info : ImageInfo) : Type 0 where
   pub header : info.header_bytes ≡ length (header_of list.output list.width list.height)
   pub file : (file : List ℕ) → IsPictureFile list file → info.file_bytes ≡ length file
 
--- The same of the list that the caller gave.
+-- The image info of the list that the caller gave.
 pub record HoldsInfo (Means : Scene → Type 0) (info : ImageInfo) : Type 0 where
   pub list : Scene
   pub means : Means list
@@ -115,26 +117,24 @@ pub record LacksRows (Means : Scene → Type 0) (tile_size first end : ℕ) : Ty
 -- The structs and the elements of the arrays have the sizes, in bytes, that this library knows.
 pub record HasSizes (head : PictureHead) (batch : Batch) : Type 0 where
   pub head_size : head.struct_size ≡ 36
-  pub batch_size : batch.struct_size ≡ 64
-  pub draw_size : batch.draw_size ≡ 60
-  pub vertex_size : batch.vertex_size ≡ 28
-  pub index_size : batch.index_size ≡ 4
+  pub batch_sizes : HasBatchSizes batch
 
--- What is known of the list that the caller gave: what it is, its first fault, and that it is too long.
+-- What is known of the list that the caller gave: what it is, its first error, and that it is too long.
 pub record Given : Type 1 where
   pub Means : Scene → Type 0
   pub IsFirst : ReadFault → Type 0
   pub IsTooLong : Type 0
 
--- A list as bytes.
+-- A list that the caller gives as bytes.
 abbrev pub text : List ℕ → Given
 text bytes = record { Means = Denotes bytes; IsFirst = IsFirstFault (all_checks (json_of bytes)); IsTooLong = 67_108_864 < length bytes }
 
--- A list as arrays, which may have any length.
+-- A list that the caller gives as arrays, which may have any length.
 abbrev pub arrays : SceneHead → List SceneDraw → List SceneVertex → List ℕ → Given
 arrays head draws vertices indices = record { Means = IsListOf head draws vertices indices; IsFirst = IsFirstOfArrays head draws vertices indices; IsTooLong = ⊥ }
 
--- What each error says of what the caller gave. The last four are what the call has for them.
+-- What each error says of what the caller gave. Of the last four errors `too_small`, `no_tile_size`, `no_rows` and `no_sizes` are
+-- what the call has them say.
 abbrev pub Explains : Given → Type 0 → Type 0 → Type 0 → Type 0 → CallError → Type 0
 Explains given too_small no_tile_size no_rows no_sizes (BadList fault) = given.IsFirst fault
 Explains given too_small no_tile_size no_rows no_sizes InputTooLong = given.IsTooLong
@@ -144,15 +144,15 @@ Explains given too_small no_tile_size no_rows no_sizes TileSize = no_tile_size
 Explains given too_small no_tile_size no_rows no_sizes TileRows = no_rows
 Explains given too_small no_tile_size no_rows no_sizes StructSize = no_sizes
 
--- The call reads a list alone.
+-- What each error of a call says that reads a list alone.
 abbrev pub ExplainsRead : Given → CallError → Type 0
 ExplainsRead given = Explains given ⊥ ⊥ ⊥ ⊥
 
--- The call draws a file.
+-- What each error of a call says that draws a file.
 abbrev pub ExplainsDraw : Given → ℕ → ℕ → CallError → Type 0
 ExplainsDraw given tile_size size = Explains given (IsSmallForFile given.Means size) (¬ IsTileSize tile_size) ⊥ ⊥
 
--- The call draws tile rows.
+-- What each error of a call says that draws tile rows.
 abbrev pub ExplainsRows : Given → ℕ → ℕ → ℕ → ℕ → CallError → Type 0
 ExplainsRows given tile_size first end size = Explains given (IsSmallForRows given.Means tile_size first end size) (¬ IsTileSize tile_size) (LacksRows given.Means tile_size first end) ⊥
 
@@ -162,10 +162,10 @@ ExplainsRows given tile_size first end size = Explains given (IsSmallForRows giv
 abbrev pub IsSceneOf : PictureHead → Batch → Scene → Type 0
 IsSceneOf head batch = IsListOf head.numbers batch.draws.now batch.vertices.now batch.indices.now
 
--- A list as a head and a batch.
+-- A list that the caller gives as a head and a batch.
 abbrev pub scene : PictureHead → Batch → Given
 scene head batch = arrays head.numbers batch.draws.now batch.vertices.now batch.indices.now
 
--- The call draws the file of a scene.
+-- What each error of a call says that draws the file of a scene.
 abbrev pub ExplainsScene : PictureHead → Batch → ℕ → ℕ → CallError → Type 0
 ExplainsScene head batch tile_size size = Explains (scene head batch) (IsSmallForFile (IsSceneOf head batch) size) (¬ IsTileSize tile_size) ⊥ (¬ HasSizes head batch)

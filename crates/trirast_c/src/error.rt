@@ -3,6 +3,7 @@ ghost use Rattle.std.specs.Prelude.{◌≡◌};
 ghost use Rattle.trirast_c.specs.declared.error.CallError.TheVariants as call;
 ghost use Rattle.trirast_c.specs.Errors.{number_of, reported, IsReported};
 
+use batch::LibraryError;
 use grid::OutOfMemory;
 use list::ReadFault;
 
@@ -25,35 +26,6 @@ pub enum CallError {
     StructSize,
 }
 
-/// Why a call failed, laid out as in C: all zeros if it did not.
-#[repr(C)]
-#[derive(Clone, Copy, Debug, PartialEq, Eq)]
-pub struct LibraryError {
-    /// The status of the call, from 0 to 7.
-    pub status: u32,
-    /// If `status` is 1, the number of the list's error, from 1 to 10; else 0.
-    pub list_error: u32,
-    /// 1 if the list's error is in a draw, else 0.
-    pub in_draw: u32,
-    /// If `in_draw` is 1, the index of that draw in the list; else 0.
-    pub draw: u32,
-}
-
-/// No error.
-pub(crate) const NONE: LibraryError = LibraryError {
-    status: 0,
-    list_error: 0,
-    in_draw: 0,
-    draw: 0,
-};
-
-/// An error of which the status says all.
-fn alone(status: u32) -> LibraryError
-    ensures { result ≡ record { status = status; list_error = 0; in_draw = 0; draw = 0 } }
-{
-    LibraryError { status, ..NONE }
-}
-
 impl CallError {
     /// The error as the caller gets it.
     pub(crate) fn reported(self) -> LibraryError
@@ -61,18 +33,13 @@ impl CallError {
         ensures status { result.status ≡ number_of self }
     {
         match self {
-            CallError::List(ReadFault { kind, draw }) => LibraryError {
-                status: 1,
-                list_error: kind.number(),
-                in_draw: u32::from(draw.is_some()),
-                draw: draw.unwrap_or(0),
-            },
-            CallError::InputTooLong => alone(2),
-            CallError::OutOfMemory => alone(3),
-            CallError::BufferTooSmall => alone(4),
-            CallError::TileSize => alone(5),
-            CallError::TileRows => alone(6),
-            CallError::StructSize => alone(7),
+            CallError::List(fault) => LibraryError::of_list(fault),
+            CallError::InputTooLong => LibraryError::alone(2),
+            CallError::OutOfMemory => LibraryError::alone(3),
+            CallError::BufferTooSmall => LibraryError::alone(4),
+            CallError::TileSize => LibraryError::alone(5),
+            CallError::TileRows => LibraryError::alone(6),
+            CallError::StructSize => LibraryError::alone(7),
         }
     }
 }
@@ -90,7 +57,7 @@ pub(crate) fn report(ended: Result<(), CallError>, error: &mut LibraryError) -> 
     ensures { IsReported ended result error.new }
 {
     *error = match ended {
-        Ok(()) => NONE,
+        Ok(()) => LibraryError::alone(0),
         Err(failed) => failed.reported(),
     };
     error.status

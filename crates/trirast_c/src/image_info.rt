@@ -4,8 +4,9 @@ ghost use Rattle.model.specs.Denotes.{Denotes};
 ghost use Rattle.trirast_c.specs.Errors.{no_error, number_of, reported};
 ghost use Rattle.trirast_c.specs.Library.{ExplainsRead, HoldsInfo, IsInfoOf, text};
 
-use crate::error::{CallError, LibraryError, report};
+use crate::error::{CallError, report};
 use crate::input::list_of;
+use batch::LibraryError;
 use list::DrawList;
 use std::alloc::Global;
 use trirast::file_header;

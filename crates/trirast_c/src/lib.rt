@@ -3,20 +3,21 @@
 
 ghost use Rattle.std.specs.Prelude.{◌≡◌};
 
-mod batch;
 mod buffer;
 mod error;
 mod image_info;
 mod input;
 mod messages;
 mod picture;
+mod scene_picture;
 mod tile_rows;
 
-pub use batch::{Batch, PictureHead, trirast_draw_scene};
-pub use error::{CallError, LibraryError};
+pub use batch::{Batch, LibraryError};
+pub use error::CallError;
 pub use image_info::{ImageInfo, trirast_read_image_info};
 pub use messages::trirast_error_line;
 pub use picture::trirast_draw;
+pub use scene_picture::{PictureHead, trirast_draw_scene};
 pub use tile_rows::trirast_draw_rows;
 
 /// The version of these calls and structs. A greater one has all that a smaller one has, in the same form.

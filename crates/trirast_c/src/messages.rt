@@ -3,7 +3,8 @@ ghost use Rattle.std.specs.Prelude.{◌≡◌, ◌≤◌, length, drop, IfSome};
 ghost use Rattle.model.specs.Fault.{number_of as list_number_of};
 ghost use Rattle.trirast_c.specs.Errors.{reported};
 
-use crate::error::{CallError, LibraryError};
+use crate::error::CallError;
+use batch::LibraryError;
 use list::{ReadFault, ReadKind};
 use trirast::{Fault, FaultLine, fault_line};
 

@@ -5,8 +5,9 @@ ghost use Rattle.trirast_c.specs.Errors.{no_error, number_of, reported};
 ghost use Rattle.trirast_c.specs.Library.{DrawsFile, ExplainsDraw, text};
 
 use crate::buffer::file_into;
-use crate::error::{CallError, LibraryError, report};
+use crate::error::{CallError, report};
 use crate::input::{list_of, side_of};
+use batch::LibraryError;
 use std::alloc::Global;
 
 /// Draws the file of the picture of the list that the bytes denote into the buffer.

@@ -7,8 +7,9 @@ ghost use Rattle.trirast_c.specs.Errors.{no_error, number_of, reported};
 ghost use Rattle.trirast_c.specs.Library.{DrawsRows, ExplainsRows, text};
 
 use crate::buffer::put;
-use crate::error::{CallError, LibraryError, report};
+use crate::error::{CallError, report};
 use crate::input::{list_of, side_of};
+use batch::LibraryError;
 use bins::Tiling;
 use grid::TileSide;
 use list::DrawList;

@@ -8,27 +8,43 @@
 
     picture = trirast.draw_scene(64, 64, [trirast.Draw(vertices, triangles, cull="back")], samples=4)
 
+    print(trirast.why(draw_list, 20, 30))
+    print(trirast.triangle_samples(draw_list, 0, 5))
+
+    canvas = trirast.Canvas(1024, 768, samples=4)
+    canvas.clear((24, 24, 32))
+    canvas.draw(vertices, triangles, cull="back", threads=4)
+    canvas.rgb()
+
 docs/draw-list.md says what a draw list is, and docs/library.md where the library is looked for. It is loaded at the first
 call. Python 3.9 or later, standard library alone; numpy's arrays are taken and given if numpy is there.
 """
 
+from ._canvas import Canvas, edges
 from ._draw_list import DrawList, draw, draw_file, image_info
 from ._errors import (
     BufferTooSmallError,
+    CanvasError,
     DrawListError,
     Error,
+    FormatError,
     LimitError,
+    MemorySizeError,
     OutOfMemoryError,
+    PositionError,
+    SampleError,
     StructSizeError,
     TileRowsError,
     TileSizeError,
 )
+from ._history import Event, Fragment, PixelHistory, SampleHistory, Stored, TriangleSamples, triangle_samples, why
 from ._picture import ImageInfo, Picture
 from ._scene import Draw, draw_scene
 from ._version import VERSION as __version__
 
 __all__ = [
-    "BufferTooSmallError", "Draw", "DrawList", "DrawListError", "Error", "ImageInfo", "LimitError", "OutOfMemoryError",
-    "Picture", "StructSizeError", "TileRowsError", "TileSizeError", "__version__", "draw", "draw_file", "draw_scene",
-    "image_info",
+    "BufferTooSmallError", "Canvas", "CanvasError", "Draw", "DrawList", "DrawListError", "Error", "Event", "FormatError", "Fragment",
+    "ImageInfo", "LimitError", "MemorySizeError", "OutOfMemoryError", "Picture", "PixelHistory", "PositionError", "SampleError",
+    "SampleHistory", "Stored", "StructSizeError", "TileRowsError", "TileSizeError", "TriangleSamples", "__version__", "draw", "draw_file",
+    "draw_scene", "edges", "image_info", "triangle_samples", "why",
 ]

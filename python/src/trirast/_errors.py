@@ -48,6 +48,26 @@ class StructSizeError(Error):
     """The library has structs of other sizes than this package: it is of another version."""
 
 
+class CanvasError(Error, ValueError):
+    """There is no canvas of this size, or with this number of samples."""
+
+
+class MemorySizeError(Error, ValueError):
+    """The memory of a canvas has another size. No function of this package passes such memory."""
+
+
+class FormatError(Error, ValueError):
+    """There is no such format. No function of this package passes one."""
+
+
+class SampleError(Error, ValueError):
+    """A pixel has no sample of this index."""
+
+
+class PositionError(Error, ValueError):
+    """A position is outside of -8388608 to 8388607."""
+
+
 BY_STATUS: Dict[int, Type[Error]] = {
     2: LimitError,
     3: OutOfMemoryError,
@@ -55,4 +75,21 @@ BY_STATUS: Dict[int, Type[Error]] = {
     5: TileSizeError,
     6: TileRowsError,
     7: StructSizeError,
+    8: CanvasError,
+    9: MemorySizeError,
+    10: FormatError,
+    11: SampleError,
+    12: PositionError,
+}
+
+# Of the statuses for which trirast_error_line has no line.
+TEXTS: Dict[int, str] = {
+    4: "trirast: buffer too small",
+    6: "trirast: no such tile rows",
+    7: "trirast: no such struct size",
+    8: "trirast: no such canvas",
+    9: "trirast: memory of another size",
+    10: "trirast: no such format",
+    11: "trirast: no such sample",
+    12: "trirast: position out of range",
 }

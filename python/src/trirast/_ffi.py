@@ -1,7 +1,7 @@
 """The structs and calls of include/trirast.h by ctypes, and the buffers that go in and out.
 
-The library is loaded at the first call. It is the one that the environment's TRIRAST_LIBRARY names, else lib/libtrirast.so of
-the repository in which this file lies, else the installed one.
+The library is loaded at the first call. It is the one that the environment's TRIRAST_LIBRARY names, else the one in the folder
+lib of this package, as a wheel has it, else lib/libtrirast.so of the repository in which this file lies, else the installed one.
 """
 
 import ctypes
@@ -10,10 +10,11 @@ import os
 from functools import lru_cache
 from typing import Any, SupportsIndex, Tuple
 
-from ._errors import BAD_LIST, BY_STATUS, DrawListError, Error
-from ._version import VERSION
+from ._errors import BAD_LIST, BY_STATUS, TEXTS, DrawListError, Error
+from ._version import INTERFACE
 
 LINE_SIZE = 96
+PLANE_BYTES = 320
 NUMBERS = 1 << 32
 
 
@@ -101,11 +102,47 @@ class CBatch(ctypes.Structure):
     ]
 
 
+class CCanvas(ctypes.Structure):
+    """trirast_canvas of the header."""
+
+    _fields_ = [
+        ("struct_size", ctypes.c_uint32),
+        ("width", ctypes.c_uint32),
+        ("height", ctypes.c_uint32),
+        ("samples", ctypes.c_uint32),
+        ("origin_x", ctypes.c_int32),
+        ("origin_y", ctypes.c_int32),
+        ("first", ctypes.c_uint32),
+        ("end", ctypes.c_uint32),
+        ("memory", ctypes.c_void_p),
+        ("plane_count", ctypes.c_size_t),
+    ]
+
+
+class CCorners(ctypes.Structure):
+    """trirast_corners of the header."""
+
+    _fields_ = [(name, ctypes.c_int32) for name in ("ax", "ay", "bx", "by", "cx", "cy")]
+
+
+class CEdges(ctypes.Structure):
+    """trirast_edges of the header."""
+
+    a: int
+    b: int
+    c: int
+    doubled_area: int
+    covered: int
+    _fields_ = [(name, ctypes.c_int64) for name in ("a", "b", "c", "doubled_area")] + [("covered", ctypes.c_uint64)]
+
+
 JSON = [ctypes.c_char_p, ctypes.c_size_t]
 NUMBER = [ctypes.c_uint32]
 BUFFER = [ctypes.c_void_p, ctypes.c_size_t]
 ERROR = [ctypes.POINTER(CError)]
-# Of each call its parameters and its result. Those whose last parameter is an error return a status.
+CANVAS = [ctypes.POINTER(CCanvas)]
+STRIDE = [ctypes.c_size_t]
+# Of each call its parameters and its result. Those whose last parameter is an error return a status, and so do those of STATUS.
 PROTOTYPES: Tuple[Tuple[str, Any, Any], ...] = (
     ("trirast_version", [], ctypes.c_uint32),
     ("trirast_error_line", ERROR + BUFFER, ctypes.c_size_t),
@@ -117,23 +154,52 @@ PROTOTYPES: Tuple[Tuple[str, Any, Any], ...] = (
         [ctypes.POINTER(CSceneHead), ctypes.POINTER(CBatch)] + NUMBER + BUFFER + ERROR,
         ctypes.c_uint32,
     ),
+    ("trirast_canvas_bytes", 5 * NUMBER, ctypes.c_size_t),
+    ("trirast_canvas_rows", NUMBER, ctypes.c_uint32),
+    ("trirast_canvas_row_pixels", [], ctypes.c_uint32),
+    ("trirast_canvas_clear", CANVAS + [ctypes.POINTER(ctypes.c_uint8), ctypes.c_uint16], ctypes.c_uint32),
+    ("trirast_canvas_load", CANVAS + NUMBER + BUFFER + STRIDE, ctypes.c_uint32),
+    ("trirast_canvas_draw", CANVAS + [ctypes.POINTER(CBatch)] + ERROR, ctypes.c_uint32),
+    ("trirast_canvas_draw_ids", CANVAS + [ctypes.POINTER(CBatch)] + NUMBER + ERROR, ctypes.c_uint32),
+    ("trirast_canvas_resolve", CANVAS + NUMBER + BUFFER + STRIDE, ctypes.c_uint32),
+    ("trirast_canvas_depths", CANVAS + NUMBER + BUFFER + STRIDE, ctypes.c_uint32),
+    ("trirast_canvas_ids", CANVAS + NUMBER + BUFFER + STRIDE, ctypes.c_uint32),
+    (
+        "trirast_weights",
+        [ctypes.POINTER(CCorners), ctypes.c_int32, ctypes.c_int32, ctypes.POINTER(CEdges)],
+        ctypes.c_uint32,
+    ),
 )
+STATUS = (
+    "trirast_canvas_clear", "trirast_canvas_load", "trirast_canvas_resolve", "trirast_canvas_depths", "trirast_canvas_ids",
+    "trirast_weights",
+)
+
+
+def library_path() -> str:
+    """Where the library is, or its name, by which the system's loader finds it."""
+    package = os.path.dirname(os.path.abspath(__file__))
+    # A wheel's load.so is empty and needs the library, so that the loader takes the one for the processor's level.
+    in_wheel = os.path.join(package, "lib", "load.so")
+    in_repository = os.path.join(package, "..", "..", "..", "lib", "libtrirast.so")
+    found = [path for path in (in_wheel, in_repository) if os.path.exists(path)]
+    return os.environ.get("TRIRAST_LIBRARY") or (found or ["libtrirast.so.1"])[0]
 
 
 @lru_cache(maxsize=None)
 def library() -> Any:
     """The library with the types of its calls. ctypes releases Python's lock during a call."""
-    top = os.path.abspath(os.path.join(os.path.dirname(__file__), "..", "..", ".."))
-    beside = os.path.join(top, "lib", "libtrirast.so")
-    path = os.environ.get("TRIRAST_LIBRARY") or (beside if os.path.exists(beside) else "libtrirast.so.1")
+    path = library_path()
     loaded = ctypes.CDLL(path)
     for name, takes, gives in PROTOTYPES:
         call = getattr(loaded, name)
         call.argtypes, call.restype = takes, gives
         if takes[-1:] == ERROR:
             call.errcheck = raise_error
-    if loaded.trirast_version() < int(VERSION):
-        raise ImportError(f"{path} has version {loaded.trirast_version()}, and this package needs {VERSION}")
+        if name in STATUS:
+            call.errcheck = raise_status
+    if loaded.trirast_version() < INTERFACE:
+        raise ImportError(f"{path} has interface {loaded.trirast_version()}, and this package needs {INTERFACE}")
     return loaded
 
 
@@ -145,7 +211,14 @@ def raise_error(status: int, _call: Any, arguments: Tuple[Any, ...]) -> int:
     line = line_of(error)
     if status == BAD_LIST:
         raise DrawListError(status, line, error.list_error, error.draw if error.in_draw else None)
-    raise BY_STATUS.get(status, Error)(status, line)
+    raise BY_STATUS.get(status, Error)(status, line or TEXTS.get(status, ""))
+
+
+def raise_status(status: int, _call: Any, _arguments: Tuple[Any, ...]) -> int:
+    """Raises the exception of a status, if it is not 0."""
+    if status == 0:
+        return status
+    raise BY_STATUS.get(status, Error)(status, TEXTS.get(status, ""))
 
 
 def line_of(error: CError) -> str:

@@ -55,12 +55,13 @@ class Draw:
             named("cull", CULLS, cull), named("depth_test", DEPTH_TESTS, depth_test), int(bool(depth_write)),
             named("blend", BLENDS, blend), *(int(bool(channel)) for channel in of_length("write", write, 3)),
             number(sample_mask),
-            *(number(side) for side in of_length("scissor", (0, 0, MAX_SIZE, MAX_SIZE) if scissor is None else scissor, 4)),
         ]
+        self._scissor = None if scissor is None else [number(side) for side in of_length("scissor", scissor, 4)]
 
-    def _in_c(self) -> CBatchDraw:
+    def _in_c(self, farthest: int) -> CBatchDraw:
         counts = (self._vertices.nbytes // ctypes.sizeof(CVertex), self._indices.nbytes // ctypes.sizeof(ctypes.c_uint32))
-        return CBatchDraw(*counts, self._topology, *self._state)
+        scissor = (0, 0, farthest, farthest) if self._scissor is None else self._scissor
+        return CBatchDraw(*counts, self._topology, *self._state, *scissor)
 
 
 def draw_scene(
@@ -86,7 +87,7 @@ def draw_scene(
     )
     header = header_of(head.width, head.height, shows == 1)
     file = bytearray(file_size(head, len(header)))
-    batch, _memory = batch_of(given)
+    batch, _memory = batch_of(given, MAX_SIZE)
     part = memory_of(memoryview(file))
     library().trirast_draw_scene(head, batch, number(tile_size, 0), part, len(file), CError())
     return Picture(head.width, head.height, shows == 1, memoryview(file)[len(header) :])
@@ -99,9 +100,10 @@ def file_size(head: CSceneHead, header_bytes: int) -> int:
     return header_bytes + head.width * head.height * (2 if head.output == 1 else 3)
 
 
-def batch_of(draws: List[Draw]) -> Tuple[CBatch, List[Any]]:
-    """The draws as a batch, and the memory to which it points, which the caller keeps during the call."""
-    in_c = (CBatchDraw * len(draws))(*(each._in_c() for each in draws))
+def batch_of(draws: List[Draw], farthest: int) -> Tuple[CBatch, List[Any]]:
+    """The draws as a batch, and the memory to which it points, which the caller keeps during the call. A scissor that is not given
+    goes from 0 to `farthest`."""
+    in_c = (CBatchDraw * len(draws))(*(each._in_c(farthest) for each in draws))
     vertices = memory_of(joined([each._vertices for each in draws]))
     indices = memory_of(joined([each._indices for each in draws]))
     batch = CBatch(

@@ -1,3 +1,6 @@
-"""The version of the package, which is that of the library and its header."""
+"""The release of the package, which is that of the library, and the interface of the library that it calls."""
 
-VERSION = "1"
+# The file VERSION of the repository has it too.
+VERSION = "0.1.0"
+# TRIRAST_VERSION of the header.
+INTERFACE = 1

@@ -1,4 +1,4 @@
-use Rattle.std.proofs.Common.{◌≡◌, ◌∙◌, ap, ℕ, ◌+◌, ◌*◌, List, take, slice_index}
+use Rattle.std.proofs.Common.{◌∙◌, ap, ℕ, ◌+◌, ◌*◌, List, take, slice_index}
 use Rattle.canvas.specs.Pixels.{pixel_bytes}
 use Rattle.canvas.proofs.PixelColours.{tile_pixel_same, first_pixels}
 use Rattle.canvas.proofs.colours.resolve_run.Goals as goal

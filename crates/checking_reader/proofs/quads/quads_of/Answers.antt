@@ -9,9 +9,9 @@ pub returns-in_err-quad : goal.returns-in_err-quad
 returns-in_err-quad c =
     let vs = c.args.list.now in
     let within : c.loop-value.value-index < length vs = omega arith in
-    let told = fails_here (quad_checks_over c.args.vertices.now) vs _ c.value-item.result _ within c.value-item.is c.loop-value.invariant.passed c.in_err-quad.ensures in
+    let reported = fails_here (quad_checks_over c.args.vertices.now) vs _ c.value-item.result _ within c.value-item.is c.loop-value.invariant.passed c.in_err-quad.ensures in
     let p = err_from_is_err_and c.from_residual-in_err-quad.result c.from_residual-in_err-quad.ensures.1 in
-    rw (p.1, p.2) (λ _. told)
+    rw (p.1, p.2) (λ _. reported)
 
 pub loop-value-preserved : goal.loop-value-preserved
 loop-value-preserved c =

@@ -11,19 +11,19 @@ pub returns-clause-ok : goal.returns-clause-ok
 returns-clause-ok c =
     let d = view c.in-Ok.value in
     let is = c.in-Ok.ensures.ok in
-    read_ok c.args.bytes.now d (json_value c.args.bytes.now d is.0 is.1) c.read_value.result c.requires c.read_value.ensures.told
+    read_ok c.args.bytes.now d (json_value c.args.bytes.now d is.0 is.1) c.read_value.result c.requires c.read_value.ensures.reported
 
 pub returns-clause-only : goal.returns-clause-only
 returns-clause-only c =
     let d = view c.in-Ok.value in
     let is = c.in-Ok.ensures.ok in
-    read_only c.args.bytes.now d (json_value c.args.bytes.now d is.0 is.1) c.read_value.result c.read_value.ensures.told
+    read_only c.args.bytes.now d (json_value c.args.bytes.now d is.0 is.1) c.read_value.result c.read_value.ensures.reported
 
 pub returns-clause-first : goal.returns-clause-first
 returns-clause-first c =
     let d = view c.in-Ok.value in
     let is = c.in-Ok.ensures.ok in
-    read_first c.args.bytes.now d (json_value c.args.bytes.now d is.0 is.1) c.read_value.result c.read_value.ensures.told
+    read_first c.args.bytes.now d (json_value c.args.bytes.now d is.0 is.1) c.read_value.result c.read_value.ensures.reported
 
 pub returns-in-Err-clause-only : goal.returns-in-Err-clause-only
 returns-in-Err-clause-only c l denotes =
@@ -33,9 +33,9 @@ returns-in-Err-clause-only c l denotes =
     ]
 
 pub returns-in-Err-clause-first : goal.returns-in-Err-clause-first
-returns-in-Err-clause-first c told =
+returns-in-Err-clause-first c reported =
     elim c.kind_of.ensures [
-      | inl memory ↦ absurd (told (ap (λ (f : ReadFault). f.kind) c.outside.ensures ∙ memory.1))
+      | inl memory ↦ absurd (reported (ap (λ (f : ReadFault). f.kind) c.outside.ensures ∙ memory.1))
       | inr other ↦
           let none = no_json c.args.bytes.now (λ utf8. c.in-Err.ensures.err other.0 utf8) in
           is_first (all_checks (json_of c.args.bytes.now)) c.outside.result (rw (none, c.outside.ensures, other.1) refl)

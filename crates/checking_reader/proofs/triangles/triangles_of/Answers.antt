@@ -9,9 +9,9 @@ pub returns-in_err-triangle : goal.returns-in_err-triangle
 returns-in_err-triangle c =
     let vs = c.args.list.now in
     let within : c.loop-value.value-index < length vs = omega arith in
-    let told = fails_here (triangle_checks c.args.count) vs _ c.value-item.result _ within c.value-item.is c.loop-value.invariant.passed c.in_err-triangle.ensures in
+    let reported = fails_here (triangle_checks c.args.count) vs _ c.value-item.result _ within c.value-item.is c.loop-value.invariant.passed c.in_err-triangle.ensures in
     let p = err_from_is_err_and c.from_residual-in_err-triangle.result c.from_residual-in_err-triangle.ensures.1 in
-    rw (p.1, p.2) (λ _. told)
+    rw (p.1, p.2) (λ _. reported)
 
 pub loop-value-preserved : goal.loop-value-preserved
 loop-value-preserved c =

@@ -9,9 +9,9 @@ pub returns-in_err-vertex : goal.returns-in_err-vertex
 returns-in_err-vertex c =
     let vs = c.args.list.now in
     let within : c.loop-value.value-index < length vs = omega arith in
-    let told = fails_here vertex_checks vs _ c.value-item.result _ within c.value-item.is c.loop-value.invariant.passed c.in_err-vertex.ensures in
+    let reported = fails_here vertex_checks vs _ c.value-item.result _ within c.value-item.is c.loop-value.invariant.passed c.in_err-vertex.ensures in
     let p = err_from_is_err_and c.from_residual-in_err-vertex.result c.from_residual-in_err-vertex.ensures.1 in
-    rw (p.1, p.2) (λ _. told)
+    rw (p.1, p.2) (λ _. reported)
 
 pub loop-value-preserved : goal.loop-value-preserved
 loop-value-preserved c =

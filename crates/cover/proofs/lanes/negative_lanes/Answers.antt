@@ -13,6 +13,6 @@ pub returns : goal.returns
 returns c =
     let xs = c.args.lanes in
     let outside = map (λ v. is_negative (v +ℤ c.args.by)) xs in
-    let told : ℕ → List Bool = λ n. map (top 31) (zip2 below (zip2 plus (map (of_z w32) xs) (replicate n (of_z w32 c.args.by))) (replicate n 0)) in
-    let same : told 16 ≡ outside = sym (ap told c.requires.long) ∙ tests c.args.by xs c.ranges.by c.requires.fit c.requires.sums in
+    let reported : ℕ → List Bool = λ n. map (top 31) (zip2 below (zip2 plus (map (of_z w32) xs) (replicate n (of_z w32 c.args.by))) (replicate n 0)) in
+    let same : reported 16 ≡ outside = sym (ap reported c.requires.long) ∙ tests c.args.by xs c.ranges.by c.requires.fit c.requires.sums in
     ap (λ l. mask_l l % 2 ^ 64) same ∙ mask_l-mod outside 64 (omega (arith, length-map xs (λ v. is_negative (v +ℤ c.args.by)), c.requires.long))

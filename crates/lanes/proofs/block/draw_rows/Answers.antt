@@ -1,7 +1,15 @@
-use Rattle.std.proofs.Common.{arith}
+use Rattle.std.proofs.Common.{◌≡◌, arith, ◌*◌, w32, to_z, of_z, pos, ◌+ℤ◌, ◌*ℤ◌}
 use Rattle.std.proofs.lemmas.Int.{ints}
-use Rattle.lanes.proofs.Blocks.{rows_kept, rows_drawn, group_at, drawn_from}
+use Rattle.lanes.proofs.Blocks.{rows_kept, rows_drawn, group_at, drawn_from, group_on_screen}
 use Rattle.lanes.proofs.block.draw_rows.Goals as goal
+
+pub draw_group-requires-clause-on_screen : goal.draw_group-requires-clause-on_screen
+draw_group-requires-clause-on_screen c =
+    let on = c.requires.on_screen in
+    let x : to_z w32 (of_z w32 c.x-x.result) ≡ c.args.p.x = omega (arith, ints, c.x-x.ensures.value, on.left, on.right) in
+    let y : to_z w32 (of_z w32 (to_z w32 (of_z w32 c.y.result) +ℤ to_z w32 (of_z w32 (pos 512 *ℤ to_z w32 c.args.group)))) ≡ c.args.p.y +ℤ pos (512 * c.args.group) =
+    omega (arith, ints, c.y.ensures.value, on.top, on.bottom, c.requires.group) in
+    rw (x, y) (group_on_screen c.args.p c.args.group c.requires.group on)
 
 pub returns-then-not-has_some : goal.returns-then-not-has_some
 returns-then-not-has_some c t sources covers = rows_kept t c.args.p c.args.mask c.args.group c.args.samples.now (c.has_some.ensures c.if-not-has_some.true)

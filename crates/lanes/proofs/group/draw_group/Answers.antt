@@ -1,6 +1,6 @@
 use Rattle.std.proofs.Common.{refl, w32}
 use Rattle.std.proofs.lemmas.Int.{to_z-of_z}
-use Rattle.lanes.specs.Block.{position_in}
+use Rattle.planes.specs.Group.{position_in}
 use Rattle.lanes.proofs.Groups.{combined, undrawn}
 use Rattle.lanes.proofs.group.draw_group.Goals as goal
 

@@ -1,6 +1,6 @@
 use Rattle.std.proofs.Common.{◌≤◌, get_or, arith, w8, Fits}
 use Rattle.std.proofs.lemmas.Simd.{Each1-get_or}
-use Rattle.lanes.proofs.Lanes.{of_each}
+use Rattle.planes.proofs.Lanes.{of_each}
 use Rattle.lanes.proofs.LaneNumbers.{over-bound}
 use Rattle.lanes.proofs.group.drawn_lanes.Goals as goal
 

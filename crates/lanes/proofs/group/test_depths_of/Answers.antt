@@ -1,7 +1,7 @@
 use Rattle.std.proofs.Common.{◌+◌, get_or, subst, w32}
 use Rattle.std.proofs.lemmas.Int.{to_z-of_z}
 use Rattle.std.proofs.lemmas.Simd.{get_or-replicate}
-use Rattle.lanes.specs.Block.{position_in}
+use Rattle.planes.specs.Group.{position_in}
 use Rattle.lanes.specs.Sources.{IsDepthOf}
 use Rattle.lanes.proofs.Flat.{flat_value}
 use Rattle.lanes.proofs.Groups.{untested_lane, tested_as}

@@ -3,14 +3,15 @@ use Rattle.std.specs.Simd.Lanes.{sel_l, zip2, top}
 use Rattle.std.proofs.lemmas.Simd.{tops_compared}
 use Rattle.std.proofs.lemmas.Bool.Decides.{Decides-ltb, Decides-eqb}
 use Rattle.lanes.specs.Lanes.{IsMask}
-use Rattle.lanes.proofs.Lanes.{itself, told, always, never, not_equal, at_most}
+use Rattle.planes.proofs.Lanes.{itself}
+use Rattle.lanes.proofs.Lanes.{reported, always, never, not_equal, at_most}
 use Rattle.lanes.proofs.merging.passes_lanes.Goals.{in-Never, in-Less, in-Equal, in-LessEqual, in-Greater, in-NotEqual, in-GreaterEqual, in-Always}
 use Rattle.lanes.proofs.merging.passes_lanes.Goals as goal
 
 compared : (t : ℕ → ℕ → Bool) (P : ℕ → ℕ → Type 0) → ((x y : ℕ) → Decides (t x y) (P x y)) → (a b : List ℕ) → length a ≡ 16 → length b ≡ 16
     → IsMask (sel_l (map (top 15) (zip2 (λ x y. cond (t x y) 65535 0) a b)) (replicate 16 65535) (replicate 16 0)) (λ i. P (get_or a i 0) (get_or b i 0))
 compared t P d a b p q =
-    subst (λ ms. IsMask (sel_l ms (replicate 16 65535) (replicate 16 0)) (λ i. P (get_or a i 0) (get_or b i 0))) (sym (tops_compared w16 t a b)) (told t P d a b _ _ (itself a p) (itself b q))
+    subst (λ ms. IsMask (sel_l ms (replicate 16 65535) (replicate 16 0)) (λ i. P (get_or a i 0) (get_or b i 0))) (sym (tops_compared w16 t a b)) (reported t P d a b _ _ (itself a p) (itself b q))
 
 pub returns : goal.returns
 returns c =

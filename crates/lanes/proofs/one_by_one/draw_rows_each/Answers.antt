@@ -1,6 +1,7 @@
 use Rattle.std.proofs.Common.{sym, subst, arith, ◌+◌, ◌*◌, ◌<◌}
 use Rattle.shade.specs.Placed.{IsDrawnAt}
-use Rattle.lanes.specs.Block.{stored_at, position_in, AreDrawn}
+use Rattle.planes.specs.Group.{position_in}
+use Rattle.lanes.specs.Block.{stored_at, AreDrawn}
 use Rattle.lanes.proofs.LaneNumbers.{is_one, is_set}
 use Rattle.lanes.proofs.Blocks.{rows_kept, one_more, one_drawn, one_kept}
 use Rattle.lanes.proofs.one_by_one.draw_rows_each.Goals.{then-mask-k-eq1, else-mask-k-eq1}

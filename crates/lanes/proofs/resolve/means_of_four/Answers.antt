@@ -2,8 +2,8 @@ use Rattle.std.proofs.Common.{◌≡◌, ℕ, ◌+◌, ◌/◌, ◌≤◌, List,
 use Rattle.std.specs.Simd.Lanes.{zip2, chunk}
 use Rattle.std.proofs.lemmas.Simd.{length-chunk, get_or-chunk}
 use Rattle.shade.specs.Quotient.{IsQuotient}
-use Rattle.lanes.specs.Lanes.{HasLanes}
-use Rattle.lanes.proofs.Lanes.{zipped, splat, of_each}
+use Rattle.planes.specs.Lanes.{HasLanes}
+use Rattle.planes.proofs.Lanes.{zipped, splat, of_each}
 use Rattle.lanes.proofs.Blending.{plus, shifted}
 use Rattle.lanes.proofs.LaneNumbers.{lane_mean, mean-bound, mean_is}
 use Rattle.lanes.proofs.resolve.means_of_four.Goals as goal

@@ -10,7 +10,7 @@ returns-in_err-next-clause-fault c =
     let within : c.loop-number.number < length c.args.draws.now = omega arith in
     let fault = c.in_err-next.field-0.0 in
     let p = err_from_is_err_and c.from_residual-in_err-next.result c.from_residual-in_err-next.ensures.1 in
-    rw (p.1, p.2) (λ other. c.loop-number.invariant.faults fault (fails_here c.args.draws.now c.loop-number.number _ within _ _ _ fault (c.in_err-next.ensures.told other) c.in_err-next.ensures.named))
+    rw (p.1, p.2) (λ other. c.loop-number.invariant.faults fault (fails_here c.args.draws.now c.loop-number.number _ within _ _ _ fault (c.in_err-next.ensures.reported other) c.in_err-next.ensures.named))
 
 pub returns-in_err-next-clause-reached : goal.returns-in_err-next-clause-reached
 returns-in_err-next-clause-reached c =
@@ -28,16 +28,16 @@ loop-number-preserved c =
     let earlier = c.loop-number.earlier in
     let vs = c.loop-number.vertices_left.now in
     let is = c.loop-number.indices_left.now in
-    let told = c.in_ok-next.ensures.told in
-    let pass = told.0 in
-    let triangles = c.triangles-earlier.ensures.value ∙ ap (λ (d : DrawListing). count_of_triangles d.primitives) told.1 in
+    let reported = c.in_ok-next.ensures.reported in
+    let pass = reported.0 in
+    let triangles = c.triangles-earlier.ensures.value ∙ ap (λ (d : DrawListing). count_of_triangles d.primitives) reported.1 in
     let vertices = c.split_at.ensures.back in
     let indices = c.split_at-in-loop-number.ensures.back in
     record {
       passed = λ later. c.loop-number.invariant.passed (passes_here ds i _ within earlier vs is pass (rw (triangles, vertices, indices) at later));
       faults = λ fault later. c.loop-number.invariant.faults fault (fails_later ds i _ within earlier vs is fault pass (rw (triangles, vertices, indices) at later));
       reached = λ kind n later. c.loop-number.invariant.reached kind n (reached_later ds i _ within earlier vs is kind n pass (rw (triangles, vertices, indices) at later));
-      listed = rw (vertices, indices) (one_more_listed ds i _ within earlier vs is c.loop-number.found.items _ c.in_ok-next.next _ c.push_reserved.ensures.items told.1 c.loop-number.invariant.listed);
+      listed = rw (vertices, indices) (one_more_listed ds i _ within earlier vs is c.loop-number.found.items _ c.in_ok-next.next _ c.push_reserved.ensures.items reported.1 c.loop-number.invariant.listed);
       room = rw triangles pass.1.1.1.1.1.0;
       held = omega (arith, c.push_reserved.ensures.len);
       reserved = omega (arith, c.push_reserved.ensures.capacity);

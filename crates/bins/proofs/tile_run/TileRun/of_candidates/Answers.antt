@@ -1,10 +1,8 @@
-use Rattle.std.proofs.Common.{sym, ◌<◌, ◌≤◌, [], length, arith, rules}
+use Rattle.std.proofs.Common.{sym, ◌∙◌, ◌<◌, ◌≤◌, [], length, arith, rules}
 use Rattle.std.proofs.lemmas.Grind.{get_or_default_zero}
-use Rattle.bins.proofs.Batches.{fetched}
 use Rattle.bins.proofs.Gathering.{few_runs}
 use Rattle.bins.proofs.InRows.{none_have_runs, to_next, one_more, all_have_runs}
 use Rattle.bins.proofs.tile_run.TileRun.of_candidates.Goals as goal
-use Rattle.bins.proofs.tile_run.TileRun.of_candidates.Goals.{then-place-first-eq-BATCH, else-place-first-eq-BATCH}
 
 pub returns-in_default-clause-runs : goal.returns-in_default-clause-runs
 returns-in_default-clause-runs c =
@@ -15,14 +13,10 @@ returns-in_default-clause-runs c =
 
 pub push_runs-requires-clause-triangle : goal.push_runs-requires-clause-triangle
 push_runs-requires-clause-triangle c =
-    let list = c.args.list.now in
     let numbers = c.args.numbers.now in
     let place = c.loop-place.place in
     let inside : place < length numbers = omega (arith, c.loop-place-test.true) in
-    rw (← c.index-batch-place.is) (elim c.if-place-first-eq-BATCH.branch [
-      | then-place-first-eq-BATCH w ↦ fetched list numbers c.if-place-first-eq-BATCH.first place _ c.if-place-first-eq-BATCH.batch _ (rw (w.batch-is, w.first-is) w.fetch-then-place-first-eq-BATCH.ensures) (omega (arith, w.first-is)) (omega (arith, w.first-is)) inside (sym (get_or_default_zero numbers place _ inside)) c.index-batch-place.is
-      | else-place-first-eq-BATCH w ↦ fetched list numbers c.if-place-first-eq-BATCH.first place _ c.if-place-first-eq-BATCH.batch _ (rw (w.batch-is, w.first-is) c.loop-place.invariant.1) (omega (arith, w.first-is, c.loop-place.invariant.2)) (omega (arith, w.first-is, c.loop-place.invariant.3)) inside (sym (get_or_default_zero numbers place _ inside)) c.index-batch-place.is
-    ])
+    rw (get_or_default_zero numbers place _ inside) (sym c.go_on.ensures.has.triangle ∙ c.triangle.ensures)
 
 pub push_runs-requires-clause-limits : goal.push_runs-requires-clause-limits
 push_runs-requires-clause-limits c = c.requires.limits
@@ -38,20 +32,7 @@ loop-place-preserved c =
     let numbers = c.args.numbers.now in
     let inside : c.loop-place.place < length numbers = omega (arith, c.loop-place-test.true) in
     let have = one_more c.args.list.now c.args.tiling.now c.args.first_row c.args.rows numbers c.requires.candidates c.loop-place.place _ c.loop-place.invariant.0 _ inside c.in_ok-push_runs.ensures in
-    elim c.if-place-first-eq-BATCH.branch [
-      | then-place-first-eq-BATCH w ↦ rw (w.batch-is, w.first-is) (
-        have,
-        w.fetch-then-place-first-eq-BATCH.ensures,
-        omega arith,
-        omega arith,
-      )
-      | else-place-first-eq-BATCH w ↦ rw (w.batch-is, w.first-is) (
-        have,
-        c.loop-place.invariant.1,
-        omega (arith, c.loop-place.invariant.2),
-        omega (arith, c.loop-place.invariant.2, c.loop-place.invariant.3, w.if-place-first-eq-BATCH.false),
-      )
-    ]
+    (have, c.go_on.ensures.before)
 
 pub returns-clause-few : goal.returns-clause-few
 returns-clause-few c =

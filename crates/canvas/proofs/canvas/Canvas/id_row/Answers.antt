@@ -1,5 +1,4 @@
-use Rattle.std.proofs.Common.{◌≡◌, ◌∙◌, ◌/◌, ℕ, ap, arith}
-use Rattle.shade.specs.declared.sample.Sample.{Sample}
+use Rattle.std.proofs.Common.{◌∙◌, ◌/◌, ℕ, ap, arith}
 use Rattle.canvas.specs.Layout.{stored}
 use Rattle.canvas.specs.Colours.{id_of}
 use Rattle.canvas.proofs.Places.{found_in_row}

@@ -1,11 +1,10 @@
-use Rattle.std.proofs.Common.{◌≡◌, ◌∙◌, ap, ◌+◌, ◌-◌, ◌*◌, ◌/◌, ◌%◌, ◌<◌, ◌≤◌, ℕ, min, subst, sym, refl, take, drop, length, slice_index, arith}
+use Rattle.std.proofs.Common.{◌≡◌, ◌∙◌, ap, ◌+◌, ◌-◌, ◌*◌, ◌/◌, ◌%◌, ◌<◌, ◌≤◌, ℕ, min, subst, refl, take, drop, length, slice_index, arith}
 use Rattle.std.proofs.Math.Nat.{add-mul, mul-le-mul_right}
 use Rattle.grid.specs.Samples.{count_of}
 use Rattle.raster.specs.Samples.{stored as in_tile}
 use Rattle.canvas.specs.Layout.{planes_of_tile, stored}
 use Rattle.canvas.specs.Pixels.{pixel_bytes}
 use Rattle.canvas.specs.Colours.{IsPixelOf, IsTilePixel}
-use Rattle.canvas.proofs.Cut.{put}
 use Rattle.canvas.proofs.Places.{tile_of}
 use Rattle.canvas.proofs.PixelColours.{pixel_same, pixel_in_row}
 use Rattle.canvas.proofs.Units.{AreUnits, no_units, more_units, all_units}

@@ -14,14 +14,14 @@ loop-row-preserved c =
     let canvas = self.canvas in
     let xs = c.args.samples.now in
     let s : ℕ = c.args.s in
-    let sample : s < count_of canvas.count = omega (arith, c.count.ensures, c.if-count-s.false) in
+    let sample : s < count_of canvas.count = c.in_ok-fits_entries.ensures.sample in
     let stride : ℕ = c.args.stride in
     let row : ℕ = c.loop-row.row in
     let each : ℕ = c.planes_of_row-each.result in
     let from : ℕ = row / 64 * each in
     let n : ℕ = from + each - from in
     let size : n ≡ planes_of_row canvas = omega (arith, c.planes_of_row-each.ensures.value) in
-    let fits : IsLargeEnough canvas self.first self.end 1 stride (length c.args.depths.now) = c.is_large_enough.ensures.0 c.if-not-is_large_enough.false in
+    let fits : IsLargeEnough canvas self.first self.end 1 stride (length c.args.depths.now) = c.in_ok-fits_entries.ensures.size in
     let inside : row < shown_rows canvas self.first self.end = omega (arith, c.loop-row-test.true, c.shown_rows-row-end.ensures.value) in
     let next : (row + 1) * stride ≤ shown_rows canvas self.first self.end * stride = mul-le-mul_right stride (let more : row + 1 ≤ shown_rows canvas self.first self.end = omega (arith, inside) in more) in
     let a : ℕ = row * stride in

@@ -1,8 +1,8 @@
-use Rattle.std.proofs.Common.{◌≡◌, ◌⊎◌, ◌∙◌, inl, inr, refl, ap, ◌+◌, ◌-◌, ◌*◌, ◌/◌, ◌<◌, ℕ, List, take, drop, slice_index, arith}
+use Rattle.std.proofs.Common.{◌≡◌, ◌∙◌, inl, inr, refl, ap, ◌+◌, ◌-◌, ◌*◌, ◌<◌, ℕ, List, take, drop, slice_index, arith}
 use Rattle.std.proofs.lemmas.Bool.{cases_lt}
 use Rattle.canvas.specs.Layout.{HasPixel}
 use Rattle.canvas.specs.Pixels.{pixel_bytes, entry_of, shown_rows}
-use Rattle.canvas.specs.Loaded.{coloured, AreChanged}
+use Rattle.canvas.specs.Loaded.{coloured}
 use Rattle.canvas.proofs.Cut.{part_of}
 use Rattle.canvas.proofs.Units.{below_unit}
 use Rattle.canvas.proofs.Changes.{no_change, joined_changes, coloured_same, changes_where}

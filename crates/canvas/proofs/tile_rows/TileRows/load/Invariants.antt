@@ -1,4 +1,4 @@
-use Rattle.std.proofs.Common.{◌≡◌, ◌+◌, ◌*◌, ◌<◌, slice_index}
+use Rattle.std.proofs.Common.{◌+◌, ◌*◌, ◌<◌, slice_index}
 use Rattle.canvas.specs.Layout.{HasPixel}
 use Rattle.canvas.specs.Pixels.{pixel_bytes, entry_of}
 use Rattle.canvas.specs.Loaded.{coloured, AreChanged}

@@ -1,6 +1,6 @@
 use Rattle.std.proofs.Common.{◌≡◌, ◌<◌, ℕ, slice_index, arith}
-use Rattle.canvas.specs.Layout.{HasSample}
-use Rattle.canvas.specs.Loaded.{coloured, AreChanged}
+use Rattle.canvas.specs.Layout.{IsStoredIn}
+use Rattle.canvas.specs.Loaded.{coloured}
 use Rattle.canvas.proofs.Changes.{no_change, one_sample_more, changes_where}
 use Rattle.canvas.proofs.tile_rows.TileRows.load_pixel.Goals as goal
 
@@ -17,7 +17,7 @@ loop-s-preserved c =
     let s : ℕ = c.loop-s.s in
     let pixel = c.requires.pixel in
     let wide = pixel.column in
-    let here : HasSample self.canvas self.first self.end i j s = record { column = omega (arith, wide); from = pixel.from; below = pixel.below; is_sample = omega (arith, c.loop-s-test.true, c.count-s-end.ensures) } in
+    let here : IsStoredIn self.canvas self.first self.end i j s = record { column = omega (arith, wide); from = pixel.from; below = pixel.below; is_sample = omega (arith, c.loop-s-test.true, c.count-s-end.ensures) } in
     one_sample_more self.canvas self.first self.end i j s here c.loop-s.samples c.args.samples.now c.recolour.new.plane (λ column row sample. coloured c.args.format (λ k. slice_index c.args.pixel.now k) sample) c.place-place.result c.place-place.ensures.value
     (omega (arith, c.place-place.ensures.within, c.requires.samples, c.loop-s.auto.samples)) c.recolour.ensures.kept c.recolour.ensures.stored c.loop-s.invariant
 

@@ -1,7 +1,7 @@
-use Rattle.std.proofs.Common.{◌≡◌, ◌⊎◌, ◌∙◌, inl, inr, refl, ap, ◌+◌, ◌-◌, ◌*◌, ◌<◌, ℕ, List, take, drop, slice_index, arith}
+use Rattle.std.proofs.Common.{◌≡◌, ◌∙◌, inl, inr, refl, ap, ◌+◌, ◌-◌, ◌*◌, ◌<◌, ℕ, List, take, drop, slice_index, arith}
 use Rattle.std.proofs.lemmas.Bool.{cases_lt}
 use Rattle.canvas.specs.Pixels.{pixel_bytes}
-use Rattle.canvas.specs.Loaded.{coloured, AreChanged}
+use Rattle.canvas.specs.Loaded.{coloured}
 use Rattle.canvas.proofs.Cut.{part_of}
 use Rattle.canvas.proofs.Changes.{no_change, joined_changes, coloured_same, changes_where}
 use Rattle.canvas.proofs.tile_rows.TileRows.load_row.Goals as goal

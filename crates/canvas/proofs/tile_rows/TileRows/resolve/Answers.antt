@@ -24,7 +24,7 @@ loop-row-preserved c =
     let from : ℕ = row / 64 * each in
     let n : ℕ = from + each - from in
     let size : n ≡ planes_of_row canvas = omega (arith, c.planes_of_row-each.ensures.value) in
-    let fits : IsLargeEnough canvas self.first self.end w stride (length c.args.bytes.now) = rw is_unit at (c.is_large_enough.ensures.0 c.if-not-is_large_enough.false) in
+    let fits : IsLargeEnough canvas self.first self.end w stride (length c.args.bytes.now) = rw is_unit at c.in_ok-fits.ensures.size in
     let inside : row < shown_rows canvas self.first self.end = omega (arith, c.loop-row-test.true, c.shown_rows-row-end.ensures.value) in
     let next : (row + 1) * stride ≤ shown_rows canvas self.first self.end * stride = mul-le-mul_right stride (let more : row + 1 ≤ shown_rows canvas self.first self.end = omega (arith, inside) in more) in
     let a : ℕ = row * stride in

@@ -2,8 +2,8 @@ use Rattle.std.proofs.Common.{◌≡◌, subst, sym, ap}
 use Rattle.shade.specs.declared.placed.Placed.{Placed}
 use Rattle.lanes.specs.declared.sources.DepthSource.{DepthSource}
 use Rattle.lanes.specs.declared.sources.ColourSource.{ColourSource}
-use Rattle.lanes.specs.declared.depth_plane.DepthPlane.{DepthPlane}
-use Rattle.lanes.specs.declared.colour_planes.ColourPlanes.{ColourPlanes}
+use Rattle.planes.specs.declared.depth_plane.DepthPlane.{DepthPlane}
+use Rattle.planes.specs.declared.colour_planes.ColourPlanes.{ColourPlanes}
 use Rattle.lanes.specs.declared.mode.DepthMode.{DepthMode}
 use Rattle.lanes.specs.declared.mode.ColourMode.{ColourMode}
 use Rattle.lanes.specs.declared.mode.DrawMode.{DrawMode}

@@ -1,7 +1,7 @@
 use Rattle.std.proofs.Common.{◌∙◌, ap, false, slice_index_or, sym, subst, w32}
 use Rattle.std.proofs.lemmas.Int.{to_z-of_z}
 use Rattle.shade.specs.Placed.{channel, IsInterpolated}
-use Rattle.lanes.specs.Block.{position_in}
+use Rattle.planes.specs.Group.{position_in}
 use Rattle.lanes.specs.Sources.{IsColourOf}
 use Rattle.shade.specs.declared.sample.Merge.{Merge}
 use Rattle.lanes.proofs.Flat.{flat_value}

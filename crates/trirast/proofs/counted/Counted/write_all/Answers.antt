@@ -6,8 +6,8 @@ use Rattle.trirast.proofs.counted.Counted.write_all.Goals as goal
 
 pub loop-sent-preserved : goal.loop-sent-preserved
 loop-sent-preserved g c =
-    let told = c.in-Ok.ensures in record {
-      within = grind (arith, common_steps, told.bound);
-      same_failures = grind (arith, nat_tests, told.failures);
-      beginning = Appends-more _ _ _ c.args.bytes.now c.loop-sent.sent c.in-Ok.count c.loop-sent.invariant.beginning told.bytes;
+    let reported = c.in-Ok.ensures in record {
+      within = grind (arith, common_steps, reported.bound);
+      same_failures = grind (arith, nat_tests, reported.failures);
+      beginning = Appends-more _ _ _ c.args.bytes.now c.loop-sent.sent c.in-Ok.count c.loop-sent.invariant.beginning reported.bytes;
     }

@@ -1,0 +1,180 @@
+"""Times canvases on the scenes of bench/scenes.py, and prints four tables.
+
+    python3 -m bench.canvas [--runs 5] [--scenes tiny mesh ..] [--tables parts batches frames scattered] [--threads 1 4]
+
+Needs `make library` and gcc.
+
+parts: the least time of clearing, of drawing and of resolving each scene on a canvas, and of trirast_draw_scene, which does all three,
+by processor time on one thread; the ways take turns. Every pixel is compared.
+batches: the processor time of a batch of two triangles of 8 pixels, of 10,000.
+frames: the processor time of a frame by examples/cpp/frames.cpp, one batch, beside one by crates/frames. Needs `make frames` and g++.
+scattered: the same of scenes of scattered triangles, cut into batches of fewer triangles, on one thread.
+"""
+
+from __future__ import annotations
+
+import argparse
+import json
+import os
+import subprocess
+import sys
+from typing import Sequence
+
+from bench import llvmpipe, run, scenes
+from tools import places
+from tools.library.lists import arrays_of
+from tools.places import BENCH_OUT, EXAMPLES, FRAMES_PROGRAM, INCLUDE, STATIC_LIBRARY, TOP, is_built
+
+SCENES = tuple(name for name in run.SCENES if name not in run.REFUSED)
+SIDES = (1024, 4096)
+PROGRAM = os.path.join(BENCH_OUT, "canvas")
+FRAMES_EXAMPLE = os.path.join(BENCH_OUT, "canvas_frames")
+TABLES = ("parts", "batches", "frames", "scattered")
+# What a frame takes is what this number of frames more takes, so that reading the list does not count.
+FRAMES = 6
+# A frame of fewer seconds is lost in what a process takes.
+LEAST = 0.0005
+SCATTERED = ("small", "slivers")
+BATCH_SIZES = (1, 16, 64, 256, 1024, 4096)
+
+
+def built() -> bool:
+    """Builds the program in C over the static library."""
+    source = os.path.join(TOP, "bench", "canvas.c")
+    command = ["gcc", "-std=c11", "-O2", "-I", INCLUDE, "-o", PROGRAM, source, STATIC_LIBRARY]
+    return subprocess.run(command).returncode == 0
+
+
+def built_frames() -> bool:
+    """Builds the example in C++ over the static library. Whether it and the program of crates/frames are there."""
+    source = os.path.join(EXAMPLES, "cpp", "frames.cpp")
+    include = ["-I", INCLUDE, "-I", os.path.join(TOP, "bench")]
+    command = ["g++", "-std=c++17", "-O2", *include, "-pthread", "-o", FRAMES_EXAMPLE, source, STATIC_LIBRARY]
+    return is_built(FRAMES_PROGRAM, places.PROGRAM, made_by="make frames") and subprocess.run(command).returncode == 0
+
+
+def timed(*arguments: str) -> list[int]:
+    done = subprocess.run([PROGRAM, *arguments], check=True, stdout=subprocess.PIPE, text=True)
+    return [int(word) for word in done.stdout.split()]
+
+
+def arrays_path(name: str) -> str:
+    """Writes the arrays of a scene, and returns their path."""
+    path = os.path.join(BENCH_OUT, f"{name}.scene")
+    with open(path, "wb") as file:
+        file.write(arrays_of(json.loads(places.bytes_of(scenes.path_of(name)))))
+    return path
+
+
+def print_scenes(names: list[str], rounds: int) -> None:
+    print("| scene | clear | draw | resolve | together | trirast_draw_scene |\n|---|---|---|---|---|---|")
+    for name in names:
+        times = timed("scene", arrays_path(name), str(rounds))
+        cells = [f"{time / 1000:.2f}" for time in (*times[:3], sum(times[:3]), times[3])]
+        print(f"| {name} | {' | '.join(cells)} |", flush=True)
+
+
+def print_batches(rounds: int) -> None:
+    print("\n| canvas | a batch, microseconds | by ids |\n|---|---|---|")
+    for side in SIDES:
+        cells = [f"{time / 1000:.2f}" for time in timed("batches", str(side), str(rounds))]
+        print(f"| {side} by {side} | {' | '.join(cells)} |", flush=True)
+
+
+# ---- Frames beside crates/frames
+
+# The arguments for one frame, and for FRAMES more.
+Way = tuple[list[str], list[str]]
+
+
+def way_of_frames(threads: int) -> Way:
+    """By crates/frames, which draws one frame for its checksum, and then those that are timed."""
+    command = [FRAMES_PROGRAM, "--workers", str(threads)]
+    return command, [*command, "--time", "--frames", str(FRAMES)]
+
+
+def way_of_canvas(threads: int, *more: str) -> Way:
+    command = [FRAMES_EXAMPLE, "--workers", str(threads), *more]
+    return command, [*command, "--frames", str(1 + FRAMES)]
+
+
+def processor_times(source: str, ways: Sequence[Way], rounds: int) -> list[float]:
+    """The processor time of a frame of a list in seconds, each way. They take turns, and the least times count."""
+    least = [[float("inf")] * 2 for _ in ways]
+    for _ in range(rounds):
+        for way, times in zip(ways, least):
+            for k, command in enumerate(way):
+                times[k] = min(times[k], run.Run(command, source, os.devnull, is_quiet=True).processor)
+    return [(many - one) / FRAMES for one, many in least]
+
+
+def source_of(name: str) -> str:
+    """The list of a scene. Raises `NotTimed` if the example draws other bytes than the program."""
+    source = scenes.path_of(name)
+    llvmpipe.check_model(FRAMES_EXAMPLE, places.PROGRAM, source)
+    return source
+
+
+def print_frames(names: Sequence[str], rounds: int, threads: Sequence[int]) -> None:
+    print("\nProcessor time of a frame, milliseconds.\n")
+    print("| scene | threads | crates/frames | canvas | canvas by crates/frames |\n|---|---|---|---|---|")
+    for name in names:
+        source = source_of(name)
+        for count in threads:
+            frame, canvas = processor_times(source, (way_of_frames(count), way_of_canvas(count)), rounds)
+            cells = [f"{1000 * frame:.2f}", f"{1000 * canvas:.2f}", f"{canvas / frame:.2f}"] if frame > LEAST else ["-"] * 3
+            print(f"| {name} | {count} | {' | '.join(cells)} |", flush=True)
+
+
+def print_scattered(rounds: int) -> None:
+    """What batches of a number of triangles take, by the frame of crates/frames."""
+    heads = [f"{size:,}" for size in BATCH_SIZES]
+    print("\nProcessor time of a frame by that of crates/frames, by the triangles of a batch, one thread.\n")
+    print(f"| scene | {' | '.join(heads)} | one batch |\n{'|---' * (len(heads) + 2)}|")
+    for name in SCATTERED:
+        ways = [way_of_frames(1), *(way_of_canvas(1, "--batch", str(size)) for size in BATCH_SIZES), way_of_canvas(1)]
+        frame, *times = processor_times(source_of(name), ways, rounds)
+        print(f"| {name} | {' | '.join(f'{time / frame:.2f}' for time in times)} |", flush=True)
+
+
+def print_tables(options: argparse.Namespace) -> bool:
+    """Prints the tables that are asked for. Returns whether their programs could be built."""
+    if "parts" in options.tables or "batches" in options.tables:
+        if not built():
+            return False
+        print(f"Least of {options.runs} rounds, one thread, milliseconds of processor time.\n")
+        if "parts" in options.tables:
+            print_scenes(list(options.scenes), options.runs)
+        if "batches" in options.tables:
+            print_batches(options.runs)
+    if "frames" in options.tables or "scattered" in options.tables:
+        if not built_frames():
+            return False
+        if "frames" in options.tables:
+            print_frames(options.scenes, options.runs, options.threads)
+        if "scattered" in options.tables:
+            print_scattered(options.runs)
+    return True
+
+
+def main() -> int:
+    parser = argparse.ArgumentParser(description="Times canvases.")
+    parser.add_argument("--runs", type=int, default=5, help="rounds of which the least counts (default 5)")
+    parser.add_argument("--scenes", nargs="+", choices=SCENES, default=SCENES, metavar="NAME", help=", ".join(SCENES))
+    parser.add_argument("--tables", nargs="+", choices=TABLES, default=TABLES, metavar="TABLE", help=f"{', '.join(TABLES)} (default all)")
+    parser.add_argument("--threads", type=int, nargs="+", default=(1, 4), help="of a frame (default 1 4)")
+    options = parser.parse_args()
+    os.makedirs(BENCH_OUT, exist_ok=True)
+    if not os.path.isfile(STATIC_LIBRARY):
+        print(f"there is no library at {STATIC_LIBRARY}; run make library first", file=sys.stderr)
+        return 1
+    scenes.write_all([*options.scenes, *(SCATTERED if "scattered" in options.tables else ())])
+    print(f"Machine: {run.processor_name()}, {os.cpu_count()} processors; load before the run {run.load()}.")
+    if not print_tables(options):
+        return 1
+    print(f"\nLoad after the run {run.load()}.")
+    return 0
+
+
+if __name__ == "__main__":
+    sys.exit(main())

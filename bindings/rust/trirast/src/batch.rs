@@ -1,0 +1,175 @@
+//! Draws: vertices, indices of these, and how their triangles take effect.
+
+use std::borrow::Cow;
+use std::mem::size_of;
+
+use trirast_sys as sys;
+
+use crate::Error;
+
+pub use sys::trirast_vertex as Vertex;
+
+/// What the indices of a draw are.
+#[derive(Clone, Copy, Debug, Default, PartialEq, Eq)]
+pub enum Topology {
+    /// Three indices each.
+    #[default]
+    Triangles = 0,
+    /// A triangle strip.
+    Strip = 1,
+    /// Strictly convex quads, four indices each.
+    Quads = 2,
+}
+
+/// Which triangles are dropped. Front-facing ones run clockwise on the screen.
+#[derive(Clone, Copy, Debug, Default, PartialEq, Eq)]
+pub enum Cull {
+    #[default]
+    None = 0,
+    Front = 1,
+    Back = 2,
+}
+
+/// When the new depth passes its test against the stored one.
+#[derive(Clone, Copy, Debug, Default, PartialEq, Eq)]
+pub enum DepthTest {
+    Never = 0,
+    Less = 1,
+    Equal = 2,
+    LessEqual = 3,
+    Greater = 4,
+    NotEqual = 5,
+    GreaterEqual = 6,
+    #[default]
+    Always = 7,
+}
+
+/// What the new colour does to the stored one.
+#[derive(Clone, Copy, Debug, Default, PartialEq, Eq)]
+pub enum Blend {
+    /// It replaces it.
+    #[default]
+    None = 0,
+    /// It is blended over it by its alpha.
+    Over = 1,
+}
+
+/// How the triangles of a draw take effect. The default is that of a draw list.
+#[derive(Clone, Copy, Debug, PartialEq, Eq)]
+pub struct State {
+    pub topology: Topology,
+    pub cull: Cull,
+    pub depth_test: DepthTest,
+    /// Whether the new depth is stored if it passes the test.
+    pub depth_write: bool,
+    pub blend: Blend,
+    /// Whether red, green and blue are written.
+    pub write: [bool; 3],
+    /// Bit s is 1 if sample s is drawn: 0 to 15.
+    pub sample_mask: u8,
+    /// The pixels that are drawn: left, top, right, bottom, the last two outside; 0 to 4096 each, and on a canvas, where they
+    /// are pixels of the screen, 0 to 32,768. `None` is all of them.
+    pub scissor: Option<[u32; 4]>,
+}
+
+impl Default for State {
+    fn default() -> State {
+        State {
+            topology: Topology::default(),
+            cull: Cull::default(),
+            depth_test: DepthTest::default(),
+            depth_write: false,
+            blend: Blend::default(),
+            write: [true; 3],
+            sample_mask: 15,
+            scissor: None,
+        }
+    }
+}
+
+/// One draw: its vertices, indices of these, and its state.
+#[derive(Clone, Copy, Debug, PartialEq, Eq)]
+pub struct Draw<'a> {
+    pub vertices: &'a [Vertex],
+    pub indices: &'a [u32],
+    pub state: State,
+}
+
+impl Draw<'_> {
+    /// The draw as C takes it. `farthest` is the edge of a scissor that leaves nothing out.
+    fn raw(&self, farthest: u32) -> sys::trirast_batch_draw {
+        let [write_red, write_green, write_blue] = self.state.write.map(u32::from);
+        let [scissor_left, scissor_top, scissor_right, scissor_bottom] =
+            self.state.scissor.unwrap_or([0, 0, farthest, farthest]);
+        sys::trirast_batch_draw {
+            vertex_count: count(self.vertices.len()),
+            index_count: count(self.indices.len()),
+            topology: self.state.topology as u32,
+            cull: self.state.cull as u32,
+            depth_test: self.state.depth_test as u32,
+            depth_write: u32::from(self.state.depth_write),
+            blend: self.state.blend as u32,
+            write_red,
+            write_green,
+            write_blue,
+            sample_mask: u32::from(self.state.sample_mask),
+            scissor_left,
+            scissor_top,
+            scissor_right,
+            scissor_bottom,
+        }
+    }
+}
+
+/// A length as C takes it. One past 32 bits becomes the greatest, which is past every limit too.
+fn count(length: usize) -> u32 {
+    u32::try_from(length).unwrap_or(u32::MAX)
+}
+
+/// Draws with the vertices and the indices of all of them, one draw's after another's.
+pub(crate) struct Batch<'a> {
+    draws: Vec<sys::trirast_batch_draw>,
+    vertices: Cow<'a, [Vertex]>,
+    indices: Cow<'a, [u32]>,
+}
+
+impl<'a> Batch<'a> {
+    /// The arrays of a single draw are not copied. If memory cannot be allocated, returns the error of that.
+    pub(crate) fn of_draws(draws: &[Draw<'a>], farthest: u32) -> Result<Batch<'a>, Error> {
+        Ok(Batch {
+            draws: draws.iter().map(|draw| draw.raw(farthest)).collect(),
+            vertices: joined(draws, |draw| draw.vertices)?,
+            indices: joined(draws, |draw| draw.indices)?,
+        })
+    }
+
+    /// The batch as C takes it, which must not outlive this one.
+    pub(crate) fn raw(&self) -> sys::trirast_batch {
+        sys::trirast_batch {
+            struct_size: size_of::<sys::trirast_batch>() as u32,
+            draw_size: size_of::<sys::trirast_batch_draw>() as u32,
+            vertex_size: size_of::<Vertex>() as u32,
+            index_size: size_of::<u32>() as u32,
+            draws: self.draws.as_ptr(),
+            draw_count: self.draws.len(),
+            vertices: self.vertices.as_ptr(),
+            vertex_count: self.vertices.len(),
+            indices: self.indices.as_ptr(),
+            index_count: self.indices.len(),
+        }
+    }
+}
+
+/// The arrays of all draws, one draw's after another's. If the memory cannot be allocated, returns the error of that.
+fn joined<'a, T: Copy>(draws: &[Draw<'a>], of: impl Fn(&Draw<'a>) -> &'a [T]) -> Result<Cow<'a, [T]>, Error> {
+    if let [draw] = draws {
+        return Ok(Cow::Borrowed(of(draw)));
+    }
+    let mut all = Vec::new();
+    for draw in draws {
+        let array = of(draw);
+        all.try_reserve(array.len()).map_err(|_| Error::out_of_memory())?;
+        all.extend_from_slice(array);
+    }
+    Ok(Cow::Owned(all))
+}

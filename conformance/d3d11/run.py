@@ -1,0 +1,102 @@
+"""Draws suites of draw lists by Direct3D 11 and through the program, and reports where they differ.
+
+    python3 -m conformance.d3d11.run [--device hardware|warp|N] [--suite NAME ..] [--bits N] [--html report.html]
+    python3 -m conformance.d3d11.run --write requests.bin
+    python3 -m conformance.d3d11.run --read answers.bin
+
+By itself it runs rasterize.exe, on Windows directly and elsewhere under Wine. With --write the requests go to a file, which
+rasterize.exe draws on any machine, and --read compares its answers, with the same --suite and --bits. docs/conformance.md says what is
+asked and what equal means.
+
+Exit status 0: coverage agreed, and values did within what Direct3D allows. 1: a sample differed. 2: no sample was compared; a line on
+standard error has the cause, for streams with the name of the error: `NotAStream`, `OtherVersion`, `OtherSuite`, `CutShort`,
+`BadChecksum`, `Malformed`.
+"""
+
+from __future__ import annotations
+
+import argparse
+import os
+import re
+import sys
+import tempfile
+from typing import Sequence
+
+from conformance import suites
+from conformance.d3d11 import process
+from conformance.d3d11.direct3d import Direct3D, Questions, asked, drawn_by
+from conformance.d3d11.streams import StreamError, read_answers, write_requests
+from conformance.program import Program, Refused
+from conformance.run import add_shared, measure, publish
+from tools.draw_list import DrawList
+from tools.places import is_built
+
+NAMES = [suite.name for suite in suites.DIRECT3D]
+
+
+def device(text: str) -> str:
+    """The name of a device, checked."""
+    if text in ("hardware", "warp") or re.fullmatch(r"\d{1,3}", text):
+        return text
+    raise argparse.ArgumentTypeError("hardware, warp, or the number of an adapter")
+
+
+def requests_of(chosen: Sequence[suites.Suite], bits: int = 8, limit: int | None = None) -> list[bytes]:
+    """What a comparison over these suites asks, or one over the first lists of each."""
+
+    def compare(questions: Questions) -> object:
+        # Both sides are black, so that no list is written.
+        with tempfile.TemporaryDirectory() as folder:
+            return measure(Black(), questions, chosen, folder, bits, limit)
+
+    return asked(compare)
+
+
+class Black:
+    """A renderer whose pictures are black."""
+
+    def picture(self, scene: DrawList) -> bytes:
+        return bytes(3 * scene["width"] * scene["height"])
+
+
+def answered(options: argparse.Namespace, requests: Sequence[bytes]) -> Direct3D:
+    """Direct3D's answers, from a file or by the program. Raises `StreamError`, `CannotRun` or `OSError`."""
+    if options.read:
+        with open(options.read, "rb") as file:
+            return Direct3D(requests, read_answers(file.read(), requests))
+    command = process.command(options.exe, options.device, options.run)
+    return drawn_by(lambda stream: process.draw(stream, command), requests)
+
+
+def arguments() -> argparse.Namespace:
+    parser = argparse.ArgumentParser(description="Compares Direct3D 11's samples with the program's.")
+    parser.add_argument("--device", type=device, default="hardware", help="hardware, warp, or the number of an adapter")
+    parser.add_argument("--write", metavar="FILE", help="write the requests, and compare nothing")
+    parser.add_argument("--read", metavar="FILE", help="compare answers that were drawn elsewhere")
+    parser.add_argument("--exe", default=process.EXE, help="default conformance/out/rasterize.exe")
+    parser.add_argument("--run", metavar="COMMAND", help=f"what runs the .exe; default {' '.join(process.WINE)}, nothing on Windows")
+    add_shared(parser, NAMES)
+    return parser.parse_args()
+
+
+def main() -> int:
+    options = arguments()
+    chosen = [suite for suite in suites.DIRECT3D if suite.name in options.suite]
+    if not options.write and not is_built(options.program):
+        return 2
+    requests = requests_of(chosen, options.bits)
+    try:
+        if options.write:
+            with open(options.write, "wb") as file:
+                file.write(write_requests(requests))
+            return 0
+        driver = answered(options, requests)
+        program = Program(os.path.abspath(options.program))
+        return publish(measure(program, driver, chosen, options.lists, options.bits), options.html)
+    except (StreamError, process.CannotRun, Refused, OSError) as error:
+        print(f"conformance: {error}", file=sys.stderr)
+        return 2
+
+
+if __name__ == "__main__":
+    sys.exit(main())

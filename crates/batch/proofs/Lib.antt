@@ -1,0 +1,4 @@
+pub mod Chunks
+pub mod Corners
+pub mod Filled
+pub mod Draws

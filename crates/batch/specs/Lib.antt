@@ -1,0 +1,42 @@
+-- The definitions of this crate, each file behind those that it uses; `python3 -m tools.definitions` writes these lines.
+--
+-- Seen.antt
+--   vertex_at: The vertex of this index; past the end one of zeros, which no triangle of a batch names.
+--   CanBeSeen: The numbers of the vertex are in their ranges, and it is in the guard band as it is seen.
+--   AreSeen: The same of each vertex that an index names.
+--   triangles_seen: The triangles of a batch in draw order, as the same arrays list them in a scene, seen from the corner of pixel (x, y).
+--
+-- Ids.antt
+--   drawn_as: The triangles as they are drawn.
+--   HasIds: There are ids of 24 bits for this many triangles, where they need any.
+--   ids_after: The first id of the triangles that follow this many.
+--
+-- Checks.antt
+--   IsQuadSeen: The vertices of a quad can be seen, and are the corners of a strictly convex quad.
+--   AreQuadsSeen: If the primitives are quads, each of them is seen and strictly convex.
+--   primitives_checks: The primitives of a draw of these vertices.
+--   draw_checks: A draw, whose vertices and indices are the first of these.
+--   DrawsPass: Each draw passes its checks, and no vertex and no index is left over.
+--   IsFirstOfDraws: The first check of draws that fails reports this fault.
+--   BatchPasses: The batch passes its checks: its draws can be counted by 32 bits, and each passes its own.
+--   IsFirstFault: The first check of a batch that fails reports this fault.
+--
+-- Parts.antt
+--   listing_of: The draw as a draw list has it: its state, its vertices, and its primitives.
+--   triangles_in: The triangles of the part in draw order, each by the indices of its vertices.
+--   seen_in: The triangle of these vertices, as it is seen from the origin.
+--   IsReady: There are such primitives, and their vertices can be seen.
+--
+-- Arrays.antt
+--   HasSizes: The struct and the elements of its arrays have the sizes, in bytes, that this library knows.
+--
+-- Errors.antt
+--   alone: An error of which the status says all; with the status 0 none.
+--   reported_in: An error of the list with this number, in this draw, if it is in one.
+
+pub mod Seen
+pub mod Ids
+pub mod Checks
+pub mod Parts
+pub mod Arrays
+pub mod Errors

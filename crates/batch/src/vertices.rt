@@ -1,0 +1,116 @@
+//! Vertices by their indices in the caller's array.
+ghost use Rattle.std.specs.Prelude.{◌≡◌, ◌↔◌, ℕ, map, IsSome, IfSome, IsTrue, slice_index};
+ghost use Rattle.std.specs.List.{All};
+ghost use Rattle.model.specs.Listing.{triangle_of};
+ghost use Rattle.model.specs.Primitives.{position_of, IsConvexOver};
+ghost use Rattle.model.specs.declared.draw.Vertex.{Vertex as VertexOf};
+ghost use Rattle.scene.specs.Listed.{vertex_listed};
+ghost use Rattle.canvas.specs.Window.{moved};
+ghost use Rattle.batch.specs.Seen.{vertex_at, CanBeSeen, AreSeen};
+ghost use Rattle.batch.specs.Checks.{IsQuadSeen};
+
+use canvas::{Origin, seen_point};
+use grid::{Point, Quad, Tri};
+use model::Vertex;
+use scene::SceneVertex;
+use shade::{Placed, State};
+
+/// What an index past the end of the vertices stands for.
+const NONE: SceneVertex = SceneVertex {
+    x: 0,
+    y: 0,
+    z: 0,
+    r: 0,
+    g: 0,
+    b: 0,
+    a: 0,
+};
+
+/// The vertex of this index; past the end one of zeros.
+fn numbers_at(vertices: &[SceneVertex], index: u32) -> SceneVertex
+    ensures { result ≡ vertex_at vertices.now index }
+{
+    match vertices.get(index as usize) {
+        Some(vertex) => *vertex,
+        None => NONE,
+    }
+}
+
+/// The vertex of this index, or `None` if it cannot be seen.
+fn vertex(vertices: &[SceneVertex], index: u32, origin: &Origin) -> Option<Vertex>
+    ensures some { IsSome result ↔ CanBeSeen origin.now.x origin.now.y (vertex_at vertices.now index) }
+    ensures value { IfSome result (λ v. v ≡ vertex_listed (vertex_at vertices.now index)) }
+{
+    let vertex = numbers_at(vertices, index).vertex()?;
+    seen_point(vertex.at, origin)?;
+    Some(vertex)
+}
+
+/// Whether each vertex that an index names can be seen.
+pub(crate) fn are_seen(vertices: &[SceneVertex], indices: &[u32], origin: &Origin) -> bool
+    ensures { IsTrue result ↔ AreSeen origin.now.x origin.now.y vertices.now indices.now }
+{
+    indices
+        .iter()
+        .all(|index| vertex(vertices, *index, origin).is_some())
+}
+
+/// The position of a vertex that can be seen.
+#[tactic(auto, using(crate::proofs::Corners::position_at))]
+fn position(vertices: &[SceneVertex], index: u32, origin: &Origin) -> Point
+    requires { CanBeSeen origin.now.x origin.now.y (vertex_at vertices.now index) }
+    ensures { result ≡ position_of (map vertex_listed vertices.now) index }
+{
+    vertex(vertices, index, origin).unwrap().at
+}
+
+/// Whether a quad whose vertices can be seen is strictly convex.
+fn is_convex(vertices: &[SceneVertex], quad: [u32; 4], origin: &Origin) -> bool
+    requires { AreSeen origin.now.x origin.now.y vertices.now quad }
+    ensures { IsTrue result ↔ IsConvexOver (map vertex_listed vertices.now) quad }
+{
+    let a = position(vertices, quad[0], origin);
+    let b = position(vertices, quad[1], origin);
+    let c = position(vertices, quad[2], origin);
+    let d = position(vertices, quad[3], origin);
+    Quad::new(a, b, c, d).is_some()
+}
+
+/// Whether the vertices of a quad can be seen, and it is strictly convex.
+fn is_quad_seen(vertices: &[SceneVertex], quad: [u32; 4], origin: &Origin) -> bool
+    ensures { IsTrue result ↔ IsQuadSeen origin.now.x origin.now.y vertices.now quad }
+{
+    are_seen(vertices, &quad, origin) && is_convex(vertices, quad, origin)
+}
+
+/// Whether the same holds of each quad.
+pub(crate) fn are_quads_seen(vertices: &[SceneVertex], quads: &[[u32; 4]], origin: &Origin) -> bool
+    ensures { IsTrue result ↔ All (IsQuadSeen origin.now.x origin.now.y vertices.now) quads.now }
+{
+    quads
+        .iter()
+        .all(|quad| is_quad_seen(vertices, *quad, origin))
+}
+
+/// The triangle of the vertices with these indices in this state, as it is seen. `None` if one of them cannot be seen.
+pub(crate) fn triangle_seen(
+    vertices: &[SceneVertex],
+    state: &State,
+    indices: [u32; 3],
+    origin: &Origin,
+) -> Option<Placed>
+    ensures some { AreSeen origin.now.x origin.now.y vertices.now indices → IsSome result }
+    ensures value { let corner : ℕ → VertexOf = λ i. vertex_listed (vertex_at vertices.now (slice_index indices i)) in
+        IfSome result (λ t. t ≡ moved origin.now.x origin.now.y (triangle_of state.now (corner 0) (corner 1) (corner 2))) }
+{
+    let a = vertex(vertices, indices[0], origin)?;
+    let b = vertex(vertices, indices[1], origin)?;
+    let c = vertex(vertices, indices[2], origin)?;
+    let (of_a, of_b, of_c) = (a.rgba, b.rgba, c.rgba);
+    origin.seen(&Placed {
+        tri: Tri::new(a.at, b.at, c.at),
+        z: [a.z, b.z, c.z],
+        rgba: [of_a, of_b, of_c],
+        state: *state,
+    })
+}

@@ -1,0 +1,10 @@
+use Rattle.std.proofs.Common.{length}
+use Rattle.canvas_c.specs.Pieces.{image_checks}
+use Rattle.canvas_c.proofs.Ended.{status_of, done_if}
+use Rattle.canvas_c.proofs.images.trirast_canvas_resolve.Goals as goal
+
+pub returns-clause-status : goal.returns-clause-status
+returns-clause-status c = status_of (image_checks c.args.canvas.now.head (length c.args.canvas.now.planes.now) c.args.format c.args.stride (length c.args.pixels.now)) c.resolve_into.result c.status.result c.status.ensures.ended c.resolve_into.ensures.judged
+
+pub returns-clause-resolved : goal.returns-clause-resolved
+returns-clause-resolved c = done_if _ c.resolve_into.result c.status.result c.status.ensures.ended c.resolve_into.ensures.resolved

@@ -1,0 +1,76 @@
+-- Tile rows of a canvas, as the caller names them, and the checks of the calls.
+use Rattle.std.specs.Prelude.{◌≡◌, ◌⊎◌, ℕ, ◌==◌, ◌+◌, ◌-◌, ◌*◌, ◌/◌, ◌<◌, ◌≤◌, min, if◌then◌else◌}
+use Rattle.scene.specs.Listed.{samples_listed}
+use Rattle.canvas.specs.declared.canvas.Canvas.{Canvas}
+use Rattle.canvas.specs.declared.format.Format.{Format}
+use Rattle.canvas.specs.declared.format.Format.TheVariants.{Rgb8, Rgba8, Bgra8}
+use Rattle.canvas.specs.declared.tile_rows.TileRows.{TileRows}
+use Rattle.canvas.specs.Layout.{IsCanvasSize}
+use Rattle.canvas.specs.Pixels.{pixel_bytes}
+use Rattle.canvas_c.specs.declared.piece.CanvasHead.{CanvasHead}
+use Rattle.canvas_c.specs.Statuses.{Checks, done, check, followed_by}
+
+-- There is a canvas of this size.
+pub record IsCanvas (width height samples : ℕ) : Type 0 where
+  pub size : IsCanvasSize width height
+  pub pattern : (samples ≡ 1) ⊎ (samples ≡ 4)
+
+-- A canvas of this height has the tile rows from `first` to before `end`.
+pub record HasRows (height first end : ℕ) : Type 0 where
+  pub rising : first ≤ end
+  pub within : end ≤ (height + 63) / 64
+
+-- How many planes of samples these tile rows have.
+abbrev pub planes_of : ℕ → ℕ → ℕ → ℕ → ℕ
+planes_of width samples first end = (end - first) * ((width + 63) / 64 * (64 * samples))
+
+-- The tile rows are those that the caller names.
+pub record AreRowsOf (head : CanvasHead) (rows : TileRows) : Type 0 where
+  pub width : rows.canvas.width ≡ head.width
+  pub height : rows.canvas.height ≡ head.height
+  pub count : rows.canvas.count ≡ samples_listed head.samples
+  pub first : rows.first ≡ head.first
+  pub end : rows.end ≡ head.end
+
+-- `Holds` is true of the tile rows that the caller names.
+pub record OnRows (head : CanvasHead) (Holds : Canvas → ℕ → ℕ → Type 0) : Type 0 where
+  pub rows : TileRows
+  pub are : AreRowsOf head rows
+  pub holds : Holds rows.canvas rows.first rows.end
+
+-- The rows of pixels, of `unit` entries a pixel, fit into `size` entries.
+-- A row fits between the starts of two rows, and the last row ends within the caller's memory.
+pub record HasRoom (head : CanvasHead) (unit stride size : ℕ) : Type 0 where
+  pub wide : head.width * unit ≤ stride
+  pub high : (min (64 * head.end) head.height - 64 * head.first) * stride + head.width * unit ≤ size + stride
+
+-- What each call on tile rows checks first.
+-- These are the size of the struct, that there is such a canvas, that it has these tile rows, and that the memory has as many planes as
+-- they.
+abbrev pub piece_checks : CanvasHead → ℕ → Checks
+piece_checks head planes =
+    check (head.struct_size ≡ 48) 7 (
+    check (IsCanvas head.width head.height head.samples) 8 (
+    check (HasRows head.height head.first head.end) 6 (
+    check (planes ≡ planes_of head.width head.samples head.first head.end) 9
+    done)))
+
+-- The formats by their numbers.
+abbrev pub format_of : ℕ → Format
+format_of n = if n == 0 then Rgb8 else (if n == 1 then Rgba8 else Bgra8)
+
+-- A picture of `size` bytes is read or written, whose rows begin `stride` bytes behind each other.
+abbrev pub image_checks : CanvasHead → ℕ → ℕ → ℕ → ℕ → Checks
+image_checks head planes format stride size =
+    followed_by (piece_checks head planes) (
+    check (format ≤ 2) 10 (
+    check (HasRoom head (pixel_bytes (format_of format)) stride size) 4
+    done))
+
+-- The samples of one index are read to `size` entries, whose rows begin `stride` entries behind each other.
+abbrev pub entries_checks : CanvasHead → ℕ → ℕ → ℕ → ℕ → Checks
+entries_checks head planes sample stride size =
+    followed_by (piece_checks head planes) (
+    check (sample < head.samples) 11 (
+    check (HasRoom head 1 stride size) 4
+    done))

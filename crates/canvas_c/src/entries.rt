@@ -1,0 +1,85 @@
+//! Depths and ids, written to the caller's memory.
+ghost use Rattle.std.specs.Prelude.{◌≡◌, ◌≢◌, length, OnOk, OnErr, ⊤};
+ghost use Rattle.canvas.specs.Colours.{AreDepths, AreIds};
+ghost use Rattle.canvas_c.specs.Statuses.{IsJudged, IsStatus};
+ghost use Rattle.canvas_c.specs.Pieces.{OnRows, entries_checks};
+
+use crate::piece::{CanvasHead, CanvasPiece, rows_of};
+use crate::status::{CallError, status};
+use lanes::BlockSamples;
+
+/// Writes the depth of one sample of each pixel.
+fn depths_into(
+    head: &CanvasHead,
+    planes: &[BlockSamples],
+    sample: u32,
+    depths: &mut [u16],
+    stride: usize,
+) -> Result<(), CallError>
+    ensures judged { IsJudged (entries_checks head.now (length planes.now) sample stride (length depths.old)) (λ done. ⊤) result }
+    ensures written { OnOk result (OnRows head.now (λ c first end. AreDepths c first end planes.now sample stride depths.old depths.new)) }
+    ensures kept { OnErr result (depths.new ≡ depths.old) }
+{
+    let rows = rows_of(head, planes)?;
+    if sample >= head.samples {
+        return Err(CallError::Sample);
+    }
+    match rows.depths(planes, sample, depths, stride) {
+        Ok(()) => Ok(()),
+        Err(_) => Err(CallError::BufferTooSmall),
+    }
+}
+
+/// Writes the depth of sample `sample` of each pixel of these tile rows. Entries of no pixel are unchanged. Returns the status. If it is
+/// not 0, nothing is written.
+#[unsafe(no_mangle)]
+pub extern "C" fn trirast_canvas_depths(
+    canvas: &CanvasPiece<'_>,
+    sample: u32,
+    depths: &mut [u16],
+    stride: usize,
+) -> u32
+    ensures status { IsStatus (entries_checks canvas.now.head (length canvas.now.planes.now) sample stride (length depths.old)) result }
+    ensures written { result ≡ 0 → OnRows canvas.now.head (λ c first end. AreDepths c first end canvas.now.planes.now sample stride depths.old depths.new) }
+    ensures kept { result ≢ 0 → depths.new ≡ depths.old }
+{
+    status(depths_into(&canvas.head, canvas.planes, sample, depths, stride))
+}
+
+/// Writes the id of one sample of each pixel.
+fn ids_into(
+    head: &CanvasHead,
+    planes: &[BlockSamples],
+    sample: u32,
+    ids: &mut [u32],
+    stride: usize,
+) -> Result<(), CallError>
+    ensures judged { IsJudged (entries_checks head.now (length planes.now) sample stride (length ids.old)) (λ done. ⊤) result }
+    ensures written { OnOk result (OnRows head.now (λ c first end. AreIds c first end planes.now sample stride ids.old ids.new)) }
+    ensures kept { OnErr result (ids.new ≡ ids.old) }
+{
+    let rows = rows_of(head, planes)?;
+    if sample >= head.samples {
+        return Err(CallError::Sample);
+    }
+    match rows.ids(planes, sample, ids, stride) {
+        Ok(()) => Ok(()),
+        Err(_) => Err(CallError::BufferTooSmall),
+    }
+}
+
+/// Writes the id of sample `sample` of each pixel of these tile rows. Entries of no pixel are unchanged. Returns the status. If it is not
+/// 0, nothing is written.
+#[unsafe(no_mangle)]
+pub extern "C" fn trirast_canvas_ids(
+    canvas: &CanvasPiece<'_>,
+    sample: u32,
+    ids: &mut [u32],
+    stride: usize,
+) -> u32
+    ensures status { IsStatus (entries_checks canvas.now.head (length canvas.now.planes.now) sample stride (length ids.old)) result }
+    ensures written { result ≡ 0 → OnRows canvas.now.head (λ c first end. AreIds c first end canvas.now.planes.now sample stride ids.old ids.new) }
+    ensures kept { result ≢ 0 → ids.new ≡ ids.old }
+{
+    status(ids_into(&canvas.head, canvas.planes, sample, ids, stride))
+}

@@ -1,0 +1,103 @@
+//! Pictures in the caller's memory.
+ghost use Rattle.std.specs.Prelude.{◌≡◌, ◌≢◌, ◌↔◌, ◌≤◌, length, IsSome, IfSome, OnOk, OnErr, ⊤};
+ghost use Rattle.canvas.specs.Colours.{AreResolved};
+ghost use Rattle.canvas.specs.Loaded.{AreLoaded};
+ghost use Rattle.canvas_c.specs.Statuses.{IsJudged, IsStatus};
+ghost use Rattle.canvas_c.specs.Pieces.{OnRows, format_of as format_named, image_checks};
+
+use crate::piece::{CanvasHead, CanvasPiece, rows_of};
+use crate::status::{CallError, status};
+use canvas::Format;
+use lanes::BlockSamples;
+
+/// The format of this number.
+fn format_of(number: u32) -> Option<Format>
+    ensures some { IsSome result ↔ (number ≤ 2) }
+    ensures value { IfSome result (λ format. format ≡ format_named number) }
+{
+    match number {
+        0 => Some(Format::Rgb8),
+        1 => Some(Format::Rgba8),
+        2 => Some(Format::Bgra8),
+        _ => None,
+    }
+}
+
+/// Makes a picture the colour of all samples of its pixels.
+fn load_into(
+    head: &CanvasHead,
+    planes: &mut [BlockSamples],
+    format: u32,
+    pixels: &[u8],
+    stride: usize,
+) -> Result<(), CallError>
+    ensures judged { IsJudged (image_checks head.now (length planes.old) format stride (length pixels.now)) (λ done. ⊤) result }
+    ensures loaded { OnOk result (OnRows head.now (λ c first end. AreLoaded c first end pixels.now (format_named format) stride planes.old planes.new)) }
+    ensures kept { OnErr result (planes.new ≡ planes.old) }
+{
+    let rows = rows_of(head, planes)?;
+    let Some(format) = format_of(format) else {
+        return Err(CallError::Format);
+    };
+    match rows.load(planes, pixels, format, stride) {
+        Ok(()) => Ok(()),
+        Err(_) => Err(CallError::BufferTooSmall),
+    }
+}
+
+/// Makes a picture in this format the colour of all samples of its pixels in these tile rows; depths are unchanged. Returns the status. If
+/// it is not 0, the samples are unchanged.
+#[unsafe(no_mangle)]
+pub extern "C" fn trirast_canvas_load(
+    canvas: &mut CanvasPiece<'_>,
+    format: u32,
+    pixels: &[u8],
+    stride: usize,
+) -> u32
+    ensures status { IsStatus (image_checks canvas.old.head (length canvas.old.planes.now) format stride (length pixels.now)) result }
+    ensures loaded { result ≡ 0 → OnRows canvas.old.head (λ c first end. AreLoaded c first end pixels.now (format_named format) stride canvas.old.planes.now canvas.new.planes.now) }
+    ensures kept { result ≢ 0 → canvas.new.planes.now ≡ canvas.old.planes.now }
+    ensures head { canvas.new.head ≡ canvas.old.head }
+    ensures same { canvas.new.planes.ghost_name ≡ canvas.old.planes.ghost_name }
+{
+    let head = canvas.head;
+    status(load_into(&head, canvas.planes, format, pixels, stride))
+}
+
+/// Writes the colour of each pixel.
+fn resolve_into(
+    head: &CanvasHead,
+    planes: &[BlockSamples],
+    format: u32,
+    pixels: &mut [u8],
+    stride: usize,
+) -> Result<(), CallError>
+    ensures judged { IsJudged (image_checks head.now (length planes.now) format stride (length pixels.old)) (λ done. ⊤) result }
+    ensures resolved { OnOk result (OnRows head.now (λ c first end. AreResolved c first end planes.now (format_named format) stride pixels.old pixels.new)) }
+    ensures kept { OnErr result (pixels.new ≡ pixels.old) }
+{
+    let rows = rows_of(head, planes)?;
+    let Some(format) = format_of(format) else {
+        return Err(CallError::Format);
+    };
+    match rows.resolve(planes, pixels, format, stride) {
+        Ok(()) => Ok(()),
+        Err(_) => Err(CallError::BufferTooSmall),
+    }
+}
+
+/// Writes the colour of each pixel of these tile rows in this format. Bytes of no pixel are unchanged. Returns the status. If it is not 0,
+/// nothing is written.
+#[unsafe(no_mangle)]
+pub extern "C" fn trirast_canvas_resolve(
+    canvas: &CanvasPiece<'_>,
+    format: u32,
+    pixels: &mut [u8],
+    stride: usize,
+) -> u32
+    ensures status { IsStatus (image_checks canvas.now.head (length canvas.now.planes.now) format stride (length pixels.old)) result }
+    ensures resolved { result ≡ 0 → OnRows canvas.now.head (λ c first end. AreResolved c first end canvas.now.planes.now (format_named format) stride pixels.old pixels.new) }
+    ensures kept { result ≢ 0 → pixels.new ≡ pixels.old }
+{
+    status(resolve_into(&canvas.head, canvas.planes, format, pixels, stride))
+}

@@ -1,0 +1,20 @@
+//! A canvas for programs in C, and for languages that call C: samples that stay in the caller's memory. No call allocates.
+#![tactic(auto)]
+
+mod batches;
+mod cleared;
+mod entries;
+mod images;
+mod piece;
+mod status;
+mod weights;
+
+pub use batches::{trirast_canvas_draw, trirast_canvas_draw_ids};
+pub use cleared::trirast_canvas_clear;
+pub use entries::{trirast_canvas_depths, trirast_canvas_ids};
+pub use images::{trirast_canvas_load, trirast_canvas_resolve};
+pub use piece::{
+    CanvasHead, CanvasPiece, trirast_canvas_bytes, trirast_canvas_row_pixels, trirast_canvas_rows,
+};
+pub use status::CallError;
+pub use weights::{Corners, Edges, trirast_weights};

@@ -1,0 +1,6 @@
+use Rattle.std.proofs.Common.{take}
+use Rattle.history.specs.Changed.{IsFollowed}
+use Rattle.history.proofs.followed.follow.Given as goal
+
+abbrev pub invariant-loop-k : goal.invariant-loop-k
+invariant-loop-k l = IsFollowed (take l.k l.triangles) l.number l.count l.px l.py l.s l.fn.start l.followed

@@ -1,0 +1,5 @@
+pub mod Rows
+pub mod Passed
+pub mod Sums
+pub mod RowAfter
+pub mod Numbers

@@ -1,0 +1,116 @@
+ghost use Rattle.std.specs.Prelude.{◌≡◌, ◌<◌, ◌≤◌, ◌*◌, ◌+◌, length, IfOk};
+ghost use Rattle.grid.specs.Samples.{count_of};
+ghost use Rattle.list_history.specs.Counts.{AreCountsOf, AreCountsAt, AreSums, AreAtMost, HoldCovered, no_counts, both_counts};
+
+use crate::columns::Columns;
+use crate::row::{counts_of_new_row, new_row};
+use model::DrawList;
+use std::alloc::{AllocError, Global};
+
+/// How many samples of a picture a triangle covers, changes and is shown by.
+#[derive(Clone, Copy, Debug, PartialEq, Eq)]
+pub struct SampleCounts {
+    /// Those that it covers by the top-left rule, whether or not it is culled, scissored or masked there.
+    pub covered: u32,
+    /// Those that it changes: they store another colour or depth after it than before it.
+    pub changed: u32,
+    /// Those that still show it after all triangles: it is the last triangle that changes them.
+    pub shown: u32,
+}
+
+/// The most samples that a picture has.
+const MOST_SAMPLES: u32 = 4 * 4096 * 4096;
+
+impl SampleCounts {
+    /// No samples.
+    pub(crate) fn none() -> SampleCounts
+        ensures { result ≡ no_counts }
+    {
+        SampleCounts {
+            covered: 0,
+            changed: 0,
+            shown: 0,
+        }
+    }
+
+    /// The counts of these samples and of others.
+    pub(crate) fn and(self, others: SampleCounts) -> SampleCounts
+        requires these { AreAtMost MOST_SAMPLES self }
+        requires others { AreAtMost MOST_SAMPLES others }
+        ensures { result ≡ both_counts self others }
+    {
+        SampleCounts {
+            covered: self.covered + others.covered,
+            changed: self.changed + others.changed,
+            shown: self.shown + others.shown,
+        }
+    }
+}
+
+/// Returns how many samples of the list's picture the triangle of this number covers, how many it changes, and how many still show it
+/// after all triangles. It looks at the rows and columns of the triangle's bounds alone. Fails only if an allocation fails.
+pub fn counts_of(alloc: Global, list: &DrawList, number: usize) -> Result<SampleCounts, AllocError>
+    requires { number < length list.now.triangles }
+    ensures { IfOk result (AreCountsOf list.now number) }
+{
+    let mut counts = SampleCounts::none();
+    for py in 0..list.height() {
+        let of_row = counts_of_row(alloc, list, number, py)?;
+        counts = counts.and(of_row);
+    }
+    Ok(counts)
+}
+
+/// The same of the samples of row `py` alone.
+fn counts_of_row(
+    alloc: Global,
+    list: &DrawList,
+    number: usize,
+    py: u32,
+) -> Result<SampleCounts, AllocError>
+    requires number { number < length list.now.triangles }
+    requires row { py < 4096 }
+    ensures sums { IfOk result (AreSums (λ s c. AreSums (λ i d. AreCountsAt list.now number i py s d) list.now.width c) (count_of list.now.count)) }
+    ensures at_most { IfOk result (AreAtMost 16384) }
+{
+    let mut counts = SampleCounts::none();
+    let picture = Columns {
+        first: 0,
+        end: list.width(),
+    };
+    let rows = list.rows(number);
+    if py < u32::from(rows.first) {
+        return Ok(counts);
+    }
+    if u32::from(rows.end) <= py {
+        return Ok(counts);
+    }
+    let columns = picture.of_triangle(&list.triangle(number).tri);
+    for s in 0..list.count().count() {
+        let of_samples = counts_of_samples(alloc, list, number, py, s, columns)?;
+        counts = counts.and(of_samples);
+    }
+    Ok(counts)
+}
+
+/// The same of samples `s` of row `py` alone. The columns hold those of the picture in which the triangle covers a sample.
+fn counts_of_samples(
+    alloc: Global,
+    list: &DrawList,
+    number: usize,
+    py: u32,
+    s: u32,
+    columns: Columns,
+) -> Result<SampleCounts, AllocError>
+    requires number { number < length list.now.triangles }
+    requires row { py < 4096 }
+    requires sample { s < count_of list.now.count }
+    requires columns { columns.end ≤ list.now.width }
+    requires screen { columns.end ≤ 4096 }
+    requires all { HoldCovered list.now number columns }
+    ensures sums { IfOk result (AreSums (λ i c. AreCountsAt list.now number i py s c) list.now.width) }
+    ensures at_most { IfOk result (AreAtMost 4096) }
+{
+    let mut row = new_row(alloc, list)?;
+    Ok(counts_of_new_row(list, number, py, s, columns, &mut row))
+}

@@ -1,0 +1,13 @@
+pub mod Lanes
+pub mod Certificate
+pub mod Reciprocals
+pub mod Gradients
+pub mod Modulos
+pub mod Heights
+pub mod WholeValues
+pub mod Raised
+pub mod Exactness
+pub mod FixedPoint
+pub mod CandidateLanes
+pub mod Slopes
+pub mod AttributePlanes

@@ -1,0 +1,18 @@
+use Rattle.std.proofs.Common.{◌≡◌, ℕ, cond, ltb, min, get_or, ap, ◌∙◌, arith, w32}
+use Rattle.std.specs.Simd.Lanes.{sel_l}
+use Rattle.std.proofs.lemmas.Simd.{tops_compared}
+use Rattle.std.proofs.lemmas.Bool.Decides.{nat_tests}
+use Rattle.planes.proofs.Lanes.{chosen}
+use Rattle.planes.proofs.candidates.least.Goals as goal
+
+lesser : (x y : ℕ) → cond (ltb x y) x y ≡ min x y
+lesser x y = grind (arith, nat_tests)
+
+pub returns-clause-length : goal.returns-clause-length
+returns-clause-length c = rw (tops_compared w32 ltb c.args.a c.args.b) ((chosen ltb c.args.a c.args.b c.args.a c.args.b c.fits-a.0 c.fits-b.0 c.fits-a.0 c.fits-b.0).long)
+
+pub returns-clause-each : goal.returns-clause-each
+returns-clause-each c i l =
+    ap (λ ms. get_or (sel_l ms c.args.a c.args.b) i 0) (tops_compared w32 ltb c.args.a c.args.b)
+    ∙ (chosen ltb c.args.a c.args.b c.args.a c.args.b c.fits-a.0 c.fits-b.0 c.fits-a.0 c.fits-b.0).each i l
+    ∙ lesser (get_or c.args.a i 0) (get_or c.args.b i 0)

@@ -1,0 +1,44 @@
+use Rattle.std.specs.Prelude.{◌≡◌, ℕ, ◌<◌, IfSome, length, slice_index}
+use Rattle.grid.specs.Samples.{count_of}
+use Rattle.shade.specs.declared.sample.Sample.{Sample}
+use Rattle.model.specs.Picture.{IsEnd, IsColour}
+use Rattle.model.specs.Place.{IsPlace}
+use Rattle.model.specs.Scene.{Scene}
+use Rattle.list_history.specs.Counts.{AreCountsOf}
+use Rattle.list_history.specs.Walk.{ListPlace}
+use Rattle.list_history.specs.declared.sample_counts.SampleCounts.{SampleCounts}
+use Rattle.why.specs.declared.arguments.Asked.{Asked}
+use Rattle.why.specs.declared.arguments.AskedTriangle.{AskedTriangle}
+use Rattle.why.specs.declared.text.Pixel.{Pixel}
+
+-- The picture has the pixel that is asked for, and the pixel the sample, if one is named.
+pub record HasSample (l : Scene) (asked : Asked) : Type 0 where
+  pub column : asked.x < l.width
+  pub row : asked.y < l.height
+  pub sample : IfSome asked.sample (λ s. s < count_of l.count)
+
+-- Both are histories of the same sample of the same list.
+pub record IsSameSample (old new : ListPlace) : Type 0 where
+  pub scene : new.scene ≡ old.scene
+  pub column : new.i ≡ old.i
+  pub row : new.j ≡ old.j
+  pub sample : new.s ≡ old.s
+
+-- What the picture shows at pixel (i, j), be it of colours or of depths: the resolved colour, and the final depth of sample 0.
+pub record IsShownAt (l : Scene) (i j : ℕ) (pixel : Pixel) : Type 0 where
+  pub colour : IsColour l i j (slice_index pixel.colour 0) (slice_index pixel.colour 1) (slice_index pixel.colour 2)
+  pub first : Sample
+  pub is_end : IsEnd l i j 0 first
+  pub depth : pixel.depth ≡ first.z
+
+-- The list has the triangle that is asked for.
+pub record HasTriangle (l : Scene) (asked : AskedTriangle) : Type 0 where
+  pub number : ℕ
+  pub within : number < length l.triangles
+  pub place : IsPlace l number asked.place
+
+-- The counts are those of the triangle that is asked for.
+pub record AreCountsOfAsked (l : Scene) (asked : AskedTriangle) (counts : SampleCounts) : Type 0 where
+  pub number : ℕ
+  pub place : IsPlace l number asked.place
+  pub counted : AreCountsOf l number counts

@@ -1,0 +1,140 @@
+//! The command line program, over arguments and streams.
+ghost use Rattle.std.specs.Prelude.{◌≡◌, ◌<◌, ◌⊎◌};
+ghost use Rattle.trirast.specs.Program.{WritesLine, refusal_line};
+ghost use Rattle.why.specs.declared.program.Failure.TheVariants.{Run};
+
+use crate::arguments::{Question, read_arguments};
+use crate::counts::report_triangle;
+use crate::text::{ReportFault, report};
+use model::DrawList;
+use std::alloc::Global;
+use std::io::{Read, Write};
+use trirast::{Counted, Fault, LineFault, fault_line, ppm_rows, read_input, read_list};
+
+/// What `--help` prints.
+const USAGE: &[u8] =
+    b"usage: trirast_why (X,Y [--sample S] [--all] | --triangle DRAW,NUMBER) [--json] < list.json\n";
+
+/// Why nothing was reported, or not all.
+enum Failure {
+    /// The picture has no such pixel, the pixel no such sample, or the list no such triangle.
+    NotThere,
+    /// The list could not be read, or the report not be written.
+    Run(Fault),
+}
+
+impl From<Fault> for Failure {
+    ghost from_gives = { λ fault failure. failure ≡ Run fault };
+
+    fn from(fault: Fault) -> Failure {
+        Failure::Run(fault)
+    }
+}
+
+impl From<ReportFault> for Failure {
+    fn from(fault: ReportFault) -> Failure {
+        match fault {
+            ReportFault::NoSuchSample | ReportFault::NoSuchTriangle => Failure::NotThere,
+            ReportFault::OutOfMemory => Failure::Run(Fault::OutOfMemory),
+        }
+    }
+}
+
+/// Writes all of a text.
+fn write_text<W: Write>(text: &str, output: &mut Counted<W>) -> Result<(), Fault>
+    requires { output.old.failures < u64.MAX }
+{
+    let written = ppm_rows(text.as_bytes(), 0, output)?;
+    match output.flush() {
+        Ok(()) => Ok(()),
+        Err(_) => Err(Fault::WriteFailed(written)),
+    }
+}
+
+/// The text of the report that is asked for.
+fn text_of(alloc: Global, list: &DrawList, question: &Question) -> Result<String, ReportFault> {
+    match question {
+        Question::Pixel(asked) => {
+            let (text, _pixel) = report(alloc, list, asked)?;
+            Ok(text)
+        }
+        Question::Triangle(asked) => {
+            let (text, _counts) = report_triangle(alloc, list, asked)?;
+            Ok(text)
+        }
+    }
+}
+
+/// Reads a draw list from the input, and writes the report that is asked for.
+fn answer<R: Read, W: Write>(
+    alloc: Global,
+    input: &mut Counted<R>,
+    output: &mut Counted<W>,
+    question: &Question,
+) -> Result<(), Failure>
+    requires input { input.old.failures < u64.MAX }
+    requires output { output.old.failures < u64.MAX }
+    ensures { (result ≡ Err Failure.NotThere) → output.new ≡ output.old }
+{
+    let bytes = read_input(alloc, input)?;
+    let list = read_list(alloc, bytes.as_slice())?;
+    // Nothing needs the JSON text any more.
+    drop(bytes);
+    let text = text_of(alloc, &list, question)?;
+    Ok(write_text(text.as_str(), output)?)
+}
+
+/// Reads the arguments, of which the first is the program's name, and a draw list from the input, and writes the history of a pixel's
+/// samples, or the counts of a triangle's. Returns the program's status: 0 if it was written or the usage line was asked for, 1 if the run failed or memory ran out,
+/// and 2 if the program has no such arguments, the picture no such pixel, the pixel no such sample, or the list no such triangle. After 1 and 2 a line on
+/// `errors` reports the error, as `trirast` would. A line that cannot be written is passed over.
+pub fn command<'a, R: Read, W: Write, E: Write>(
+    alloc: Global,
+    arguments: &'a [&'a str],
+    input: &mut Counted<R>,
+    output: &mut Counted<W>,
+    errors: &mut Counted<E>,
+) -> u8
+    requires input { input.old.failures < u64.MAX }
+    requires output { output.old.failures < u64.MAX }
+    requires errors { errors.old.failures < u64.MAX }
+    ensures status { (result ≡ 0) ⊎ (result ≡ 1) ⊎ (result ≡ 2) }
+    ensures quiet { result ≡ 0 → errors.new ≡ errors.old }
+    ensures refused { result ≡ 2 → output.new ≡ output.old }
+    ensures refusal { result ≡ 2 → WritesLine refusal_line (E.contents errors.old.inner) (E.contents errors.new.inner) }
+{
+    let question = match read_arguments(alloc, arguments) {
+        Ok(question) => question,
+        Err(fault) => return refuse(fault, output, errors),
+    };
+    match answer(alloc, input, output, &question) {
+        Ok(()) => 0,
+        Err(Failure::NotThere) => refuse(LineFault::Refused, output, errors),
+        Err(Failure::Run(fault)) => {
+            let _ = ppm_rows(fault_line(&fault).as_str().as_bytes(), 0, errors);
+            1
+        }
+    }
+}
+
+/// Reports that the arguments ask for no report: writes the usage line to the output if it was asked for, else the line of the error
+/// to `errors`. Returns the program's status.
+pub fn refuse<W: Write, E: Write>(
+    fault: LineFault,
+    output: &mut Counted<W>,
+    errors: &mut Counted<E>,
+) -> u8
+    requires output { output.old.failures < u64.MAX }
+    requires errors { errors.old.failures < u64.MAX }
+    ensures help { result ≡ 0 → fault ≡ LineFault.Help }
+    ensures status { (result ≡ 0) ⊎ (result ≡ 1) ⊎ (result ≡ 2) }
+    ensures quiet { result ≡ 0 → errors.new ≡ errors.old }
+    ensures refused { result ≡ 2 → output.new ≡ output.old }
+    ensures refusal { result ≡ 2 → WritesLine refusal_line (E.contents errors.old.inner) (E.contents errors.new.inner) }
+{
+    if fault == LineFault::Help {
+        let _ = ppm_rows(USAGE, 0, output);
+        return 0;
+    }
+    trirast::refuse(fault, output, errors)
+}

@@ -1,0 +1,375 @@
+/* A model that turns in a window, drawn on a canvas by as many threads as the machine has processors. A click picks a triangle.
+ *
+ *     spin [--size 640 480] [--threads N] [--turn 25] [--speed 30] [--pick X Y] [--save FILE] [--list FILE] MODEL.obj
+ *
+ * The title has the frames a second. Escape ends. --turn is where the model begins, in degrees, and --speed the degrees a second.
+ * --pick picks the triangle at a pixel as a click does. With --save one frame goes to a PPM file, and no window is opened; --list
+ * writes the draw list of the first frame, from which the program trirast draws the same picture.
+ *
+ *     cc -O2 spin.c $(pkg-config --cflags --libs trirast sdl2) -pthread -lm
+ */
+#include <SDL.h>
+#include <pthread.h>
+
+#include "obj.h"
+#include "trirast.h"
+
+enum { SAMPLES = 4, MAX_THREADS = 64, MAX_SIDE = 4096, RIM = 48, FARTHEST = 65535, NONE = 16777215 };
+/* The draws of a frame, in their order. The last one is there if a triangle was picked. */
+enum { BACKGROUND, FLOOR, SHADOW, MODEL, PICKED, DRAWS };
+
+static const double TURN = 6.283185307179586, TILT = 0.52, AWAY = 3.9, ZOOM = 1.85, GROUND = -0.62;
+static const vector LIGHT = {-0.46, 0.76, 0.46};
+
+/* ---- A frame as a batch ---- */
+
+/* The arrays of the batch. They are allocated once, and the vertices are made anew for each frame. */
+typedef struct {
+    const model *shape;
+    int width, height;
+    uint32_t picked; /* the triangle that was picked, or NONE */
+    trirast_batch_draw draws[DRAWS];
+    trirast_vertex *vertices;
+    uint32_t *indices;
+    trirast_batch batch;
+} frame;
+
+/* A point as the camera sees it, which looks down at the origin. The depth is a plane on the screen: it goes with 1 / distance. */
+static trirast_vertex seen(const frame *made, vector point, vector color, double alpha) {
+    double side = made->width < made->height ? made->width : made->height;
+    double up = point.y * cos(TILT) - point.z * sin(TILT), distance = AWAY - point.y * sin(TILT) - point.z * cos(TILT);
+    double scale = 256 * ZOOM * side / distance, near = AWAY - 1.1, far = AWAY + 1.1;
+    double depth = (FARTHEST - 2) * (1 / near - 1 / distance) / (1 / near - 1 / far);
+    return (trirast_vertex){
+        .x = (int32_t)lround(128 * made->width + scale * point.x),
+        .y = (int32_t)lround(120 * made->height - scale * up),
+        .depth = (uint32_t)fmin(fmax(depth, 0), FARTHEST - 2),
+        .red = (uint32_t)lround(255 * fmin(fmax(color.x, 0), 1)),
+        .green = (uint32_t)lround(255 * fmin(fmax(color.y, 0), 1)),
+        .blue = (uint32_t)lround(255 * fmin(fmax(color.z, 0), 1)),
+        .alpha = (uint32_t)lround(255 * alpha),
+    };
+}
+
+/* The colour of a point in the light: ambient, diffuse, a highlight, and a brighter rim. */
+static vector lit(vector place, vector normal, vector at) {
+    double along = atan2(place.z, place.x) / TURN;
+    vector color = {0.58 + 0.42 * cos(TURN * (along + 0.02)), 0.5 + 0.34 * cos(TURN * (along - 0.3)), 0.56 + 0.44 * cos(TURN * (along - 0.56))};
+    vector view = unit(minus((vector){0, AWAY * sin(TILT), AWAY * cos(TILT)}, at)), light = unit(LIGHT);
+    double diffuse = fmax(0, dot(normal, light)), facing = fmax(0, dot(normal, view));
+    double highlight = 0.5 * pow(fmax(0, dot(normal, unit(plus(light, view)))), 24), rim = 0.22 * pow(1 - facing, 3);
+    color = times(color, 0.2 + 0.06 * normal.y + 0.86 * diffuse);
+    return plus(color, (vector){highlight + rim, highlight + rim, 0.92 * highlight + 1.15 * rim});
+}
+
+/* Where the light throws a point's shadow on the ground. */
+static vector shadow_of(vector point) { return minus(point, times(LIGHT, (point.y - GROUND) / LIGHT.y)); }
+
+static void make_surroundings(frame *made) {
+    trirast_vertex *corner = made->vertices, *floor = corner + 4;
+    for (int k = 0; k < 4; k++) {
+        int is_right = k == 1 || k == 2, is_low = k > 1;
+        corner[k] = (trirast_vertex){is_right ? 256 * made->width : 0, is_low ? 256 * made->height : 0, 0, 40, 46, 62, 255};
+        if (is_low) corner[k].red = 14, corner[k].green = 16, corner[k].blue = 24;
+    }
+    /* A pool of light that ends in nothing. */
+    vector light = {0.62, 0.66, 0.78};
+    floor[0] = seen(made, (vector){0, GROUND, 0}, light, 0.42);
+    for (int k = 0; k < RIM; k++)
+        floor[k + 1] = seen(made, (vector){1.9 * cos(TURN * k / RIM), GROUND, 1.9 * sin(TURN * k / RIM)}, light, 0);
+}
+
+/* Makes the vertices of a frame, the model turned by this angle. */
+static void make_frame(frame *made, double turn) {
+    const model *shape = made->shape;
+    trirast_vertex *shadow = made->vertices + 4 + RIM + 1, *vertices = shadow + shape->point_count;
+    make_surroundings(made);
+    for (size_t k = 0; k < shape->point_count; k++) {
+        vector point = turned(shape->points[k], turn);
+        vertices[k] = seen(made, point, lit(shape->points[k], turned(shape->normals[k], turn), point), 1);
+        /* All shadow has one depth, behind the model: with the depth test a sample is darkened once. */
+        shadow[k] = seen(made, shadow_of(point), (vector){0.02, 0.02, 0.05}, 0.55);
+        shadow[k].depth = FARTHEST - 1;
+    }
+    made->batch.draw_count = made->picked == NONE ? PICKED : DRAWS;
+    made->batch.vertex_count = (size_t)(vertices - made->vertices) + shape->point_count + (made->picked == NONE ? 0 : 3);
+    made->batch.index_count = 4 + 3 * RIM + 2 * shape->corner_count + (made->picked == NONE ? 0 : 3);
+    if (made->picked == NONE) return;
+    for (int k = 0; k < 3; k++) {
+        trirast_vertex *corner = vertices + shape->point_count + k;
+        *corner = vertices[shape->corners[3 * made->picked + (uint32_t)k]];
+        corner->red = corner->green = 255, corner->blue = 200;
+    }
+}
+
+/* A frame whose vertices are still to be made. */
+static frame new_frame(const model *shape, int width, int height) {
+    const trirast_batch_draw draw = TRIRAST_BATCH_DRAW_INIT;
+    size_t vertices = 4 + RIM + 1 + 2 * shape->point_count + 3, indices = 4 + 3 * RIM + 2 * shape->corner_count + 3;
+    frame made = {.shape = shape, .width = width, .height = height, .picked = NONE, .batch = TRIRAST_BATCH_INIT};
+    made.vertices = calloc(vertices, sizeof *made.vertices), made.indices = calloc(indices, sizeof *made.indices);
+    if (!made.vertices || !made.indices) stop("no memory", "out of memory");
+    for (int k = 0; k < DRAWS; k++) made.draws[k] = draw;
+    uint32_t points = (uint32_t)shape->point_count, corners = (uint32_t)shape->corner_count;
+    const uint32_t counts[DRAWS][2] = {{4, 4}, {RIM + 1, 3 * RIM}, {points, corners}, {points, corners}, {3, 3}};
+    for (int k = 0; k < DRAWS; k++) made.draws[k].vertex_count = counts[k][0], made.draws[k].index_count = counts[k][1];
+    made.draws[BACKGROUND].topology = TRIRAST_TOPOLOGY_QUADS;
+    made.draws[FLOOR].blend = made.draws[SHADOW].blend = TRIRAST_BLEND_OVER;
+    made.draws[SHADOW].depth_test = made.draws[MODEL].depth_test = TRIRAST_DEPTH_LESS;
+    made.draws[SHADOW].depth_write = made.draws[MODEL].depth_write = 1;
+    made.draws[MODEL].cull = TRIRAST_CULL_BACK;
+    /* The picked triangle once more, where the model shows it: its depths are the same to the last bit. */
+    made.draws[PICKED].depth_test = TRIRAST_DEPTH_EQUAL;
+    uint32_t *index = made.indices;
+    for (uint32_t k = 0; k < 4; k++) *index++ = k;
+    for (uint32_t k = 0; k < RIM; k++) *index++ = 0, *index++ = k + 1, *index++ = (k + 1) % RIM + 1;
+    for (int k = 0; k < 2; k++, index += corners) memcpy(index, shape->corners, corners * sizeof *index);
+    for (uint32_t k = 0; k < 3; k++) *index++ = k;
+    return made;
+}
+
+/* ---- Drawing ---- */
+
+static trirast_canvas new_canvas(uint32_t width, uint32_t height, uint32_t samples) {
+    trirast_canvas canvas = TRIRAST_CANVAS_INIT;
+    canvas.width = width, canvas.height = height, canvas.samples = samples;
+    canvas.end = trirast_canvas_rows(height);
+    size_t bytes = trirast_canvas_bytes(width, height, samples, 0, canvas.end);
+    canvas.memory = bytes ? aligned_alloc(64, bytes) : NULL, canvas.plane_count = bytes / TRIRAST_PLANE_BYTES;
+    if (!canvas.memory) stop("no canvas", "a side is not 1 to 4096 pixels, or out of memory");
+    return canvas;
+}
+
+/* A thread's tile rows, and where their pixels go. */
+typedef struct {
+    trirast_canvas rows;
+    const trirast_batch *batch;
+    trirast_format format;
+    uint8_t *pixels;
+    size_t size, stride;
+    trirast_status status;
+} share;
+
+static void *draw_share(void *argument) {
+    share *own = argument;
+    trirast_error error;
+    own->status = trirast_canvas_clear(&own->rows, (const uint8_t[3]){0, 0, 0}, FARTHEST);
+    if (!own->status) own->status = trirast_canvas_draw(&own->rows, own->batch, &error);
+    if (!own->status) own->status = trirast_canvas_resolve(&own->rows, own->format, own->pixels, own->size, own->stride);
+    return NULL;
+}
+
+/* Draws a batch on a canvas by this number of threads, or one for each tile row if these are fewer, and writes the pixels. */
+static void draw(const trirast_canvas *canvas, const trirast_batch *batch, int threads, trirast_format format, uint8_t *pixels,
+                 size_t stride) {
+    share shares[MAX_THREADS];
+    pthread_t ids[MAX_THREADS];
+    uint32_t rows = canvas->end, count = (uint32_t)threads < rows ? (uint32_t)threads : rows, side = trirast_canvas_row_pixels();
+    for (uint32_t k = 0; k < count; k++) {
+        uint32_t first = rows * k / count, end = rows * (k + 1) / count, bottom = end < rows ? end * side : canvas->height;
+        shares[k] = (share){.batch = batch, .format = format, .pixels = pixels + first * side * stride, .stride = stride};
+        shares[k].size = (bottom - first * side) * stride;
+        if (trirast_canvas_piece(canvas, first, end, &shares[k].rows)) stop("no piece", "tile rows");
+        if (pthread_create(&ids[k], NULL, draw_share, &shares[k])) stop("no thread", "it cannot be started");
+    }
+    for (uint32_t k = 0; k < count; k++) pthread_join(ids[k], NULL);
+    for (uint32_t k = 0; k < count; k++)
+        if (shares[k].status) stop("a call failed", trirast_status_string(shares[k].status));
+}
+
+/* Picks the triangle of the model at a pixel. The model is drawn by ids on a canvas of this pixel alone, a window on the screen. */
+static void pick(frame *made, int x, int y) {
+    trirast_canvas canvas = new_canvas(1, 1, 1);
+    trirast_error error;
+    uint32_t id = NONE;
+    canvas.origin_x = x, canvas.origin_y = y;
+    trirast_batch alone = made->batch;
+    alone.draws += MODEL, alone.draw_count = 1;
+    alone.vertices += 4 + RIM + 1 + made->shape->point_count, alone.vertex_count = made->shape->point_count;
+    alone.indices += 4 + 3 * RIM + made->shape->corner_count, alone.index_count = made->shape->corner_count;
+    trirast_status status = trirast_canvas_clear(&canvas, (const uint8_t[3]){255, 255, 255}, FARTHEST);
+    if (!status) status = trirast_canvas_draw_ids(&canvas, &alone, 0, &error);
+    if (!status) status = trirast_canvas_ids(&canvas, 0, &id, 1, 1);
+    if (status) stop("a call failed", trirast_status_string(status));
+    free(canvas.memory);
+    made->picked = id;
+    if (id == NONE) printf("no triangle at %d, %d\n", x, y);
+    else printf("triangle %u at %d, %d\n", id, x, y);
+    fflush(stdout);
+}
+
+/* ---- Files ---- */
+
+static FILE *opened(const char *path, const char *mode) {
+    FILE *file = fopen(path, mode);
+    if (!file) stop(path, "it cannot be opened");
+    return file;
+}
+
+static void close_written(FILE *file, const char *path) {
+    int is_wrong = ferror(file);
+    if (fclose(file) || is_wrong) stop(path, "it cannot be written");
+}
+
+static void save(const char *path, const trirast_canvas *canvas, const frame *made, int threads) {
+    size_t stride = 3 * (size_t)made->width, size = stride * (size_t)made->height;
+    uint8_t *pixels = malloc(size);
+    if (!pixels) stop("no memory", "out of memory");
+    draw(canvas, &made->batch, threads, TRIRAST_FORMAT_RGB8, pixels, stride);
+    FILE *file = opened(path, "wb");
+    fprintf(file, "P6\n%d %d\n255\n", made->width, made->height);
+    fwrite(pixels, 1, size, file);
+    close_written(file, path);
+    free(pixels);
+}
+
+/* Writes numbers as rows of this many. */
+static void write_rows(FILE *file, const char *key, const int64_t *numbers, size_t count, size_t row) {
+    fprintf(file, ",\"%s\":[", key);
+    for (size_t k = 0; k < count; k++)
+        fprintf(file, "%s%lld%s", k % row ? "," : k ? ",[" : "[", (long long)numbers[k], k % row == row - 1 ? "]" : "");
+    fprintf(file, "]");
+}
+
+static void write_draw(FILE *file, const trirast_batch_draw *draw, const trirast_vertex *vertices, const uint32_t *indices) {
+    int is_quads = draw->topology == TRIRAST_TOPOLOGY_QUADS;
+    const char *test = draw->depth_test == TRIRAST_DEPTH_ALWAYS ? "always" : draw->depth_test == TRIRAST_DEPTH_LESS ? "less" : "equal";
+    int64_t *numbers = calloc(7 * (size_t)draw->vertex_count + draw->index_count, sizeof *numbers), *number = numbers;
+    if (!numbers) stop("no memory", "out of memory");
+    for (uint32_t k = 0; k < draw->vertex_count; k++) {
+        const trirast_vertex *one = vertices + k;
+        const int64_t row[7] = {one->x, one->y, one->depth, one->red, one->green, one->blue, one->alpha};
+        memcpy(number, row, sizeof row), number += 7;
+    }
+    for (uint32_t k = 0; k < draw->index_count; k++) number[k] = indices[k];
+    fprintf(file, "{\"cull\":\"%s\",\"depth_test\":\"%s\",\"depth_write\":%s,\"blend\":\"%s\"",
+            draw->cull == TRIRAST_CULL_BACK ? "back" : "none", test, draw->depth_write ? "true" : "false",
+            draw->blend == TRIRAST_BLEND_OVER ? "over" : "none");
+    write_rows(file, "vertices", numbers, 7 * (size_t)draw->vertex_count, 7);
+    write_rows(file, is_quads ? "quads" : "triangles", number, draw->index_count, is_quads ? 4 : 3);
+    fprintf(file, "}");
+    free(numbers);
+}
+
+/* Writes the batch as a draw list. */
+static void write_list(const char *path, const frame *made) {
+    FILE *file = opened(path, "w");
+    const trirast_vertex *vertices = made->batch.vertices;
+    const uint32_t *indices = made->batch.indices;
+    fprintf(file, "{\"width\":%d,\"height\":%d,\"samples\":%d,\"draws\":[\n", made->width, made->height, SAMPLES);
+    for (size_t k = 0; k < made->batch.draw_count; k++) {
+        if (k) fprintf(file, ",\n");
+        write_draw(file, &made->draws[k], vertices, indices);
+        vertices += made->draws[k].vertex_count, indices += made->draws[k].index_count;
+    }
+    fprintf(file, "]}\n");
+    close_written(file, path);
+}
+
+/* ---- The window ---- */
+
+static trirast_format format_of(const SDL_Surface *surface) {
+    switch (surface->format->format) {
+    case SDL_PIXELFORMAT_RGB888:
+    case SDL_PIXELFORMAT_ARGB8888: return TRIRAST_FORMAT_BGRA8;
+    case SDL_PIXELFORMAT_BGR888:
+    case SDL_PIXELFORMAT_ABGR8888: return TRIRAST_FORMAT_RGBA8;
+    default: stop("the window", "its pixels have no format of a canvas");
+    }
+}
+
+static void must(int holds) {
+    if (!holds) stop("SDL", SDL_GetError());
+}
+
+/* Takes what the user did since the last frame. Returns 0 if that is to end. */
+static int take_events(frame *made) {
+    SDL_Event event;
+    while (SDL_PollEvent(&event)) {
+        if (event.type == SDL_QUIT || (event.type == SDL_KEYDOWN && event.key.keysym.sym == SDLK_ESCAPE)) return 0;
+        if (event.type == SDL_MOUSEBUTTONDOWN) pick(made, event.button.x, event.button.y);
+    }
+    return 1;
+}
+
+static void show_rate(SDL_Window *window, const frame *made, int threads, double rate) {
+    char title[128], picked[32] = "";
+    if (made->picked != NONE) snprintf(picked, sizeof picked, ", triangle %u", made->picked);
+    snprintf(title, sizeof title, "spin: %.0f frames a second by %d threads%s", rate, threads, picked);
+    SDL_SetWindowTitle(window, title);
+}
+
+static void run(const trirast_canvas *canvas, frame *made, int threads, double turn, double speed) {
+    must(!SDL_Init(SDL_INIT_VIDEO));
+    SDL_Window *window = SDL_CreateWindow("spin", SDL_WINDOWPOS_CENTERED, SDL_WINDOWPOS_CENTERED, made->width, made->height, 0);
+    must(window != NULL);
+    Uint64 begun = SDL_GetTicks64(), since = begun;
+    for (int frames = 0; take_events(made); frames++) {
+        SDL_Surface *surface = SDL_GetWindowSurface(window);
+        must(surface != NULL);
+        Uint64 now = SDL_GetTicks64();
+        make_frame(made, turn + speed * (double)(now - begun) / 1000);
+        draw(canvas, &made->batch, threads, format_of(surface), surface->pixels, (size_t)surface->pitch);
+        must(!SDL_UpdateWindowSurface(window));
+        if (now - since < 500) continue;
+        show_rate(window, made, threads, 1000.0 * (frames + 1) / (double)(now - since));
+        since = now, frames = -1;
+    }
+    SDL_DestroyWindow(window);
+    SDL_Quit();
+}
+
+/* ---- Arguments ---- */
+
+typedef struct {
+    int size[2], picked[2], threads;
+    double turn, speed;
+    const char *save, *list, *model;
+} options;
+
+static double number(char **words, double low, double high) {
+    char *end = NULL;
+    double value = *words ? strtod(*words, &end) : 0;
+    if (!*words || end == *words || *end || value < low || value > high) stop("a number is missing or out of range", *words ? *words : "");
+    return value;
+}
+
+static options read_options(char **words) {
+    options asked = {{640, 480}, {-1, -1}, SDL_GetCPUCount(), 25, 30, NULL, NULL, NULL};
+    for (; *words; words++) {
+        if (!strcmp(*words, "--size"))
+            asked.size[0] = (int)number(++words, 1, MAX_SIDE), asked.size[1] = (int)number(++words, 1, MAX_SIDE);
+        else if (!strcmp(*words, "--pick"))
+            asked.picked[0] = (int)number(++words, 0, MAX_SIDE), asked.picked[1] = (int)number(++words, 0, MAX_SIDE);
+        else if (!strcmp(*words, "--threads")) asked.threads = (int)number(++words, 1, MAX_THREADS);
+        else if (!strcmp(*words, "--turn")) asked.turn = number(++words, -1e6, 1e6);
+        else if (!strcmp(*words, "--speed")) asked.speed = number(++words, -1e6, 1e6);
+        else if (!strcmp(*words, "--save") && words[1]) asked.save = *++words;
+        else if (!strcmp(*words, "--list") && words[1]) asked.list = *++words;
+        else asked.model = *words;
+    }
+    if (!asked.model) stop("no model", "spin [--size 640 480] [--threads N] [--save FILE] MODEL.obj");
+    if (asked.threads > MAX_THREADS) asked.threads = MAX_THREADS;
+    return asked;
+}
+
+int main(int count, char **words) {
+    (void)count;
+    options asked = read_options(words + 1);
+    double degree = TURN / 360;
+    model shape = read_model(asked.model);
+    frame made = new_frame(&shape, asked.size[0], asked.size[1]);
+    made.batch.draws = made.draws, made.batch.vertices = made.vertices, made.batch.indices = made.indices;
+    trirast_canvas canvas = new_canvas((uint32_t)made.width, (uint32_t)made.height, SAMPLES);
+    make_frame(&made, asked.turn * degree);
+    if (asked.picked[0] >= 0) {
+        pick(&made, asked.picked[0], asked.picked[1]);
+        make_frame(&made, asked.turn * degree);
+    }
+    if (asked.list) write_list(asked.list, &made);
+    if (asked.save) save(asked.save, &canvas, &made, asked.threads);
+    else run(&canvas, &made, asked.threads, asked.turn * degree, asked.speed * degree);
+    free(canvas.memory), free(made.vertices), free(made.indices);
+    free(shape.points), free(shape.normals), free(shape.corners);
+    return 0;
+}

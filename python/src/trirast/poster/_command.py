@@ -1,0 +1,54 @@
+"""The command `python3 -m trirast.poster`."""
+
+from __future__ import annotations
+
+import argparse
+import sys
+from typing import List, Optional
+
+from .._errors import Error
+from ._arrays import scene_of
+from ._errors import PosterError
+from ._poster import SIDE, draw_poster
+
+# The status of a program that Ctrl-C ended, as shells give it.
+INTERRUPTED = 130
+
+
+def arguments(words: Optional[List[str]] = None) -> argparse.Namespace:
+    parser = argparse.ArgumentParser(
+        prog="python3 -m trirast.poster",
+        description="Draws a draw list of up to 32,768 pixels a side, by windows.",
+    )
+    parser.add_argument("list", metavar="LIST", help="a draw list, or arrays of numpy (.npz)")
+    parser.add_argument("-o", dest="out", metavar="OUT", help="the picture: PNG if the name ends in .png, else PPM (of depths PGM)")
+    parser.add_argument("--tiles", metavar="FOLDER", help="a new folder of PNG tiles z/x/y.png with a page that shows them")
+    parser.add_argument("--window", type=int, default=SIDE, metavar="SIDE", help=f"pixels of a window's side (default {SIDE})")
+    parser.add_argument("--workers", type=int, metavar="N", help="how many draw at once (default one a core)")
+    parser.add_argument("--scheduler", metavar="local|ADDRESS", help="draw by Dask: its processes here, or a cluster's scheduler")
+    parser.add_argument("--resume", action="store_true", help="go on with what a stopped run left")
+    options = parser.parse_args(words)
+    if options.out is None and options.tiles is None:
+        parser.error("one of -o and --tiles is needed")
+    if options.workers is not None and options.workers < 1:
+        parser.error("--workers: at least 1")
+    return options
+
+
+def main(words: Optional[List[str]] = None) -> int:
+    """Draws a poster. Returns 1 after an error, which one line on standard error names, and 130 after Ctrl-C. Exits with 2 if the
+    arguments are wrong."""
+    options = arguments(words)
+    try:
+        scene = scene_of(options.list)
+        draw_poster(
+            scene, options.out, tiles=options.tiles, window=options.window, workers=options.workers,
+            scheduler=options.scheduler, resume=options.resume, show_progress=True,
+        )
+    except (Error, PosterError, OSError, ValueError, MemoryError) as error:
+        print(f"poster: {type(error).__name__}: {error}", file=sys.stderr)
+        return 1
+    except KeyboardInterrupt:
+        print("poster: stopped; --resume goes on", file=sys.stderr)
+        return INTERRUPTED
+    return 0

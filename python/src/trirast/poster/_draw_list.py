@@ -1,0 +1,104 @@
+"""Draw lists as scenes: the format of docs/draw-list.md, with sides and scissors of up to 32,768 pixels."""
+
+from __future__ import annotations
+
+import json
+from typing import Any
+
+import numpy as np
+from numpy.typing import NDArray
+
+from .._draw_list import image_info
+from ._scene import MAX_SIDE, PosterDraw, Scene, Sheet
+
+# The library reads lists of at most this many pixels a side, and this many draws.
+LIST_SIDE = 4096
+LIST_DRAWS = 1024
+PRIMITIVES = ("triangles", "strip", "quads")
+SHEET_KEYS = ("width", "height", "samples", "clear_depth", "output")
+
+
+def scene_of_list(data: bytes) -> Scene:
+    """The scene of a draw list. Raises trirast.Error as the library does for the same list with sides of at most 4096."""
+    value = checked(data)
+    draws, vertices, triangles = [], [np.zeros((0, 7), np.int32)], [np.zeros((0, 3), np.int32)]
+    base = 0
+    for draw in value["draws"]:
+        mine = triangles_of(draw)
+        vertices.append(np.array(draw["vertices"], np.int32).reshape(-1, 7))
+        triangles.append(mine + np.int32(base))
+        base += len(draw["vertices"])
+        draws.append(PosterDraw(len(mine), state_of(draw)))
+    return Scene(sheet_of(value), np.concatenate(vertices), np.concatenate(triangles), draws)
+
+
+def checked(data: bytes) -> Any:
+    """The value of a list. The library makes all checks; sides past 4096 are cut in a copy that it reads in place of the list."""
+    try:
+        value = json.loads(data.decode(), parse_constant=refuse)
+    except (ValueError, RecursionError):
+        image_info(data)
+        raise
+    within = cut(value)
+    image_info(data if within == value else within)
+    return value
+
+
+def refuse(name: str) -> Any:
+    raise ValueError(f"{name} is no number of JSON")
+
+
+def cut(value: Any) -> Any:
+    """A list with each side and each edge of a scissor from 4097 to 32,768 lowered to 4096."""
+    if not isinstance(value, dict):
+        return value
+    within = {key: cut_number(number) if key in ("width", "height") else number for key, number in value.items()}
+    if isinstance(value.get("draws"), list):
+        within["draws"] = [cut_scissor(draw) for draw in value["draws"]]
+    return within
+
+
+def cut_scissor(draw: Any) -> Any:
+    if isinstance(draw, dict) and isinstance(draw.get("scissor"), list):
+        return {**draw, "scissor": [cut_number(edge) for edge in draw["scissor"]]}
+    return draw
+
+
+def cut_number(number: Any) -> Any:
+    return LIST_SIDE if type(number) is int and LIST_SIDE < number <= MAX_SIDE else number
+
+
+def sheet_of(value: Any) -> Sheet:
+    given = {key: value[key] for key in SHEET_KEYS if key in value}
+    red, green, blue = value.get("clear", (0, 0, 0))
+    return Sheet(**given, clear=(red, green, blue))
+
+
+def state_of(draw: Any) -> dict[str, Any]:
+    return {key: value for key, value in draw.items() if key != "vertices" and key not in PRIMITIVES}
+
+
+def triangles_of(draw: Any) -> NDArray[np.int32]:
+    """A draw's triangles in the order in which they are drawn."""
+    if "triangles" in draw:
+        return np.array(draw["triangles"], np.int32).reshape(-1, 3)
+    if "quads" in draw:
+        quads = np.array(draw["quads"], np.int32).reshape(-1, 4)
+        halves: NDArray[np.int32] = quads[:, [0, 1, 2, 2, 3, 0]].reshape(-1, 3)
+        return halves
+    strip = np.array(draw["strip"], np.int32)
+    triangles: NDArray[np.int32] = np.stack((strip[:-2], strip[1:-1], strip[2:]), 1) if len(strip) > 2 else np.zeros((0, 3), np.int32)
+    # Each second triangle has its last two corners exchanged, so that a strip keeps its orientation.
+    triangles[1::2] = triangles[1::2, [0, 2, 1]]
+    return triangles
+
+
+def check_states(value: Any) -> None:
+    """Raises trirast.Error if a list without vertices and triangles is none: what arrays say once, and the states of draws."""
+    draws = value.get("draws") if isinstance(value, dict) else None
+    if not isinstance(draws, list):
+        image_info(value)
+        return
+    for first in range(0, max(1, len(draws)), LIST_DRAWS):
+        bare = [{**draw, "vertices": [], "triangles": []} if isinstance(draw, dict) else draw for draw in draws[first : first + LIST_DRAWS]]
+        image_info(cut({**value, "draws": bare}))

@@ -1,0 +1,39 @@
+"""Why no poster was drawn: an exception for each cause."""
+
+from __future__ import annotations
+
+
+class PosterError(Exception):
+    """Why a poster was not drawn, or not to its end."""
+
+
+class ArraysError(PosterError, ValueError):
+    """The arrays are no scene: a shape, a type, a number or an index is wrong. The text says which."""
+
+
+class GuardBandError(PosterError, ValueError):
+    """A vertex of a triangle lies too far from a window that the triangle meets.
+
+    The library draws a window whose picture begins at most 32,768 pixels right of and below each vertex, and is at most 4096
+    pixels wide and high. `triangle` is the triangle's index in the scene.
+    """
+
+    def __init__(self, triangle: int, axis: str) -> None:
+        super().__init__(f"triangle {triangle} cannot be moved into a window that it meets: its {axis} leaves the guard band")
+        self.triangle = triangle
+
+
+class WorkerLostError(PosterError):
+    """A window was lost with its worker each time that it was sent, or no worker is left."""
+
+
+class SchedulerLostError(PosterError):
+    """The scheduler of the cluster cannot be reached, or went away."""
+
+
+class EngineMissingError(PosterError, ImportError):
+    """Dask is asked for and is not installed."""
+
+
+class ResumeError(PosterError, ValueError):
+    """What a stopped run left belongs to another list, to other arguments or to another file."""

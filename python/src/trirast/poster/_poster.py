@@ -1,0 +1,153 @@
+"""A poster from a scene to its files."""
+
+from __future__ import annotations
+
+import contextlib
+import os
+from concurrent.futures import Future, ThreadPoolExecutor
+from functools import partial
+from typing import Callable, Iterable, Iterator, List, Optional, Union
+
+import numpy as np
+
+from ._dask import draw_by_dask
+from ._drawn import Drawn, checksum_of
+from ._index import Index
+from ._journal import Journal, path_of
+from ._part import Part, part_of
+from ._png_writer import PngWriter
+from ._ppm_writer import PpmWriter
+from ._progress import Step, progress
+from ._scene import Pixels, Scene, Sheet
+from ._threads import draw_by_threads
+from ._tiles_writer import TilesWriter
+from ._windows import Window, Windows
+from ._writers import Writer
+
+Path = Union[str, "os.PathLike[str]"]
+SIDE = 512
+
+
+def draw_poster(
+    scene: Scene,
+    out: Optional[Path] = None,
+    *,
+    tiles: Optional[Path] = None,
+    window: int = SIDE,
+    workers: Optional[int] = None,
+    scheduler: Optional[str] = None,
+    resume: bool = False,
+    show_progress: bool = False,
+) -> None:
+    """Draws a scene, up to 32,768 pixels wide and high, to a file or to a folder of tiles or to both.
+
+    `out` is a PNG file if its name ends in .png, else a PPM file (of depths a PGM file); `tiles` is a new folder. `window` is
+    the side in pixels of the squares that are drawn by themselves, 1 to 4096; `workers` how many draw at once (one a core).
+    Neither changes a byte. Without `scheduler` threads of this process draw; with "local" Dask's processes, and with an
+    address the workers of that cluster. `resume` goes on with what a stopped run left. Under the final names are whole files
+    alone. Raises PosterError and trirast.Error, and OSError if a file cannot be written.
+    """
+    if out is None and tiles is None:
+        raise ValueError("a poster goes to a file, to a folder of tiles, or to both")
+    count = workers or os.cpu_count() or 1
+    # Without a last slash, so that what is beside a folder is not put into it.
+    file, folder = (os.path.normpath(os.fspath(each)) if each is not None else None for each in (out, tiles))
+    windows = Windows(scene.sheet, window)
+    with contextlib.ExitStack() as stack:
+        summing = stack.enter_context(ThreadPoolExecutor(1)).submit(scene.checksum, count)
+        index = Index.of(scene, windows, count)
+        run = {"list": summing.result(), "window": window, "out": file is not None, "tiles": folder is not None}
+        journal = Journal(path_of(file, folder), run, resume)
+        stack.callback(journal.close)
+        writers = list(writers_of(scene.sheet, file, folder, resume, count, stack))
+        first = kept_rows(windows, journal, writers, scene.sheet)
+        step = stack.enter_context(progress(len(windows), first * windows.columns, show_progress))
+        part = partial(part_of, scene, index)
+        drawn = engine_of(windows.from_row(first), part, count, scheduler)
+        stack.callback(drawn.close)  # type: ignore[attr-defined]
+        write_rows(rows_of(drawn, windows, scene.sheet, step), journal, writers)
+        for writer in writers:
+            writer.finish()
+        journal.remove()
+
+
+def writers_of(
+    sheet: Sheet, out: Optional[str], tiles: Optional[str], resume: bool, threads: int, stack: contextlib.ExitStack
+) -> Iterator[Writer]:
+    """The writers of a poster, which the stack closes."""
+    makers: List[Callable[[], Writer]] = []
+    if tiles is not None:
+        makers.append(partial(TilesWriter, tiles, sheet, resume, threads))
+    if out is not None and out.endswith(".png"):
+        makers.append(partial(PngWriter, out, sheet, resume, threads))
+    elif out is not None:
+        makers.append(partial(PpmWriter, out, sheet, resume))
+    for maker in makers:
+        writer = maker()
+        stack.callback(writer.close)
+        yield writer
+
+
+def engine_of(
+    windows: Iterable[Window], part: Callable[[Window], Part], workers: int, scheduler: Optional[str]
+) -> Iterator[Drawn]:
+    """The windows drawn, in their order."""
+    if scheduler is None:
+        return draw_by_threads(windows, part, workers)
+    return draw_by_dask(windows, part, workers, scheduler)
+
+
+def kept_rows(windows: Windows, journal: Journal, writers: List[Writer], sheet: Sheet) -> int:
+    """How many rows of windows a stopped run left: those that each writer has, with the checksums of the journal."""
+    for row, checksums in enumerate(journal.rows):
+        read = [writer.read(windows.row_height(row)) for writer in writers]
+        rows = [each for each in read if each is not None]
+        if len(rows) < len(read) or any(row_checksums(each, windows, row) != list(checksums) for each in rows):
+            return row
+        for writer, each in zip(writers, rows):
+            writer.keep(each)
+        journal.kept(checksums)
+    return len(journal.rows)
+
+
+def row_checksums(rows: Pixels, windows: Windows, row: int) -> List[str]:
+    """The checksums of the windows of a row."""
+    return [checksum_of(rows[:, window.left : window.left + window.width]) for window in windows.in_row(row)]
+
+
+class Row:
+    """A row of windows: its pixels, and the checksums of its windows."""
+
+    def __init__(self, pixels: Pixels) -> None:
+        self.pixels = pixels
+        self.checksums: List[str] = []
+
+
+def rows_of(drawn: Iterable[Drawn], windows: Windows, sheet: Sheet, step: Step) -> Iterator[Row]:
+    """Whole rows of windows, of windows in their order."""
+    row = Row(np.zeros(0))
+    for window, pixels, checksum in drawn:
+        if window.column == 0:
+            row = Row(sheet.blank(window.height, sheet.width))
+        row.pixels[:, window.left : window.left + window.width] = pixels
+        row.checksums.append(checksum)
+        step(window)
+        if window.column == windows.columns - 1:
+            yield row
+
+
+def write_rows(rows: Iterable[Row], journal: Journal, writers: List[Writer]) -> None:
+    """Writes rows by a thread of its own, while the next row is drawn."""
+    def write(row: Row) -> None:
+        for writer in writers:
+            writer.write(row.pixels)
+        journal.kept(row.checksums)
+
+    with ThreadPoolExecutor(1) as pool:
+        last: Optional[Future[None]] = None
+        for row in rows:
+            if last:
+                last.result()
+            last = pool.submit(write, row)
+        if last:
+            last.result()

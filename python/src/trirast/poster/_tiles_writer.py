@@ -1,0 +1,154 @@
+"""A folder of PNG tiles by zoom level, z/x/y.png of 256 pixels, with a page that shows them and needs no net.
+
+The finest level is the poster; each coarser one is half as wide and high, and at level 0 one tile has all. A pixel of a coarser
+level is the mean of four, rounded to the nearest integer, and up at a half; a last odd row or column stands for the one that is
+missing.
+"""
+
+from __future__ import annotations
+
+import os
+import shutil
+import struct
+import zlib
+from concurrent.futures import ThreadPoolExecutor
+from typing import List, Optional
+
+import numpy as np
+
+from ._png import pixels_of, png_of
+from ._scene import Pixels, Sheet
+from ._writers import PART, put_in_place
+
+TILE = 256
+PAGE = "index.html"
+
+
+def halved(pixels: Pixels) -> Pixels:
+    """Pixels of half the width and height, each the mean of four."""
+    if pixels.shape[0] % 2:
+        pixels = np.concatenate((pixels, pixels[-1:]), 0)
+    if pixels.shape[1] % 2:
+        pixels = np.concatenate((pixels, pixels[:, -1:]), 1)
+    sums = pixels[0::2, 0::2].astype(np.uint16 if pixels.dtype.itemsize == 1 else np.uint32)
+    sums += pixels[0::2, 1::2]
+    sums += pixels[1::2, 0::2]
+    sums += pixels[1::2, 1::2]
+    sums += 2
+    sums >>= 2
+    return sums.astype(pixels.dtype)
+
+
+def levels_of(sheet: Sheet) -> int:
+    """The number of the finest level: at level 0 the whole poster is in one tile."""
+    level = 0
+    while TILE << level < max(sheet.width, sheet.height):
+        level += 1
+    return level
+
+
+class Level:
+    """A level: takes rows from the top, puts tiles out as soon as their rows are there, and passes halved rows on."""
+
+    def __init__(self, writer: TilesWriter, number: int) -> None:
+        self._writer = writer
+        self._number = number
+        self._tile_rows = 0
+        self._waiting: List[Pixels] = []
+        self._coarser = Level(writer, number - 1) if number else None
+
+    def take(self, rows: Pixels) -> None:
+        self._waiting.append(rows)
+        while sum(map(len, self._waiting)) >= TILE:
+            together = self._waiting[0] if len(self._waiting) == 1 else np.concatenate(self._waiting)
+            # An empty rest would keep the memory of all rows.
+            self._waiting = [together[TILE:]] if len(together) > TILE else []
+            self._put(together[:TILE])
+
+    def finish(self) -> None:
+        if sum(map(len, self._waiting)):
+            self._put(np.concatenate(self._waiting))
+        if self._coarser:
+            self._coarser.finish()
+
+    def _put(self, rows: Pixels) -> None:
+        columns = range(-(-rows.shape[1] // TILE))
+        names = [os.path.join(str(self._number), str(column), f"{self._tile_rows}.png") for column in columns]
+        self._writer.put(names, [rows[:, column * TILE : (column + 1) * TILE] for column in columns])
+        self._tile_rows += 1
+        if self._coarser:
+            self._coarser.take(halved(rows))
+
+
+class TilesWriter:
+    """A folder of tiles. Raises FileExistsError if it is there."""
+
+    def __init__(self, path: str, sheet: Sheet, resume: bool, threads: int) -> None:
+        if os.path.exists(path):
+            raise FileExistsError(f"{path}: tiles go to a new folder")
+        self._path = path
+        self._sheet = sheet
+        self._is_resumed = resume
+        self._finest = levels_of(sheet)
+        self._level = Level(self, self._finest)
+        self._pool = ThreadPoolExecutor(threads)
+        self._read_tile_rows = 0
+        self._read_rows: List[Pixels] = []
+        if not resume:
+            shutil.rmtree(path + PART, ignore_errors=True)
+        os.makedirs(path + PART, exist_ok=True)
+
+    def read(self, height: int) -> Optional[Pixels]:
+        while sum(map(len, self._read_rows)) < height:
+            tiles = [self._read(os.path.join(str(self._finest), str(column), f"{self._read_tile_rows}.png"))
+                     for column in range(-(-self._sheet.width // TILE))]
+            there = [tile for tile in tiles if tile is not None]
+            if len(there) < len(tiles) or sum(tile.shape[1] for tile in there) != self._sheet.width:
+                return None
+            self._read_rows.append(np.concatenate(there, 1))
+            self._read_tile_rows += 1
+        together = np.concatenate(self._read_rows)
+        self._read_rows = [together[height:]]
+        return np.asarray(together[:height])
+
+    def _read(self, name: str) -> Optional[Pixels]:
+        """The pixels of a tile, or `None` if it is not there or damaged."""
+        try:
+            with open(os.path.join(self._path + PART, name), "rb") as file:
+                return pixels_of(file.read(), self._sheet)
+        except (OSError, ValueError, zlib.error, struct.error):
+            return None
+
+    def keep(self, rows: Pixels) -> None:
+        self._level.take(rows)
+
+    def write(self, rows: Pixels) -> None:
+        self._level.take(rows)
+
+    def put(self, names: List[str], tiles: List[Pixels]) -> None:
+        """Writes some tiles by several threads. One that a stopped run left with the same pixels is kept."""
+        for name in names:
+            os.makedirs(os.path.dirname(os.path.join(self._path + PART, name)), exist_ok=True)
+        for _ in self._pool.map(self._put_tile, names, tiles):
+            pass
+
+    def _put_tile(self, name: str, pixels: Pixels) -> None:
+        if self._is_resumed:
+            there = self._read(name)
+            if there is not None and np.array_equal(there, pixels):
+                return
+        with open(os.path.join(self._path + PART, name), "wb") as file:
+            file.write(png_of(pixels, self._sheet))
+
+    def finish(self) -> None:
+        self._level.finish()
+        with open(os.path.join(os.path.dirname(__file__), PAGE), encoding="utf-8") as file:
+            page = file.read()
+        for word, number in (("WIDTH", self._sheet.width), ("HEIGHT", self._sheet.height), ("ZOOM", self._finest)):
+            page = page.replace(word, str(number))
+        with open(os.path.join(self._path + PART, PAGE), "w", encoding="utf-8") as file:
+            file.write(page)
+        put_in_place(self._path)
+
+    def close(self) -> None:
+        self._pool.shutdown()

@@ -1,0 +1,142 @@
+"""Canvases."""
+
+import unittest
+from array import array
+from typing import Any, Callable, List
+
+import trirast
+
+from .common import PIXELS, VERTICES
+
+WHITE_ID = 16777215
+
+
+def bytes_of(buffer: Any) -> bytes:
+    return memoryview(buffer).tobytes()
+
+
+def cleared(width: int = 3, height: int = 3, **more: Any) -> trirast.Canvas:
+    canvas = trirast.Canvas(width, height, **more)
+    canvas.clear()
+    return canvas
+
+
+class Pictures(unittest.TestCase):
+    def test_a_triangle_is_drawn_as_in_a_scene(self) -> None:
+        canvas = cleared()
+        canvas.draw(VERTICES, [[0, 1, 2]])
+        self.assertEqual(bytes_of(canvas.rgb()), PIXELS)
+        rgba = bytes_of(canvas.rgba())
+        self.assertEqual(bytes(rgba[k] for k in range(36) if k % 4 != 3), PIXELS)
+        self.assertEqual(set(rgba[3::4]), {255})
+
+    def test_two_batches_are_one_picture(self) -> None:
+        two: List[List[int]] = [[0, 1, 2], [2, 1, 0]]
+        whole, split = cleared(), cleared()
+        whole.draw(VERTICES, two, blend="over")
+        for triangle in two:
+            split.draw(VERTICES, [triangle], blend="over")
+        self.assertEqual(bytes_of(whole.rgb()), bytes_of(split.rgb()))
+
+    def test_threads_share_a_canvas(self) -> None:
+        vertices = [[0, 0, 5, 10, 20, 30, 255], [51200, 0, 6, 200, 9, 7, 255], [0, 76800, 7, 4, 5, 6, 255]]
+        pictures = []
+        for threads in (1, 2, 3, 9):
+            canvas = trirast.Canvas(200, 300, samples=4)
+            canvas.clear((1, 2, 3), 9, threads=threads)
+            canvas.draw(vertices, [[0, 1, 2]], depth_test="less", depth_write=True, threads=threads)
+            pictures.append((bytes_of(canvas.rgb(threads=threads)), bytes_of(canvas.depth(3, threads=threads))))
+        self.assertEqual(pictures.count(pictures[0]), 4)
+        scene = trirast.draw_scene(
+            200, 300, [trirast.Draw(vertices, [[0, 1, 2]], depth_test="less", depth_write=True)], samples=4, clear=(1, 2, 3), clear_depth=9
+        )
+        self.assertEqual(pictures[0][0], scene.bytes)
+
+    def test_a_window_shows_a_part_of_the_screen(self) -> None:
+        whole = cleared(6, 6)
+        whole.draw(VERTICES, [[0, 1, 2]])
+        rows = [bytes_of(whole.rgb())[18 * j : 18 * j + 18] for j in range(6)]
+        part = cleared(2, 2, origin=(1, 0))
+        part.draw(VERTICES, [[0, 1, 2]])
+        self.assertEqual(bytes_of(part.rgb()), rows[0][3:9] + rows[1][3:9])
+
+    def test_an_image_is_loaded(self) -> None:
+        image = bytes(range(27))
+        canvas = cleared(samples=4)
+        canvas.load(image)
+        self.assertEqual(bytes_of(canvas.rgb()), image)
+        out = bytearray(36)
+        canvas.bgra(out)
+        self.assertEqual(out[:4], bytes((2, 1, 0, 255)))
+        canvas.load(out, format="bgra", threads=2)
+        self.assertEqual(bytes_of(canvas.rgb()), image)
+
+    def test_ids_name_triangles(self) -> None:
+        canvas = trirast.Canvas(3, 3)
+        canvas.clear((255, 255, 255))
+        canvas.draw_ids(VERTICES, [[0, 1, 2]], first_id=70000)
+        ids = array("I", bytes_of(canvas.ids()))
+        self.assertEqual(list(ids), [70000, 70000, WHITE_ID, 70000] + 5 * [WHITE_ID])
+
+    def test_the_memory_is_the_callers(self) -> None:
+        memory = bytearray(trirast.Canvas.size(3, 3))
+        canvas = trirast.Canvas(3, 3, memory=memory)
+        canvas.clear((7, 7, 7), 0x0101)
+        self.assertEqual(set(memory[:192]), {1, 7})
+        del canvas
+        with self.assertRaises(ValueError):
+            trirast.Canvas(3, 3, memory=bytearray(9))
+
+
+class Refused(unittest.TestCase):
+    def test_a_size_that_there_is_not(self) -> None:
+        for numbers in ((0, 1, 1), (1, 4097, 1), (1, 1, 2), (-1, 1, 1), (1 << 32, 1, 1)):
+            with self.assertRaises(trirast.CanvasError):
+                trirast.Canvas(numbers[0], numbers[1], samples=numbers[2])
+
+    def test_a_batch_is_refused_whole(self) -> None:
+        canvas = cleared()
+        with self.assertRaises(trirast.DrawListError) as caught:
+            canvas.draw(VERTICES, [[0, 1, 2], [0, 1, 3]])
+        self.assertEqual((caught.exception.name, caught.exception.draw), ("BadIndex", 0))
+        with self.assertRaises(trirast.DrawListError):
+            canvas.draw_ids(VERTICES, [[0, 1, 2]], first_id=WHITE_ID + 1)
+        self.assertEqual(bytes_of(canvas.rgb()), bytes(27))
+        with self.assertRaises(trirast.SampleError):
+            canvas.ids(1)
+
+    def test_buffers_of_another_size(self) -> None:
+        canvas = cleared()
+        calls: List[Callable[[], Any]] = [
+            lambda: canvas.load(bytes(26)),
+            lambda: canvas.rgb(bytearray(26)),
+            lambda: canvas.depth(0, bytearray(18)),
+            lambda: canvas.clear((0, 0)),
+            lambda: canvas.clear((0, 0, 256)),
+            lambda: canvas.clear((0, 0, 0), 65536),
+            lambda: canvas.load(bytes(27), format="bgr"),
+        ]
+        for call in calls:
+            with self.assertRaises(ValueError):
+                call()
+
+
+class Edges(unittest.TestCase):
+    def test_edge_functions(self) -> None:
+        found = trirast.edges((0, 0), (2560, 0), (0, 2560), (256, 512))
+        self.assertEqual(found, (2560 * 1792, 256 * 2560, 512 * 2560, 2560 * 2560, True))
+        with self.assertRaises(trirast.PositionError):
+            trirast.edges((0, 0), (1, 0), (0, 1), (8388608, 0))
+
+    def test_a_point_is_covered_where_a_canvas_is_drawn(self) -> None:
+        corners = ((300, -400), (2300, 700), (-500, 1900))
+        for order in (corners, corners[::-1]):
+            canvas = trirast.Canvas(8, 8)
+            canvas.clear((255, 255, 255))
+            canvas.draw_ids([[*corner, 0, 0, 0, 0, 255] for corner in order], [[0, 1, 2]])
+            ids = array("I", bytes_of(canvas.ids()))
+            self.assertEqual(set(ids), {0, WHITE_ID})
+            for number, found in enumerate(ids):
+                a, b, c, doubled_area, covered = trirast.edges(*order, (256 * (number % 8) + 128, 256 * (number // 8) + 128))
+                self.assertEqual(covered, found == 0)
+                self.assertEqual(a + b + c, doubled_area)

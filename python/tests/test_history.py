@@ -1,0 +1,81 @@
+"""The history of a pixel: its objects, their text, and what is raised for pixels and lists that are not there."""
+
+import os
+import shutil
+import unittest
+from typing import Any
+
+import trirast
+from trirast import _history
+
+from .common import DRAW_LIST, VERTICES
+
+IS_BUILT = shutil.which(_history.program()) is not None or os.access(_history.program(), os.X_OK)
+BLACK, WHITE = (0, 0, 0), (255, 255, 255)
+
+
+@unittest.skipUnless(IS_BUILT, "there is no trirast_why; make builds it")
+class History(unittest.TestCase):
+    def test_a_drawn_triangle_has_its_fragment(self) -> None:
+        pixel = trirast.why(DRAW_LIST, 1, 0)
+        self.assertEqual((pixel.x, pixel.y, pixel.color, pixel.depth), (1, 0, WHITE, None))
+        (sample,) = pixel.samples
+        self.assertEqual((sample.sample, sample.position, sample.begin), (0, (384, 128), (BLACK, 65535)))
+        (event,) = sample.events
+        self.assertEqual((event.draw, event.triangle, event.result, event.reasons), (0, 0, "drawn", ()))
+        self.assertEqual(event.fragment, (WHITE, 255, 0))
+        self.assertEqual((event.before, event.after, sample.end), ((BLACK, 65535), (WHITE, 65535), (WHITE, 65535)))
+
+    def test_a_triangle_that_misses_is_listed_if_all_are(self) -> None:
+        # The centre of the pixel lies on the hypotenuse, which is a right edge.
+        self.assertEqual(trirast.why(DRAW_LIST, 1, 1).samples[0].events, ())
+        (event,) = trirast.why(DRAW_LIST, 1, 1, all_triangles=True).samples[0].events
+        self.assertEqual((event.result, event.reasons, event.fragment), ("missed", ("not_covered",), None))
+
+    def test_one_sample_of_four(self) -> None:
+        depths: Any = {**DRAW_LIST, "samples": 4, "output": "depth"}
+        pixel = trirast.why(depths, 0, 0, sample=3)
+        self.assertEqual((pixel.color, pixel.depth, [sample.sample for sample in pixel.samples]), (None, 65535, [3]))
+
+    def test_a_history_prints_itself(self) -> None:
+        lines = str(trirast.why(DRAW_LIST, 0, 0)).split("\n")
+        self.assertEqual(lines[:3], ["pixel (0, 0)", "sample 0 at (0.500, 0.500)", "  begins (0, 0, 0) depth 65535"])
+        self.assertIn("drawn", lines[3])
+        self.assertEqual(lines[-2:], ["  ends (255, 255, 255) depth 65535", "colour (255, 255, 255)"])
+
+    def test_pixels_that_are_not_there(self) -> None:
+        for x, y, sample in ((3, 0, None), (0, 3, None), (-1, 0, None), (0, 0, 1)):
+            with self.assertRaises(IndexError):
+                trirast.why(DRAW_LIST, x, y, sample)
+
+    def test_the_samples_of_a_triangle_are_counted(self) -> None:
+        # The triangle covers the centres of three pixels. A second one over them leaves the first shown by none.
+        once = trirast.triangle_samples(DRAW_LIST, 0, 0)
+        self.assertEqual(once, (0, 0, 3, 3, 3))
+        self.assertEqual(str(once), "draw 0 triangle 0 covers 3, changes 3, shown by 3 samples")
+        black: Any = [[*vertex[:3], 0, 0, 0, 255] for vertex in VERTICES]
+        twice: Any = {**DRAW_LIST, "draws": [*DRAW_LIST["draws"], {"vertices": black, "triangles": [[0, 1, 2]]}]}
+        self.assertEqual(trirast.triangle_samples(twice, 0, 0), (0, 0, 3, 3, 0))
+        self.assertEqual(trirast.triangle_samples(twice, 1, 0), (1, 0, 3, 3, 3))
+
+    def test_triangles_that_are_not_there(self) -> None:
+        for draw, triangle in ((1, 0), (0, 1), (-1, 0)):
+            with self.assertRaises(IndexError):
+                trirast.triangle_samples(DRAW_LIST, draw, triangle)
+
+    def test_a_draw_list_error_is_that_of_draw(self) -> None:
+        refused: Any = {**DRAW_LIST, "draws": [{"vertices": VERTICES, "triangles": [[0, 1, 3]]}]}
+        with self.assertRaises(trirast.DrawListError) as raised:
+            trirast.why(refused, 0, 0)
+        error = raised.exception
+        self.assertEqual((str(error), error.number, error.draw), ("trirast: list fault 6 BadIndex in draw 0", 6, 0))
+
+
+class Errors(unittest.TestCase):
+    def test_each_line_has_its_exception(self) -> None:
+        self.assertIsInstance(_history.error_of("trirast: input too long"), trirast.LimitError)
+        self.assertIsInstance(_history.error_of("trirast: out of memory"), trirast.OutOfMemoryError)
+
+
+if __name__ == "__main__":
+    unittest.main()

@@ -1,0 +1,343 @@
+"""The backend of matplotlib: its pictures beside Agg's, clips, transparent figures, numbers that are none, and far zooms."""
+
+import importlib.util
+import io
+import unittest
+from typing import Any, Callable, List, Optional, Tuple
+from unittest import mock
+
+for needed in ("numpy", "matplotlib"):
+    if importlib.util.find_spec(needed) is None:
+        raise unittest.SkipTest(f"the backend needs {needed}")
+
+import matplotlib
+import numpy as np
+from matplotlib.backends.backend_agg import FigureCanvasAgg
+from matplotlib.figure import Figure
+from matplotlib.patches import Circle
+from matplotlib.tri import Triangulation
+from matplotlib.transforms import IdentityTransform
+
+from trirast.matplotlib import FigureCanvasTrirast, RendererTrirast, _drawing, _triangles
+from trirast.matplotlib._triangles import REACH, Box, Triangles
+
+# Its functions have no types.
+ma: Any = np.ma
+WHITE = [255, 255, 255, 255]
+# Of one_color, by the colour map "gray".
+GRAY = [153, 153, 153, 255]
+SIZE = (3.2, 2.4)
+AXES = (0.125, 0.125, 0.75, 0.75)
+# The pixels of the axes: 40 to 280 and 30 to 210. Those on their border are half covered.
+INSIDE = (slice(31, 209), slice(41, 279))
+COUNT = 178 * 238
+
+Draws = Callable[[Any], Any]
+
+
+def random_mesh() -> Triangulation:
+    x, y = np.random.default_rng(2).random((2, 800))
+    x[:4], y[:4] = (0, 1, 0, 1), (0, 0, 1, 1)
+    return Triangulation(x, y)
+
+
+def bent_grid() -> Tuple[Any, Any]:
+    x, y = np.meshgrid(np.linspace(0, 1, 40), np.linspace(0, 1, 30))
+    return x + 0.03 * np.sin(7 * y), y + 0.03 * np.sin(5 * x)
+
+
+MESH = random_mesh()
+
+
+def tripcolor(values: Callable[[Any, Any], Any], **more: Any) -> Draws:
+    def draw(axes: Any) -> Any:
+        return axes.tripcolor(MESH, values(MESH.x, MESH.y), shading="gouraud", cmap="gray", vmin=0, vmax=1, **more)
+
+    return draw
+
+
+def pcolormesh(values: Callable[[Any, Any], Any], **more: Any) -> Draws:
+    def draw(axes: Any) -> Any:
+        x, y = bent_grid()
+        return axes.pcolormesh(x, y, values(x, y), shading="gouraud", cmap="gray", vmin=0, vmax=1, **more)
+
+    return draw
+
+
+def one_color(x: Any, y: Any) -> Any:
+    return 0 * x + 0 * y + 0.6
+
+
+def slope(x: Any, y: Any) -> Any:
+    return (x + y) / 2
+
+
+def drawn(
+    draw: Draws, canvas_class: Any = FigureCanvasTrirast, limits: Tuple[float, float] = (0.05, 0.95), dpi: int = 100, **more: Any
+) -> Any:
+    """The pixels of a figure, red, green, blue and alpha, whose axes show the same limits in both directions."""
+    figure = Figure(figsize=SIZE, dpi=dpi, **more)
+    canvas = canvas_class(figure)
+    axes = figure.add_axes(AXES, xlim=limits, ylim=limits)
+    axes.set_axis_off()
+    draw(axes)
+    canvas.draw()
+    return np.asarray(canvas.buffer_rgba()).copy()
+
+
+def off_color(pixels: Any) -> int:
+    """How many pixels of the axes are not of the colour that most of them have."""
+    inside = pixels[INSIDE].reshape(-1, 4)
+    return int(len(inside) - np.unique(inside, axis=0, return_counts=True)[1].max())
+
+
+def colors_in(pixels: Any) -> Any:
+    """The colours of some pixels, each once."""
+    return np.unique(pixels.reshape(-1, 4), axis=0).tolist()
+
+
+def exact_slope(least: float, greatest: float) -> Any:
+    """The gray of the slope at the centres of the pixels of the axes, as a number."""
+    y, x = np.mgrid[INSIDE] + 0.5
+    return 255 * (least + (greatest - least) * ((x - 40) / 240 + (210 - y) / 180) / 2)
+
+
+def farthest(a: Any, b: Any) -> float:
+    return float(np.abs(np.subtract(a, b, dtype=float)).max())
+
+
+class Meshes(unittest.TestCase):
+    def test_matplotlib_finds_the_backend(self) -> None:
+        with mock.patch.dict(matplotlib.rcParams):
+            matplotlib.use("module://trirast.matplotlib")
+            import matplotlib.pyplot as plt
+
+            figure = plt.figure()
+            self.assertIsInstance(figure.canvas, FigureCanvasTrirast)
+            figure.canvas.draw()
+            self.assertIsInstance(figure.canvas.get_renderer(), RendererTrirast)
+            plt.close(figure)
+
+    def test_half_transparent_meshes_have_no_seams(self) -> None:
+        for draw in (tripcolor(one_color, alpha=0.5), pcolormesh(one_color, alpha=0.5)):
+            self.assertEqual(off_color(drawn(draw)), 0)
+            self.assertGreater(off_color(drawn(draw, FigureCanvasAgg)), COUNT // 3)
+
+    def test_meshes_have_their_colors(self) -> None:
+        exact = exact_slope(0.05, 0.95)
+        for draw in (tripcolor, pcolormesh):
+            for alpha in (None, 0.5):
+                pixels = drawn(draw(slope, alpha=alpha))[INSIDE]
+                self.assertLess(farthest(pixels[..., 0], exact if alpha is None else (exact + 255) / 2), 2)
+                self.assertEqual(set(pixels[..., 3].ravel()), {255})
+
+    def test_all_else_is_as_agg_draws_it(self) -> None:
+        def text(axes: Any) -> None:
+            axes.set_axis_on()
+            axes.plot([0.1, 0.9], [0.2, 0.8])
+            axes.set_title("title")
+
+        self.assertEqual(drawn(text).tobytes(), drawn(text, FigureCanvasAgg).tobytes())
+
+    def test_a_figure_is_saved_in_another_size(self) -> None:
+        figure = Figure(figsize=SIZE, dpi=50)
+        FigureCanvasTrirast(figure)
+        axes = figure.add_axes(AXES, xlim=(0.05, 0.95), ylim=(0.05, 0.95))
+        axes.set_axis_off()
+        tripcolor(one_color, alpha=0.5)(axes)
+        file = io.BytesIO()
+        figure.savefig(file, format="rgba", dpi=100)
+        self.assertEqual(off_color(np.frombuffer(file.getvalue(), np.uint8).reshape(240, 320, 4)), 0)
+
+
+class Clips(unittest.TestCase):
+    def test_nothing_is_drawn_outside_of_the_clip_rectangle(self) -> None:
+        pixels = drawn(tripcolor(one_color))
+        outside = np.ones(pixels.shape[:2], bool)
+        outside[30:210, 40:280] = False
+        self.assertEqual(colors_in(pixels[outside]), [WHITE])
+        self.assertEqual(colors_in(pixels[30:210, 40:280]), [GRAY])
+
+    def test_a_clip_path(self) -> None:
+        def clipped(axes: Any) -> None:
+            tripcolor(slope)(axes).set_clip_path(Circle((0.5, 0.5), 0.3, transform=axes.transAxes))
+
+        whole, part = drawn(tripcolor(slope)), drawn(clipped)
+        y, x = np.mgrid[0:240, 0:320] + 0.5
+        distance = np.hypot((x - 160) / 240, (y - 120) / 180)
+        self.assertEqual(part[distance < 0.29].tobytes(), whole[distance < 0.29].tobytes())
+        self.assertEqual(colors_in(part[distance > 0.31]), [WHITE])
+        between = part[(distance > 0.295) & (distance < 0.305), 0]
+        self.assertGreater(len(np.unique(between)), 20)
+
+    def test_a_clip_path_is_filled_as_by_agg(self) -> None:
+        whole = Triangulation([-2, 4, -2], [-2, -2, 4])
+
+        def clipped(axes: Any) -> None:
+            mesh = axes.tripcolor(whole, np.zeros(3), shading="gouraud", cmap="gray", vmin=0, vmax=1)
+            mesh.set_clip_path(Circle((0.5, 0.5), 0.3, transform=axes.transAxes))
+
+        self.assertLess(farthest(drawn(clipped), drawn(clipped, FigureCanvasAgg)), 3)
+
+
+class Transparent(unittest.TestCase):
+    def test_a_transparent_figure_is_the_opaque_one_over_its_ground(self) -> None:
+        for alpha in (None, 0.5):
+            draw = tripcolor(slope, alpha=alpha)
+            clear, opaque = drawn(draw, facecolor="none"), drawn(draw)
+            share = clear[..., 3:] / 255
+            self.assertLess(farthest(share * clear[..., :3] + (1 - share) * 255, opaque[..., :3]), 2)
+            self.assertEqual(set(clear[INSIDE][..., 3].ravel()), {255 if alpha is None else 128})
+            self.assertEqual(set(clear[:30, :, 3].ravel()), {0})
+
+    def test_transparent_figures_have_no_seams(self) -> None:
+        for draw in (tripcolor(one_color, alpha=0.5), pcolormesh(one_color, alpha=0.3)):
+            self.assertEqual(off_color(drawn(draw, facecolor=(1, 0.5, 0, 0.4))), 0)
+
+    def test_a_filter_of_pixels(self) -> None:
+        def filtered(axes: Any) -> None:
+            tripcolor(slope, alpha=0.5)(axes).set_agg_filter(lambda image, _dpi: (image, 0, 0))
+
+        self.assertLess(farthest(drawn(filtered), drawn(tripcolor(slope, alpha=0.5))), 3)
+
+    def test_a_clip_path_of_a_transparent_figure(self) -> None:
+        def clipped(axes: Any) -> None:
+            tripcolor(slope, alpha=0.5)(axes).set_clip_path(Circle((0.5, 0.5), 0.3, transform=axes.transAxes))
+
+        clear, opaque = drawn(clipped, facecolor="none"), drawn(clipped)
+        share = clear[..., 3:] / 255
+        self.assertLess(farthest(share * clear[..., :3] + (1 - share) * 255, opaque[..., :3]), 2)
+        corner = slice(31, 50), slice(41, 60)
+        self.assertEqual(clear[corner].tobytes(), drawn(lambda axes: None, facecolor="none")[corner].tobytes())
+
+
+# ---- Triangles by themselves
+
+
+def renderer_with(points: Any, colors: Any, gc: Optional[Any] = None) -> RendererTrirast:
+    """A white figure of 40 by 30 pixels with triangles, whose positions are pixels, y upwards."""
+    renderer = RendererTrirast(40, 30, 72)
+    np.asarray(renderer.buffer_rgba())[...] = 255
+    renderer.draw_gouraud_triangles(gc or renderer.new_gc(), np.array(points, float), np.array(colors, float), IdentityTransform())
+    return renderer
+
+
+def pixels_with(points: Any, colors: Any) -> Any:
+    return np.asarray(renderer_with(points, colors).buffer_rgba()).copy()
+
+
+LOWER, UPPER = [(0, 0), (40, 0), (0, 30)], [(40, 0), (40, 30), (0, 30)]
+BLACK, RED = [[0, 0, 0, 1]] * 3, [[1, 0, 0, 0.5]] * 3
+
+
+class Given(unittest.TestCase):
+    def test_what_is_no_number_is_left_out(self) -> None:
+        wanted = pixels_with([LOWER], [BLACK])
+        for bad in (np.nan, np.inf, -np.inf):
+            self.assertEqual(pixels_with([LOWER, [(40, 0), (40, bad), (0, 30)]], [BLACK, BLACK]).tobytes(), wanted.tobytes())
+            self.assertEqual(pixels_with([LOWER, UPPER], [BLACK, [[bad, 0, 0, 1]] * 3]).tobytes(), wanted.tobytes())
+        renderer = renderer_with([LOWER], [BLACK])
+        masked = ma.masked_less(np.array([UPPER], float), 1)
+        renderer.draw_gouraud_triangles(renderer.new_gc(), masked, np.array([BLACK], float), IdentityTransform())
+        self.assertEqual(np.asarray(renderer.buffer_rgba()).tobytes(), wanted.tobytes())
+
+    def test_masked_values_of_a_mesh(self) -> None:
+        def holed(axes: Any) -> None:
+            x, y = np.meshgrid(np.linspace(0, 1, 9), np.linspace(0, 1, 9))
+            values = ma.masked_greater(one_color(x, y) + (x > 0.9), 1)
+            axes.pcolormesh(x, y, values, shading="gouraud", cmap="gray", vmin=0, vmax=1)
+
+        pixels = drawn(holed)
+        self.assertEqual(colors_in(pixels[INSIDE][:, :180]), [GRAY])
+
+    def test_positions_between_pixels(self) -> None:
+        # Samples lie 1/8, 3/8, 5/8 and 7/8 of a pixel from its left, so these cover one, two and all of them.
+        for right, gray in ((10.25, 191), (10.5, 128), (11.0, 0)):
+            pixels = pixels_with([[(0, 0), (right, 0), (0, 30)], [(right, 0), (right, 30), (0, 30)]], [BLACK, BLACK])
+            self.assertEqual(colors_in(pixels[:, 10]), [[gray, gray, gray, 255]])
+            self.assertEqual(colors_in(pixels[:, :10]), [[0, 0, 0, 255]])
+
+    def test_triangles_are_drawn_in_their_order(self) -> None:
+        both = pixels_with([LOWER, LOWER], [RED, BLACK])
+        self.assertEqual(both.tobytes(), pixels_with([LOWER], [BLACK]).tobytes())
+        self.assertEqual(pixels_with([LOWER, LOWER], [BLACK, RED])[29, 0].tolist(), [128, 0, 0, 255])
+
+    def test_nothing_and_one_triangle(self) -> None:
+        renderer = renderer_with(np.zeros((0, 3, 2)), np.zeros((0, 3, 4)))
+        self.assertEqual(set(bytes(renderer.buffer_rgba())), {255})
+        renderer.draw_gouraud_triangle(renderer.new_gc(), LOWER, BLACK, IdentityTransform())
+        self.assertEqual(bytes(renderer.buffer_rgba()), pixels_with([LOWER], [BLACK]).tobytes())
+
+    def test_windows_batches_and_threads_change_no_pixel(self) -> None:
+        for facecolor in ("white", "none"):
+            wanted = drawn(tripcolor(slope, alpha=0.5), facecolor=facecolor)
+            for changed in (
+                mock.patch.object(_drawing, "MAX_SIDE", 50), mock.patch.object(_drawing, "BATCH", 7), mock.patch.object(RendererTrirast, "threads", 3),
+            ):
+                with changed:
+                    self.assertEqual(drawn(tripcolor(slope, alpha=0.5), facecolor=facecolor).tobytes(), wanted.tobytes())
+
+
+class Far(unittest.TestCase):
+    def test_zoomed_far_in(self) -> None:
+        for limits in ((0.5, 0.5001), (0.3, 0.3000001)):
+            pixels = drawn(tripcolor(slope), limits=limits)[INSIDE]
+            self.assertLess(farthest(pixels[..., 0], exact_slope(*limits)), 2)
+            self.assertEqual(off_color(drawn(tripcolor(one_color, alpha=0.5), limits=limits)), 0)
+
+    def test_far_corners_have_no_seams(self) -> None:
+        # The axes stand at a corner of the mesh from which six triangles go far out.
+        angles = np.linspace(0, 2 * np.pi, 7)[:-1] + 0.2
+        x, y = (np.append(0.5, 0.5 + 1e4 * each) for each in (np.cos(angles), np.sin(angles)))
+        fan = Triangulation(x, y, [[0, k, k % 6 + 1] for k in range(1, 7)])
+        draw: Draws = lambda axes: axes.tripcolor(fan, np.full(7, 0.6), shading="gouraud", cmap="gray", vmin=0, vmax=1, alpha=0.5)
+        self.assertEqual(off_color(drawn(draw)), 0)
+
+    def test_cut_triangles_keep_their_area_inside(self) -> None:
+        corners = np.random.default_rng(3).uniform(-3 * REACH, 3 * REACH, (300, 3, 2))
+        given = Triangles(corners, np.concatenate((corners, corners), 2) / REACH)
+        cut = _triangles.within_reach(given)
+        self.assertEqual(float(np.abs(cut.points).max()), REACH)
+        # Colours that go with the position stay so at each new corner.
+        self.assertLess(farthest(cut.colors[..., :2] * REACH, cut.points), 1e-6)
+        self.assertAlmostEqual(area(cut.points) / sum(area_inside(each) for each in corners), 1, places=9)
+
+    def test_parts_stand_where_their_triangle_stood(self) -> None:
+        far = np.array([[(-9e4, 0), (9e4, 1), (0, 9e4)], [(0, 0), (1, 0), (0, 1)], [(-9e4, 0), (9e4, 1), (0, 9e4)]])
+        number = np.repeat(np.arange(3.0), 12).reshape(3, 3, 4)
+        found = _triangles.within_reach(Triangles(far, number)).colors[:, 0, 0]
+        self.assertEqual(found.tolist(), sorted(found))
+        self.assertEqual(set(found), {0.0, 1.0, 2.0})
+        outside = far[:1] + 9e5
+        self.assertEqual(len(_triangles.within_reach(Triangles(outside, number[:1])).points), 0)
+
+    def test_windows_beyond_the_guard_band(self) -> None:
+        figure = np.full((4, 40000, 4), 255, np.uint8)
+        points = np.array([[(0, 0), (40000, 0), (0, 4)], [(40000, 0), (40000, 4), (0, 4)]], float)
+        _drawing.draw_triangles(figure, Triangles(points, np.full((2, 3, 4), 0.5)), Box(0, 0, 40000, 4))
+        self.assertEqual(colors_in(figure), [[191, 191, 191, 255]])
+
+
+def area(triangles: Any) -> float:
+    a, b, c = triangles.transpose(1, 0, 2)
+    (x, y), (u, v) = (b - a).T, (c - a).T
+    return float(np.abs(x * v - y * u).sum() / 2)
+
+
+def area_inside(triangle: Any) -> float:
+    """The area of a triangle within REACH, by cutting its polygon side by side."""
+    polygon: List[Any] = list(triangle)
+    for axis in (0, 1):
+        for sign in (1, -1):
+            kept = []
+            for p, q in zip(polygon, polygon[1:] + polygon[:1]):
+                if sign * p[axis] <= REACH:
+                    kept.append(p)
+                if (sign * p[axis] <= REACH) != (sign * q[axis] <= REACH):
+                    kept.append(p + (q - p) * (sign * REACH - p[axis]) / (q[axis] - p[axis]))
+            polygon = kept
+    return abs(sum(float(p[0] * q[1] - p[1] * q[0]) for p, q in zip(polygon, polygon[1:] + polygon[:1]))) / 2
+
+
+if __name__ == "__main__":
+    unittest.main()

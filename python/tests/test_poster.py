@@ -1,0 +1,302 @@
+"""Posters: what is read, chosen, written and refused. tools/check_poster.py compares their pictures with the program's."""
+
+import importlib.util
+import io
+import json
+import os
+import tempfile
+import unittest
+import zlib
+from contextlib import redirect_stderr
+from typing import Any, Dict, List
+from unittest import mock
+
+if importlib.util.find_spec("numpy") is None:
+    raise unittest.SkipTest("posters need numpy")
+
+import numpy as np
+
+import trirast
+from trirast import poster
+from trirast.poster import _command, _draw_list, _index, _journal, _part, _png, _tiles_writer, _windows
+from trirast.poster._dask import draw_by_dask
+
+from .common import DRAW_LIST, FILE, VERTICES
+
+SHEET = poster.Sheet(3, 3)
+
+
+def list_of(**more: Any) -> bytes:
+    return json.dumps({**DRAW_LIST, **more}).encode()
+
+
+def random_scene(seed: int, width: int = 300, height: int = 200, triangles: int = 200, reach: int = 20000) -> poster.Scene:
+    """Triangles all over a sheet and past it, whose corners lie up to `reach` from their middles."""
+    pick = np.random.default_rng(seed)
+    middles = pick.integers(-5000, 256 * width + 5000, (triangles, 1, 2))
+    places = (middles + pick.integers(-reach, reach, (triangles, 3, 2))).reshape(-1, 2)
+    vertices = np.concatenate((places, pick.integers(0, 256, (3 * triangles, 5))), 1)
+    indices = np.arange(3 * triangles).reshape(-1, 3)
+    draws = [{"triangles": triangles // 4, "blend": "over"}, {"triangles": 0}, {"triangles": triangles - triangles // 4, "scissor": [3, 5, 290, 111]}]
+    return poster.scene_of_arrays(vertices, indices, {"width": width, "height": height, "samples": 4, "draws": draws})
+
+
+def as_list(scene: poster.Scene) -> Dict[str, Any]:
+    """A scene as a draw list."""
+    draws: List[Dict[str, Any]] = []
+    first = 0
+    for draw in scene.draws:
+        triangles = scene.triangles[first : first + draw.triangles]
+        first += draw.triangles
+        draws.append({**draw.state, "vertices": scene.vertices.tolist(), "triangles": triangles.tolist()})
+    return {"width": scene.sheet.width, "height": scene.sheet.height, "samples": scene.sheet.samples, "draws": draws}
+
+
+class Files(unittest.TestCase):
+    def setUp(self) -> None:
+        folder = tempfile.TemporaryDirectory()
+        self.addCleanup(folder.cleanup)
+        self.folder = folder.name
+
+    def path(self, name: str) -> str:
+        return os.path.join(self.folder, name)
+
+    def content(self, name: str) -> bytes:
+        with open(self.path(name), "rb") as file:
+            return file.read()
+
+    def write(self, name: str, data: bytes) -> str:
+        with open(self.path(name), "wb") as file:
+            file.write(data)
+        return self.path(name)
+
+
+class Lists(unittest.TestCase):
+    def test_each_kind_of_primitives_is_triangles_in_their_order(self) -> None:
+        for draw, wanted in (
+            ({"triangles": [[2, 1, 0]]}, [[2, 1, 0]]),
+            ({"quads": [[0, 1, 2, 3], [4, 5, 6, 7]]}, [[0, 1, 2], [2, 3, 0], [4, 5, 6], [6, 7, 4]]),
+            ({"strip": [5, 6, 7, 8]}, [[5, 6, 7], [6, 8, 7]]),
+            ({"strip": [5, 6]}, []),
+        ):
+            self.assertEqual(_draw_list.triangles_of(draw).tolist(), wanted)
+
+    def test_sides_and_scissors_reach_32768_pixels(self) -> None:
+        draw = {**DRAW_LIST["draws"][0], "scissor": [0, 5000, 32768, 4097]}
+        scene = poster.scene_of_list(list_of(width=32768, height=4097, draws=[draw]))
+        self.assertEqual((scene.sheet.width, scene.sheet.height), (32768, 4097))
+        self.assertEqual(scene.draws[0].state["scissor"], [0, 5000, 32768, 4097])
+
+    def test_broken_lists_have_the_errors_of_the_library(self) -> None:
+        for text, number in ((b"{", 1), (b"[]", 4), (list_of(width=32769), 5), (list_of(fog=1), 2), (b'{"width":5000,"height":1}', 3)):
+            with self.assertRaises(trirast.DrawListError) as raised:
+                poster.scene_of_list(text)
+            self.assertEqual(raised.exception.number, number, text)
+
+
+class Arrays(Files):
+    def test_files_are_mapped_and_aligned(self) -> None:
+        scene = random_scene(1)
+        value = {"width": 300, "height": 200, "samples": 4, "draws": [{**draw.state, "triangles": draw.triangles} for draw in scene.draws]}
+        poster.save_arrays(self.path("scene.npz"), scene.vertices, scene.triangles, value)
+        read = poster.scene_of(self.path("scene.npz"))
+        self.assertIsInstance(read.vertices, np.memmap)
+        self.assertEqual((read.vertices.ctypes.data % 64, read.triangles.ctypes.data % 64), (0, 0))
+        self.assertEqual(read.checksum(), scene.checksum())
+        np.savez_compressed(self.path("packed.npz"), vertices=scene.vertices, triangles=scene.triangles, draws=np.array(json.dumps(value)))
+        self.assertEqual(poster.scene_of(self.path("packed.npz")).checksum(), scene.checksum())
+
+    def test_wrong_arrays_are_refused(self) -> None:
+        vertices, triangles = np.array(VERTICES), np.array([[0, 1, 2]])
+        value = {"width": 3, "height": 3, "draws": [{"triangles": 1}]}
+        for wrong in (vertices[:, :6], vertices + (1 << 24), vertices.astype(float), -vertices):
+            with self.assertRaises(poster.ArraysError):
+                poster.scene_of_arrays(wrong, triangles, value)
+        for wrong in (triangles + 1, triangles - 1, triangles[:0], triangles[:, :2]):
+            with self.assertRaises(poster.ArraysError):
+                poster.scene_of_arrays(vertices, wrong, value)
+        for draw in ({"triangles": -1}, {}, {"triangles": 1, "strip": []}):
+            with self.assertRaises((poster.ArraysError, trirast.DrawListError)):
+                poster.scene_of_arrays(vertices, triangles, {**value, "draws": [draw]})
+        with self.assertRaises(trirast.DrawListError):
+            poster.scene_of_arrays(vertices, triangles, {**value, "width": 40000})
+        with self.assertRaises(poster.ArraysError):
+            poster.scene_of(self.write("none.npz", b"PK"))
+
+
+class Windows(unittest.TestCase):
+    def test_index_has_the_triangles_whose_bounds_meet_a_window(self) -> None:
+        scene = random_scene(2, triangles=1000)
+        windows = _windows.Windows(scene.sheet, 37)
+        index = _index.Index.of(scene, windows, least=1)
+        corners = scene.vertices[:, :2][scene.triangles].astype(np.int64)
+        for window in windows.from_row(0):
+            low = np.array((window.left, window.top)) * 256
+            size = np.array((window.width, window.height)) * 256
+            meets = ((corners.max(1) >= low) & (corners.min(1) < low + size)).all(1)
+            # The last window's bounds reach past the sheet by less than a window; what is there meets no sample.
+            found = index.of_window(window)
+            self.assertTrue(set(np.flatnonzero(meets)) <= set(found.tolist()), window)
+            self.assertEqual(sorted(found.tolist()), found.tolist())
+            self.assertLess(len(found), len(scene.triangles))
+
+    def test_a_part_has_its_vertices_alone(self) -> None:
+        triangles = np.array([[7, 9, 7], [500000, 9, 8]], np.int32)
+        for chosen in (triangles[:1], triangles, np.zeros((0, 3), np.int32)):
+            names, places = _part.named_vertices(chosen)
+            self.assertEqual(names.tolist(), np.unique(chosen).tolist())
+            self.assertEqual(names[places].tolist(), chosen.tolist())
+
+    def test_a_picture_begins_where_each_vertex_can_be_seen(self) -> None:
+        places = [[-8388608, 300], [8388607, 300], [60000, 9999], [50000, 20], [60000, 20], [50000, 99]]
+        value = {"width": 512, "height": 64, "draws": [{"triangles": 2}]}
+        vertices = np.array([[*place, 0, 9, 9, 9, 9] for place in places])
+        scene = poster.scene_of_arrays(vertices, np.array([[0, 1, 2], [3, 4, 5]]), value)
+        for triangles, wanted in ((2, [0, 0, 0, 0]), (1, [0, 128, 256, 384]), (0, [0, 128, 256, 384])):
+            part_scene = poster.Scene(scene.sheet, scene.vertices, scene.triangles[2 - triangles :], [poster.PosterDraw(triangles)])
+            windows = _windows.Windows(scene.sheet, 128)
+            index = _index.Index.of(part_scene, windows)
+            parts = [_part.part_of(part_scene, index, window) for window in windows.from_row(0)]
+            self.assertEqual([_part.origin_of(part, part.window)[0] for part in parts], wanted)
+
+    def test_a_triangle_that_cannot_be_moved_is_named(self) -> None:
+        vertices = np.array([[-8388608, 0], [8388607, 0], [8388607, 70000]])
+        vertices = np.concatenate((vertices, np.zeros((3, 5), int)), 1)
+        for width, triangles, is_drawn in ((4096, 1, True), (4097, 1, False), (32768, 0, True)):
+            value = {"width": width, "height": 9, "draws": [{"triangles": triangles}]}
+            scene = poster.scene_of_arrays(vertices, np.array([[0, 1, 2]])[:triangles], value)
+            windows = _windows.Windows(scene.sheet, 64)
+            if is_drawn:
+                _index.Index.of(scene, windows)
+                continue
+            with self.assertRaises(poster.GuardBandError) as raised:
+                _index.Index.of(scene, windows)
+            self.assertEqual(raised.exception.triangle, 0)
+
+
+class Pictures(Files):
+    def test_are_the_lists(self) -> None:
+        scene = random_scene(3)
+        wanted = trirast.draw_file(as_list(scene))
+        for workers, side in ((1, 64), (3, 50), (2, 512)):
+            poster.draw_poster(scene, self.path("a.ppm"), window=side, workers=workers)
+            self.assertEqual(self.content("a.ppm"), wanted)
+        self.assertEqual(os.listdir(self.folder), ["a.ppm"])
+
+    def test_a_pixel_may_have_more_than_a_list_has(self) -> None:
+        for draws, each in ((1025, 1), (1, 70_000)):
+            value = {"width": 3, "height": 3, "draws": [{"triangles": each}] * draws}
+            scene = poster.scene_of_arrays(np.array(VERTICES), np.array([[0, 1, 2]] * (draws * each)), value)
+            poster.draw_poster(scene, self.path("a.ppm"))
+            wanted = {"width": 3, "height": 3, "draws": [{"vertices": VERTICES, "triangles": [[0, 1, 2]]}]}
+            self.assertEqual(self.content("a.ppm"), trirast.draw_file(wanted))
+
+    def test_arrays_that_are_kept_from_writing_are_drawn(self) -> None:
+        scene = random_scene(8)
+        wanted = trirast.draw_file(as_list(scene))
+        for array in (scene.vertices, scene.triangles):
+            array.flags.writeable = False
+        poster.draw_poster(scene, self.path("a.ppm"), window=100)
+        self.assertEqual(self.content("a.ppm"), wanted)
+
+    def test_go_to_one_place_at_least(self) -> None:
+        with self.assertRaises(ValueError):
+            poster.draw_poster(random_scene(5))
+        for side in (0, 4097):
+            with self.assertRaises(ValueError):
+                poster.draw_poster(random_scene(5), self.path("a.ppm"), window=side)
+
+    def test_without_dask_an_error_names_it(self) -> None:
+        with mock.patch.dict("sys.modules", {"distributed": None}), self.assertRaises(poster.EngineMissingError):
+            next(draw_by_dask([], lambda window: None, 1, "local"))  # type: ignore[arg-type, return-value]
+
+
+class Png(unittest.TestCase):
+    def test_pixels_come_back(self) -> None:
+        pick = np.random.default_rng(1)
+        depths = poster.Sheet(5, 4, output="depth")
+        for sheet, pixels in ((SHEET, pick.integers(0, 256, (4, 5, 3)).astype(np.uint8)), (depths, pick.integers(0, 65536, (4, 5)).astype(">u2"))):
+            self.assertTrue(np.array_equal(_png.pixels_of(_png.png_of(pixels, sheet), sheet), pixels))
+
+    def test_checksums_of_pieces_are_those_of_the_whole(self) -> None:
+        for first, second in ((b"", b""), (b"abc", b""), (b"", b"abc"), (b"\xff" * 70000, b"\xfe" * 99999)):
+            found = _png.adler_of_both(zlib.adler32(first), zlib.adler32(second), len(second))
+            self.assertEqual(found, zlib.adler32(first + second))
+
+
+class Tiles(unittest.TestCase):
+    def test_a_coarser_pixel_is_the_mean_of_four(self) -> None:
+        pixels = np.array([[1, 2, 9], [3, 4, 9], [255, 254, 7]], np.uint8)[:, :, None].repeat(3, 2)
+        self.assertEqual(_tiles_writer.halved(pixels)[:, :, 0].tolist(), [[3, 9], [255, 7]])
+        depths = np.array([[65535, 65534], [65535, 65535]], ">u2")
+        self.assertEqual(_tiles_writer.halved(depths).tolist(), [[65535]])
+
+    def test_levels(self) -> None:
+        sizes = ((1, 1, 0), (256, 256, 0), (257, 1, 1), (300, 513, 2), (32768, 32768, 7))
+        for width, height, levels in sizes:
+            self.assertEqual(_tiles_writer.levels_of(poster.Sheet(width, height)), levels)
+
+
+class Stopped(Files):
+    def stop(self, out: str, rows: int, **how: Any) -> None:
+        """Draws some rows of windows, and then fails as where a disk is full."""
+        kept = _journal.Journal.kept
+
+        def kept_then_full(journal: _journal.Journal, windows: Any) -> None:
+            if len(lines) == rows:
+                raise OSError("full")
+            lines.append(windows)
+            kept(journal, windows)
+
+        lines: List[Any] = []
+        with mock.patch.object(_journal.Journal, "kept", kept_then_full), self.assertRaises(OSError):
+            poster.draw_poster(random_scene(6), self.path(out), window=32, **how)
+
+    def test_runs_are_resumed(self) -> None:
+        scene = random_scene(6)
+        for out in ("a.ppm", "a.png"):
+            poster.draw_poster(scene, self.path("whole" + out), window=32)
+            self.stop(out, 3)
+            self.assertFalse(os.path.exists(self.path(out)))
+            poster.draw_poster(scene, self.path(out), window=32, resume=True)
+            self.assertEqual(self.content(out), self.content("whole" + out))
+        self.assertEqual(len(os.listdir(self.folder)), 4)
+
+    def test_another_run_is_not_resumed(self) -> None:
+        self.stop("a.ppm", 3)
+        for scene, side in ((random_scene(7), 32), (random_scene(6), 33)):
+            with self.assertRaises(poster.ResumeError):
+                poster.draw_poster(scene, self.path("a.ppm"), window=side, resume=True)
+        poster.draw_poster(random_scene(6), self.path("a.ppm"), window=32, resume=True)
+        self.assertEqual(self.content("a.ppm"), trirast.draw_file(as_list(random_scene(6))))
+
+    def test_a_journal_that_was_cut_is_read_as_far_as_it_goes(self) -> None:
+        path = self.write("journal", b'{"list": "a"}\n{"windows": ["b"]}\n{"wind')
+        journal = _journal.Journal(path, {"list": "a"}, resume=True)
+        self.addCleanup(journal.close)
+        self.assertEqual(journal.rows, [["b"]])
+
+
+class Command(Files):
+    def run_command(self, *words: str) -> "tuple[int, str]":
+        errors = io.StringIO()
+        with redirect_stderr(errors):
+            status = _command.main(list(words))
+        return status, errors.getvalue()
+
+    def test_draws_a_list(self) -> None:
+        name = self.write("a.json", list_of())
+        self.assertEqual(self.run_command(name, "-o", self.path("a.ppm")), (0, ""))
+        self.assertEqual(self.content("a.ppm"), FILE)
+
+    def test_names_errors(self) -> None:
+        name = self.write("a.json", list_of(width=0))
+        self.assertEqual(self.run_command(name, "-o", self.path("a.ppm")), (1, "poster: DrawListError: trirast: list fault 5 OutOfRange\n"))
+        status, line = self.run_command(self.path("none.json"), "-o", self.path("a.ppm"))
+        self.assertTrue(status == 1 and line.startswith("poster: FileNotFoundError: "), line)
+        with self.assertRaises(SystemExit), redirect_stderr(io.StringIO()):
+            _command.main([name])
+
+
+if __name__ == "__main__":
+    unittest.main()

@@ -1,0 +1,281 @@
+// Draws on canvases: the scenes of the cases, whole, by pieces and by threads, and what is read back.
+#include <pthread.h>
+#include <stdlib.h>
+#include <string.h>
+
+#include "canvases.h"
+
+void make_canvas(stage *made, uint32_t width, uint32_t height, uint32_t samples) {
+    const trirast_canvas empty = TRIRAST_CANVAS_INIT;
+    uint32_t rows = trirast_canvas_rows(height);
+    size_t size = trirast_canvas_bytes(width, height, samples, 0, rows);
+    made->memory = mark(size);
+    made->whole = empty;
+    made->whole.width = width, made->whole.height = height, made->whole.samples = samples;
+    made->whole.end = rows;
+    made->whole.memory = made->memory.bytes, made->whole.plane_count = size / TRIRAST_PLANE_BYTES;
+}
+
+static void make_stage(stage *made, const list_case *one) {
+    scene_of(one, &made->head, &made->batch);
+    make_canvas(made, made->head.width, made->head.height, made->head.samples);
+}
+
+trirast_status clear_to(trirast_canvas *canvas, const trirast_scene_head *head) {
+    const uint8_t color[3] = {(uint8_t)head->clear_red, (uint8_t)head->clear_green, (uint8_t)head->clear_blue};
+    return trirast_canvas_clear(canvas, color, (uint16_t)head->clear_depth);
+}
+
+// What the program's file has of the rows of pixels from `top` on, taken from a canvas: 3 bytes a pixel, or 2 of a depth.
+static int shows_rows(const list_case *one, const trirast_canvas *canvas, uint32_t top, uint32_t bottom) {
+    uint32_t width = one->info.width, rows = bottom - top;
+    size_t unit = one->info.pixel_bytes, size = (size_t)rows * width * unit;
+    const uint8_t *wanted = (const uint8_t *)one->wanted.bytes + one->info.header_bytes + (size_t)top * width * unit;
+    uint8_t *bytes = malloc(size + 1);
+    if (!bytes) stop("out of memory", "a picture");
+    int is_same;
+    if (unit == 3) {
+        is_same = !trirast_canvas_resolve(canvas, TRIRAST_FORMAT_RGB8, bytes, size, 3 * (size_t)width) && !memcmp(bytes, wanted, size);
+    } else {
+        uint16_t *depths = (uint16_t *)(void *)bytes;
+        is_same = !trirast_canvas_depths(canvas, 0, depths, (size_t)rows * width, width);
+        for (size_t k = 0; is_same && k < (size_t)rows * width; k++) is_same = depths[k] == 256 * wanted[2 * k] + wanted[2 * k + 1];
+    }
+    free(bytes);
+    return is_same;
+}
+
+// The margins around the memory of the samples are unchanged.
+static int has_margins(const stage *made) {
+    for (size_t k = 0; k < MARGIN; k++)
+        if (made->memory.all[k] != MARK || made->memory.bytes[made->memory.size + k] != MARK) return 0;
+    return 1;
+}
+
+static void compare_whole(const list_case *one) {
+    stage made;
+    trirast_error error = UNSET;
+    make_stage(&made, one);
+    trirast_status cleared = clear_to(&made.whole, &made.head);
+    trirast_status drawn_so = trirast_canvas_draw(&made.whole, &made.batch, &error);
+    expect(!cleared && is_error(&error, drawn_so, TRIRAST_STATUS_OK) && has_margins(&made) &&
+               shows_rows(one, &made.whole, 0, one->info.height),
+           "%s: status %u, or other pixels", one->name, drawn_so);
+    free(made.memory.all);
+}
+
+void draw_on_canvas(const list_case *one) {
+    stage made;
+    trirast_error error;
+    make_stage(&made, one);
+    size_t width = made.head.width, size = 4 * width * made.head.height;
+    marked entries = mark(size);
+    int failed = clear_to(&made.whole, &made.head) || trirast_canvas_draw(&made.whole, &made.batch, &error) ||
+                 trirast_canvas_draw_ids(&made.whole, &made.batch, 0, &error) ||
+                 trirast_canvas_resolve(&made.whole, TRIRAST_FORMAT_BGRA8, entries.bytes, size, 4 * width) ||
+                 trirast_canvas_load(&made.whole, TRIRAST_FORMAT_RGBA8, entries.bytes, size, 4 * width) ||
+                 trirast_canvas_depths(&made.whole, 0, (uint16_t *)(void *)entries.bytes, size / 2, width) ||
+                 trirast_canvas_ids(&made.whole, 0, (uint32_t *)(void *)entries.bytes, size / 4, width);
+    if (failed) stop("a call on a canvas failed", one->name);
+    free(entries.all), free(made.memory.all);
+}
+
+// ---- Pieces and threads ---------------------------------------------------------------------------------------------
+
+enum { THREADS = 4 };
+
+typedef struct {
+    const list_case *one;
+    stage *made;
+    uint32_t first, end;
+} share;
+
+static void *draw_piece(void *argument) {
+    share *own = argument;
+    trirast_canvas piece;
+    trirast_error error = UNSET;
+    uint32_t side = trirast_canvas_row_pixels(), height = own->made->head.height;
+    trirast_status status = trirast_canvas_piece(&own->made->whole, own->first, own->end, &piece);
+    if (!status) status = clear_to(&piece, &own->made->head);
+    if (!status) status = trirast_canvas_draw(&piece, &own->made->batch, &error);
+    uint32_t top = side * own->first < height ? side * own->first : height;
+    uint32_t bottom = side * own->end < height ? side * own->end : height;
+    expect(!status && shows_rows(own->one, &piece, top, bottom), "%s: tile rows %u to %u: status %u, or other pixels",
+           own->one->name, own->first, own->end, status);
+    return NULL;
+}
+
+static void compare_pieces(const list_case *one) {
+    stage made;
+    make_stage(&made, one);
+    uint32_t rows = made.whole.end;
+    for (uint32_t row = rows; row-- > 0;) draw_piece(&(share){one, &made, row, row + 1});
+    draw_piece(&(share){one, &made, rows, rows});
+    expect(has_margins(&made) && shows_rows(one, &made.whole, 0, one->info.height), "%s: other pixels of the whole", one->name);
+    free(made.memory.all);
+}
+
+static void compare_threads(const list_case *one) {
+    stage made;
+    make_stage(&made, one);
+    share shares[THREADS];
+    pthread_t threads[THREADS];
+    for (uint32_t k = 0; k < THREADS; k++) {
+        shares[k] = (share){one, &made, made.whole.end * k / THREADS, made.whole.end * (k + 1) / THREADS};
+        if (pthread_create(&threads[k], NULL, draw_piece, &shares[k])) stop("cannot be started", "a thread");
+    }
+    for (int k = 0; k < THREADS; k++) pthread_join(threads[k], NULL);
+    expect(has_margins(&made) && shows_rows(one, &made.whole, 0, one->info.height), "%s: other pixels", one->name);
+    free(made.memory.all);
+}
+
+// ---- What is read back ----------------------------------------------------------------------------------------------
+
+void make_quad(quad *all) {
+    const trirast_batch_draw draw = TRIRAST_BATCH_DRAW_INIT;
+    const trirast_batch batch = TRIRAST_BATCH_INIT;
+    const int32_t places[5][2] = {{0, 0}, {17920, 0}, {17920, 33280}, {0, 33280}, {1 << 30, 0}};
+    memset(all, 0, sizeof *all);
+    all->draws[0] = all->draws[1] = draw;
+    all->draws[1].vertex_count = 5, all->draws[1].index_count = 4, all->draws[1].topology = TRIRAST_TOPOLOGY_QUADS;
+    for (int k = 0; k < 5; k++)
+        all->vertices[k] = (trirast_vertex){places[k][0], places[k][1], 7, 255, 255, 255, 255};
+    for (uint32_t k = 0; k < 4; k++) all->indices[k] = k;
+    all->made.batch = batch;
+    all->made.batch.draws = all->draws, all->made.batch.draw_count = 2;
+    all->made.batch.vertices = all->vertices, all->made.batch.vertex_count = 5;
+    all->made.batch.indices = all->indices, all->made.batch.index_count = 4;
+    make_canvas(&all->made, WIDTH, HEIGHT, 4);
+}
+
+// The quad covers all; the upper left pixel of the canvas is one of the screen.
+static void compare_ids_at(int32_t x, int32_t y) {
+    quad all;
+    trirast_error error = UNSET;
+    const uint8_t white[3] = {255, 255, 255};
+    make_quad(&all);
+    all.made.whole.origin_x = x, all.made.whole.origin_y = y;
+    trirast_status status = trirast_canvas_clear(&all.made.whole, white, 9);
+    if (!status) status = trirast_canvas_draw_ids(&all.made.whole, &all.made.batch, 70000, &error);
+    marked ids = mark(4 * PIXELS), depths = mark(2 * PIXELS);
+    const uint32_t *id = (const uint32_t *)(const void *)ids.bytes;
+    if (!status) status = trirast_canvas_ids(&all.made.whole, 2, (uint32_t *)(void *)ids.bytes, PIXELS, WIDTH);
+    if (!status) status = trirast_canvas_depths(&all.made.whole, 2, (uint16_t *)(void *)depths.bytes, PIXELS, WIDTH);
+    expect(!status, "status %u", status);
+    for (int32_t j = 0; j < HEIGHT; j++)
+        for (int32_t i = 0; i < WIDTH; i++) {
+            int is_in = 0 <= i + x && i + x < WIDTH && 0 <= j + y && j + y < HEIGHT;
+            uint32_t found = id[j * WIDTH + i];
+            // The diagonal from the upper left to the lower right: the first triangle is above it.
+            int is_one = found == 70000 || found == 70001;
+            expect(is_in ? is_one : found == 16777215, "origin %d, %d: id %u at %d, %d", x, y, found, i, j);
+        }
+    expect(id[WIDTH - 2] == (x == 0 && y == 0 ? 70000 : id[WIDTH - 2]), "the first triangle is the upper right one");
+    free(ids.all), free(depths.all), free(all.made.memory.all);
+}
+
+// The largest ids that there are: a batch of two triangles may end with the last one.
+static void compare_last_ids(void) {
+    quad all;
+    trirast_error error = UNSET;
+    make_quad(&all);
+    uint32_t *ids = calloc(PIXELS, sizeof *ids);
+    if (!ids) stop("out of memory", "ids");
+    trirast_status status = trirast_canvas_draw_ids(&all.made.whole, &all.made.batch, 16777214, &error);
+    if (!status) status = trirast_canvas_ids(&all.made.whole, 0, ids, PIXELS, WIDTH);
+    expect(is_error(&error, status, TRIRAST_STATUS_OK), "status %u", status);
+    for (int k = 0; k < PIXELS; k++) expect(ids[k] == 16777214 || ids[k] == 16777215, "id %u of pixel %d", ids[k], k);
+    free(ids), free(all.made.memory.all);
+    report("ids up to 16,777,215 are drawn");
+}
+
+// A canvas whose memory is aligned to 2 and to no more shows the same picture.
+static void compare_alignments(void) {
+    static const size_t offsets[] = {0, 2, 6, 30, 62};
+    quad all;
+    make_quad(&all);
+    size_t size = 4 * PIXELS, bytes = all.made.memory.size;
+    uint8_t *pixels[2] = {calloc(size, 1), calloc(size, 1)}, *memory = aligned_alloc(64, bytes + 64);
+    if (!pixels[0] || !pixels[1] || !memory) stop("out of memory", "a canvas");
+    for (int k = 0; k < 5; k++) {
+        trirast_canvas canvas = all.made.whole;
+        trirast_error error = UNSET;
+        canvas.memory = memory + offsets[k];
+        trirast_status status = clear_to(&canvas, &(trirast_scene_head)TRIRAST_SCENE_HEAD_INIT);
+        if (!status) status = trirast_canvas_draw(&canvas, &all.made.batch, &error);
+        if (!status) status = trirast_canvas_resolve(&canvas, TRIRAST_FORMAT_RGBA8, pixels[k > 0], size, 4 * WIDTH);
+        expect(!status && (k == 0 || !memcmp(pixels[0], pixels[1], size)), "offset %zu: status %u, or other pixels", offsets[k], status);
+    }
+    free(pixels[0]), free(pixels[1]), free(memory), free(all.made.memory.all);
+    report("a canvas whose memory is aligned to 2 shows the same pixels");
+}
+
+static void compare_loaded(void) {
+    quad all;
+    make_quad(&all);
+    size_t stride = 3 * WIDTH + 5, size = stride * (HEIGHT - 1) + 3 * WIDTH;
+    marked from = mark(size), to = mark(size), other = mark(4 * PIXELS);
+    for (size_t k = 0; k < size; k++)
+        if (k % stride < 3 * WIDTH) from.bytes[k] = (uint8_t)(k * 7);
+    const uint8_t black[3] = {0, 0, 0};
+    trirast_status status = trirast_canvas_clear(&all.made.whole, black, 5);
+    if (!status) status = trirast_canvas_load(&all.made.whole, TRIRAST_FORMAT_RGB8, from.bytes, size, stride);
+    if (!status) status = trirast_canvas_resolve(&all.made.whole, TRIRAST_FORMAT_RGB8, to.bytes, size, stride);
+    if (!status) status = trirast_canvas_resolve(&all.made.whole, TRIRAST_FORMAT_BGRA8, other.bytes, 4 * PIXELS, 4 * WIDTH);
+    expect(!status && holds_just(&to, from.bytes, size), "status %u, or other bytes", status);
+    for (size_t k = 0; k < PIXELS; k++) {
+        const uint8_t *rgb = from.bytes + k / WIDTH * stride + k % WIDTH * 3, *bgra = other.bytes + 4 * k;
+        expect(bgra[0] == rgb[2] && bgra[1] == rgb[1] && bgra[2] == rgb[0] && bgra[3] == 255, "pixel %zu", k);
+    }
+    free(from.all), free(to.all), free(other.all), free(all.made.memory.all);
+    report("a picture is loaded and resolved with a stride, and bytes between rows are unchanged");
+}
+
+static void compare_weights(void) {
+    const trirast_corners corners = {0, 0, 2560, 0, 0, 2560};
+    trirast_edges edges = {1, 1, 1, 1, 1};
+    trirast_status status = trirast_weights(&corners, 256, 512, &edges);
+    expect(!status && edges.a == 2560 * (2560 - 768) && edges.b == 256 * 2560 && edges.c == 512 * 2560 &&
+               edges.doubled_area == 2560 * 2560 && edges.covered == 1,
+           "status %u: %lld %lld %lld", status, (long long)edges.a, (long long)edges.b, (long long)edges.c);
+    status = trirast_weights(&corners, 2560, 2560, &edges);
+    expect(!status && edges.covered == 0 && edges.a < 0, "a point outside: status %u", status);
+    const trirast_edges kept = edges;
+    status = trirast_weights(&corners, 8388608, 0, &edges);
+    expect(status == TRIRAST_STATUS_BAD_POSITION && !memcmp(&kept, &edges, sizeof kept), "status %u", status);
+    const trirast_corners far = {0, 0, 2560, 0, 0, -8388609};
+    status = trirast_weights(&far, 0, 0, &edges);
+    expect(status == TRIRAST_STATUS_BAD_POSITION && !memcmp(&kept, &edges, sizeof kept), "status %u", status);
+    report("the edge functions of a triangle at a point");
+}
+
+static void compare_sizes(void) {
+    expect(trirast_canvas_bytes(4096, 4096, 4, 0, 64) == (size_t)4096 * 4096 * 4 * 5, "the largest canvas");
+    expect(trirast_canvas_bytes(1, 1, 1, 0, 1) == 64 * 64 * 5 && trirast_canvas_bytes(65, 1, 1, 0, 1) == 2 * 64 * 64 * 5, "one tile");
+    expect(!trirast_canvas_bytes(0, 1, 1, 0, 1) && !trirast_canvas_bytes(4097, 1, 1, 0, 1) && !trirast_canvas_bytes(1, 4097, 1, 0, 1) &&
+               !trirast_canvas_bytes(1, 1, 2, 0, 1) && !trirast_canvas_bytes(1, 1, 1, 0, 2) && !trirast_canvas_bytes(1, 1, 1, 1, 0),
+           "none");
+    expect(trirast_canvas_rows(1) == 1 && trirast_canvas_rows(65) == 2 && trirast_canvas_rows(4096) == 64 && !trirast_canvas_rows(0) &&
+               !trirast_canvas_rows(4097) && trirast_canvas_row_pixels() == 64,
+           "tile rows");
+    report("the bytes and the tile rows of a canvas");
+}
+
+void compare_canvases(void) {
+    compare_sizes();
+    for (int k = 0; k < drawn_count; k++) compare_whole(&drawn[k]);
+    report("a canvas that is cleared and drawn on shows the program's pixels");
+    for (int k = 0; k < drawn_count; k++) compare_pieces(&drawn[k]);
+    report("so do its tile rows, each drawn by itself, the last one first");
+    for (int k = 0; k < drawn_count; k++) compare_threads(&drawn[k]);
+    report("so does a canvas that four threads share");
+    compare_ids_at(0, 0);
+    compare_ids_at(13, 40);
+    compare_ids_at(-5, -70);
+    report("a quad drawn by ids, with and without a window");
+    compare_last_ids();
+    compare_alignments();
+    compare_loaded();
+    compare_weights();
+    compare_refused_canvases();
+}

@@ -1,0 +1,120 @@
+// Calls the functions of trirast.hpp, and prints a line for each thing that was compared: "ok WHAT" or "failed WHAT". Exit status 1 if
+// one failed. tools/check_library.py builds and runs it.
+#include <algorithm>
+#include <array>
+#include <cstdio>
+#include <string>
+#include <type_traits>
+
+#include "trirast.hpp"
+
+using trirast::Canvas;
+using trirast::TileRows;
+
+static bool has_failed = false;
+
+static void report(bool holds, const char *what) {
+    std::printf("%s %s\n", holds ? "ok" : "failed", what);
+    has_failed |= !holds;
+}
+
+// Whether a call throws an Error of this status.
+template <class Call>
+static bool throws(trirast_status status, Call call) {
+    try {
+        call();
+    } catch (const trirast::Error &error) {
+        return error.status() == status && std::string(error.what()) == trirast_status_string(status);
+    }
+    return false;
+}
+
+static const std::array<trirast_vertex, 3> CORNERS = {{
+    {0, 0, 7, 9, 8, 7, 255}, {25600, 0, 7, 9, 8, 7, 255}, {0, 51200, 7, 9, 8, 7, 255}}};
+static const std::uint32_t TRIANGLE[] = {0, 1, 2};
+
+static Canvas cleared() {
+    Canvas canvas(100, 200, 4);
+    canvas.clear({255, 255, 255}, 9);
+    return canvas;
+}
+
+static void compare_pictures() {
+    Canvas whole = cleared(), split = cleared();
+    whole.draw(CORNERS, TRIANGLE);
+    for (TileRows &part : split.split(3)) part.draw(CORNERS, TRIANGLE);
+    const std::vector<std::uint8_t> pixels = whole.pixels(TRIRAST_FORMAT_RGB8);
+    const std::array<std::uint8_t, 3> first = {9, 8, 7};
+    report(std::equal(first.begin(), first.end(), pixels.begin()) && pixels.back() == 255, "a triangle is drawn, and what is beside it stays");
+    report(pixels == split.pixels(TRIRAST_FORMAT_RGB8), "three parts of a canvas make the picture of the whole");
+    report(split.split(100).size() == 4 && split.split(0).empty(), "a canvas has at most as many parts as tile rows");
+    TileRows last = whole.rows(3, 4);
+    report(last.height() == 8 && last.top() == 192 && last.width() == 100, "the rows of pixels of the last tile row");
+    const std::vector<std::uint8_t> below = last.pixels(TRIRAST_FORMAT_RGB8);
+    report(std::equal(below.begin(), below.end(), pixels.end() - static_cast<std::ptrdiff_t>(below.size())), "its pixels are the last ones");
+    whole.load(TRIRAST_FORMAT_RGB8, pixels, 300);
+    report(whole.pixels(TRIRAST_FORMAT_RGB8) == pixels, "a picture is loaded");
+}
+
+static void compare_entries() {
+    Canvas canvas = cleared();
+    canvas.draw_ids(CORNERS, TRIANGLE, 70000);
+    const std::vector<std::uint32_t> ids = canvas.ids(3);
+    report(ids.size() == 20000 && ids.front() == 70000 && ids.back() == 16777215, "a triangle is drawn by its id");
+    const std::vector<std::uint16_t> depths = canvas.depths();
+    report(depths.front() == 9 && depths.back() == 9, "depths are read");
+    trirast_batch_draw draw = trirast::new_draw();
+    draw.depth_write = 1;
+    canvas.draw(CORNERS, TRIANGLE, draw);
+    report(canvas.depths(3).front() == 7 && canvas.depths(3).back() == 9, "depths are written");
+    Canvas window(100, 200, 4, {-50, 0});
+    window.clear({255, 255, 255});
+    window.draw(CORNERS, TRIANGLE);
+    report(window.pixels(TRIRAST_FORMAT_BGRA8)[0] == 255 && window.pixels(TRIRAST_FORMAT_BGRA8)[4 * 50] == 7, "a canvas is a window");
+}
+
+static void compare_errors() {
+    Canvas canvas = cleared();
+    const std::vector<std::uint8_t> before = canvas.pixels(TRIRAST_FORMAT_RGBA8);
+    std::vector<std::uint8_t> small(299);
+    report(throws(TRIRAST_STATUS_BAD_CANVAS, [] { Canvas(0, 1); }) && throws(TRIRAST_STATUS_BAD_CANVAS, [] { Canvas(1, 4097); }) &&
+               throws(TRIRAST_STATUS_BAD_CANVAS, [] { Canvas(1, 1, 2); }),
+           "a canvas that there is not is an exception");
+    report(throws(TRIRAST_STATUS_BAD_TILE_ROWS, [&] { canvas.rows(0, 5); }) && throws(TRIRAST_STATUS_BAD_TILE_ROWS, [&] { canvas.rows(2, 1); }),
+           "so are tile rows");
+    report(throws(TRIRAST_STATUS_BUFFER_TOO_SMALL, [&] { canvas.resolve(TRIRAST_FORMAT_RGB8, small, 300); }), "so is a buffer that is too small");
+    report(throws(TRIRAST_STATUS_BAD_SAMPLE, [&] { canvas.ids(4); }), "so is a sample");
+    const std::uint32_t indices[] = {0, 1, 3};
+    try {
+        canvas.draw(CORNERS, indices);
+        report(false, "a batch with an index past the vertices is refused");
+    } catch (const trirast::BatchError &error) {
+        report(error.list_error() == TRIRAST_LIST_BAD_INDEX && error.draw() == 0, "a batch with an index past the vertices is refused");
+    }
+    try {
+        canvas.draw(trirast::Batch{{}, CORNERS, {}});
+        report(false, "a batch with vertices of no draw is refused");
+    } catch (const trirast::BatchError &error) {
+        report(error.list_error() == TRIRAST_LIST_WRONG_KIND && !error.draw(), "a batch with vertices of no draw is refused");
+    }
+    report(canvas.pixels(TRIRAST_FORMAT_RGBA8) == before, "nothing of them is drawn");
+}
+
+static void compare_moves() {
+    static_assert(!std::is_copy_constructible_v<Canvas> && !std::is_copy_assignable_v<Canvas>, "one canvas owns its memory");
+    Canvas first = cleared();
+    const void *memory = first.in_c().memory;
+    Canvas second = std::move(first);
+    report(second.in_c().memory == memory && second.ids().front() == 16777215, "a canvas is moved with its memory");
+    report(throws(TRIRAST_STATUS_BAD_CANVAS, [&] { first.clear({}); }), "one that was moved from has no samples");
+    second = Canvas(1, 1);
+    report(second.width() == 1 && second.height() == 1, "a canvas is assigned");
+}
+
+int main() {
+    compare_pictures();
+    compare_entries();
+    compare_errors();
+    compare_moves();
+    return has_failed ? 1 : 0;
+}

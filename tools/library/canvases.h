@@ -1,0 +1,32 @@
+// What the tests of canvases share: a canvas between margins, and a quad on one.
+#ifndef CANVASES_H
+#define CANVASES_H
+
+#include "cases.h"
+
+enum { WIDTH = 70, HEIGHT = 130, PIXELS = WIDTH * HEIGHT };
+
+// A scene on a canvas with memory between margins.
+typedef struct {
+    trirast_scene_head head;
+    trirast_batch batch;
+    trirast_canvas whole;
+    marked memory;
+} stage;
+
+// A quad of white vertices, and a canvas of marked samples. The last vertex is named by no index.
+typedef struct {
+    trirast_batch_draw draws[2];
+    trirast_vertex vertices[5];
+    uint32_t indices[4];
+    stage made;
+} quad;
+
+void make_canvas(stage *made, uint32_t width, uint32_t height, uint32_t samples);
+void make_quad(quad *all);
+trirast_status clear_to(trirast_canvas *canvas, const trirast_scene_head *head);
+
+// What each call refuses, in refused_canvases.c.
+void compare_refused_canvases(void);
+
+#endif

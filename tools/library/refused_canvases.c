@@ -1,0 +1,289 @@
+// What calls on canvases refuse: each by its status, with samples and buffers unchanged.
+#include <stdlib.h>
+#include <string.h>
+
+#include "canvases.h"
+
+enum { CALLS = 7, BROKEN = 20, BROKEN_PIECES = 8, SHORT = 26, BROKEN_BATCHES = 28, BY_IDS = 3 };
+
+// ---- Canvases -------------------------------------------------------------------------------------------------------
+
+// One member of the canvas is another. Returns the status that is due.
+static trirast_status break_canvas(trirast_canvas *canvas, int change) {
+    switch (change) {
+    case 0: canvas->struct_size -= 4, canvas->width = 0; return TRIRAST_STATUS_BAD_STRUCT_SIZE;
+    case 1: canvas->struct_size = 0; return TRIRAST_STATUS_BAD_STRUCT_SIZE;
+    case 2: canvas->width = 0; return TRIRAST_STATUS_BAD_CANVAS;
+    case 3: canvas->width = 4097; return TRIRAST_STATUS_BAD_CANVAS;
+    case 4: canvas->width = UINT32_MAX; return TRIRAST_STATUS_BAD_CANVAS;
+    case 5: canvas->height = 0; return TRIRAST_STATUS_BAD_CANVAS;
+    case 6: canvas->height = 4097; return TRIRAST_STATUS_BAD_CANVAS;
+    case 7: canvas->samples = 2; return TRIRAST_STATUS_BAD_CANVAS;
+    case 8: canvas->samples = 0; return TRIRAST_STATUS_BAD_CANVAS;
+    case 9: canvas->samples = 16; return TRIRAST_STATUS_BAD_CANVAS;
+    case 10: canvas->end++; return TRIRAST_STATUS_BAD_TILE_ROWS;
+    case 11: canvas->first = canvas->end + 1; return TRIRAST_STATUS_BAD_TILE_ROWS;
+    case 12: canvas->end = UINT32_MAX; return TRIRAST_STATUS_BAD_TILE_ROWS;
+    // The memory of more tile rows than these, and of fewer.
+    case 13: canvas->first = 1; return TRIRAST_STATUS_BAD_MEMORY;
+    case 14: canvas->plane_count /= 3; return TRIRAST_STATUS_BAD_MEMORY;
+    case 15: canvas->plane_count--; return TRIRAST_STATUS_BAD_MEMORY;
+    case 16: canvas->samples = 1; return TRIRAST_STATUS_BAD_MEMORY;
+    case 17: canvas->width = 64; return TRIRAST_STATUS_BAD_MEMORY;
+    case 18: canvas->end = canvas->first; return TRIRAST_STATUS_BAD_MEMORY;
+    default: canvas->memory = NULL, canvas->plane_count = 0; return TRIRAST_STATUS_BAD_MEMORY;
+    }
+}
+
+// Each call on tile rows, by its number, with a buffer for what it reads or writes.
+static trirast_status call_on(int call, trirast_canvas *canvas, const quad *all, const marked *buffer, trirast_error *error) {
+    static const uint8_t color[3] = {1, 2, 3};
+    void *bytes = buffer->bytes;
+    switch (call) {
+    case 0: return trirast_canvas_clear(canvas, color, 9);
+    case 1: return trirast_canvas_load(canvas, TRIRAST_FORMAT_RGBA8, bytes, buffer->size, 4 * WIDTH);
+    case 2: return trirast_canvas_draw(canvas, &all->made.batch, error);
+    case 3: return trirast_canvas_draw_ids(canvas, &all->made.batch, 0, error);
+    case 4: return trirast_canvas_resolve(canvas, TRIRAST_FORMAT_BGRA8, bytes, buffer->size, 4 * WIDTH);
+    case 5: return trirast_canvas_depths(canvas, 3, bytes, buffer->size / 4, WIDTH);
+    default: return trirast_canvas_ids(canvas, 3, bytes, buffer->size / 4, WIDTH);
+    }
+}
+
+static int is_unchanged(const quad *all, const marked *buffer) {
+    return holds_just(&all->made.memory, NULL, 0) && holds_just(buffer, NULL, 0);
+}
+
+static void compare_broken_canvases(void) {
+    for (int change = 0; change < BROKEN; change++)
+        for (int call = 0; call < CALLS; call++) {
+            quad all;
+            trirast_error error = UNSET;
+            make_quad(&all);
+            marked buffer = mark(4 * PIXELS);
+            trirast_canvas canvas = all.made.whole;
+            trirast_status due = break_canvas(&canvas, change), status = call_on(call, &canvas, &all, &buffer, &error);
+            int has_error = call == 2 || call == 3 ? is_error(&error, status, due) : !memcmp(&error, &UNSET, sizeof UNSET);
+            expect(status == due && has_error && is_unchanged(&all, &buffer),
+                   "change %d, call %d: status %u where %u was due, or a change", change, call, status, due);
+            free(buffer.all), free(all.made.memory.all);
+        }
+    report("a canvas with a member out of range, or memory of another size, is refused by each call");
+}
+
+// Tile rows of which there are none have no samples and no pixels.
+static void compare_no_rows(void) {
+    for (uint32_t row = 0; row <= 3; row++)
+        for (int call = 0; call < CALLS; call++) {
+            quad all;
+            trirast_error error = UNSET;
+            make_quad(&all);
+            marked buffer = mark(0);
+            trirast_canvas canvas = all.made.whole;
+            canvas.first = canvas.end = row, canvas.memory = NULL, canvas.plane_count = 0;
+            const marked none = {NULL, NULL, 0};
+            trirast_status status = call_on(call, &canvas, &all, call ? &none : &buffer, &error);
+            expect(!status && is_unchanged(&all, &buffer), "row %u, call %d: status %u, or a change", row, call, status);
+            free(buffer.all), free(all.made.memory.all);
+        }
+    report("each call takes no tile rows, with NULL for their samples and pixels, and does nothing");
+}
+
+// ---- Pieces ---------------------------------------------------------------------------------------------------------
+
+// A piece that the whole does not have, or of a whole that is broken. Returns the status that is due.
+static trirast_status break_piece(trirast_canvas *whole, int change, uint32_t *first, uint32_t *end) {
+    trirast_status due = TRIRAST_STATUS_BAD_TILE_ROWS;
+    *first = 1, *end = 2;
+    switch (change - BROKEN) {
+    case 0: *first = 2, *end = 1; break;
+    case 1: *end = whole->end + 1; break;
+    case 2: *end = UINT32_MAX; break;
+    case 3: *first = *end = whole->end + 1; break;
+    case 4: whole->first = 2, whole->plane_count /= 3, *first = 1; break;
+    case 5: whole->memory = NULL; return TRIRAST_STATUS_BAD_MEMORY;
+    case 6: whole->memory = (uint8_t *)whole->memory + 1; return TRIRAST_STATUS_BAD_MEMORY;
+    case 7: whole->memory = (uint8_t *)whole->memory + 63; return TRIRAST_STATUS_BAD_MEMORY;
+    default: due = break_canvas(whole, change);
+    }
+    // Of two errors that of the tile rows comes first.
+    if (due == TRIRAST_STATUS_BAD_MEMORY && (*first < whole->first || *end > whole->end)) due = TRIRAST_STATUS_BAD_TILE_ROWS;
+    return due;
+}
+
+static void compare_broken_pieces(void) {
+    for (int change = 0; change < BROKEN + BROKEN_PIECES; change++) {
+        quad all;
+        trirast_canvas piece, kept;
+        uint32_t first, end;
+        make_quad(&all);
+        memset(&piece, MARK, sizeof piece);
+        memcpy(&kept, &piece, sizeof piece);
+        trirast_canvas whole = all.made.whole;
+        trirast_status due = break_piece(&whole, change, &first, &end);
+        trirast_status status = trirast_canvas_piece(&whole, first, end, &piece);
+        expect(status == due && !memcmp(&piece, &kept, sizeof piece), "change %d: status %u where %u was due, or a change", change, status, due);
+        free(all.made.memory.all);
+    }
+    report("a piece that the tile rows do not have, of a broken canvas, or of memory at NULL or at an odd address, is refused");
+}
+
+static void compare_pieces_of_pieces(void) {
+    quad all;
+    trirast_canvas piece, same;
+    make_quad(&all);
+    int is_made = !trirast_canvas_piece(&all.made.whole, 1, 3, &piece) && !trirast_canvas_piece(&piece, 2, 2, &same);
+    expect(is_made && piece.plane_count == all.made.whole.plane_count / 3 * 2 && same.plane_count == 0, "other sizes");
+    expect(trirast_canvas_piece(&piece, 0, 1, &same) == TRIRAST_STATUS_BAD_TILE_ROWS, "a piece has tile rows of the whole");
+    marked buffer = mark(4 * PIXELS);
+    trirast_error error;
+    for (int call = 0; call < CALLS; call++)
+        for (int is_smaller = 0; is_smaller < 2; is_smaller++) {
+            // The memory of one tile row for two, and that of two for one.
+            trirast_canvas other = piece;
+            if (is_smaller) other.plane_count /= 2;
+            else other.first++;
+            expect(call_on(call, &other, &all, &buffer, &error) == TRIRAST_STATUS_BAD_MEMORY && is_unchanged(&all, &buffer),
+                   "call %d takes a piece with the memory of another", call);
+        }
+    free(buffer.all), free(all.made.memory.all);
+    report("a piece of a piece has its tile rows alone, and one with the memory of another is refused by each call");
+}
+
+// ---- Buffers --------------------------------------------------------------------------------------------------------
+
+// Calls that lack a byte or an entry, or name a format or a sample that there is not.
+static trirast_status call_short(int change, trirast_canvas *canvas, void *bytes, trirast_status *due) {
+    enum { LAST = 4 * PIXELS };
+    const trirast_format rgb = TRIRAST_FORMAT_RGB8, rgba = TRIRAST_FORMAT_RGBA8, bgra = TRIRAST_FORMAT_BGRA8;
+    *due = change < 18 ? TRIRAST_STATUS_BUFFER_TOO_SMALL : change < 22 ? TRIRAST_STATUS_BAD_FORMAT : TRIRAST_STATUS_BAD_SAMPLE;
+    switch (change) {
+    case 0: return trirast_canvas_load(canvas, rgba, bytes, LAST - 1, 4 * WIDTH);
+    case 1: return trirast_canvas_load(canvas, rgb, bytes, LAST, 3 * WIDTH - 1);
+    case 2: return trirast_canvas_load(canvas, bgra, bytes, LAST, 0);
+    case 3: return trirast_canvas_load(canvas, rgb, bytes, LAST, SIZE_MAX);
+    case 4: return trirast_canvas_load(canvas, rgb, NULL, 0, 3 * WIDTH);
+    case 5: return trirast_canvas_resolve(canvas, rgba, bytes, LAST - 1, 4 * WIDTH);
+    case 6: return trirast_canvas_resolve(canvas, rgb, bytes, LAST, 3 * WIDTH - 1);
+    case 7: return trirast_canvas_resolve(canvas, bgra, bytes, LAST, 0);
+    case 8: return trirast_canvas_resolve(canvas, rgb, bytes, LAST, SIZE_MAX);
+    case 9: return trirast_canvas_resolve(canvas, rgb, NULL, 0, 3 * WIDTH);
+    case 10: return trirast_canvas_depths(canvas, 0, bytes, PIXELS - 1, WIDTH);
+    case 11: return trirast_canvas_depths(canvas, 0, bytes, PIXELS, WIDTH - 1);
+    case 12: return trirast_canvas_depths(canvas, 0, bytes, PIXELS, SIZE_MAX);
+    case 13: return trirast_canvas_depths(canvas, 0, NULL, 0, WIDTH);
+    case 14: return trirast_canvas_ids(canvas, 0, bytes, PIXELS - 1, WIDTH);
+    case 15: return trirast_canvas_ids(canvas, 0, bytes, PIXELS, WIDTH - 1);
+    case 16: return trirast_canvas_ids(canvas, 0, bytes, PIXELS, SIZE_MAX);
+    case 17: return trirast_canvas_ids(canvas, 0, NULL, 0, WIDTH);
+    case 18: return trirast_canvas_load(canvas, (trirast_format)3, bytes, LAST, 4 * WIDTH);
+    case 19: return trirast_canvas_load(canvas, (trirast_format)UINT32_MAX, bytes, LAST, 4 * WIDTH);
+    case 20: return trirast_canvas_resolve(canvas, (trirast_format)3, bytes, 0, 0);
+    case 21: return trirast_canvas_resolve(canvas, (trirast_format)UINT32_MAX, bytes, LAST, 4 * WIDTH);
+    case 22: return trirast_canvas_depths(canvas, 4, bytes, 0, 0);
+    case 23: return trirast_canvas_depths(canvas, UINT32_MAX, bytes, PIXELS, WIDTH);
+    case 24: return trirast_canvas_ids(canvas, 4, bytes, 0, 0);
+    default: return trirast_canvas_ids(canvas, UINT32_MAX, bytes, PIXELS, WIDTH);
+    }
+}
+
+static void compare_short_buffers(void) {
+    for (int change = 0; change < SHORT; change++) {
+        quad all;
+        trirast_status due;
+        make_quad(&all);
+        marked buffer = mark(4 * PIXELS);
+        trirast_status status = call_short(change, &all.made.whole, buffer.bytes, &due);
+        expect(status == due && is_unchanged(&all, &buffer), "change %d: status %u where %u was due, or a change", change, status, due);
+        free(buffer.all), free(all.made.memory.all);
+    }
+    report("a buffer or a stride that is too small, no buffer, a format and a sample that there is not are refused");
+}
+
+// ---- Batches --------------------------------------------------------------------------------------------------------
+
+// One thing of the batch is another. Returns the error that is due, and its draw, or -1.
+static uint32_t break_batch(quad *all, int change, int *draw, uint32_t *first_id) {
+    trirast_batch *batch = &all->made.batch;
+    trirast_batch_draw *last = &all->draws[1];
+    *draw = 1;
+    switch (change) {
+    // By ids alone.
+    case 0: *first_id = 16777215; return TRIRAST_LIST_TOO_MANY;
+    case 1: *first_id = 16777216; return TRIRAST_LIST_TOO_MANY;
+    case 2: *first_id = UINT32_MAX, *draw = 0; return TRIRAST_LIST_TOO_MANY;
+    case 3: all->indices[3] = 5; return TRIRAST_LIST_BAD_INDEX;
+    case 4: all->indices[0] = UINT32_MAX; return TRIRAST_LIST_BAD_INDEX;
+    case 5: last->vertex_count = 0, batch->vertices = NULL, batch->vertex_count = 0; return TRIRAST_LIST_BAD_INDEX;
+    case 6: last->index_count = 3, batch->index_count = 3; return TRIRAST_LIST_WRONG_KIND;
+    case 7: last->vertex_count = 6; return TRIRAST_LIST_WRONG_KIND;
+    case 8: last->index_count = 8; return TRIRAST_LIST_WRONG_KIND;
+    case 9: batch->indices = NULL, batch->index_count = 0; return TRIRAST_LIST_WRONG_KIND;
+    case 10: batch->vertices = NULL, batch->vertex_count = 0; return TRIRAST_LIST_WRONG_KIND;
+    case 11: batch->draw_count = 1, *draw = -1; return TRIRAST_LIST_WRONG_KIND;
+    case 12: batch->draws = NULL, batch->draw_count = 0, *draw = -1; return TRIRAST_LIST_WRONG_KIND;
+    case 13: all->vertices[2].x = all->vertices[2].y = 128; return TRIRAST_LIST_NOT_CONVEX;
+    case 14: all->draws[0].cull = 3, *draw = 0; break;
+    case 15: last->topology = 3; break;
+    case 16: last->depth_test = 8; break;
+    case 17: last->depth_write = 2; break;
+    case 18: last->blend = 2; break;
+    case 19: last->write_green = 2; break;
+    case 20: last->sample_mask = 16; break;
+    case 21: last->scissor_right = 32769; break;
+    case 22: all->indices[3] = 4; break;
+    case 23: all->vertices[3].alpha = 256; break;
+    case 24: all->vertices[2].depth = 65536; break;
+    case 25: all->vertices[0].y = -8388609; break;
+    case 26: all->made.whole.origin_x = 40000; break;
+    default: all->made.whole.origin_y = INT32_MIN; break;
+    }
+    return TRIRAST_LIST_OUT_OF_RANGE;
+}
+
+static void compare_broken_batches(void) {
+    for (int change = 0; change < BROKEN_BATCHES; change++)
+        for (int by_ids = change < BY_IDS; by_ids < 2; by_ids++) {
+            quad all;
+            trirast_error error = UNSET;
+            int draw;
+            uint32_t first_id = 0;
+            make_quad(&all);
+            uint32_t due = break_batch(&all, change, &draw, &first_id);
+            trirast_status status = by_ids ? trirast_canvas_draw_ids(&all.made.whole, &all.made.batch, first_id, &error)
+                                           : trirast_canvas_draw(&all.made.whole, &all.made.batch, &error);
+            int is_there = draw < 0 ? !error.in_draw && !error.draw : error.in_draw == 1 && error.draw == (uint32_t)draw;
+            expect(is_error(&error, status, TRIRAST_STATUS_BAD_LIST) && error.list_error == due && is_there &&
+                       holds_just(&all.made.memory, NULL, 0),
+                   "change %d: status %u, list error %u in draw %u, or a change", change, status, error.list_error, error.draw);
+            free(all.made.memory.all);
+        }
+    report("a batch with a number out of range, or of other lengths than its draws say, is refused, and nothing is drawn");
+}
+
+static void compare_batch_sizes(void) {
+    for (int member = 0; member < 4; member++)
+        for (int by_ids = 0; by_ids < 2; by_ids++) {
+            quad all;
+            trirast_error error = UNSET;
+            make_quad(&all);
+            trirast_batch *batch = &all.made.batch;
+            uint32_t *sizes[] = {&batch->struct_size, &batch->draw_size, &batch->vertex_size, &batch->index_size};
+            *sizes[member] += 4;
+            trirast_status status = by_ids ? trirast_canvas_draw_ids(&all.made.whole, batch, 0, &error)
+                                           : trirast_canvas_draw(&all.made.whole, batch, &error);
+            expect(is_error(&error, status, TRIRAST_STATUS_BAD_STRUCT_SIZE) && holds_just(&all.made.memory, NULL, 0), "size %d", member);
+            free(all.made.memory.all);
+        }
+    report("a struct or an element of another size is refused by a canvas");
+}
+
+void compare_refused_canvases(void) {
+    compare_broken_canvases();
+    compare_no_rows();
+    compare_broken_pieces();
+    compare_pieces_of_pieces();
+    compare_short_buffers();
+    compare_broken_batches();
+    compare_batch_sizes();
+}

@@ -1,0 +1,82 @@
+// The calls of canvas.wasm: the proved canvas, compiled for WebAssembly with 64-bit memory. include/trirast.h says what each does.
+
+const PAGE_BYTES = 65536;
+const ALIGNMENT = 64;
+
+/** The smallest module with a 64-bit memory: a browser that refuses it cannot run the canvas. */
+const MEMORY64 = new Uint8Array([0, 97, 115, 109, 1, 0, 0, 0, 5, 3, 1, 4, 1]);
+
+/** Why the page cannot start. */
+export class LackingError extends Error {}
+
+/** The module and its memory. */
+export class Core {
+  /** Loads the module. Throws a LackingError if the browser has no 64-bit memory, or there is no such file. */
+  static async load(url) {
+    if (!globalThis.WebAssembly?.validate(MEMORY64)) throw new LackingError('This browser has no 64-bit memory for WebAssembly');
+    const file = await fetch(url).catch(() => null);
+    if (!file?.ok) throw new LackingError(`The file ${url} cannot be read`);
+    const { instance } = await WebAssembly.instantiate(await file.arrayBuffer(), {});
+    return new Core(instance.exports);
+  }
+
+  constructor(calls) {
+    this.calls = calls;
+    this.memory = calls.memory;
+    this.top = Number(calls.__heap_base.value);
+  }
+
+  /** The address of this many bytes. The module never grows its memory itself, so that is done here. */
+  take(bytes) {
+    const address = Math.ceil(this.top / ALIGNMENT) * ALIGNMENT;
+    this.top = address + bytes;
+    const lacking = Math.ceil((this.top - this.memory.buffer.byteLength) / PAGE_BYTES);
+    if (lacking > 0) this.memory.grow(BigInt(lacking));
+    return address;
+  }
+
+  /** Does some work, and gives back all memory that it took. */
+  within(work) {
+    const { top } = this;
+    try {
+      return work();
+    } finally {
+      this.top = top;
+    }
+  }
+
+  /** Memory as an array of numbers. Growing the memory empties earlier views, so nobody keeps one. */
+  view(Numbers, address, count) {
+    return new Numbers(this.memory.buffer, address, count);
+  }
+
+  /** The address of a copy of these numbers. */
+  put(Numbers, values) {
+    const address = this.take(Numbers.BYTES_PER_ELEMENT * values.length);
+    this.view(Numbers, address, values.length).set(values);
+    return address;
+  }
+}
+
+/** The exact edge functions of triangles, each given by its three corners. */
+export class EdgeFunctions {
+  constructor(core) {
+    this.core = core;
+    this.corners = core.take(24);
+    this.edges = core.take(40);
+  }
+
+  /** Sets the triangle of the next calls. */
+  of(corners) {
+    this.core.view(Int32Array, this.corners, 6).set(corners.flat());
+    return this;
+  }
+
+  /** The edge functions at a point, the doubled area, and whether the triangle covers the point. */
+  at(x, y) {
+    const status = this.core.calls.trirast_weights(BigInt(this.corners), x, y, BigInt(this.edges));
+    if (status !== 0) throw new RangeError(`no edge functions at (${x}, ${y}): status ${status}`);
+    const [a, b, c, area, covers] = this.core.view(BigInt64Array, this.edges, 5);
+    return { values: [a, b, c].map(Number), area: Number(area), covers: covers === 1n };
+  }
+}
