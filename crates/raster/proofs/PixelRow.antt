@@ -55,9 +55,8 @@ module _ (tile : Tile) (samples : List BlockSamples) (row column : ℕ) where
       blue = subst (λ n. IsResolved n (λ s. (stored tile samples row (8 * column + i) s).b) b) (sym e) (rw (block, pixel) blue);
     }
 
--- a mean of sixteen that begin elsewhere
-pub four_of_sixteen : (first second third fourth means : List ℕ) (begin skip from i q : ℕ) → begin + (skip + i) ≡ from + i
-    → IsResolved Four (slice_index (slice_index first (begin + (skip + i)) ∷ slice_index second (begin + (skip + i)) ∷ slice_index third (begin + (skip + i)) ∷ slice_index fourth (begin + (skip + i)) ∷ [])) (slice_index means (skip + i))
-    → q ≡ slice_index means (skip + i) → IsQuotient (slice_index first (from + i) + slice_index second (from + i) + slice_index third (from + i) + slice_index fourth (from + i) + 2) 4 q
-four_of_sixteen first second third fourth means begin skip from i q e h same =
-    rw same (subst (λ n. IsQuotient (slice_index first n + slice_index second n + slice_index third n + slice_index fourth n + 2) 4 (slice_index means (skip + i))) e h)
+-- a mean of eight in a row
+pub four_in_row : (first second third fourth means : List ℕ) (at i q : ℕ)
+    → IsResolved Four (slice_index (slice_index first (at + i) ∷ slice_index second (at + i) ∷ slice_index third (at + i) ∷ slice_index fourth (at + i) ∷ [])) (slice_index means i)
+    → q ≡ slice_index means i → IsQuotient (slice_index first (at + i) + slice_index second (at + i) + slice_index third (at + i) + slice_index fourth (at + i) + 2) 4 q
+four_in_row first second third fourth means at i q h same = rw same h

@@ -51,18 +51,10 @@ pub fn colours(tile: &Tile, samples: &[BlockSamples], row: u32, column: u32) -> 
             let second = &samples[tile.place(row / 8, column, 1)];
             let third = &samples[tile.place(row / 8, column, 2)];
             let fourth = &samples[tile.place(row / 8, column, 3)];
-            // Sixteen pixels are resolved at once, of which eight are needed; they begin a row above the last one.
-            let begin = from.min(48);
-            let red = means_of_four(&first.r, &second.r, &third.r, &fourth.r, begin);
-            let green = means_of_four(&first.g, &second.g, &third.g, &fourth.g, begin);
-            let blue = means_of_four(&first.b, &second.b, &third.b, &fourth.b, begin);
-            let (r, g, b) = (red.to_array(), green.to_array(), blue.to_array());
-            let skip = from - begin;
-            interleaved(
-                u8x8::from_slice(&r[skip..]),
-                u8x8::from_slice(&g[skip..]),
-                u8x8::from_slice(&b[skip..]),
-            )
+            let red = means_of_four(&first.r, &second.r, &third.r, &fourth.r, from);
+            let green = means_of_four(&first.g, &second.g, &third.g, &fourth.g, from);
+            let blue = means_of_four(&first.b, &second.b, &third.b, &fourth.b, from);
+            interleaved(red, green, blue)
         }
     }
 }

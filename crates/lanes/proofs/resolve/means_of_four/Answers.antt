@@ -1,47 +1,62 @@
-use Rattle.std.proofs.Common.{◌≡◌, ℕ, ◌+◌, ◌/◌, ◌≤◌, List, length, get_or, replicate, sym, ap, subst, ◌∙◌, arith, w8, Fits}
+use Rattle.std.proofs.Common.{◌≡◌, ℕ, ◌+◌, ◌/◌, ◌<◌, ◌≤◌, List, length, get_or, replicate, sym, ap, subst, ◌∙◌, arith, w8, Fits}
 use Rattle.std.specs.Simd.Lanes.{zip2, chunk}
-use Rattle.std.proofs.lemmas.Simd.{length-chunk, get_or-chunk}
+use Rattle.std.proofs.lemmas.Simd.{length-chunk, get_or-chunk, length-zip2, get_or-zip2, get_or-replicate, length-replicate, Each1-from_get_or}
 use Rattle.shade.specs.Quotient.{IsQuotient}
-use Rattle.planes.specs.Lanes.{HasLanes}
-use Rattle.planes.proofs.Lanes.{zipped, splat, of_each}
 use Rattle.lanes.proofs.Blending.{plus, shifted}
 use Rattle.lanes.proofs.LaneNumbers.{lane_mean, mean-bound, mean_is}
 use Rattle.lanes.proofs.resolve.means_of_four.Goals as goal
 
-abbrev means : List ℕ → List ℕ → List ℕ → List ℕ → List ℕ
-means a b c d = zip2 shifted (zip2 plus (zip2 plus (zip2 plus (zip2 plus a b) c) d) (replicate 16 2)) (replicate 16 2)
+-- eight lanes
+record IsRow (v : List ℕ) (f : ℕ → ℕ) : Type 0 where
+  long : length v ≡ 8
+  each : (k : ℕ) → k < 8 → get_or v k 0 ≡ f k
 
--- sixteen bytes from a place on
-loaded : (xs ys : List ℕ) (at : ℕ) → at + 16 ≤ length xs → ys ≡ chunk at 16 xs → HasLanes ys (λ k. get_or xs (at + k) 0)
-loaded xs ys at room e = rw e (record { long = length-chunk at 16 xs room; each = λ k l. get_or-chunk at 16 xs k 0 l })
+zipped : (g : ℕ → ℕ → ℕ) (xs ys : List ℕ) (f h : ℕ → ℕ) → IsRow xs f → IsRow ys h → IsRow (zip2 g xs ys) (λ k. g (f k) (h k))
+zipped g xs ys f h a b =
+    let p = a.long in
+    let q = b.long in
+    record {
+      long = length-zip2 g xs ys (p ∙ sym q) ∙ p;
+      each = λ k l. get_or-zip2 g xs ys k 0 0 0 (omega arith) (omega arith) ∙ (λ i. g (a.each k l i) (b.each k l i));
+    }
+
+splat : (x : ℕ) → IsRow (replicate 8 x) (λ k. x)
+splat x = record { long = length-replicate 8 x; each = λ k l. get_or-replicate 8 k x 0 l }
+
+abbrev means : List ℕ → List ℕ → List ℕ → List ℕ → List ℕ
+means a b c d = zip2 shifted (zip2 plus (zip2 plus (zip2 plus (zip2 plus a b) c) d) (replicate 8 2)) (replicate 8 2)
+
+-- eight bytes from a place on
+loaded : (xs ys : List ℕ) (at : ℕ) → at + 8 ≤ length xs → ys ≡ chunk at 8 xs → IsRow ys (λ k. get_or xs (at + k) 0)
+loaded xs ys at room e = rw e (record { long = length-chunk at 8 xs room; each = λ k l. get_or-chunk at 8 xs k 0 l })
 
 byte : (xs : List ℕ) → ((k : ℕ) → Fits w8 (get_or xs k 0)) → (k : ℕ) → get_or xs k 0 ≤ 255
 byte xs fits k = omega (arith, (fits k).fits)
 
-formed : (a b c d : List ℕ) (f g h j : ℕ → ℕ) → HasLanes a f → HasLanes b g → HasLanes c h → HasLanes d j
+formed : (a b c d : List ℕ) (f g h j : ℕ → ℕ) → IsRow a f → IsRow b g → IsRow c h → IsRow d j
     → ((k : ℕ) → f k ≤ 255) → ((k : ℕ) → g k ≤ 255) → ((k : ℕ) → h k ≤ 255) → ((k : ℕ) → j k ≤ 255)
-    → HasLanes (means a b c d) (λ k. (f k + g k + h k + j k + 2) / 4)
+    → IsRow (means a b c d) (λ k. (f k + g k + h k + j k + 2) / 4)
 formed a b c d f g h j p q r s small-f small-g small-h small-j =
-    let all = zipped shifted _ (replicate 16 2) _ _ (zipped plus _ (replicate 16 2) _ _ (zipped plus _ d _ _ (zipped plus _ c _ _ (zipped plus a b _ _ p q) r) s) (splat 2)) (splat 2) in
+    let all = zipped shifted _ (replicate 8 2) _ _ (zipped plus _ (replicate 8 2) _ _ (zipped plus _ d _ _ (zipped plus _ c _ _ (zipped plus a b _ _ p q) r) s) (splat 2)) (splat 2) in
     record { long = all.long; each = λ k l. all.each k l ∙ lane_mean (f k) (g k) (h k) (j k) (small-f k) (small-g k) (small-h k) (small-j k) }
 
-pub narrow-requires : goal.narrow-requires
-narrow-requires c =
+pub narrow_row-requires : goal.narrow_row-requires
+narrow_row-requires c =
     let at = c.args.at in
     let first = byte c.args.first.now c.type_inv.first in
     let second = byte c.args.second.now c.type_inv.second in
     let third = byte c.args.third.now c.type_inv.third in
     let fourth = byte c.args.fourth.now c.type_inv.fourth in
-    let all = formed c.widen-a.result c.widen-b.result c.widen-c.result c.widen-d.result _ _ _ _
-    (loaded _ _ at c.requires.room.0 c.widen-a.ensures) (loaded _ _ at c.requires.room.1 c.widen-b.ensures) (loaded _ _ at c.requires.room.2 c.widen-c.ensures) (loaded _ _ at c.requires.room.3 c.widen-d.ensures)
+    let all = formed c.widen_row-a.result c.widen_row-b.result c.widen_row-c.result c.widen_row-d.result _ _ _ _
+    (loaded _ _ at c.requires.room.0 c.widen_row-a.ensures) (loaded _ _ at c.requires.room.1 c.widen_row-b.ensures) (loaded _ _ at c.requires.room.2 c.widen_row-c.ensures) (loaded _ _ at c.requires.room.3 c.widen_row-d.ensures)
     (λ k. first (at + k)) (λ k. second (at + k)) (λ k. third (at + k)) (λ k. fourth (at + k)) in
-    of_each (λ n. n ≤ 255) _ all.long (λ k l. rw (all.each k l) (mean-bound _ _ _ _ (first (at + k)) (second (at + k)) (third (at + k)) (fourth (at + k))))
+    Each1-from_get_or (λ n. n ≤ 255) _ 0 (λ k m. let l : k < 8 = rw all.long at m in rw (all.each k l) (mean-bound _ _ _ _ (first (at + k)) (second (at + k)) (third (at + k)) (fourth (at + k))))
 
 pub returns-clause-resolved : goal.returns-clause-resolved
 returns-clause-resolved c i l =
     let at = c.args.at in
-    let all = formed c.widen-a.result c.widen-b.result c.widen-c.result c.widen-d.result _ _ _ _
-    (loaded _ _ at c.requires.room.0 c.widen-a.ensures) (loaded _ _ at c.requires.room.1 c.widen-b.ensures) (loaded _ _ at c.requires.room.2 c.widen-c.ensures) (loaded _ _ at c.requires.room.3 c.widen-d.ensures)
+    let all = formed c.widen_row-a.result c.widen_row-b.result c.widen_row-c.result c.widen_row-d.result _ _ _ _
+    (loaded _ _ at c.requires.room.0 c.widen_row-a.ensures) (loaded _ _ at c.requires.room.1 c.widen_row-b.ensures) (loaded _ _ at c.requires.room.2 c.widen_row-c.ensures) (loaded _ _ at c.requires.room.3 c.widen_row-d.ensures)
     (λ k. byte c.args.first.now c.type_inv.first (at + k)) (λ k. byte c.args.second.now c.type_inv.second (at + k)) (λ k. byte c.args.third.now c.type_inv.third (at + k)) (λ k. byte c.args.fourth.now c.type_inv.fourth (at + k)) in
     subst (λ q. IsQuotient (get_or c.args.first.now (at + i) 0 + get_or c.args.second.now (at + i) 0 + get_or c.args.third.now (at + i) 0 + get_or c.args.fourth.now (at + i) 0 + 2) 4 q)
-    (sym (ap (λ v. get_or v i 0) c.narrow.ensures ∙ all.each i l)) (mean_is _)
+    (sym (ap (λ v. get_or v i 0) c.narrow_row.ensures ∙ all.each i l)) (mean_is _)

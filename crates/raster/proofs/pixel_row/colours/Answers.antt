@@ -1,6 +1,6 @@
-use Rattle.std.proofs.Common.{◌≡◌, ℕ, List, [], ◌∙◌, ◌+◌, ◌-◌, ◌*◌, ◌%◌, ◌<◌, take, drop, get_or-take, get_or-drop, slice_index, slice_index_or, arith}
+use Rattle.std.proofs.Common.{ℕ, [], ◌∙◌, ◌+◌, ◌-◌, ◌*◌, ◌%◌, take, drop, get_or-take, get_or-drop, slice_index, slice_index_or, arith}
 use Rattle.lanes.specs.declared.block_samples.BlockSamples.{BlockSamples}
-use Rattle.raster.proofs.PixelRow.{one_resolved, four_resolved, four_of_sixteen}
+use Rattle.raster.proofs.PixelRow.{one_resolved, four_resolved, four_in_row}
 use Rattle.raster.proofs.pixel_row.colours.Goals as goal
 
 pub returns-in-One : goal.returns-in-One
@@ -19,14 +19,8 @@ returns-in-Four c = λ i h.
     let bytes = c.interleaved-in-Four.ensures i h in
     let all = c.interleaved-in-Four.result in
     let from : ℕ = 8 * (c.args.row % 8) in
-    let begin : ℕ = c.min-begin.result in
-    let skip : ℕ = from - begin in
-    let place : begin + (skip + i) ≡ from + i = omega (arith, c.min-begin.ensures) in
-    let within : skip + i < 16 = omega (arith, c.min-begin.ensures) in
-    let part : (means : List ℕ) → slice_index (take 8 (take (16 - skip) (drop skip means))) i ≡ slice_index means (skip + i) =
-    λ means. get_or-take 8 (take (16 - skip) (drop skip means)) i 0 h ∙ get_or-take (16 - skip) (drop skip means) i 0 (omega (arith, within)) ∙ get_or-drop skip means i 0 in
     four_resolved c.args.tile.now c.args.samples.now c.args.row c.args.column i h c.in-Four.is
     (slice_index all (3 * i)) (slice_index all (3 * i + 1)) (slice_index all (3 * i + 2))
-    (four_of_sixteen _ _ _ _ c.means_of_four-red.result begin skip from i _ place (rw (c.place.ensures.value, c.place-in-Four.ensures.value, c.place-in-Four-2.ensures.value, c.place-in-Four-3.ensures.value) at (c.means_of_four-red.ensures.resolved (skip + i) within)) (bytes.0 ∙ part c.means_of_four-red.result))
-    (four_of_sixteen _ _ _ _ c.means_of_four-green.result begin skip from i _ place (rw (c.place.ensures.value, c.place-in-Four.ensures.value, c.place-in-Four-2.ensures.value, c.place-in-Four-3.ensures.value) at (c.means_of_four-green.ensures.resolved (skip + i) within)) (bytes.1 ∙ part c.means_of_four-green.result))
-    (four_of_sixteen _ _ _ _ c.means_of_four-blue.result begin skip from i _ place (rw (c.place.ensures.value, c.place-in-Four.ensures.value, c.place-in-Four-2.ensures.value, c.place-in-Four-3.ensures.value) at (c.means_of_four-blue.ensures.resolved (skip + i) within)) (bytes.2 ∙ part c.means_of_four-blue.result))
+    (four_in_row _ _ _ _ c.means_of_four-red.result from i _ (rw (c.place.ensures.value, c.place-in-Four.ensures.value, c.place-in-Four-2.ensures.value, c.place-in-Four-3.ensures.value) at (c.means_of_four-red.ensures.resolved i h)) bytes.0)
+    (four_in_row _ _ _ _ c.means_of_four-green.result from i _ (rw (c.place.ensures.value, c.place-in-Four.ensures.value, c.place-in-Four-2.ensures.value, c.place-in-Four-3.ensures.value) at (c.means_of_four-green.ensures.resolved i h)) bytes.1)
+    (four_in_row _ _ _ _ c.means_of_four-blue.result from i _ (rw (c.place.ensures.value, c.place-in-Four.ensures.value, c.place-in-Four-2.ensures.value, c.place-in-Four-3.ensures.value) at (c.means_of_four-blue.ensures.resolved i h)) bytes.2)
