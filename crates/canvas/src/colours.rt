@@ -48,8 +48,13 @@ fn resolve_run(
     requires bytes { length bytes.old ≡ count * pixel_bytes format }
     ensures { (i : ℕ) → i < count → IsTilePixel tile.now samples.now format row (8 * column + i) (λ k. slice_index bytes.new (i * pixel_bytes format + k)) }
 {
-    let run = arranged(format, colours(tile, samples, row, column));
-    copy_first(&run, bytes);
+    let rgb = colours(tile, samples, row, column);
+    // Each format by itself: a run that is chosen from three is put together byte by byte.
+    match format {
+        Format::Rgb8 => copy_first(&arranged(Format::Rgb8, rgb), bytes),
+        Format::Rgba8 => copy_first(&arranged(Format::Rgba8, rgb), bytes),
+        Format::Bgra8 => copy_first(&arranged(Format::Bgra8, rgb), bytes),
+    }
 }
 
 impl Canvas {

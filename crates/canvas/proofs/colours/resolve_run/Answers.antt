@@ -1,12 +1,29 @@
-use Rattle.std.proofs.Common.{◌∙◌, ap, ℕ, ◌+◌, ◌*◌, List, take, slice_index}
+use Rattle.std.proofs.Common.{◌≡◌, ◌∙◌, ap, sym, subst, ℕ, ◌+◌, ◌*◌, ◌<◌, ◌≤◌, List, length, take, slice_index}
+use Rattle.lanes.specs.declared.block_samples.BlockSamples.{BlockSamples}
+use Rattle.raster.specs.declared.tile.Tile.{Tile}
+use Rattle.raster.specs.Colours.{AreColoursAt}
+use Rattle.canvas.specs.declared.format.Format.{Format}
 use Rattle.canvas.specs.Pixels.{pixel_bytes}
+use Rattle.canvas.specs.Colours.{IsTilePixel, AreArranged}
 use Rattle.canvas.proofs.PixelColours.{tile_pixel_same, first_pixels}
 use Rattle.canvas.proofs.colours.resolve_run.Goals as goal
 
-pub returns : goal.returns
-returns c = λ i l.
-    let run : List ℕ = c.arranged-run.result in
-    let w : ℕ = pixel_bytes c.args.format in
-    tile_pixel_same c.args.tile.now c.args.samples.now c.args.format c.args.row (8 * c.args.column + i) _ _
-    (λ k small. ap (λ xs. slice_index xs (i * w + k)) (c.copy_first.ensures ∙ ap (λ n. take n run) c.requires.bytes))
-    (first_pixels c.args.tile.now c.args.samples.now c.args.format c.args.row c.args.column c.args.count c.colours.result run c.requires.count c.colours.ensures c.arranged-run.ensures i l)
+-- the first bytes of a run that is arranged in the format
+module _ (tile : Tile) (samples : List BlockSamples) (row column count : ℕ) (few : count ≤ 8) (rgb run old new : List ℕ) where
+  copied : (format own : Format) → format ≡ own → length old ≡ count * pixel_bytes format → AreColoursAt tile samples row column rgb → AreArranged own rgb run → new ≡ take (length old) run
+      → (i : ℕ) → i < count → IsTilePixel tile samples format row (8 * column + i) (λ k. slice_index new (i * pixel_bytes format + k))
+  copied format own same long colours arranged copy i l =
+      tile_pixel_same tile samples format row (8 * column + i) _ _
+      (λ k small. ap (λ xs. slice_index xs (i * pixel_bytes format + k)) (copy ∙ ap (λ n. take n run) long))
+      (first_pixels tile samples format row column count rgb run few colours (subst (λ f. AreArranged f rgb run) (sym same) arranged) i l)
+
+pub returns-in-Rgb8 : goal.returns-in-Rgb8
+returns-in-Rgb8 c = copied c.args.tile.now c.args.samples.now c.args.row c.args.column c.args.count c.requires.count _ _ _ _ c.args.format _ c.in-Rgb8.is c.requires.bytes c.colours-rgb.ensures c.arranged.ensures c.copy_first.ensures
+
+pub returns-in-Rgba8 : goal.returns-in-Rgba8
+returns-in-Rgba8 c =
+    copied c.args.tile.now c.args.samples.now c.args.row c.args.column c.args.count c.requires.count _ _ _ _ c.args.format _ c.in-Rgba8.is c.requires.bytes c.colours-rgb.ensures c.arranged-in-Rgba8.ensures c.copy_first-in-Rgba8.ensures
+
+pub returns-in-Bgra8 : goal.returns-in-Bgra8
+returns-in-Bgra8 c =
+    copied c.args.tile.now c.args.samples.now c.args.row c.args.column c.args.count c.requires.count _ _ _ _ c.args.format _ c.in-Bgra8.is c.requires.bytes c.colours-rgb.ensures c.arranged-in-Bgra8.ensures c.copy_first-in-Bgra8.ensures
