@@ -51,9 +51,9 @@ fn resolve_run(
     let rgb = colours(tile, samples, row, column);
     // Each format by itself: a run that is chosen from three is put together byte by byte.
     match format {
-        Format::Rgb8 => copy_first(&arranged(Format::Rgb8, rgb), bytes),
-        Format::Rgba8 => copy_first(&arranged(Format::Rgba8, rgb), bytes),
-        Format::Bgra8 => copy_first(&arranged(Format::Bgra8, rgb), bytes),
+        Format::Rgb8 => copy_first(&arranged(Format::Rgb8, rgb).to_array(), bytes),
+        Format::Rgba8 => copy_first(&arranged(Format::Rgba8, rgb).to_array(), bytes),
+        Format::Bgra8 => copy_first(&arranged(Format::Bgra8, rgb).to_array(), bytes),
     }
 }
 

@@ -12,32 +12,33 @@ use std::simd::prelude::*;
 /// Red, green and blue of eight pixels, pixel by pixel, and behind them eight bytes that nobody reads: a vector has as many lanes
 /// as a power of two.
 #[inline(always)]
-fn interleaved(r: u8x8, g: u8x8, b: u8x8) -> [u8; 32]
+fn interleaved(r: u8x8, g: u8x8, b: u8x8) -> u8x32
     requires red { length r ≡ 8 }
     requires green { length g ≡ 8 }
     requires blue { length b ≡ 8 }
-    ensures { AreInterleaved r g b result }
+    ensures whole { length result ≡ 32 }
+    ensures bytes { AreInterleaved r g b result }
 {
     let red_green = r.shuffle(g, [0, 1, 2, 3, 4, 5, 6, 7, 8, 9, 10, 11, 12, 13, 14, 15]);
     let blue = b.shuffle(b, [0, 1, 2, 3, 4, 5, 6, 7, 8, 9, 10, 11, 12, 13, 14, 15]);
-    let all: u8x32 = red_green.shuffle(
+    red_green.shuffle(
         blue,
         [
             0, 8, 16, 1, 9, 17, 2, 10, 18, 3, 11, 19, 4, 12, 20, 5, 13, 21, 6, 14, 22, 7, 15, 23,
             24, 25, 26, 27, 28, 29, 30, 31,
         ],
-    );
-    all.to_array()
+    )
 }
 
 /// Red, green and blue of the eight pixels in a row of the tile and a column of its blocks, pixel by pixel: the first 24 bytes of
 /// the result.
-#[inline]
-pub fn colours(tile: &Tile, samples: &[BlockSamples], row: u32, column: u32) -> [u8; 32]
+#[inline(always)]
+pub fn colours(tile: &Tile, samples: &[BlockSamples], row: u32, column: u32) -> u8x32
     requires samples { length samples.now ≡ planes_of tile.now.side tile.now.count }
     requires row { row < side_of tile.now.side }
     requires column { column < side_of tile.now.side / 8 }
-    ensures { AreColoursAt tile.now samples.now row column result }
+    ensures whole { length result ≡ 32 }
+    ensures colours { AreColoursAt tile.now samples.now row column result }
 {
     let from = 8 * (row % 8) as usize;
     let first = &samples[tile.place(row / 8, column, 0)];

@@ -51,7 +51,10 @@ fn push_pixel_run(
     ensures { OnOk result (AddsPixelRun list.now (8 * tile.now.bx + 8 * column) (8 * tile.now.by + row) many bytes.old.items bytes.new.items) }
 {
     match list.output() {
-        Output::Color => push_first(&colours(tile, samples, row, column), 3, many, bytes),
+        Output::Color => {
+            let rgb = colours(tile, samples, row, column).to_array();
+            push_first(&rgb, 3, many, bytes)
+        }
         Output::Depth => push_first(&depths(tile, samples, row, column), 2, many, bytes),
     }
 }

@@ -4,8 +4,8 @@ use Rattle.std.specs.List.{range_with_len}
 use Rattle.raster.proofs.PixelRow.{interleaved_is}
 use Rattle.raster.proofs.pixel_row.interleaved.Goals as goal
 
-pub returns : goal.returns
-returns c i h =
+pub returns-clause-bytes : goal.returns-clause-bytes
+returns-clause-bytes c i h =
     let r : List ℕ = c.args.r in
     let g : List ℕ = c.args.g in
     let b : List ℕ = c.args.b in

@@ -6,7 +6,7 @@ pub returns-in-Color : goal.returns-in-Color
 returns-in-Color c =
     let tile = c.args.tile.now in
     adds_run _ c.args.list.now (8 * tile.bx + 8 * c.args.column) (8 * tile.by + c.args.row) c.args.many _ _ _
-    (run_of_colours c.args.list.now tile c.args.samples.now c.args.row c.args.column c.args.many c.requires.ends c.requires.count c.requires.many c.requires.shown _ (sym c.output.ensures ∙ c.in-Color.is) (omega arith) c.colours.ensures)
+    (run_of_colours c.args.list.now tile c.args.samples.now c.args.row c.args.column c.args.many c.requires.ends c.requires.count c.requires.many c.requires.shown _ (sym c.output.ensures ∙ c.in-Color.is) (omega arith) c.colours.ensures.colours)
     c.push_first.ensures
 
 pub returns-in-Depth : goal.returns-in-Depth
