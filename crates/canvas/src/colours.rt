@@ -12,21 +12,26 @@ use crate::misfit::Misfit;
 use crate::tile_rows::TileRows;
 use lanes::BlockSamples;
 use raster::{Tile, colours};
+use std::simd::prelude::*;
 
 /// Copies the first bytes of `run` to all of `bytes`. If this is inlined, the lengths of eight whole pixels are known, so that
-/// these are copied without a call.
+/// these are stored as they are.
 #[inline(always)]
-fn copy_first(run: &[u8; 32], bytes: &mut [u8])
-    requires { length bytes.old ≤ 32 }
-    ensures { bytes.new ≡ take (length bytes.old) run.now }
+fn copy_first(run: u8x32, bytes: &mut [u8])
+    requires whole { length run ≡ 32 }
+    requires few { length bytes.old ≤ 32 }
+    ensures { bytes.new ≡ take (length bytes.old) run }
 {
-    if bytes.len() == 32 {
-        bytes.copy_from_slice(&run[..32]);
-    } else if bytes.len() == 24 {
-        bytes.copy_from_slice(&run[..24]);
+    let length = bytes.len();
+    if length == 32 {
+        run.copy_to_slice(bytes);
+    } else if length == 24 {
+        let low: u8x16 = run.shuffle(run, [0, 1, 2, 3, 4, 5, 6, 7, 8, 9, 10, 11, 12, 13, 14, 15]);
+        let high: u8x8 = run.shuffle(run, [16, 17, 18, 19, 20, 21, 22, 23]);
+        low.copy_to_slice(&mut bytes[..16]);
+        high.copy_to_slice(&mut bytes[16..]);
     } else {
-        let length = bytes.len();
-        bytes.copy_from_slice(&run[..length]);
+        bytes.copy_from_slice(&run.to_array()[..length]);
     }
 }
 
@@ -51,9 +56,9 @@ fn resolve_run(
     let rgb = colours(tile, samples, row, column);
     // Each format by itself: a run that is chosen from three is put together byte by byte.
     match format {
-        Format::Rgb8 => copy_first(&arranged(Format::Rgb8, rgb).to_array(), bytes),
-        Format::Rgba8 => copy_first(&arranged(Format::Rgba8, rgb).to_array(), bytes),
-        Format::Bgra8 => copy_first(&arranged(Format::Bgra8, rgb).to_array(), bytes),
+        Format::Rgb8 => copy_first(arranged(Format::Rgb8, rgb), bytes),
+        Format::Rgba8 => copy_first(arranged(Format::Rgba8, rgb), bytes),
+        Format::Bgra8 => copy_first(arranged(Format::Bgra8, rgb), bytes),
     }
 }
 

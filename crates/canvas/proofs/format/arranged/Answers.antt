@@ -16,30 +16,31 @@ opaque = 255 ∷ 255 ∷ 255 ∷ 255 ∷ 255 ∷ 255 ∷ 255 ∷ 255 ∷ 255 ∷
 
 pub returns-clause-bytes : goal.returns-clause-bytes
 unfolding opaque
-returns-clause-bytes c = elim c.match-format.branch [ in-Rgb8 w ↦
-    rw (w.in-Rgb8.is, w.result-is) (λ i l k small. rgb_is c.args.rgb i k small)
+returns-clause-bytes c = elim c.match-format.branch [
+  | in-Rgb8 w ↦
+      rw (w.in-Rgb8.is, w.result-is) (λ i l k small. rgb_is c.args.rgb i k small)
   | in-Rgba8 w ↦
-    rw (w.in-Rgba8.is, w.result-is)
-    (λ i l k small.
-    let rgb : List ℕ = c.args.rgb in
-    let long : length rgb ≡ 32 = omega arith in
-    let f : ℕ → ℕ = λ n. slice_index_or (rgb ++ opaque) n 0 in
-    rgba_is f [] i k l small
-    ∙ same_four _ _ _ _ (slice_index rgb (3 * i)) (slice_index rgb (3 * i + 1)) (slice_index rgb (3 * i + 2)) 255 k
-    (get_or_append_left rgb opaque 0 (3 * i) (omega (arith, long, l)))
-    (get_or_append_left rgb opaque 0 (3 * i + 1) (omega (arith, long, l)))
-    (get_or_append_left rgb opaque 0 (3 * i + 2) (omega (arith, long, l)))
-    (get_or-append_right rgb opaque 32 32 0 long (omega arith)))
+      rw (w.in-Rgba8.is, w.result-is)
+      (λ i l k small.
+      let rgb : List ℕ = c.args.rgb in
+      let long : length rgb ≡ 32 = omega arith in
+      let f : ℕ → ℕ = λ n. slice_index_or (rgb ++ opaque) n 0 in
+      rgba_is f [] i k l small
+      ∙ same_four _ _ _ _ (slice_index rgb (3 * i)) (slice_index rgb (3 * i + 1)) (slice_index rgb (3 * i + 2)) 255 k
+      (get_or_append_left rgb opaque 0 (3 * i) (omega (arith, long, l)))
+      (get_or_append_left rgb opaque 0 (3 * i + 1) (omega (arith, long, l)))
+      (get_or_append_left rgb opaque 0 (3 * i + 2) (omega (arith, long, l)))
+      (get_or-append_right rgb opaque 32 32 0 long (omega arith)))
   | in-Bgra8 w ↦
-    rw (w.in-Bgra8.is, w.result-is)
-    (λ i l k small.
-    let rgb : List ℕ = c.args.rgb in
-    let long : length rgb ≡ 32 = omega arith in
-    let f : ℕ → ℕ = λ n. slice_index_or (rgb ++ opaque) n 0 in
-    bgra_is f [] i k l small
-    ∙ same_four _ _ _ _ (slice_index rgb (3 * i + 2)) (slice_index rgb (3 * i + 1)) (slice_index rgb (3 * i)) 255 k
-    (get_or_append_left rgb opaque 0 (3 * i + 2) (omega (arith, long, l)))
-    (get_or_append_left rgb opaque 0 (3 * i + 1) (omega (arith, long, l)))
-    (get_or_append_left rgb opaque 0 (3 * i) (omega (arith, long, l)))
-    (get_or-append_right rgb opaque 32 32 0 long (omega arith)))
-  ]
+      rw (w.in-Bgra8.is, w.result-is)
+      (λ i l k small.
+      let rgb : List ℕ = c.args.rgb in
+      let long : length rgb ≡ 32 = omega arith in
+      let f : ℕ → ℕ = λ n. slice_index_or (rgb ++ opaque) n 0 in
+      bgra_is f [] i k l small
+      ∙ same_four _ _ _ _ (slice_index rgb (3 * i + 2)) (slice_index rgb (3 * i + 1)) (slice_index rgb (3 * i)) 255 k
+      (get_or_append_left rgb opaque 0 (3 * i + 2) (omega (arith, long, l)))
+      (get_or_append_left rgb opaque 0 (3 * i + 1) (omega (arith, long, l)))
+      (get_or_append_left rgb opaque 0 (3 * i) (omega (arith, long, l)))
+      (get_or-append_right rgb opaque 32 32 0 long (omega arith)))
+]
