@@ -12,6 +12,7 @@ use lanes::BlockSamples;
 use model::{DrawList, Output};
 use raster::{Tile, colours};
 use std::alloc::Global;
+use std::simd::prelude::*;
 
 /// Appends the first `many` pixels of eight, with `each` bytes per pixel. If this is inlined, the length of a whole run is known,
 /// so that it is copied without a call.
@@ -52,7 +53,8 @@ fn push_pixel_run(
 {
     match list.output() {
         Output::Color => {
-            let rgb = colours(tile, samples, row, column).to_array();
+            let mut rgb = [0; 32];
+            colours(tile, samples, row, column).copy_to_slice(&mut rgb);
             push_first(&rgb, 3, many, bytes)
         }
         Output::Depth => push_first(&depths(tile, samples, row, column), 2, many, bytes),
