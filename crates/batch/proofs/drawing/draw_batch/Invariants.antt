@@ -4,7 +4,7 @@ use Rattle.canvas.specs.Drawing.{HaveEnds}
 use Rattle.batch.specs.Ids.{drawn_as}
 use Rattle.batch.specs.Seen.{triangles_seen}
 use Rattle.batch.specs.Checks.{DrawsPass}
-use Rattle.batch.proofs.drawing.draw_all.Given as goal
+use Rattle.batch.proofs.drawing.draw_batch.Given as goal
 
 abbrev pub invariant-loop-draw : goal.invariant-loop-draw
 invariant-loop-draw l = record {

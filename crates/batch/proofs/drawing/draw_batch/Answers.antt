@@ -1,6 +1,6 @@
 use Rattle.std.proofs.Common.{◌<◌, ◌≤◌, length, arith}
 use Rattle.batch.proofs.Draws.{passed_here, drawn_here, end_drawn}
-use Rattle.batch.proofs.drawing.draw_all.Goals as goal
+use Rattle.batch.proofs.drawing.draw_batch.Goals as goal
 
 pub draw_one-requires-clause-passed : goal.draw_one-requires-clause-passed
 draw_one-requires-clause-passed c =
@@ -37,8 +37,8 @@ loop-draw-preserved c =
           (rw (c.after-next_ids.ensures, c.triangle_count.ensures.value, c.split_at.ensures.front, c.split_at.ensures.back, c.split_at-in-loop-draw.ensures.back) at later));
     }
 
-pub returns : goal.returns
-returns c =
+pub returns-clause-drawn : goal.returns-clause-drawn
+returns-clause-drawn c =
     let rows = c.args.rows.now in
     let past : length c.args.draws.now ≤ c.loop-draw.draw-index = omega arith in
     c.loop-draw.invariant.drawn _ (end_drawn c.args.origin.now.x c.args.origin.now.y c.args.draws.now c.loop-draw.draw-index past c.loop-draw.next_ids c.loop-draw.vertices_left.now c.loop-draw.indices_left.now rows.canvas rows.first rows.end _)
