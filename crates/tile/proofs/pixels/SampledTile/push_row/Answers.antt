@@ -1,6 +1,6 @@
 use Rattle.std.proofs.Common.{◌≡◌, ◌+◌, ◌*◌, min, arith}
 use Rattle.tile.proofs.PixelRuns.{prefix_more}
-use Rattle.tile.proofs.pixels.push_row.Goals as goal
+use Rattle.tile.proofs.pixels.SampledTile.push_row.Goals as goal
 
 pub loop-column-init : goal.loop-column-init
 loop-column-init c =
@@ -12,9 +12,9 @@ push_pixel_run-requires-clause-shown c = λ i below. c.requires.shown (8 * c.loo
 
 pub loop-column-preserved : goal.loop-column-preserved
 loop-column-preserved c =
-    let tile = c.args.tile.now in
+    let tile = c.args.self.now.tile.now in
     let many = c.min-many.ensures in
-    prefix_more c.args.list.now (8 * tile.bx) (8 * tile.by) c.args.width _ _ (8 * c.loop-column.column) c.args.row c.min-many.result _ _ c.loop-column.invariant (omega arith) (omega arith) (omega arith) c.in_ok-push_pixel_run.ensures
+    prefix_more c.args.self.now.list.now (8 * tile.bx) (8 * tile.by) c.args.width _ _ (8 * c.loop-column.column) c.args.row c.min-many.result _ _ c.loop-column.invariant (omega arith) (omega arith) (omega arith) c.in_ok-push_pixel_run.ensures
 
 pub returns : goal.returns
 returns c =
