@@ -6,11 +6,10 @@ ghost use Rattle.scene.specs.Checks.{triangles_listed};
 ghost use Rattle.batch.specs.Checks.{AreQuadsSeen, primitives_checks, draw_checks, DrawsPass, IsFirstOfDraws, BatchPasses, IsFirstFault};
 
 use crate::ids::{after, has_ids};
-use crate::primitives::{corners, triangle_count};
 use crate::vertices::{are_quads_seen, are_seen};
 use canvas::Origin;
 use model::{ReadFault, ReadKind, name_vertices};
-use scene::{SceneDraw, SceneVertex};
+use scene::{SceneDraw, SceneVertex, corners, triangle_count};
 
 /// The farthest edge of a scissor, in pixels: the guard band ends there.
 const FARTHEST: u32 = 32_768;

@@ -8,16 +8,15 @@ ghost use Rattle.canvas.specs.Layout.{planes_of_rows};
 ghost use Rattle.canvas.specs.Drawing.{HaveEnds};
 ghost use Rattle.batch.specs.Seen.{triangles_seen};
 ghost use Rattle.batch.specs.Ids.{drawn_as};
-ghost use Rattle.batch.specs.Checks.{draw_checks, DrawsPass, BatchPasses, IsFirstFault};
+ghost use Rattle.batch.specs.Checks.{draw_checks, BatchPasses, IsFirstFault};
 
 use crate::checking::check_batch;
 use crate::ids::after;
 use crate::part::Part;
-use crate::primitives::triangle_count;
 use canvas::{Origin, TileRows};
 use lanes::BlockSamples;
 use model::ReadFault;
-use scene::{SceneDraw, SceneVertex};
+use scene::{SceneDraw, SceneVertex, triangle_count};
 
 /// Draws a draw that passes its checks, whose vertices and indices are the first of these.
 fn draw_one(
@@ -41,39 +40,6 @@ fn draw_one(
         origin: *origin,
     };
     part.draw(rows, ids, samples);
-}
-
-/// Draws draws that pass their checks.
-fn draw_all(
-    rows: &TileRows,
-    draws: &[SceneDraw],
-    vertices: &[SceneVertex],
-    indices: &[u32],
-    origin: &Origin,
-    ids: Option<u32>,
-    samples: &mut [BlockSamples],
-)
-    requires passed { DrawsPass origin.now.x origin.now.y ids draws.now vertices.now indices.now }
-    requires samples { length samples.old ≡ planes_of_rows rows.now.canvas rows.now.first rows.now.end }
-    ensures { HaveEnds (drawn_as ids (triangles_seen origin.now.x origin.now.y draws.now vertices.now indices.now)) rows.now.canvas rows.now.first rows.now.end samples.old samples.new }
-{
-    let mut next_ids = ids;
-    let (mut vertices_left, mut indices_left) = (vertices, indices);
-    for draw in draws {
-        draw_one(
-            rows,
-            draw,
-            vertices_left,
-            indices_left,
-            origin,
-            next_ids,
-            samples,
-        );
-        let (own, later) = indices_left.split_at(draw.indices as usize);
-        next_ids = after(next_ids, triangle_count(draw.primitives, own));
-        indices_left = later;
-        (_, vertices_left) = vertices_left.split_at(draw.vertices as usize);
-    }
 }
 
 /// Draws a batch at the samples of tile rows of a canvas whose upper left pixel is `origin` on the screen: in the colours of its
@@ -100,6 +66,22 @@ pub fn draw_batch(
     ensures kept { OnErr result (samples.new ≡ samples.old) }
 {
     check_batch(draws, vertices, indices, origin, ids)?;
-    draw_all(rows, draws, vertices, indices, origin, ids, samples);
+    let mut next_ids = ids;
+    let (mut vertices_left, mut indices_left) = (vertices, indices);
+    for draw in draws {
+        draw_one(
+            rows,
+            draw,
+            vertices_left,
+            indices_left,
+            origin,
+            next_ids,
+            samples,
+        );
+        let (own, later) = indices_left.split_at(draw.indices as usize);
+        next_ids = after(next_ids, triangle_count(draw.primitives, own));
+        indices_left = later;
+        (_, vertices_left) = vertices_left.split_at(draw.vertices as usize);
+    }
     Ok(())
 }

@@ -50,12 +50,15 @@ AreResolved c first end samples format stride old new =
 abbrev pub id_of : Sample → ℕ
 id_of sample = sample.r + 256 * sample.g + 65536 * sample.b
 
+-- In these tile rows the entry of each pixel of the picture is what `entry` says of its sample s. All other entries are unchanged.
+abbrev pub AreEntries : (Sample → ℕ) → Canvas → ℕ → ℕ → List BlockSamples → ℕ → ℕ → List ℕ → List ℕ → Type 0
+AreEntries entry c first end samples s stride old new =
+    AreWritten c first end 1 stride (λ i j entries. entries 0 ≡ entry (stored c first samples i j s)) old new
+
 -- In these tile rows the entry of each pixel of the picture is the depth of its sample s. All other entries are unchanged.
 abbrev pub AreDepths : Canvas → ℕ → ℕ → List BlockSamples → ℕ → ℕ → List ℕ → List ℕ → Type 0
-AreDepths c first end samples s stride old new =
-    AreWritten c first end 1 stride (λ i j entries. entries 0 ≡ (stored c first samples i j s).z) old new
+AreDepths c first end samples s stride old new = AreEntries (λ sample. sample.z) c first end samples s stride old new
 
 -- In these tile rows the entry of each pixel of the picture is the id of its sample s. All other entries are unchanged.
 abbrev pub AreIds : Canvas → ℕ → ℕ → List BlockSamples → ℕ → ℕ → List ℕ → List ℕ → Type 0
-AreIds c first end samples s stride old new =
-    AreWritten c first end 1 stride (λ i j entries. entries 0 ≡ id_of (stored c first samples i j s)) old new
+AreIds c first end samples s stride old new = AreEntries id_of c first end samples s stride old new

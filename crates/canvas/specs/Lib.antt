@@ -27,6 +27,10 @@
 --   entry_of: The index of the first entry of pixel (i, j), of which there are `unit`.
 --   AreWritten: The entries of each pixel of the picture in these tile rows are as `IsPixel` says, and all other entries are unchanged.
 --
+-- Entries.antt
+--   FitEntries: The tile rows from `first` to before `end` have this many planes of samples, a pixel has sample s, and `size` entries hold their rows of pixels.
+--   IsEntriesMisfit: What does not fit, if one of the three does not.
+--
 -- Colours.antt
 --   IsColourOfPixel: The colour of pixel (i, j): each channel resolved from the pixel's samples, in planes from tile row `first` on.
 --   AreBytesOfColour: The bytes have this colour in the format.
@@ -35,6 +39,7 @@
 --   AreArranged: The bytes of eight pixels in the format, by those of the same pixels as red, green and blue.
 --   AreResolved: The bytes of each pixel of the picture in these tile rows are its colour in the format, and all other bytes are unchanged.
 --   id_of: The id that is stored in place of a colour: red is its lowest byte.
+--   AreEntries: In these tile rows the entry of each pixel of the picture is what `entry` says of its sample s.
 --   AreDepths: In these tile rows the entry of each pixel of the picture is the depth of its sample s.
 --   AreIds: In these tile rows the entry of each pixel of the picture is the id of its sample s.
 --
@@ -77,6 +82,7 @@
 pub mod Layout
 pub mod Drawing
 pub mod Pixels
+pub mod Entries
 pub mod Colours
 pub mod Reach
 pub mod Loaded

@@ -3,6 +3,7 @@ ghost use Rattle.std.specs.Prelude.{◌≡◌, ◌≢◌, ◌↔◌, ◌⊎◌, 
 ghost use Rattle.grid.specs.Samples.{count_of};
 ghost use Rattle.canvas.specs.Layout.{planes_of_rows};
 ghost use Rattle.canvas.specs.Pixels.{IsLargeEnough, shown_rows};
+ghost use Rattle.canvas.specs.Entries.{IsEntriesMisfit};
 
 use crate::misfit::Misfit;
 use crate::tile_rows::TileRows;
@@ -63,10 +64,7 @@ impl TileRows {
         ensures planes { OnOk result (planes ≡ planes_of_rows self.now.canvas self.now.first self.now.end) }
         ensures sample { OnOk result (s < count_of self.now.canvas.count) }
         ensures size { OnOk result (IsLargeEnough self.now.canvas self.now.first self.now.end 1 stride size) }
-        ensures reason { IfErr result (λ misfit.
-            ((misfit ≡ Misfit.Planes) × (planes ≢ planes_of_rows self.now.canvas self.now.first self.now.end))
-            ⊎ ((misfit ≡ Misfit.Sample) × (count_of self.now.canvas.count ≤ s))
-            ⊎ ((misfit ≡ Misfit.Pixels) × ¬ IsLargeEnough self.now.canvas self.now.first self.now.end 1 stride size)) }
+        ensures reason { IfErr result (IsEntriesMisfit self.now.canvas self.now.first self.now.end planes s stride size) }
     {
         if self.canvas.count.count() <= s {
             return Err(Misfit::Sample);

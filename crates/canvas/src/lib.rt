@@ -23,6 +23,7 @@ mod vertex;
 mod window;
 
 pub use canvas::Canvas;
+pub use entries::Entry;
 pub use format::Format;
 pub use laws::{joins_batches, moves_by_pixels, tells_last};
 pub use misfit::Misfit;

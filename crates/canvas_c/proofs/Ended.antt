@@ -1,11 +1,13 @@
 -- What a status says of how a call ended.
 use Rattle.std.specs.Prelude.{⊤}
-use Rattle.std.proofs.Common.{◌≡◌, ◌∙◌, sym, ap, inl, inr, ℕ, Option, Result, Ok, Err, OnOk, IfErr, MatchResult, arith}
+use Rattle.std.proofs.Common.{◌≡◌, ◌↔◌, ◌∙◌, refl, sym, ap, inl, inr, ℕ, Option, Result, Ok, Err, IsOk, OnOk, IfErr, MatchResult, arith}
+use Rattle.std.proofs.lemmas.Bool.{false≢true}
 use Rattle.batch.specs.declared.arrays.Batch.{Batch}
 use Rattle.batch.specs.declared.error.LibraryError.{LibraryError}
 use Rattle.batch.specs.Errors.{alone}
 use Rattle.canvas_c.specs.declared.piece.CanvasHead.{CanvasHead}
 use Rattle.canvas_c.specs.declared.status.CallError.{CallError}
+use Rattle.canvas.specs.declared.misfit.Misfit.{Misfit}
 use Rattle.canvas.specs.declared.tile_rows.TileRows.{TileRows as Rows}
 use Rattle.canvas.specs.Pixels.{IsLargeEnough}
 use Rattle.canvas_c.specs.Pieces.{AreRowsOf, HasRoom}
@@ -69,6 +71,12 @@ some_number Position = λ h. omega (arith, h)
 pub done_if : (P : Type 0) (r : Result ⊤ CallError) (n : ℕ) → Ended r n → OnOk r P → n ≡ 0 → P
 done_if P (Ok x) n ended on zero = on
 done_if P (Err e) n ended on zero = let none : number_of e ≡ 0 = omega (arith, ended, zero) in absurd (some_number e none)
+
+-- what holds after rows that fit holds after the call
+pub on_done : (P Q : Type 0) (r : Result ⊤ Misfit) (s : Result ⊤ CallError) → (IsOk s ↔ IsOk r) → (P → Q) → OnOk r P → OnOk s Q
+on_done P Q r (Err e) same more on = tt
+on_done P Q (Ok x) (Ok y) same more on = more on
+on_done P Q (Err e) (Ok y) same more on = absurd (false≢true (same.0 refl))
 
 -- ---- the error
 module _ (head : CanvasHead) (ids : Option ℕ) (batch : Batch) where

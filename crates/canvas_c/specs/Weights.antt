@@ -1,5 +1,5 @@
 -- The edge functions of a triangle at a point.
-use Rattle.std.specs.Prelude.{◌≡◌, ◌⊎◌, ℕ, ℤ}
+use Rattle.std.specs.Prelude.{◌≡◌, ◌⊎◌}
 use Rattle.grid.specs.Position.{Position, IsInBand}
 use Rattle.grid.specs.Edge.{side}
 use Rattle.grid.specs.Triangle.{Covers, doubled_area}

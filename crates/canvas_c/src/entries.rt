@@ -1,33 +1,31 @@
 //! Depths and ids, written to the caller's memory.
-ghost use Rattle.std.specs.Prelude.{◌≡◌, ◌≢◌, length, OnOk, OnErr, ⊤};
-ghost use Rattle.canvas.specs.Colours.{AreDepths, AreIds};
+ghost use Rattle.std.specs.Prelude.{◌≡◌, ◌≢◌, length, map, OnOk, OnErr, ⊤};
+ghost use Rattle.canvas.specs.Colours.{AreEntries, AreDepths, AreIds};
 ghost use Rattle.canvas_c.specs.Statuses.{IsJudged, IsStatus};
 ghost use Rattle.canvas_c.specs.Pieces.{OnRows, entries_checks};
 
 use crate::piece::{CanvasHead, CanvasPiece, rows_of};
-use crate::status::{CallError, status};
+use crate::status::{CallError, fitted, status};
+use canvas::Entry;
 use lanes::BlockSamples;
 
-/// Writes the depth of one sample of each pixel.
-fn depths_into(
+/// Writes the entry of one sample of each pixel.
+fn entries_into<E: Entry>(
     head: &CanvasHead,
     planes: &[BlockSamples],
     sample: u32,
-    depths: &mut [u16],
+    entries: &mut [E],
     stride: usize,
 ) -> Result<(), CallError>
-    ensures judged { IsJudged (entries_checks head.now (length planes.now) sample stride (length depths.old)) (λ done. ⊤) result }
-    ensures written { OnOk result (OnRows head.now (λ c first end. AreDepths c first end planes.now sample stride depths.old depths.new)) }
-    ensures kept { OnErr result (depths.new ≡ depths.old) }
+    ensures judged { IsJudged (entries_checks head.now (length planes.now) sample stride (length entries.old)) (λ done. ⊤) result }
+    ensures written { OnOk result (OnRows head.now (λ c first end. AreEntries E.number_of c first end planes.now sample stride (map E.number entries.old) (map E.number entries.new))) }
+    ensures kept { OnErr result (entries.new ≡ entries.old) }
 {
     let rows = rows_of(head, planes)?;
     if sample >= head.samples {
         return Err(CallError::Sample);
     }
-    match rows.depths(planes, sample, depths, stride) {
-        Ok(()) => Ok(()),
-        Err(_) => Err(CallError::BufferTooSmall),
-    }
+    fitted(rows.entries(planes, sample, entries, stride))
 }
 
 /// Writes the depth of sample `sample` of each pixel of these tile rows. Entries of no pixel are unchanged. Returns the status. If it is
@@ -43,29 +41,7 @@ pub extern "C" fn trirast_canvas_depths(
     ensures written { result ≡ 0 → OnRows canvas.now.head (λ c first end. AreDepths c first end canvas.now.planes.now sample stride depths.old depths.new) }
     ensures kept { result ≢ 0 → depths.new ≡ depths.old }
 {
-    status(depths_into(&canvas.head, canvas.planes, sample, depths, stride))
-}
-
-/// Writes the id of one sample of each pixel.
-fn ids_into(
-    head: &CanvasHead,
-    planes: &[BlockSamples],
-    sample: u32,
-    ids: &mut [u32],
-    stride: usize,
-) -> Result<(), CallError>
-    ensures judged { IsJudged (entries_checks head.now (length planes.now) sample stride (length ids.old)) (λ done. ⊤) result }
-    ensures written { OnOk result (OnRows head.now (λ c first end. AreIds c first end planes.now sample stride ids.old ids.new)) }
-    ensures kept { OnErr result (ids.new ≡ ids.old) }
-{
-    let rows = rows_of(head, planes)?;
-    if sample >= head.samples {
-        return Err(CallError::Sample);
-    }
-    match rows.ids(planes, sample, ids, stride) {
-        Ok(()) => Ok(()),
-        Err(_) => Err(CallError::BufferTooSmall),
-    }
+    status(entries_into(&canvas.head, canvas.planes, sample, depths, stride))
 }
 
 /// Writes the id of sample `sample` of each pixel of these tile rows. Entries of no pixel are unchanged. Returns the status. If it is not
@@ -81,5 +57,5 @@ pub extern "C" fn trirast_canvas_ids(
     ensures written { result ≡ 0 → OnRows canvas.now.head (λ c first end. AreIds c first end canvas.now.planes.now sample stride ids.old ids.new) }
     ensures kept { result ≢ 0 → ids.new ≡ ids.old }
 {
-    status(ids_into(&canvas.head, canvas.planes, sample, ids, stride))
+    status(entries_into(&canvas.head, canvas.planes, sample, ids, stride))
 }

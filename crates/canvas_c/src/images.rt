@@ -1,13 +1,14 @@
 //! Pictures in the caller's memory.
-ghost use Rattle.std.specs.Prelude.{◌≡◌, ◌≢◌, ◌↔◌, ◌≤◌, length, IsSome, IfSome, OnOk, OnErr, ⊤};
+ghost use Rattle.std.specs.Prelude.{◌≡◌, ◌≢◌, ◌↔◌, ◌≤◌, length, IsSome, IfSome, IfOk, OnOk, OnErr, ⊤};
+ghost use Rattle.canvas.specs.Layout.{planes_of_rows};
 ghost use Rattle.canvas.specs.Colours.{AreResolved};
 ghost use Rattle.canvas.specs.Loaded.{AreLoaded};
-ghost use Rattle.canvas_c.specs.Statuses.{IsJudged, IsStatus};
-ghost use Rattle.canvas_c.specs.Pieces.{OnRows, format_of as format_named, image_checks};
+ghost use Rattle.canvas_c.specs.Statuses.{IsJudged, IsStatus, check, followed_by, done as checked};
+ghost use Rattle.canvas_c.specs.Pieces.{AreRowsOf, OnRows, format_of as format_named, piece_checks, image_checks};
 
 use crate::piece::{CanvasHead, CanvasPiece, rows_of};
-use crate::status::{CallError, status};
-use canvas::Format;
+use crate::status::{CallError, fitted, status};
+use canvas::{Format, TileRows};
 use lanes::BlockSamples;
 
 /// The format of this number.
@@ -23,6 +24,23 @@ fn format_of(number: u32) -> Option<Format>
     }
 }
 
+/// The tile rows that the caller names, and the format of this number.
+fn image_rows(
+    head: &CanvasHead,
+    planes: &[BlockSamples],
+    format: u32,
+) -> Result<(TileRows, Format), CallError>
+    ensures judged { IsJudged (followed_by (piece_checks head.now (length planes.now)) (check (format ≤ 2) 10 checked)) (λ found. AreRowsOf head.now found.0) result }
+    ensures planes { IfOk result (λ found. length planes.now ≡ planes_of_rows found.0.canvas found.0.first found.0.end) }
+    ensures format { IfOk result (λ found. found.1 ≡ format_named format) }
+{
+    let rows = rows_of(head, planes)?;
+    match format_of(format) {
+        Some(format) => Ok((rows, format)),
+        None => Err(CallError::Format),
+    }
+}
+
 /// Makes a picture the colour of all samples of its pixels.
 fn load_into(
     head: &CanvasHead,
@@ -35,14 +53,8 @@ fn load_into(
     ensures loaded { OnOk result (OnRows head.now (λ c first end. AreLoaded c first end pixels.now (format_named format) stride planes.old planes.new)) }
     ensures kept { OnErr result (planes.new ≡ planes.old) }
 {
-    let rows = rows_of(head, planes)?;
-    let Some(format) = format_of(format) else {
-        return Err(CallError::Format);
-    };
-    match rows.load(planes, pixels, format, stride) {
-        Ok(()) => Ok(()),
-        Err(_) => Err(CallError::BufferTooSmall),
-    }
+    let (rows, format) = image_rows(head, planes, format)?;
+    fitted(rows.load(planes, pixels, format, stride))
 }
 
 /// Makes a picture in this format the colour of all samples of its pixels in these tile rows; depths are unchanged. Returns the status. If
@@ -64,28 +76,6 @@ pub extern "C" fn trirast_canvas_load(
     status(load_into(&head, canvas.planes, format, pixels, stride))
 }
 
-/// Writes the colour of each pixel.
-fn resolve_into(
-    head: &CanvasHead,
-    planes: &[BlockSamples],
-    format: u32,
-    pixels: &mut [u8],
-    stride: usize,
-) -> Result<(), CallError>
-    ensures judged { IsJudged (image_checks head.now (length planes.now) format stride (length pixels.old)) (λ done. ⊤) result }
-    ensures resolved { OnOk result (OnRows head.now (λ c first end. AreResolved c first end planes.now (format_named format) stride pixels.old pixels.new)) }
-    ensures kept { OnErr result (pixels.new ≡ pixels.old) }
-{
-    let rows = rows_of(head, planes)?;
-    let Some(format) = format_of(format) else {
-        return Err(CallError::Format);
-    };
-    match rows.resolve(planes, pixels, format, stride) {
-        Ok(()) => Ok(()),
-        Err(_) => Err(CallError::BufferTooSmall),
-    }
-}
-
 /// Writes the colour of each pixel of these tile rows in this format. Bytes of no pixel are unchanged. Returns the status. If it is not 0,
 /// nothing is written.
 #[unsafe(no_mangle)]
@@ -99,5 +89,8 @@ pub extern "C" fn trirast_canvas_resolve(
     ensures resolved { result ≡ 0 → OnRows canvas.now.head (λ c first end. AreResolved c first end canvas.now.planes.now (format_named format) stride pixels.old pixels.new) }
     ensures kept { result ≢ 0 → pixels.new ≡ pixels.old }
 {
-    status(resolve_into(&canvas.head, canvas.planes, format, pixels, stride))
+    match image_rows(&canvas.head, canvas.planes, format) {
+        Ok((rows, format)) => status(fitted(rows.resolve(canvas.planes, pixels, format, stride))),
+        Err(failed) => failed.number(),
+    }
 }

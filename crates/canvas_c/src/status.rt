@@ -1,7 +1,8 @@
 //! Why a call failed.
-ghost use Rattle.std.specs.Prelude.{◌≡◌, ◌↔◌, ◌<◌, IsOk};
+ghost use Rattle.std.specs.Prelude.{◌≡◌, ◌↔◌, ◌<◌, IsOk, IfErr};
 ghost use Rattle.canvas_c.specs.Statuses.{number_of, Ended};
 
+use canvas::Misfit;
 use model::ReadFault;
 
 /// Why a call failed.
@@ -55,5 +56,16 @@ pub(crate) fn status(ended: Result<(), CallError>) -> u32
     match ended {
         Ok(()) => 0,
         Err(failed) => failed.number(),
+    }
+}
+
+/// How a call ended that reads or writes rows of pixels: whatever does not fit, the caller's memory is too small for them.
+pub(crate) fn fitted(ended: Result<(), Misfit>) -> Result<(), CallError>
+    ensures done { IsOk result ↔ IsOk ended }
+    ensures small { IfErr result (λ failed. failed ≡ CallError.BufferTooSmall) }
+{
+    match ended {
+        Ok(()) => Ok(()),
+        Err(_) => Err(CallError::BufferTooSmall),
     }
 }

@@ -13,120 +13,93 @@ use history::Followed;
 use model::DrawList;
 use std::alloc::{AllocError, Global};
 
+/// Samples `s` of row `py` of the picture. Those in the columns are followed, which hold those that triangle `number` covers.
+#[derive(Clone, Copy)]
+pub(crate) struct SampleRow<'a> {
+    pub(crate) list: &'a DrawList,
+    pub(crate) number: usize,
+    pub(crate) py: u32,
+    pub(crate) s: u32,
+    pub(crate) columns: Columns,
+    pub ghost is_triangle: { number < length list.now.triangles },
+    pub ghost is_row: { py < 4096 },
+    pub ghost is_sample: { s < count_of list.now.count },
+    pub ghost within: { columns.end ≤ list.now.width },
+    pub ghost few: { columns.end ≤ 4096 },
+    pub ghost covered: { HoldCovered list.now number columns },
+}
+
 /// A row of samples of the picture before all triangles.
-pub(crate) fn new_row(alloc: Global, list: &DrawList) -> Result<Vec<Followed>, AllocError>
+fn new_row(alloc: Global, list: &DrawList) -> Result<Vec<Followed>, AllocError>
     ensures row { (n j s : ℕ) (columns : Columns) → IfOk result (λ row. IsRowAfter list.now n j s columns 0 row.items) }
     ensures width { IfOk result (λ row. length row.items ≡ list.now.width) }
 {
     vec![in alloc; Followed::new(list.clear()); list.width() as usize]
 }
 
-/// Follows the row's samples in these columns, which hold those that the triangle of this number covers, through all triangles.
-/// Returns how many of the row's samples the triangle covers, changes and is shown by.
-pub(crate) fn counts_of_new_row(
-    list: &DrawList,
-    number: usize,
-    py: u32,
-    s: u32,
-    columns: Columns,
-    row: &mut [Followed],
-) -> SampleCounts
-    requires number { number < length list.now.triangles }
-    requires row { py < 4096 }
-    requires sample { s < count_of list.now.count }
-    requires width { length row.old ≡ list.now.width }
-    requires end { columns.end ≤ list.now.width }
-    requires screen { columns.end ≤ 4096 }
-    requires columns { HoldCovered list.now number columns }
-    requires start { IsRowAfter list.now number py s columns 0 row.old }
-    ensures sums { AreSums (λ i c. AreCountsAt list.now number i py s c) list.now.width result }
-    ensures at_most { AreAtMost 4096 result }
-{
-    follow_row(list, number, py, s, columns, row);
-    counts_in(list, number, py, s, columns, row)
-}
+impl SampleRow<'_> {
+    /// Returns how many of the row's samples the triangle covers, changes and is shown by.
+    pub(crate) fn counts(&self, alloc: Global) -> Result<SampleCounts, AllocError>
+        ensures sums { IfOk result (AreSums (λ i c. AreCountsAt self.now.list.now self.now.number i self.now.py self.now.s c) self.now.list.now.width) }
+        ensures at_most { IfOk result (AreAtMost 4096) }
+    {
+        let mut row = new_row(alloc, self.list)?;
+        self.follow(&mut row);
+        Ok(self.counts_in(&row))
+    }
 
-/// Follows the row's samples in these columns through all triangles.
-fn follow_row(
-    list: &DrawList,
-    number: usize,
-    py: u32,
-    s: u32,
-    columns: Columns,
-    row: &mut [Followed],
-)
-    requires row { py < 4096 }
-    requires sample { s < count_of list.now.count }
-    requires columns { columns.end ≤ length row.old }
-    requires screen { columns.end ≤ 4096 }
-    requires start { IsRowAfter list.now number py s columns 0 row.old }
-    ensures { IsRowAfter list.now number py s columns (length list.now.triangles) row.new }
-{
-    for k in 0..list.triangles() {
-        follow_triangle(list, number, py, s, columns, k, row);
+    /// Follows the row's samples in the columns through all triangles.
+    fn follow(&self, row: &mut [Followed])
+        requires columns { self.now.columns.end ≤ length row.old }
+        requires start { IsRowAfter self.now.list.now self.now.number self.now.py self.now.s self.now.columns 0 row.old }
+        ensures { IsRowAfter self.now.list.now self.now.number self.now.py self.now.s self.now.columns (length self.now.list.now.triangles) row.new }
+    {
+        for k in 0..self.list.triangles() {
+            self.follow_triangle(k, row);
+        }
     }
-}
 
-/// Follows the row's samples in these columns through triangle `k`. Only those are visited that lie in the triangle's rows and columns.
-fn follow_triangle(
-    list: &DrawList,
-    number: usize,
-    py: u32,
-    s: u32,
-    columns: Columns,
-    k: usize,
-    row: &mut [Followed],
-)
-    requires row { py < 4096 }
-    requires sample { s < count_of list.now.count }
-    requires columns { columns.end ≤ length row.old }
-    requires screen { columns.end ≤ 4096 }
-    requires triangle { k < length list.now.triangles }
-    requires before { IsRowAfter list.now number py s columns k row.old }
-    ensures { IsRowAfter list.now number py s columns (k + 1) row.new }
-{
-    let rows = list.rows(k);
-    if py < u32::from(rows.first) {
-        return;
+    /// Follows the row's samples in the columns through triangle `k`. Only those are visited that lie in the triangle's rows and columns.
+    fn follow_triangle(&self, k: usize, row: &mut [Followed])
+        requires columns { self.now.columns.end ≤ length row.old }
+        requires triangle { k < length self.now.list.now.triangles }
+        requires before { IsRowAfter self.now.list.now self.now.number self.now.py self.now.s self.now.columns k row.old }
+        ensures { IsRowAfter self.now.list.now self.now.number self.now.py self.now.s self.now.columns (k + 1) row.new }
+    {
+        let (py, s) = (self.py, self.s);
+        let rows = self.list.rows(k);
+        if py < u32::from(rows.first) {
+            return;
+        }
+        if u32::from(rows.end) <= py {
+            return;
+        }
+        let triangle = self.list.triangle(k);
+        let reached = self.columns.of_triangle(&triangle.tri);
+        let count = self.list.count();
+        for px in reached.first..reached.end {
+            let place = px as usize;
+            row[place] = row[place].after(&triangle, count, px, py, s, k == self.number);
+        }
     }
-    if u32::from(rows.end) <= py {
-        return;
-    }
-    let triangle = list.triangle(k);
-    let reached = columns.of_triangle(&triangle.tri);
-    let count = list.count();
-    for px in reached.first..reached.end {
-        let place = px as usize;
-        row[place] = row[place].after(&triangle, count, px, py, s, k == number);
-    }
-}
 
-/// The counts of the row's samples, which were followed through all triangles in the columns that hold those that the triangle covers.
-fn counts_in(
-    list: &DrawList,
-    number: usize,
-    py: u32,
-    s: u32,
-    columns: Columns,
-    row: &[Followed],
-) -> SampleCounts
-    requires number { number < length list.now.triangles }
-    requires row { py < 4096 }
-    requires sample { s < count_of list.now.count }
-    requires width { length row.now ≡ list.now.width }
-    requires columns { HoldCovered list.now number columns }
-    requires followed { IsRowAfter list.now number py s columns (length list.now.triangles) row.now }
-    ensures sums { AreSums (λ i c. AreCountsAt list.now number i py s c) list.now.width result }
-    ensures at_most { AreAtMost 4096 result }
-{
-    let triangle = list.triangle(number).tri;
-    let count = list.count();
-    let mut counts = SampleCounts::none();
-    for px in 0..list.width() {
-        let of_sample = counts_at(&triangle, sample_at(px, py, s, count), &row[px as usize]);
-        counts = counts.and(of_sample);
+    /// The counts of the row's samples, which were followed through all triangles in the columns.
+    fn counts_in(&self, row: &[Followed]) -> SampleCounts
+        requires width { length row.now ≡ self.now.list.now.width }
+        requires followed { IsRowAfter self.now.list.now self.now.number self.now.py self.now.s self.now.columns (length self.now.list.now.triangles) row.now }
+        ensures sums { AreSums (λ i c. AreCountsAt self.now.list.now self.now.number i self.now.py self.now.s c) self.now.list.now.width result }
+        ensures at_most { AreAtMost 4096 result }
+    {
+        let triangle = self.list.triangle(self.number).tri;
+        let count = self.list.count();
+        let mut counts = SampleCounts::none();
+        for px in 0..self.list.width() {
+            let p = sample_at(px, self.py, self.s, count);
+            let of_sample = counts_at(&triangle, p, &row[px as usize]);
+            counts = counts.and(of_sample);
+        }
+        counts
     }
-    counts
 }
 
 /// The counts of one sample, at the point `p`, which was followed through all triangles if the triangle covers it.

@@ -1,9 +1,9 @@
 ghost use Rattle.std.specs.Prelude.{◌≡◌, ◌<◌, ◌≤◌, ◌*◌, ◌+◌, length, IfOk};
 ghost use Rattle.grid.specs.Samples.{count_of};
-ghost use Rattle.list_history.specs.Counts.{AreCountsOf, AreCountsAt, AreSums, AreAtMost, HoldCovered, no_counts, both_counts};
+ghost use Rattle.list_history.specs.Counts.{AreCountsOf, AreCountsAt, AreSums, AreAtMost, no_counts, both_counts};
 
 use crate::columns::Columns;
-use crate::row::{counts_of_new_row, new_row};
+use crate::row::SampleRow;
 use model::DrawList;
 use std::alloc::{AllocError, Global};
 
@@ -87,30 +87,15 @@ fn counts_of_row(
     }
     let columns = picture.of_triangle(&list.triangle(number).tri);
     for s in 0..list.count().count() {
-        let of_samples = counts_of_samples(alloc, list, number, py, s, columns)?;
+        let samples = SampleRow {
+            list,
+            number,
+            py,
+            s,
+            columns,
+        };
+        let of_samples = samples.counts(alloc)?;
         counts = counts.and(of_samples);
     }
     Ok(counts)
-}
-
-/// The same of samples `s` of row `py` alone. The columns hold those of the picture in which the triangle covers a sample.
-fn counts_of_samples(
-    alloc: Global,
-    list: &DrawList,
-    number: usize,
-    py: u32,
-    s: u32,
-    columns: Columns,
-) -> Result<SampleCounts, AllocError>
-    requires number { number < length list.now.triangles }
-    requires row { py < 4096 }
-    requires sample { s < count_of list.now.count }
-    requires columns { columns.end ≤ list.now.width }
-    requires screen { columns.end ≤ 4096 }
-    requires all { HoldCovered list.now number columns }
-    ensures sums { IfOk result (AreSums (λ i c. AreCountsAt list.now number i py s c) list.now.width) }
-    ensures at_most { IfOk result (AreAtMost 4096) }
-{
-    let mut row = new_row(alloc, list)?;
-    Ok(counts_of_new_row(list, number, py, s, columns, &mut row))
 }

@@ -26,7 +26,9 @@ pub use limits::{
 };
 pub use output::{Output, depth_bytes};
 pub use place::TrianglePlace;
-pub use primitives::{Primitives, is_convex, name_vertices, quads_count, strip_count};
+pub use primitives::{
+    Primitives, is_convex, name_vertices, quad_triangle, quads_count, strip_count, strip_triangle,
+};
 pub use rows::RowSpan;
 pub use shade::{Placed, State};
 pub use target::{Target, picture_box};

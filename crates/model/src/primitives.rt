@@ -41,8 +41,8 @@ pub fn name_vertices(numbers: &[u32], vertices: usize) -> bool
     numbers.iter().all(|number| (*number as usize) < vertices)
 }
 
-/// The triangle of this number of a strip.
-fn strip_triangle(strip: &[u32], number: usize) -> [u32; 3]
+/// The triangle of this number of a strip, by the indices of its vertices.
+pub fn strip_triangle(strip: &[u32], number: usize) -> [u32; 3]
     requires { number < count_of_strip (length strip.now) }
     ensures value { result ≡ triangle_of_strip strip.now number }
     ensures named { (n : ℕ) → All (λ k. k < n) strip.now → All (λ k. k < n) result }
@@ -56,8 +56,8 @@ fn strip_triangle(strip: &[u32], number: usize) -> [u32; 3]
     [first, second, third]
 }
 
-/// The triangle of this number of quads, which have two each.
-fn quad_triangle(quads: &[[u32; 4]], number: usize) -> [u32; 3]
+/// The triangle of this number of quads, which have two each, by the indices of its vertices.
+pub fn quad_triangle(quads: &[[u32; 4]], number: usize) -> [u32; 3]
     requires { number < count_of_quads (length quads.now) }
     ensures value { result ≡ slice_index_or (flat_map quad_triangles quads.now) number [] }
     ensures named { (vertices : List VertexOf) → All (IsQuadOver vertices) quads.now → All (λ k. k < length vertices) result }

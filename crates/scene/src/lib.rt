@@ -10,4 +10,5 @@ mod vertex;
 pub use builder::build;
 pub use draw::SceneDraw;
 pub use head::SceneHead;
+pub use primitives::{corners, triangle_count};
 pub use vertex::SceneVertex;

@@ -1,4 +1,4 @@
-ghost use Rattle.std.specs.Prelude.{◌≡◌, ◌≤◌, IfOk};
+ghost use Rattle.std.specs.Prelude.{◌≡◌, ◌≤◌, length, IfOk};
 ghost use Rattle.model.specs.Primitives.{primitive_listing, count_of_triangles};
 ghost use Rattle.scene.specs.Listed.{corners_of, primitives_listed};
 ghost use Rattle.scene.specs.Checking.{Reads};
@@ -10,7 +10,7 @@ use model::{
 use std::alloc::{AllocError, Global};
 
 /// How many indices each of the primitives of this kind takes.
-fn corners(kind: u32) -> usize
+pub fn corners(kind: u32) -> usize
     ensures value { result ≡ corners_of kind }
     ensures least { 1 ≤ result }
 {
@@ -23,8 +23,9 @@ fn corners(kind: u32) -> usize
 
 /// How many triangles the primitives of this kind with these indices are.
 #[tactic(auto, using(crate::proofs::Chunks::count_of_chunks))]
-fn triangles(kind: u32, indices: &[u32]) -> usize
-    ensures { result ≡ count_of_triangles (primitives_listed kind indices.now) }
+pub fn triangle_count(kind: u32, indices: &[u32]) -> usize
+    ensures value { result ≡ count_of_triangles (primitives_listed kind indices.now) }
+    ensures few { result ≤ length indices.now }
 {
     match kind {
         0 => indices.len() / 3,
@@ -59,7 +60,7 @@ pub(crate) fn primitives_of(
     if indices.len() % corners(kind) != 0 {
         return Err(ReadKind::WrongKind);
     }
-    if triangles(kind, indices) > MOST_TRIANGLES - earlier {
+    if triangle_count(kind, indices) > MOST_TRIANGLES - earlier {
         return Err(ReadKind::TooMany);
     }
     if !name_vertices(indices, vertices.len()) {

@@ -7,7 +7,7 @@ ghost use Rattle.bins.specs.Bin.{HasTile, IsBinOf, bin_of};
 ghost use Rattle.raster.specs.Samples.{planes_of, AreAll};
 ghost use Rattle.tile.specs.Picture.{IsTileAt, IsPictureIn, IsTileBin, AreEnds};
 
-use crate::pixels::resolve;
+use crate::pixels::SampledTile;
 use crate::store::Store;
 use bins::{Batch, Bins, Tiling};
 use grid::{OutOfMemory, PixelBox, SampleCount, TileSide};
@@ -98,6 +98,11 @@ pub fn render(
     draw_bin(list, bins.bin(k), &tile, samples);
     let width = shown(tiling.width(), tile.bx, tile.side);
     let height = shown(tiling.height(), tile.by, tile.side);
-    let bytes = resolve(alloc, list, &tile, samples, width, height)?;
+    let sampled = SampledTile {
+        list,
+        tile: &tile,
+        samples,
+    };
+    let bytes = sampled.resolve(alloc, width, height)?;
     Ok(TilePixels { rect, bytes })
 }

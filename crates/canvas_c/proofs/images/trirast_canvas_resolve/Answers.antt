@@ -1,10 +1,7 @@
-use Rattle.std.proofs.Common.{length}
-use Rattle.canvas_c.specs.Pieces.{image_checks}
-use Rattle.canvas_c.proofs.Ended.{status_of, done_if}
+use Rattle.canvas_c.proofs.Ended.{done_if, on_done}
 use Rattle.canvas_c.proofs.images.trirast_canvas_resolve.Goals as goal
 
-pub returns-clause-status : goal.returns-clause-status
-returns-clause-status c = status_of (image_checks c.args.canvas.now.head (length c.args.canvas.now.planes.now) c.args.format c.args.stride (length c.args.pixels.now)) c.resolve_into.result c.status.result c.status.ensures.ended c.resolve_into.ensures.judged
-
-pub returns-clause-resolved : goal.returns-clause-resolved
-returns-clause-resolved c = done_if _ c.resolve_into.result c.status.result c.status.ensures.ended c.resolve_into.ensures.resolved
+pub returns-in-Ok-clause-resolved : goal.returns-in-Ok-clause-resolved
+returns-in-Ok-clause-resolved c =
+    done_if _ c.fitted.result c.status.result c.status.ensures.ended
+    (on_done _ _ c.resolve.result c.fitted.result c.fitted.ensures.done (λ written. record { rows = c.in-Ok.rows; are = c.in-Ok.ensures.judged.1; holds = rw c.in-Ok.ensures.format at written }) c.resolve.ensures.resolved)

@@ -1,8 +1,0 @@
-use Rattle.list_history.specs.Counts.{AreSums, AreCountsAt, AreAtMost}
-use Rattle.list_history.proofs.row.counts_in.Given as goal
-
-abbrev pub invariant-loop-px : goal.invariant-loop-px
-invariant-loop-px l = record {
-  sums : AreSums (λ i c. AreCountsAt l.list l.number i l.py l.s c) l.px l.counts;
-  small : AreAtMost l.px l.counts;
-}

@@ -1,0 +1,6 @@
+use Rattle.std.proofs.Common.{◌*◌}
+use Rattle.model.specs.PixelPrefix.{IsPixelPrefix}
+use Rattle.tile.proofs.pixels.SampledTile.resolve.Given as goal
+
+abbrev pub invariant-loop-row : goal.invariant-loop-row
+invariant-loop-row l = IsPixelPrefix l.self.list.now (8 * l.self.tile.now.bx) (8 * l.self.tile.now.by) l.width (l.row * l.width) l.bytes.items

@@ -1,8 +1,0 @@
-use Rattle.std.proofs.Common.{◌≡◌, arith}
-use Rattle.model.proofs.PixelPrefix.{part_of_rows}
-use Rattle.tile.proofs.pixels.resolve.Goals as goal
-
-pub returns : goal.returns
-returns c =
-    let all : c.loop-row.row ≡ c.args.height = omega arith in
-    part_of_rows c.args.list.now _ _ c.args.width c.args.height _ (rw all at c.loop-row.invariant)
