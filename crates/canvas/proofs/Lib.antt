@@ -14,3 +14,7 @@ pub mod Mapped
 pub mod Changes
 pub mod Moved
 pub mod Windows
+pub mod Sixteen
+pub mod Listed
+pub mod Sources
+pub mod ColumnCuts

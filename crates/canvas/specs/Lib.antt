@@ -79,6 +79,7 @@ pub mod Drawing
 pub mod Pixels
 pub mod Colours
 pub mod Reach
+pub mod Rows
 pub mod Loaded
 pub mod Ids
 pub mod Indexed
