@@ -10,7 +10,6 @@ pub mod PixelColours
 pub mod Masks
 pub mod Missed
 pub mod DrawnIds
-pub mod Mapped
 pub mod Changes
 pub mod Moved
 pub mod Windows

@@ -5,10 +5,6 @@ use Rattle.std.proofs.lemmas.Option.{get_or_from_slice_get, slice_get-get_or, sl
 use Rattle.shade.specs.declared.placed.Placed.{Placed}
 use Rattle.canvas.specs.Ids.{with_id, with_ids}
 
-pub mapped_at : {X : Type 0} (f : X → Placed) (xs : List X) (k : ℕ) (x : X) → k < length xs → x ≡ get_or xs k x → slice_get (map f xs) k ≡ Some (f x)
-mapped_at f xs k x less is =
-    slice_get-get_or (map f xs) k (f x) (omega (arith, less, length-map xs f)) ∙ ap Some (get_or-map f xs k x (f x) less ∙ ap f (sym is))
-
 pub length-with_ids : (ts : List Placed) (n : ℕ) → length (with_ids ts n) ≡ length ts
 length-with_ids [] n = refl
 length-with_ids (t ∷ ts) n = ap suc (length-with_ids ts (n + 1))

@@ -88,10 +88,7 @@ impl TileRows {
         if ID_COUNT < first || ID_COUNT - first < triangles.len() {
             return Err(Misfit::Ids);
         }
-        let numbered = Numbered {
-            triangles,
-            first,
-        };
+        let numbered = Numbered { triangles, first };
         self.draw_all(&numbered, samples);
         Ok(())
     }

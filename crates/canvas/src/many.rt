@@ -8,7 +8,6 @@ ghost use Rattle.canvas.specs.Layout.{columns_of, rows_of, planes_of_tile, plane
 ghost use Rattle.canvas.specs.Drawing.{HaveEnds, TileHasEnds};
 ghost use Rattle.canvas.specs.Rows.{AreOfRow, AreOfTile, numbered};
 
-use crate::words::next_bit;
 use crate::bounds::Bounds;
 use crate::canvas::Canvas;
 use crate::reach::NOWHERE;
@@ -16,6 +15,7 @@ use crate::row_list::RowList;
 use crate::source::Triangles;
 use crate::spans::Spans;
 use crate::tile_rows::TileRows;
+use crate::words::next_bit;
 use lanes::BlockSamples;
 use raster::{Tile, draw_triangle};
 

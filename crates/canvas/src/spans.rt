@@ -2,8 +2,8 @@
 ghost use Rattle.std.specs.Prelude.{◌≡◌, ◌≢◌, ℕ, ◌+◌, ◌<◌, ◌≤◌, IsBitSet, slice_index};
 ghost use Rattle.canvas.specs.Rows.{HasPlace};
 
-use crate::words::{above, at_most};
 use crate::reach::Span;
+use crate::words::{above, at_most};
 
 /// Spans of tiles, in a row or a column of tiles, for each of up to `N` triangles: bytes, so that sixteen are compared at once.
 #[derive(Drop)]

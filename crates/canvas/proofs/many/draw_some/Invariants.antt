@@ -9,7 +9,7 @@ abbrev pub invariant-loop-bit : goal.invariant-loop-bit
 invariant-loop-bit g l = record {
   most : l.next ≤ 16;
   drawn : (none : Placed) (start : List BlockSamples) → TileHasEnds (take l.from (numbered (g.T.Triangles.listed l.triangles) none (take l.list.count l.list.numbers))) l.tile start l.fn.samples
-  → TileHasEnds (take (l.from + l.next) (numbered (g.T.Triangles.listed l.triangles) none (take l.list.count l.list.numbers))) l.tile start l.samples;
+      → TileHasEnds (take (l.from + l.next) (numbered (g.T.Triangles.listed l.triangles) none (take l.list.count l.list.numbers))) l.tile start l.samples;
 }
 
 abbrev pub decreases-loop-bit : goal.decreases-loop-bit
