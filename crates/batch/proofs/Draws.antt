@@ -21,7 +21,7 @@ use Rattle.canvas.proofs.Ends.{ends_joined}
 use Rattle.batch.specs.Ids.{drawn_as, ids_after}
 use Rattle.batch.specs.Seen.{triangles_seen}
 use Rattle.batch.specs.Checks.{draw_checks, DrawsPass, IsFirstOfDraws}
-use Rattle.batch.proofs.Filled.{drawn-append, nothing_drawn}
+use Rattle.batch.proofs.Numbered.{drawn-append, nothing_drawn}
 
 -- ---- from the draw of number i on
 module _ (x y : ℤ) (ds : List SceneDraw) (i : ℕ) (none : SceneDraw) (lt : i < length ds) (ids : Option ℕ) (vs : List SceneVertex) (is : List ℕ) where

@@ -1,4 +1,4 @@
 pub mod Chunks
 pub mod Corners
-pub mod Filled
+pub mod Numbered
 pub mod Draws

@@ -5,6 +5,7 @@
 mod arrays;
 mod checking;
 mod drawing;
+mod drawn;
 mod error;
 mod ids;
 mod part;

@@ -1,7 +1,5 @@
 -- What triangles in the colours of their numbers make of a sample.
-use Rattle.std.proofs.Common.{suc, take, drop, get_or, slice_set, length-take, ◌≡◌, ◌⊎◌, inl, inr, refl, sym, ap, ◌∙◌, ℕ, ◌+◌, ◌/◌, ◌%◌, ◌<◌, ◌≤◌, List, [], ◌∷◌, ◌++◌, length, Option, None, Some, if◌then◌else◌, true, false, Bool, arith}
-use Rattle.std.proofs.Math.Seq.{take-add, take-suc-set}
-use Rattle.std.proofs.lemmas.List.{take_more}
+use Rattle.std.proofs.Common.{◌≡◌, ◌⊎◌, inl, inr, refl, sym, ap, ◌∙◌, ℕ, ◌+◌, ◌/◌, ◌%◌, List, [], ◌∷◌, ◌++◌, length, Option, None, Some, if◌then◌else◌, true, false, Bool, arith}
 use Rattle.grid.specs.Position.{Position}
 use Rattle.grid.specs.Samples.{sample_position}
 use Rattle.grid.specs.Triangle.{Covers}
@@ -118,17 +116,3 @@ tells ts n count i j s start end e = last_of count i j s start ts n start start 
 pub with_id-append : (ts us : List Placed) (n m : ℕ) → m ≡ n + length ts → with_ids (ts ++ us) n ≡ with_ids ts n ++ with_ids us m
 with_id-append [] us n m e = let same : n ≡ m = omega arith in ap (with_ids us) same
 with_id-append (t ∷ ts) us n m e = ap (λ xs. with_id t n ∷ xs) (with_id-append ts us (n + 1) m (omega arith))
-
-pub chunk_with_ids : (ts : List Placed) (n done many : ℕ) → done ≤ length ts → with_ids (take (done + many) ts) n ≡ with_ids (take done ts) n ++ with_ids (take many (drop done ts)) (n + done)
-chunk_with_ids ts n done many within =
-    ap (λ us. with_ids us n) (take-add done many ts)
-    ∙ with_id-append (take done ts) (take many (drop done ts)) n (n + done) (omega (arith, length-take done ts, within))
-
-pub one_with_id : (ts chunk : List Placed) (n k : ℕ) (t : Placed) → k < length ts → k < length chunk → t ≡ get_or ts k t → take k chunk ≡ with_ids (take k ts) n
-    → take (k + 1) (slice_set chunk k (with_id t (n + k))) ≡ with_ids (take (k + 1) ts) n
-one_with_id ts chunk n k t below room is before =
-    let more : take (k + 1) ts ≡ take k ts ++ (t ∷ []) = take_more ts k t below ∙ ap (λ x. take k ts ++ (x ∷ [])) (sym is) in
-    let numbers : with_ids (take k ts ++ (t ∷ [])) n ≡ with_ids (take k ts) n ++ (with_id t (n + k) ∷ []) = with_id-append (take k ts) (t ∷ []) n (n + k) (omega (arith, length-take k ts, below)) in
-    let set : take (k + 1) (slice_set chunk k (with_id t (n + k))) ≡ take k chunk ++ (with_id t (n + k) ∷ []) =
-    (let next : k + 1 ≡ suc k = omega arith in ap (λ m. take m (slice_set chunk k (with_id t (n + k)))) next ∙ take-suc-set chunk k (with_id t (n + k)) room) in
-    set ∙ ap (λ us. us ++ (with_id t (n + k) ∷ [])) before ∙ sym (ap (λ us. with_ids us n) more ∙ numbers)

@@ -10,7 +10,10 @@ pub mod PixelColours
 pub mod Masks
 pub mod Missed
 pub mod DrawnIds
-pub mod Mapped
 pub mod Changes
 pub mod Moved
 pub mod Windows
+pub mod Sixteen
+pub mod Listed
+pub mod Sources
+pub mod ColumnCuts

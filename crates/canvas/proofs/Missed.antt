@@ -13,7 +13,7 @@ use Rattle.canvas.proofs.Bits.{both_set}
 use Rattle.canvas.proofs.Masks.{no_bit}
 use Rattle.canvas.proofs.Ends.{AreMissed, column_of, row_of_tiles}
 
-ends_unmet : (ts : List Placed) (count : SampleCount) (i j s : ℕ) (x : Sample) → ((k : ℕ) (t : Placed) → slice_get ts k ≡ Some t → ¬ Meets t count i j s) → Ends ts count i j s x x
+pub ends_unmet : (ts : List Placed) (count : SampleCount) (i j s : ℕ) (x : Sample) → ((k : ℕ) (t : Placed) → slice_get ts k ≡ Some t → ¬ Meets t count i j s) → Ends ts count i j s x x
 ends_unmet [] count i j s x unmet = refl
 ends_unmet (t ∷ ts) count i j s x unmet =
     (x, record { met = λ m. absurd (unmet zero t refl m); missed = λ _. refl }, ends_unmet ts count i j s x (λ k u found. unmet (suc k) u found))

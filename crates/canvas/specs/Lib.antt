@@ -85,6 +85,7 @@ pub mod Pixels
 pub mod Entries
 pub mod Colours
 pub mod Reach
+pub mod Rows
 pub mod Loaded
 pub mod Ids
 pub mod Indexed

@@ -4,8 +4,8 @@ ghost use Rattle.canvas.specs.Layout.{planes_of_rows};
 ghost use Rattle.canvas.specs.Drawing.{HaveEnds};
 ghost use Rattle.canvas.specs.Ids.{with_id as with_id_of, with_ids};
 
-use crate::chunk::CHUNK;
 use crate::misfit::Misfit;
+use crate::source::Triangles;
 use crate::tile_rows::TileRows;
 use lanes::BlockSamples;
 use shade::{Merge, Placed, State};
@@ -14,7 +14,7 @@ use shade::{Merge, Placed, State};
 const ID_COUNT: usize = 16_777_216;
 
 /// The triangle in the colour of its id, which replaces what is stored.
-fn with_id(triangle: &Placed, id: usize) -> Placed
+pub fn with_id(triangle: &Placed, id: usize) -> Placed
     ensures { result ≡ with_id_of triangle.now id }
 {
     let code = [
@@ -42,22 +42,29 @@ fn with_id(triangle: &Placed, id: usize) -> Placed
     }
 }
 
-impl TileRows {
-    /// Draws a chunk of triangles in the colours of their ids.
-    fn draw_ids_chunk(&self, triangles: &[Placed], id: usize, samples: &mut [BlockSamples])
-        requires some { 0 < length triangles.now }
-        requires few { length triangles.now ≤ 64 }
-        requires ids { id + length triangles.now ≤ 16777216 }
-        requires samples { length samples.old ≡ planes_of_rows self.now.canvas self.now.first self.now.end }
-        ensures { HaveEnds (with_ids triangles.now id) self.now.canvas self.now.first self.now.end samples.old samples.new }
-    {
-        let mut chunk = [with_id(&triangles[0], id); CHUNK];
-        for k in 0..triangles.len() {
-            chunk[k] = with_id(&triangles[k], id + k);
-        }
-        self.draw_chunk(&chunk[..triangles.len()], samples);
+/// Triangles in the colours of their ids, which are counted from the first one on.
+#[derive(Drop)]
+struct Numbered<'a> {
+    triangles: &'a [Placed],
+    first: usize,
+    ghost few: { first + length triangles.now ≤ 16777216 },
+}
+
+impl Triangles for Numbered<'_> {
+    ghost listed = { λ s. with_ids s.triangles.now s.first };
+
+    #[inline(always)]
+    fn count(&self) -> usize {
+        self.triangles.len()
     }
 
+    #[inline(always)]
+    fn triangle(&self, number: usize) -> Placed {
+        with_id(&self.triangles[number], self.first + number)
+    }
+}
+
+impl TileRows {
     /// Draws the triangles in the colours of their ids, which are counted from `first_id` on, without blending: id n is red n % 256,
     /// green n / 256 % 256 and blue n / 65536 % 256. So each sample keeps the id of the last triangle that passed there (`tells_last`),
     /// and its depth.
@@ -81,12 +88,8 @@ impl TileRows {
         if ID_COUNT < first || ID_COUNT - first < triangles.len() {
             return Err(Misfit::Ids);
         }
-        let mut done = 0;
-        while done < triangles.len() {
-            let many = (triangles.len() - done).min(CHUNK);
-            self.draw_ids_chunk(&triangles[done..done + many], first + done, samples);
-            done += many;
-        }
+        let numbered = Numbered { triangles, first };
+        self.draw_all(&numbered, samples);
         Ok(())
     }
 }

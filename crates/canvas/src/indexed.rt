@@ -5,8 +5,8 @@ ghost use Rattle.canvas.specs.Layout.{planes_of_rows};
 ghost use Rattle.canvas.specs.Drawing.{HaveEnds};
 ghost use Rattle.canvas.specs.Indexed.{AreIndices, placed_by};
 
-use crate::chunk::CHUNK;
 use crate::misfit::Misfit;
+use crate::source::Triangles;
 use crate::tile_rows::TileRows;
 use crate::vertex::Vertex;
 use grid::Tri;
@@ -47,28 +47,30 @@ fn placed(vertices: &[Vertex], state: &State, indices: [u32; 3]) -> Placed
     }
 }
 
-impl TileRows {
-    /// Draws some triangles by their indices.
-    fn draw_indexed_chunk(
-        &self,
-        vertices: &[Vertex],
-        triangles: &[[u32; 3]],
-        state: &State,
-        samples: &mut [BlockSamples],
-    )
-        requires some { 0 < length triangles.now }
-        requires few { length triangles.now ≤ 64 }
-        requires indices { All (AreIndices (length vertices.now)) triangles.now }
-        requires samples { length samples.old ≡ planes_of_rows self.now.canvas self.now.first self.now.end }
-        ensures { HaveEnds (map (placed_by vertices.now state.now) triangles.now) self.now.canvas self.now.first self.now.end samples.old samples.new }
-    {
-        let mut chunk = [placed(vertices, state, triangles[0]); CHUNK];
-        for k in 0..triangles.len() {
-            chunk[k] = placed(vertices, state, triangles[k]);
-        }
-        self.draw_chunk(&chunk[..triangles.len()], samples);
+/// Triangles in one state, each by the indices of its vertices.
+#[derive(Drop)]
+struct Indexed<'a> {
+    vertices: &'a [Vertex],
+    triangles: &'a [[u32; 3]],
+    state: State,
+    ghost indices: { All (AreIndices (length vertices.now)) triangles.now },
+}
+
+impl Triangles for Indexed<'_> {
+    ghost listed = { λ s. map (placed_by s.vertices.now s.state) s.triangles.now };
+
+    #[inline(always)]
+    fn count(&self) -> usize {
+        self.triangles.len()
     }
 
+    #[inline(always)]
+    fn triangle(&self, number: usize) -> Placed {
+        placed(self.vertices, &self.state, self.triangles[number])
+    }
+}
+
+impl TileRows {
     /// Draws triangles in one state, each by the indices of its three vertices.
     pub fn draw_indexed(
         &self,
@@ -90,12 +92,12 @@ impl TileRows {
         if !all_are_indices(vertices, triangles) {
             return Err(Misfit::Indices);
         }
-        let mut done = 0;
-        while done < triangles.len() {
-            let many = (triangles.len() - done).min(CHUNK);
-            self.draw_indexed_chunk(vertices, &triangles[done..done + many], state, samples);
-            done += many;
-        }
+        let indexed = Indexed {
+            vertices,
+            triangles,
+            state: *state,
+        };
+        self.draw_all(&indexed, samples);
         Ok(())
     }
 }

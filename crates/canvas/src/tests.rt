@@ -1,5 +1,6 @@
 //! Pictures of many triangles compared with the definition, drawn sample by sample: batches, pieces, formats, strides, ids, and
 //! calls that do nothing.
+use crate::source::Stored;
 use crate::{Canvas, Format, Misfit, Origin, TileRows, Vertex};
 use grid::{Cull, PixelBox, Point, SampleCount, Tri, sample_at};
 use lanes::BlockSamples;
@@ -210,6 +211,24 @@ fn draws_batches(rt: &impl Abort, alloc: Global, count: SampleCount) -> Result<b
 fn draws_batches_over_samples_that_stay(rt: HostRuntime) -> Result<(), Fail> {
     assert!(rt; draws_batches(&rt, rt.alloc(), SampleCount::One)?);
     assert!(rt; draws_batches(&rt, rt.alloc(), SampleCount::Four)?);
+    Ok(())
+}
+
+/// Whether a source of so many triangles that they take the largest chunk ends as they are defined.
+fn draws_many(rt: &impl Abort, alloc: Global) -> Result<bool, Fail> {
+    let rows = canvas(rt, SampleCount::One).all();
+    let triangles = Numbers { state: 12 }.triangles(rt, alloc, 1100)?;
+    let mut samples = cleared(alloc, &rows)?;
+    let source = Stored {
+        triangles: &triangles,
+    };
+    let drawn = rows.draw_from(&source, &mut samples);
+    Ok(drawn.is_ok() && are_ends(&rows, &samples, &triangles))
+}
+
+#[test]
+fn draws_many_triangles_of_a_source(rt: HostRuntime) -> Result<(), Fail> {
+    assert!(rt; draws_many(&rt, rt.alloc())?);
     Ok(())
 }
 

@@ -8,10 +8,17 @@ ghost use Rattle.canvas.specs.Reach.{AreReached, IsMaskOf};
 use crate::canvas::Canvas;
 use crate::chunk::{CHUNK, Reached, reach_of};
 use crate::misfit::Misfit;
+use crate::source::{Chunk, Stored, Triangles};
 use crate::tile_rows::TileRows;
 use lanes::BlockSamples;
 use raster::{Tile, draw_triangle};
 use shade::Placed;
+
+/// How many triangles are drawn together at most.
+const LARGEST: usize = 16_384;
+
+/// How many are drawn together with little memory of the stack.
+const LARGE: usize = 1024;
 
 /// Draws the triangles at the samples of a tile, one after another, but those whose bit is not set.
 fn draw_tile(chunk: &[Placed], mask: u64, tile: &Tile, samples: &mut [BlockSamples])
@@ -77,6 +84,75 @@ impl TileRows {
         }
     }
 
+    /// Draws the triangles of a source, of which there are at most as many as a word has bits.
+    fn draw_few<T: Triangles>(&self, triangles: &T, samples: &mut [BlockSamples])
+        requires some { 0 < length (T.listed triangles.now) }
+        requires few { length (T.listed triangles.now) ≤ 64 }
+        requires samples { length samples.old ≡ planes_of_rows self.now.canvas self.now.first self.now.end }
+        ensures { HaveEnds (T.listed triangles.now) self.now.canvas self.now.first self.now.end samples.old samples.new }
+    {
+        let count = triangles.count();
+        let mut chunk = [triangles.triangle(0); CHUNK];
+        for k in 0..count {
+            chunk[k] = triangles.triangle(k);
+        }
+        self.draw_chunk(&chunk[..count], samples);
+    }
+
+    /// Draws the triangles of a source, of which there are at most `LARGEST`. The more there are, the more memory of the stack they take.
+    fn draw_part<T: Triangles>(&self, triangles: &T, samples: &mut [BlockSamples])
+        requires some { 0 < length (T.listed triangles.now) }
+        requires few { length (T.listed triangles.now) ≤ 16384 }
+        requires samples { length samples.old ≡ planes_of_rows self.now.canvas self.now.first self.now.end }
+        ensures { HaveEnds (T.listed triangles.now) self.now.canvas self.now.first self.now.end samples.old samples.new }
+    {
+        let count = triangles.count();
+        if count <= CHUNK {
+            self.draw_few(triangles, samples);
+        } else if count <= LARGE {
+            self.draw_many::<T, LARGE>(triangles, samples);
+        } else {
+            self.draw_many::<T, LARGEST>(triangles, samples);
+        }
+    }
+
+    /// Draws the triangles of a source, one after another.
+    pub(crate) fn draw_all<T: Triangles>(&self, triangles: &T, samples: &mut [BlockSamples])
+        requires samples { length samples.old ≡ planes_of_rows self.now.canvas self.now.first self.now.end }
+        ensures { HaveEnds (T.listed triangles.now) self.now.canvas self.now.first self.now.end samples.old samples.new }
+    {
+        let all = triangles.count();
+        let mut done = 0;
+        while done < all {
+            let count = (all - done).min(LARGEST);
+            let part = Chunk {
+                source: &*triangles,
+                first: done,
+                count,
+            };
+            self.draw_part(&part, samples);
+            done += count;
+        }
+    }
+
+    /// Draws the triangles of a source in the same way as `draw`.
+    pub fn draw_from<T: Triangles>(
+        &self,
+        triangles: &T,
+        samples: &mut [BlockSamples],
+    ) -> Result<(), Misfit>
+        ensures fits { IsOk result ↔ (length samples.old ≡ planes_of_rows self.now.canvas self.now.first self.now.end) }
+        ensures drawn { OnOk result (HaveEnds (T.listed triangles.now) self.now.canvas self.now.first self.now.end samples.old samples.new) }
+        ensures unfit { OnErr result (samples.new ≡ samples.old) }
+        ensures reason { IfErr result (λ misfit. misfit ≡ Misfit.Planes) }
+    {
+        if samples.len() != self.planes() {
+            return Err(Misfit::Planes);
+        }
+        self.draw_all(triangles, samples);
+        Ok(())
+    }
+
     /// Draws the triangles at each sample of these tile rows, one after another: what stood there is what they begin with. So the picture of
     /// many calls is that of all their triangles in the order of the calls (`joins_batches`).
     pub fn draw(&self, triangles: &[Placed], samples: &mut [BlockSamples]) -> Result<(), Misfit>
@@ -88,11 +164,10 @@ impl TileRows {
         if samples.len() != self.planes() {
             return Err(Misfit::Planes);
         }
-        let mut done = 0;
-        while done < triangles.len() {
-            let many = (triangles.len() - done).min(CHUNK);
-            self.draw_chunk(&triangles[done..done + many], samples);
-            done += many;
+        if triangles.len() <= CHUNK {
+            self.draw_chunk(triangles, samples);
+        } else {
+            self.draw_all(&Stored { triangles }, samples);
         }
         Ok(())
     }

@@ -6,8 +6,8 @@ ghost use Rattle.canvas.specs.Layout.{planes_of_rows};
 ghost use Rattle.canvas.specs.Drawing.{HaveEnds};
 ghost use Rattle.canvas.specs.Window.{moved_position, moved_box, saturated, moved, CanMove, HaveEndsOnScreen};
 
-use crate::chunk::CHUNK;
 use crate::misfit::Misfit;
+use crate::source::Triangles;
 use crate::tile_rows::TileRows;
 use grid::{PixelBox, Point, Tri};
 use lanes::BlockSamples;
@@ -86,22 +86,29 @@ fn are_seen(triangles: &[Placed], origin: &Origin) -> bool
         .all(|triangle| origin.seen(triangle).is_some())
 }
 
-impl TileRows {
-    /// Draws a chunk of triangles as seen from the corner of the origin.
-    fn draw_window_chunk(&self, origin: &Origin, triangles: &[Placed], samples: &mut [BlockSamples])
-        requires some { 0 < length triangles.now }
-        requires few { length triangles.now ≤ 64 }
-        requires seen { All (CanMove origin.now.x origin.now.y) triangles.now }
-        requires samples { length samples.old ≡ planes_of_rows self.now.canvas self.now.first self.now.end }
-        ensures { HaveEnds (map (moved origin.now.x origin.now.y) triangles.now) self.now.canvas self.now.first self.now.end samples.old samples.new }
-    {
-        let mut chunk = [triangles[0]; CHUNK];
-        for k in 0..triangles.len() {
-            chunk[k] = origin.seen(&triangles[k]).unwrap();
-        }
-        self.draw_chunk(&chunk[..triangles.len()], samples);
+/// Triangles of the screen as seen from the corner of a pixel.
+#[derive(Drop)]
+struct Seen<'a> {
+    origin: Origin,
+    triangles: &'a [Placed],
+    ghost seen: { All (CanMove origin.x origin.y) triangles.now },
+}
+
+impl Triangles for Seen<'_> {
+    ghost listed = { λ s. map (moved s.origin.x s.origin.y) s.triangles.now };
+
+    #[inline(always)]
+    fn count(&self) -> usize {
+        self.triangles.len()
     }
 
+    #[inline(always)]
+    fn triangle(&self, number: usize) -> Placed {
+        self.origin.seen(&self.triangles[number]).unwrap()
+    }
+}
+
+impl TileRows {
     /// Draws triangles of the screen on a canvas whose upper left pixel is the origin: sample s of pixel (i, j) of the canvas is
     /// sample s of pixel (i + x, j + y) of the screen. Scissors are in pixels of the screen. Samples to the left of the screen and
     /// above it are drawn too, each triangle as seen from the origin (`Origin::seen`).
@@ -125,12 +132,11 @@ impl TileRows {
         if !are_seen(triangles, origin) {
             return Err(Misfit::OutOfRange);
         }
-        let mut done = 0;
-        while done < triangles.len() {
-            let many = (triangles.len() - done).min(CHUNK);
-            self.draw_window_chunk(origin, &triangles[done..done + many], samples);
-            done += many;
-        }
+        let seen = Seen {
+            origin: *origin,
+            triangles,
+        };
+        self.draw_all(&seen, samples);
         Ok(())
     }
 }

@@ -1,0 +1,6 @@
+use Rattle.std.proofs.Common.{arith}
+use Rattle.canvas.proofs.Sources.{one_taken}
+use Rattle.canvas.proofs.tile_rows.TileRows.draw_few.Goals as goal
+
+pub loop-k-preserved : goal.loop-k-preserved
+loop-k-preserved g c = one_taken (g.T.Triangles.listed c.args.triangles.now) c.loop-k.chunk c.loop-k.k c.triangle.result c.triangle.ensures (omega (arith, c.loop-k-test.true, c.requires.few)) c.loop-k.invariant

@@ -1,0 +1,31 @@
+//! The tiles in the boxes of many triangles.
+ghost use Rattle.std.specs.Prelude.{◌≤◌, length};
+ghost use Rattle.canvas.specs.Rows.{AreBounds};
+
+use crate::reach::{Span, tiles_met};
+use crate::source::Triangles;
+use crate::spans::Spans;
+
+/// The columns of tiles and the tile rows in which each of up to `N` triangles can meet a sample.
+#[derive(Drop)]
+pub(crate) struct Bounds<const N: usize> {
+    pub(crate) columns: Spans<N>,
+    pub(crate) rows: Spans<N>,
+    /// The tile rows from the first that any of them can meet to the last.
+    pub(crate) span: Span,
+}
+
+impl<const N: usize> Bounds<N> {
+    /// Sets the bounds of the triangles.
+    pub(crate) fn set<T: Triangles>(&mut self, triangles: &T)
+        requires { length (T.listed triangles.now) ≤ N }
+        ensures { AreBounds (T.listed triangles.now) (length (T.listed triangles.now)) self.new.columns.firsts self.new.columns.ends self.new.rows.firsts self.new.rows.ends self.new.span }
+    {
+        for number in 0..triangles.count() {
+            let (columns, rows) = tiles_met(&triangles.triangle(number));
+            self.columns.set(number, columns);
+            self.rows.set(number, rows);
+            self.span = self.span.joined(rows);
+        }
+    }
+}
