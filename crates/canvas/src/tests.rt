@@ -214,7 +214,7 @@ fn draws_batches_over_samples_that_stay(rt: HostRuntime) -> Result<(), Fail> {
     Ok(())
 }
 
-/// Whether a source of so many triangles that they take the largest chunk ends as they are defined.
+/// Whether a source of enough triangles for the largest chunk ends as they are defined.
 fn draws_many(rt: &impl Abort, alloc: Global) -> Result<bool, Fail> {
     let rows = canvas(rt, SampleCount::One).all();
     let triangles = Numbers { state: 12 }.triangles(rt, alloc, 1100)?;
