@@ -7,8 +7,8 @@ use Rattle.canvas.specs.declared.misfit.Misfit.TheVariants.{Planes, Pixels, Samp
 use Rattle.canvas.specs.Layout.{planes_of_rows}
 use Rattle.canvas.specs.Pixels.{IsLargeEnough}
 
--- The tile rows from `first` to before `end` have this many planes of samples, a pixel has sample s, and `size` entries hold their rows
--- of pixels.
+-- Planes of samples and entries fit the tile rows from `first` to before `end`. There are as many planes as they have, a pixel has
+-- sample s, and `size` entries hold their rows of pixels.
 abbrev pub FitEntries : Canvas → ℕ → ℕ → ℕ → ℕ → ℕ → ℕ → Type 0
 FitEntries c first end planes s stride size =
     (planes ≡ planes_of_rows c first end) × (s < count_of c.count) × IsLargeEnough c first end 1 stride size

@@ -28,7 +28,7 @@
 --   AreWritten: The entries of each pixel of the picture in these tile rows are as `IsPixel` says, and all other entries are unchanged.
 --
 -- Entries.antt
---   FitEntries: The tile rows from `first` to before `end` have this many planes of samples, a pixel has sample s, and `size` entries hold their rows of pixels.
+--   FitEntries: Planes of samples and entries fit the tile rows from `first` to before `end`.
 --   IsEntriesMisfit: What does not fit, if one of the three does not.
 --
 -- Colours.antt

@@ -25,5 +25,5 @@ pub use input::read_input;
 pub use picture::{PictureFault, write_picture};
 pub use picture_bytes::{draw, draw_rows};
 pub use ppm::{ppm_rows, write_ppm};
-pub use program::{command, refuse};
+pub use program::{USAGE, command, refuse};
 pub use write_all::WriteFault;

@@ -14,7 +14,7 @@ use std::sync::Wait;
 use std::thread::Threads;
 
 /// What `--help` prints.
-const USAGE: &[u8] =
+pub const USAGE: &[u8] =
     b"usage: trirast [--tile 8|16|32|64] [--workers 1..16] < list.json > picture.ppm\n";
 
 /// The line that reports arguments that the program does not have.
@@ -53,13 +53,14 @@ pub fn command<'a, Rt: Threads + Wait + Sync, R: Read, W: Write, E: Write>(
                 1
             }
         },
-        Err(fault) => refuse(fault, output, errors),
+        Err(fault) => refuse(USAGE, fault, output, errors),
     }
 }
 
-/// Reports that the arguments give no options: writes the usage line to the output if it was asked for, else the line of the error to
-/// `errors`. Returns the program's status.
+/// Reports that the arguments do not say what to do: writes the program's usage line to the output if it was asked for, else the line
+/// of the error to `errors`. Returns the program's status.
 pub fn refuse<W: Write, E: Write>(
+    usage: &[u8],
     fault: LineFault,
     output: &mut Counted<W>,
     errors: &mut Counted<E>,
@@ -67,7 +68,7 @@ pub fn refuse<W: Write, E: Write>(
     requires output { output.old.failures < u64.MAX }
     requires errors { errors.old.failures < u64.MAX }
     ensures help { result ≡ 0 → fault ≡ LineFault.Help }
-    ensures usage { result ≡ 0 → WritesLine usage_line (W.contents output.old.inner) (W.contents output.new.inner) }
+    ensures usage { result ≡ 0 → WritesLine usage.now (W.contents output.old.inner) (W.contents output.new.inner) }
     ensures quiet { result ≡ 0 → errors.new ≡ errors.old }
     ensures failed { result ≡ 1 → output.new ≡ output.old }
     ensures refused { result ≡ 2 → output.new ≡ output.old }
@@ -76,7 +77,7 @@ pub fn refuse<W: Write, E: Write>(
 {
     match fault {
         LineFault::Help => {
-            tell(USAGE, output);
+            tell(usage, output);
             0
         }
         LineFault::Refused => {

@@ -3,6 +3,7 @@
 #![tactic(auto)]
 
 mod arguments;
+mod asked_sample;
 mod counts;
 mod json;
 mod program;
@@ -12,7 +13,7 @@ mod words;
 
 pub use arguments::{Asked, AskedTriangle, Form, Question, read_arguments};
 pub use counts::report_triangle;
-pub use program::{command, refuse};
+pub use program::{USAGE, command};
 pub use text::{Pixel, ReportFault, report};
 
 #[cfg(test)]

@@ -9,10 +9,10 @@ use crate::text::{ReportFault, report};
 use model::DrawList;
 use std::alloc::Global;
 use std::io::{Read, Write};
-use trirast::{Counted, Fault, LineFault, fault_line, ppm_rows, read_input, read_list};
+use trirast::{Counted, Fault, LineFault, fault_line, ppm_rows, read_input, read_list, refuse};
 
 /// What `--help` prints.
-const USAGE: &[u8] =
+pub const USAGE: &[u8] =
     b"usage: trirast_why (X,Y [--sample S] [--all] | --triangle DRAW,NUMBER) [--json] < list.json\n";
 
 /// Why nothing was reported, or not all.
@@ -105,36 +105,14 @@ pub fn command<'a, R: Read, W: Write, E: Write>(
 {
     let question = match read_arguments(alloc, arguments) {
         Ok(question) => question,
-        Err(fault) => return refuse(fault, output, errors),
+        Err(fault) => return refuse(USAGE, fault, output, errors),
     };
     match answer(alloc, input, output, &question) {
         Ok(()) => 0,
-        Err(Failure::NotThere) => refuse(LineFault::Refused, output, errors),
+        Err(Failure::NotThere) => refuse(USAGE, LineFault::Refused, output, errors),
         Err(Failure::Run(fault)) => {
             let _ = ppm_rows(fault_line(&fault).as_str().as_bytes(), 0, errors);
             1
         }
     }
-}
-
-/// Reports that the arguments ask for no report: writes the usage line to the output if it was asked for, else the line of the error
-/// to `errors`. Returns the program's status.
-pub fn refuse<W: Write, E: Write>(
-    fault: LineFault,
-    output: &mut Counted<W>,
-    errors: &mut Counted<E>,
-) -> u8
-    requires output { output.old.failures < u64.MAX }
-    requires errors { errors.old.failures < u64.MAX }
-    ensures help { result ≡ 0 → fault ≡ LineFault.Help }
-    ensures status { (result ≡ 0) ⊎ (result ≡ 1) ⊎ (result ≡ 2) }
-    ensures quiet { result ≡ 0 → errors.new ≡ errors.old }
-    ensures refused { result ≡ 2 → output.new ≡ output.old }
-    ensures refusal { result ≡ 2 → WritesLine refusal_line (E.contents errors.old.inner) (E.contents errors.new.inner) }
-{
-    if fault == LineFault::Help {
-        let _ = ppm_rows(USAGE, 0, output);
-        return 0;
-    }
-    trirast::refuse(fault, output, errors)
 }

@@ -1,15 +1,12 @@
 //! The history of a pixel's samples, as text.
 ghost use Rattle.std.specs.Prelude.{◌≡◌, ◌↔◌, ◌<◌, IsTrue, IfOk};
-ghost use Rattle.grid.specs.Samples.{count_of};
-ghost use Rattle.model.specs.Picture.{IsEnd};
-ghost use Rattle.why.specs.Report.{HasSample, IsSameSample, IsShownAt};
+ghost use Rattle.why.specs.Report.{HasSample, IsShownAt};
 
 use crate::arguments::{Asked, Form};
-use crate::{json, table};
-use grid::{SampleCount, sample_at};
-use list_history::{ListEvent, ListHistory};
+use crate::asked_sample::AskedSample;
+use grid::SampleCount;
 use model::{DrawList, Output};
-use shade::{Sample, mean_of_four};
+use shade::mean_of_four;
 use std::alloc::{AllocError, Global};
 use std::fmt::Write as _;
 
@@ -43,134 +40,22 @@ pub struct Pixel {
     pub depth: u16,
 }
 
-/// Returns the history's next event: that of the next triangle, or of the next one that covers the sample.
-fn next_event(history: &mut ListHistory<'_>, all: bool) -> Option<ListEvent>
-    ensures { IsSameSample history.old history.new }
-{
-    if all {
-        history.next()
-    } else {
-        history.next_covered()
-    }
-}
-
-/// Appends the events of sample `s`. Returns the sample after all triangles.
-fn push_events(
-    list: &DrawList,
-    asked: &Asked,
-    s: u32,
-    out: &mut String,
-) -> Result<Sample, AllocError>
-    requires column { asked.now.x < 4096 }
-    requires row { asked.now.y < 4096 }
-    requires sample { s < count_of list.now.count }
-    ensures { IfOk result (IsEnd list.now asked.now.x asked.now.y s) }
-{
-    let mut history = ListHistory::new(list, asked.x, asked.y, s);
-    let mut separator = "";
-    for _turn in 0..list.triangles() {
-        let Some(event) = next_event(&mut history, asked.all) else {
-            break;
-        };
-        match asked.form {
-            Form::Json => {
-                out.push_str(separator)?;
-                json::push_event(out, &event)?;
-                separator = ",";
-            }
-            Form::Table => table::push_event(out, &event)?,
-        }
-    }
-    Ok(history.end())
-}
-
-/// Appends the history of sample `s`, if it is asked for. Returns the sample after all triangles.
-fn push_sample(
-    list: &DrawList,
-    asked: &Asked,
-    s: u32,
-    out: &mut String,
-) -> Result<Sample, AllocError>
-    requires column { asked.now.x < 4096 }
-    requires row { asked.now.y < 4096 }
-    requires sample { s < count_of list.now.count }
-    ensures { IfOk result (IsEnd list.now asked.now.x asked.now.y s) }
-{
-    if let Some(only) = asked.sample {
-        if only != s {
-            return Ok(ListHistory::new(list, asked.x, asked.y, s).end());
-        }
-    }
-    push_beginning(list, asked, s, out)?;
-    let end = push_events(list, asked, s, out)?;
-    push_end(asked.form, &end, out)?;
-    Ok(end)
-}
-
-/// Appends what stands before the events of sample `s`: where the sample lies, and what it stores at first.
-fn push_beginning(
-    list: &DrawList,
-    asked: &Asked,
-    s: u32,
-    out: &mut String,
-) -> Result<(), AllocError>
-    requires column { asked.now.x < 4096 }
-    requires row { asked.now.y < 4096 }
-    requires sample { s < count_of list.now.count }
-{
-    let p = sample_at(asked.x, asked.y, s, list.count());
-    let (x, y) = (p.x(), p.y());
-    match asked.form {
-        Form::Json => {
-            if s > 0 && asked.sample.is_none() {
-                out.push_str(",")?;
-            }
-            write!(out, "{{\"sample\":{s},\"position\":[{x},{y}],\"begin\":")?;
-            json::push_sample(out, &list.clear())?;
-            out.push_str(",\"events\":[")
-        }
-        Form::Table => {
-            write!(out, "sample {s} at ")?;
-            table::push_place(out, x, y)?;
-            out.push_str("  begins             ")?;
-            table::push_sample(out, &list.clear())?;
-            out.push_str("\n")
-        }
-    }
-}
-
-/// Appends what stands after the events of a sample: what it stores at the end.
-fn push_end(form: Form, end: &Sample, out: &mut String) -> Result<(), AllocError> {
-    match form {
-        Form::Json => {
-            out.push_str("],\"end\":")?;
-            json::push_sample(out, end)?;
-            out.push_str("}")
-        }
-        Form::Table => {
-            out.push_str("  ends               ")?;
-            table::push_sample(out, end)?;
-            out.push_str("\n")
-        }
-    }
-}
-
 /// Appends the histories of the pixel's samples that are asked for. Returns what the picture shows there.
 fn push_samples(list: &DrawList, asked: &Asked, out: &mut String) -> Result<Pixel, AllocError>
     requires column { asked.now.x < 4096 }
     requires row { asked.now.y < 4096 }
     ensures { IfOk result (IsShownAt list.now asked.now.x asked.now.y) }
 {
-    let first = push_sample(list, asked, 0, out)?;
+    let first = AskedSample { list, asked, s: 0 }.push(out)?;
     match list.count() {
         SampleCount::One => Ok(Pixel {
             colour: [first.r, first.g, first.b],
             depth: first.z,
         }),
         SampleCount::Four => {
-            let second = push_sample(list, asked, 1, out)?;
-            let third = push_sample(list, asked, 2, out)?;
-            let fourth = push_sample(list, asked, 3, out)?;
+            let second = AskedSample { list, asked, s: 1 }.push(out)?;
+            let third = AskedSample { list, asked, s: 2 }.push(out)?;
+            let fourth = AskedSample { list, asked, s: 3 }.push(out)?;
             let r = mean_of_four(first.r, second.r, third.r, fourth.r);
             let g = mean_of_four(first.g, second.g, third.g, fourth.g);
             let b = mean_of_four(first.b, second.b, third.b, fourth.b);
