@@ -429,8 +429,8 @@ typedef struct trirast_history_request {
 /* Writes the history of a sample of a draw list's picture: an event for each triangle, in draw order, at the beginning of the
  * array, as many as it holds. Nothing is drawn.
  *
- * A caller who does not know how many events there are may ask with the capacity 0, and then with that of the info. Each call
- * reads the whole list. An event costs little; a triangle that does not cover the sample's row costs next to nothing.
+ * A caller who does not know how many events there are may ask with the capacity 0 first, and then with the event_count of the
+ * info. Each call reads the whole list.
  *
  * @json: the draw list.
  * @json_len: its length in bytes: at most 67,108,864.
