@@ -126,8 +126,9 @@ static inline const char *trirast_status_string(trirast_status status) {
  * @buffer: where the line goes. Bytes behind it are unchanged; no zero byte is written.
  * @buffer_size: the bytes of the buffer.
  *
- * Returns the length of the whole line in bytes, at most TRIRAST_ERROR_LINE_SIZE. Returns 0 and writes nothing if no call
- * reports such an error, as if the status is TRIRAST_STATUS_OK. */
+ * Returns the length of the whole line in bytes, at most TRIRAST_ERROR_LINE_SIZE. Returns 0 and writes nothing if no call that
+ * draws a picture reports such an error, as if the status is TRIRAST_STATUS_OK or TRIRAST_STATUS_BAD_PIXEL; for these there
+ * is trirast_status_string. */
 size_t trirast_error_line(const trirast_error *error, char *buffer, size_t buffer_size);
 
 /* Returns the number of the library's interface: 1. */
