@@ -20,7 +20,7 @@
 #   make release   all packages and the sources, with SHA-256 checksums, in dist/
 #   make check-packages     install each package in a clean folder, and use it there
 #   make compare   draw generated lists, and compare each byte with the reference renderer
-#   make compare-history    compare the histories that bin/trirast_why prints with the reference's, and their ends with the pictures
+#   make compare-history    compare the histories that bin/trirast_why prints and the library writes with the reference's, and with the pictures
 #   make compare-canvas    draw generated lists on canvases, split into batches, and compare them with program and reference
 #   make check-compare      test that comparison: what its lists cover, and mutants of the reference's rules
 #   make golden    compare the pictures of examples/ and tests/regressions/ with their checksums and the reference renderer
@@ -245,8 +245,10 @@ compare: $(PROGRAM)
 	$(PYTHON) -m tools.test_reference
 	$(PYTHON) -m tools.compare --program $(PROGRAM)
 
-compare-history: $(PROGRAM) $(WHY)
+compare-history: $(PROGRAM) $(WHY) $(if $(shell command -v gcc),library)
 	$(PYTHON) -m tools.compare_history
+	$(if $(shell command -v gcc),$(PYTHON) -m tools.compare_library_history)
+
 compare-canvas: $(PROGRAM) library
 	$(PYTHON) -m tools.compare_canvas
 

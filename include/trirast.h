@@ -7,6 +7,7 @@
  *     3. trirast_draw_rows draws a part of the picture, so that several threads share one.
  *     4. trirast_draw_scene draws from arrays, without a text.
  *     5. trirast_canvas_* draw batch after batch over samples that stay in the caller's memory: docs/canvas.md.
+ *     6. trirast_history says why a sample is what it is, and trirast_triangle_samples which samples a triangle has.
  *
  * Rules of every call:
  *
@@ -27,9 +28,10 @@
  *   bytes of the buffer behind those that the text names are unchanged.
  * - Otherwise `*error` says why, and nothing else was written.
  * - Of several errors the first in this order is reported: TRIRAST_STATUS_BAD_STRUCT_SIZE, TRIRAST_STATUS_BAD_TILE_SIZE,
- *   TRIRAST_STATUS_INPUT_TOO_LONG, TRIRAST_STATUS_BAD_LIST, TRIRAST_STATUS_BAD_TILE_ROWS, TRIRAST_STATUS_BUFFER_TOO_SMALL.
- *   TRIRAST_STATUS_OUT_OF_MEMORY is reported as soon as an allocation fails; later checks are not made. The calls on a canvas
- *   have an order of their own, which stands there.
+ *   TRIRAST_STATUS_INPUT_TOO_LONG, TRIRAST_STATUS_BAD_LIST, TRIRAST_STATUS_BAD_TILE_ROWS, TRIRAST_STATUS_BAD_PIXEL,
+ *   TRIRAST_STATUS_BAD_SAMPLE, TRIRAST_STATUS_BAD_TRIANGLE, TRIRAST_STATUS_BUFFER_TOO_SMALL. TRIRAST_STATUS_OUT_OF_MEMORY is
+ *   reported as soon as an allocation fails; later checks are not made. The calls on a canvas have an order of their own, which
+ *   stands there.
  */
 #ifndef TRIRAST_H
 #define TRIRAST_H
@@ -67,7 +69,9 @@ typedef enum trirast_status {
     TRIRAST_STATUS_BAD_MEMORY = 9,       /* the memory of the samples is not as large as the tile rows need */
     TRIRAST_STATUS_BAD_FORMAT = 10,      /* the number is none of trirast_format */
     TRIRAST_STATUS_BAD_SAMPLE = 11,      /* a pixel has no sample of this index */
-    TRIRAST_STATUS_BAD_POSITION = 12     /* a position is outside of -8388608 to 8388607 */
+    TRIRAST_STATUS_BAD_POSITION = 12,    /* a position is outside of -8388608 to 8388607 */
+    TRIRAST_STATUS_BAD_PIXEL = 13,       /* the picture has no such pixel */
+    TRIRAST_STATUS_BAD_TRIANGLE = 14     /* the list has no such draw, or the draw no such triangle */
 } trirast_status;
 
 /* Why there is no draw list: the numbers and names of docs/draw-list.md. */
@@ -109,6 +113,8 @@ static inline const char *trirast_status_string(trirast_status status) {
     case TRIRAST_STATUS_BAD_FORMAT: return "no such format";
     case TRIRAST_STATUS_BAD_SAMPLE: return "no such sample";
     case TRIRAST_STATUS_BAD_POSITION: return "position out of range";
+    case TRIRAST_STATUS_BAD_PIXEL: return "no such pixel";
+    case TRIRAST_STATUS_BAD_TRIANGLE: return "no such triangle";
     }
     return "unknown status";
 }
@@ -120,8 +126,9 @@ static inline const char *trirast_status_string(trirast_status status) {
  * @buffer: where the line goes. Bytes behind it are unchanged; no zero byte is written.
  * @buffer_size: the bytes of the buffer.
  *
- * Returns the length of the whole line in bytes, at most TRIRAST_ERROR_LINE_SIZE. Returns 0 and writes nothing if no call
- * reports such an error, as if the status is TRIRAST_STATUS_OK. */
+ * Returns the length of the whole line in bytes, at most TRIRAST_ERROR_LINE_SIZE. Returns 0 and writes nothing if no call that
+ * draws a picture reports such an error, as if the status is TRIRAST_STATUS_OK or TRIRAST_STATUS_BAD_PIXEL; for these there
+ * is trirast_status_string. */
 size_t trirast_error_line(const trirast_error *error, char *buffer, size_t buffer_size);
 
 /* Returns the number of the library's interface: 1. */
@@ -322,6 +329,146 @@ typedef struct trirast_batch {
  * - TRIRAST_LIST_NOT_CONVEX if a quad is not strictly convex. */
 trirast_status trirast_draw_scene(const trirast_scene_head *head, const trirast_batch *batch, uint32_t tile_size,
                                   uint8_t *buffer, size_t buffer_size, trirast_error *error);
+
+/* ---- Histories: why a sample is what it is ---- */
+
+/* What a sample stores. */
+typedef struct trirast_stored {
+    uint32_t red;   /* 0 to 255 */
+    uint32_t green; /* 0 to 255 */
+    uint32_t blue;  /* 0 to 255 */
+    uint32_t depth; /* 0 to 65535 */
+} trirast_stored;
+
+/* What a triangle has at a sample, each value rounded down. */
+typedef struct trirast_fragment {
+    uint32_t red;   /* 0 to 255 */
+    uint32_t green; /* 0 to 255 */
+    uint32_t blue;  /* 0 to 255 */
+    uint32_t alpha; /* 0 to 255 */
+    uint32_t depth; /* 0 to 65535 */
+} trirast_fragment;
+
+/* What a triangle did to a sample. */
+typedef enum trirast_result {
+    TRIRAST_RESULT_MISSED = 0,       /* nothing, for a reason other than TRIRAST_REASON_DEPTH_FAILED */
+    TRIRAST_RESULT_DEPTH_FAILED = 1, /* nothing, and TRIRAST_REASON_DEPTH_FAILED is the only reason */
+    TRIRAST_RESULT_DRAWN = 2         /* it was drawn: there is no reason against it */
+} trirast_result;
+
+/* Why a triangle is not drawn at a sample. Each reason that holds is a bit of an event's reasons. */
+typedef enum trirast_reason {
+    TRIRAST_REASON_CULLED = 1,
+    TRIRAST_REASON_ZERO_AREA = 2,
+    TRIRAST_REASON_NOT_COVERED = 4,     /* the sample fails the top-left rule at an edge: failure_ab, failure_bc, failure_ca */
+    TRIRAST_REASON_OUTSIDE_SCISSOR = 8, /* the pixel is outside of the scissor */
+    TRIRAST_REASON_MASKED = 16,         /* the sample's bit in the sample mask is 0 */
+    TRIRAST_REASON_DEPTH_FAILED = 32    /* the triangle covers the sample with a fragment that fails the depth test */
+} trirast_reason;
+
+/* How a sample fails the top-left rule at an edge. */
+typedef enum trirast_failure {
+    TRIRAST_FAILURE_NONE = 0,    /* it passes; or the triangle has zero area, and the sample is not on the edge's line */
+    TRIRAST_FAILURE_OUTSIDE = 1, /* the edge function is negative: its sign differs from that of the doubled area */
+    TRIRAST_FAILURE_ON_EDGE = 2  /* the edge function is zero, and the edge is neither a top nor a left edge */
+} trirast_failure;
+
+/* What a draw writes. Each is a bit of an event's writes. */
+typedef enum trirast_write {
+    TRIRAST_WRITE_RED = 1,
+    TRIRAST_WRITE_GREEN = 2,
+    TRIRAST_WRITE_BLUE = 4,
+    TRIRAST_WRITE_DEPTH = 8
+} trirast_write;
+
+/* What a triangle of a draw list did to a sample, and why. a, b and c are its vertices, as it lists them. */
+typedef struct trirast_event {
+    int64_t doubled_area;      /* in 1/65536 square pixel: positive if the triangle runs clockwise on the screen */
+    int64_t edge_ab;           /* the edge function of the edge from a to b at the sample, in 1/65536 square pixel */
+    int64_t edge_bc;
+    int64_t edge_ca;
+    size_t number;             /* of the triangle in draw order, from 0 */
+    size_t draw;               /* the index of its draw, from 0 */
+    size_t triangle;           /* its number in the draw, from 0; a strip and quads count the triangles as which they are drawn */
+    uint32_t failure_ab;       /* a trirast_failure at the edge from a to b */
+    uint32_t failure_bc;
+    uint32_t failure_ca;
+    uint32_t result;           /* a trirast_result */
+    uint32_t reasons;          /* every trirast_reason that holds, added */
+    uint32_t writes;           /* every trirast_write of its draw, added */
+    uint32_t covered;          /* 1 if the triangle covers the sample, else 0 */
+    trirast_fragment fragment; /* all zeros if covered is 0 */
+    trirast_stored before;     /* the sample before the triangle */
+    trirast_stored after;      /* the sample after the triangle */
+} trirast_event;
+
+/* A sample beside its events. */
+typedef struct trirast_sample_info {
+    size_t event_count;   /* the events that were asked for, of which the array may hold the first ones alone */
+    uint32_t samples;     /* samples of a pixel: 1 or 4 */
+    uint32_t output;      /* a trirast_output: what the picture shows */
+    int32_t x;            /* where the sample lies, in 1/256 pixel */
+    int32_t y;
+    trirast_stored begin; /* the clear colour and depth */
+    trirast_stored end;   /* what the picture is made of */
+} trirast_sample_info;
+
+/* The sample whose history is asked for. Begin with TRIRAST_HISTORY_REQUEST_INIT, and set x, y and sample. */
+typedef struct trirast_history_request {
+    uint32_t struct_size; /* sizeof(trirast_history_request) */
+    uint32_t event_size;  /* sizeof(trirast_event) */
+    uint32_t info_size;   /* sizeof(trirast_sample_info) */
+    uint32_t x;           /* the column of the pixel, from 0 at the left */
+    uint32_t y;           /* the row of the pixel, from 0 at the top */
+    uint32_t sample;      /* the index of the sample in the pixel, from 0 */
+    uint32_t all;         /* 0: an event for each triangle that covers the sample; otherwise one for each triangle */
+} trirast_history_request;
+
+#define TRIRAST_HISTORY_REQUEST_INIT \
+    {sizeof(trirast_history_request), sizeof(trirast_event), sizeof(trirast_sample_info), 0, 0, 0, 0}
+
+/* Writes the history of a sample of a draw list's picture: an event for each triangle, in draw order, at the beginning of the
+ * array, as many as it holds. Nothing is drawn.
+ *
+ * A caller who does not know how many events there are may ask with the capacity 0 first, and then with the event_count of the
+ * info. Each call reads the whole list.
+ *
+ * @json: the draw list.
+ * @json_len: its length in bytes: at most 67,108,864.
+ * @request: the sample.
+ * @events: where the events go. Those behind the last one are unchanged.
+ * @capacity: the number of events that the array holds. If it is 0, events may be NULL.
+ * @info: where the number of all events goes, and what the sample begins and ends with.
+ * @error: why nothing was written.
+ *
+ * Returns TRIRAST_STATUS_OK, also if the array is too small for all events; TRIRAST_STATUS_BAD_STRUCT_SIZE if a size member of
+ * request is another than its comment says; TRIRAST_STATUS_INPUT_TOO_LONG if the list is too long; TRIRAST_STATUS_BAD_LIST if
+ * the bytes are no draw list; TRIRAST_STATUS_BAD_PIXEL if the picture has no such pixel; TRIRAST_STATUS_BAD_SAMPLE if the pixel
+ * has no such sample; or TRIRAST_STATUS_OUT_OF_MEMORY if an allocation fails. */
+trirast_status trirast_history(const char *json, size_t json_len, const trirast_history_request *request, trirast_event *events,
+                               size_t capacity, trirast_sample_info *info, trirast_error *error);
+
+/* How many samples of the picture a triangle has. */
+typedef struct trirast_sample_counts {
+    uint32_t covered; /* those that it covers by the top-left rule, be it culled, scissored or masked there or not */
+    uint32_t changed; /* those that it changes: they store another colour or depth after it than before it */
+    uint32_t shown;   /* those that still show it: it is the last triangle that changes them */
+} trirast_sample_counts;
+
+/* Writes how many samples of a draw list's picture a triangle covers, changes and is shown by.
+ *
+ * @json: the draw list.
+ * @json_len: its length in bytes: at most 67,108,864.
+ * @draw: the index of the triangle's draw, from 0.
+ * @triangle: its number in the draw, from 0. A strip and quads count the triangles as which they are drawn.
+ * @counts: where the counts go.
+ * @error: why there are none.
+ *
+ * Returns TRIRAST_STATUS_OK; TRIRAST_STATUS_INPUT_TOO_LONG if the list is too long; TRIRAST_STATUS_BAD_LIST if the bytes are no
+ * draw list; TRIRAST_STATUS_BAD_TRIANGLE if the list has no such draw, or the draw no such triangle; or
+ * TRIRAST_STATUS_OUT_OF_MEMORY if an allocation fails. */
+trirast_status trirast_triangle_samples(const char *json, size_t json_len, size_t draw, size_t triangle,
+                                        trirast_sample_counts *counts, trirast_error *error);
 
 /* ---- Canvases: samples that stay in the caller's memory ---- */
 

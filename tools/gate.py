@@ -64,6 +64,10 @@ CHECKS = (
     Check("what generated lists cover", module("test_compare"), 5 * MINUTE, runs_program=False),
     Check("generated lists", module("compare"), 20 * MINUTE),
     Check("histories", (*module("compare_history"), "--lists", "60"), 15 * MINUTE),
+    Check(
+        "histories of the library", (*module("compare_library_history"), "--lists", "20", "--counted", "40"), 15 * MINUTE,
+        runs_library=True, needs=("cc", "gcc"),
+    ),
     Check("checks of golden pictures", module("test_golden"), 5 * MINUTE, runs_program=False),
     Check("golden pictures", module("golden"), 15 * MINUTE),
     Check("mutants of the rules", module("mutants"), 20 * MINUTE),

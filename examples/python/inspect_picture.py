@@ -4,8 +4,8 @@
     PYTHONPATH=python/src python3 examples/python/inspect_picture.py list.json X,Y [--around 5] [--all] [--out out/inspect.svg]
 
 The squares are the pixels of the picture, the dots its samples; those of the chosen pixel have the colours that they store. Lines are
-the edges of the triangles whose vertices bound some of the pixels shown. Beside it stands what `trirast_why` reports: an event for
-each triangle that covers a sample of the pixel, and with --all for every triangle. Needs bin/trirast_why and the library.
+the edges of the triangles whose vertices bound some of the pixels shown. Beside it stands what `trirast.why` reports: an event for
+each triangle that covers a sample of the pixel, and with --all for every triangle. Needs the library.
 """
 
 import argparse

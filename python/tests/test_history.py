@@ -1,20 +1,15 @@
 """The history of a pixel: its objects, their text, and what is raised for pixels and lists that are not there."""
 
-import os
-import shutil
 import unittest
 from typing import Any
 
 import trirast
-from trirast import _history
 
 from .common import DRAW_LIST, VERTICES
 
-IS_BUILT = shutil.which(_history.program()) is not None or os.access(_history.program(), os.X_OK)
 BLACK, WHITE = (0, 0, 0), (255, 255, 255)
 
 
-@unittest.skipUnless(IS_BUILT, "there is no trirast_why; make builds it")
 class History(unittest.TestCase):
     def test_a_drawn_triangle_has_its_fragment(self) -> None:
         pixel = trirast.why(DRAW_LIST, 1, 0)
@@ -43,10 +38,24 @@ class History(unittest.TestCase):
         self.assertIn("drawn", lines[3])
         self.assertEqual(lines[-2:], ["  ends (255, 255, 255) depth 65535", "colour (255, 255, 255)"])
 
+    def test_the_colour_is_that_of_all_samples_if_one_is_asked_for(self) -> None:
+        four: Any = {**DRAW_LIST, "samples": 4}
+        picture = trirast.draw(four)
+        for x, y in ((x, y) for x in range(3) for y in range(3)):
+            colors = {trirast.why(four, x, y, sample).color for sample in (None, 0, 1, 2, 3)}
+            self.assertEqual(colors, {picture.pixel(x, y)})
+        self.assertGreater(len(set(trirast.why(four, 1, 1).samples)), 1)
+
+    def test_a_history_of_many_events_is_whole(self) -> None:
+        many: Any = {**DRAW_LIST, "draws": [{"vertices": VERTICES, "triangles": [[0, 1, 2]] * 1000}]}
+        events = trirast.why(many, 0, 0).samples[0].events
+        self.assertEqual([event.triangle for event in events], list(range(1000)))
+
     def test_pixels_that_are_not_there(self) -> None:
-        for x, y, sample in ((3, 0, None), (0, 3, None), (-1, 0, None), (0, 0, 1)):
-            with self.assertRaises(IndexError):
+        for x, y, sample in ((3, 0, None), (0, 3, None), (-1, 0, None), (1 << 32, 0, None), (0, 0, 1), (0, 0, -1)):
+            with self.assertRaises(IndexError) as raised:
                 trirast.why(DRAW_LIST, x, y, sample)
+            self.assertIsInstance(raised.exception, trirast.PixelError if sample is None else trirast.SampleError)
 
     def test_the_samples_of_a_triangle_are_counted(self) -> None:
         # The triangle covers the centres of three pixels. A second one over them leaves the first shown by none.
@@ -59,9 +68,10 @@ class History(unittest.TestCase):
         self.assertEqual(trirast.triangle_samples(twice, 1, 0), (1, 0, 3, 3, 3))
 
     def test_triangles_that_are_not_there(self) -> None:
-        for draw, triangle in ((1, 0), (0, 1), (-1, 0)):
-            with self.assertRaises(IndexError):
+        for draw, triangle in ((1, 0), (0, 1), (-1, 0), (1 << 64, 0)):
+            with self.assertRaises(IndexError) as raised:
                 trirast.triangle_samples(DRAW_LIST, draw, triangle)
+            self.assertIsInstance(raised.exception, trirast.TriangleError)
 
     def test_a_draw_list_error_is_that_of_draw(self) -> None:
         refused: Any = {**DRAW_LIST, "draws": [{"vertices": VERTICES, "triangles": [[0, 1, 3]]}]}
@@ -69,12 +79,6 @@ class History(unittest.TestCase):
             trirast.why(refused, 0, 0)
         error = raised.exception
         self.assertEqual((str(error), error.number, error.draw), ("trirast: list fault 6 BadIndex in draw 0", 6, 0))
-
-
-class Errors(unittest.TestCase):
-    def test_each_line_has_its_exception(self) -> None:
-        self.assertIsInstance(_history.error_of("trirast: input too long"), trirast.LimitError)
-        self.assertIsInstance(_history.error_of("trirast: out of memory"), trirast.OutOfMemoryError)
 
 
 if __name__ == "__main__":

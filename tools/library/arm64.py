@@ -20,7 +20,7 @@ SYSTEM = "/usr/aarch64-linux-gnu"
 # `odd`, which draws lists of 64 MiB. A way of another call joins here.
 WAYS = (
     ("pictures", "many.txt"), ("rows", "few.txt"), ("buffers", "few.txt"), ("refused", "all.txt"), ("lines", "all.txt"),
-    ("scenes", "many.txt"), ("canvases", "few.txt"), ("threads", "many.txt"),
+    ("scenes", "many.txt"), ("canvases", "few.txt"), ("histories", "few.txt"), ("threads", "many.txt"),
 )
 # Of the generated lists, beside all examples.
 LISTS = 200

@@ -71,6 +71,12 @@ void compare_canvases(void);
 // The way that draws a large batch, in large_batch.c.
 void compare_large_batches(void);
 
+// The way that asks for histories of samples, in histories.c.
+void compare_histories(void);
+
+// Asks for the history of a sample of a case, and for the samples of a triangle.
+void ask_for_history(const list_case *one);
+
 // Makes each call on a canvas of a case that has arrays.
 void draw_on_canvas(const list_case *one);
 

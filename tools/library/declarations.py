@@ -10,7 +10,7 @@ TYPES = {
     "int64_t": "i64", "size_t": "usize", "trirast_status": "u32", "trirast_format": "u32",
 }
 # The numbers that the crate declares: it passes those of the other enumerations as numbers.
-NUMBERS = r"TRIRAST_(?:STATUS|FORMAT)_\w+|TRIRAST_VERSION|TRIRAST_STACK|TRIRAST_ERROR_LINE_SIZE|TRIRAST_PLANE_BYTES"
+NUMBERS = r"TRIRAST_(?:STATUS|FORMAT|RESULT|REASON|FAILURE|WRITE)_\w+|TRIRAST_VERSION|TRIRAST_STACK|TRIRAST_ERROR_LINE_SIZE|TRIRAST_PLANE_BYTES"
 
 
 def type_of(text: str) -> str:

@@ -14,11 +14,13 @@ from tools.places import INCLUDE, LEVEL, LIB, SECOND_LEVEL, SHARED_LIBRARY, STAT
 
 SOURCES = os.path.join(TOP, "tools", "library")
 # The parts of the test but the way in which allocations fail.
-PARTS = ("main", "cases", "scenes", "canvases", "refused_canvases", "large_batch")
-WAYS = ("pictures", "rows", "buffers", "refused", "lines", "odd", "scenes", "canvases", "large", "threads", "stack", "memory")
+PARTS = ("main", "cases", "scenes", "canvases", "refused_canvases", "large_batch", "histories")
+WAYS = (
+    "pictures", "rows", "buffers", "refused", "lines", "odd", "scenes", "canvases", "large", "histories", "threads", "stack", "memory",
+)
 # Not by memcheck: the lists of 64 MiB and the large batch, which take minutes there, and the stack, of which valgrind keeps its own
 # account.
-MEMCHECKED = ("pictures", "rows", "buffers", "refused", "lines", "scenes", "canvases", "threads", "memory")
+MEMCHECKED = ("pictures", "rows", "buffers", "refused", "lines", "scenes", "canvases", "histories", "threads", "memory")
 # By drd: the ways that start threads.
 WITH_THREADS = ("canvases", "threads")
 

@@ -10,6 +10,8 @@ from tools.library.commands import OUT, WARNINGS, blocks_of_the_page, drawn_by_p
 from tools.library.tally import must
 from tools.places import EXAMPLES, LEVEL
 
+# What the program of docs/library.md that asks for a history prints.
+HISTORY = b"triangle 0: result 0, reasons 4, edge bc 0\nred 0, depth 65535\n"
 INSTALLED = (
     "bin/trirast", "bin/trirast_why", "include/trirast.h", "include/trirast.hpp", "lib/cmake/trirast/trirast-config-version.cmake",
     "lib/cmake/trirast/trirast-config.cmake", f"lib/glibc-hwcaps/{LEVEL}/libtrirast.so.1", "lib/libtrirast.a",
@@ -43,10 +45,11 @@ def check_install() -> None:
     must(files_below(prefix) == INSTALLED, f"{files_below(prefix)} were installed")
     wanted = drawn_by_program(places.bytes_of(EXAMPLES, "triangle.json")).output
     programs = [text for text in blocks_of_the_page("c") if "int main" in text]
-    must(len(programs) == 2, f"{len(programs)} programs in docs/library.md")
+    must(len(programs) == 3, f"{len(programs)} programs in docs/library.md")
     for text in programs:
+        due = HISTORY if "trirast_history(" in text else wanted
         for flags in ((), ("-static",)):
-            must(build_outside(text, prefix, *flags) == wanted, f"other bytes with {flags}")
+            must(build_outside(text, prefix, *flags) == due, f"other bytes with {flags}")
     make("uninstall", f"PREFIX={prefix}")
     must(not files_below(prefix), f"{files_below(prefix)} were left")
 

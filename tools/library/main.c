@@ -1,7 +1,7 @@
 // Calls libtrirast in one of several ways, and prints a line for each thing that was compared: "ok WHAT" or
 // "failed WHAT: WHY". tools/check_library.py builds it, makes the cases with the program, and runs it:
 //
-//     library_test pictures|rows|buffers|refused|lines|odd|scenes|canvases|large|threads|stack|memory MANIFEST
+//     library_test pictures|rows|buffers|refused|lines|odd|scenes|canvases|large|histories|threads|stack|memory MANIFEST
 //
 // A line of the manifest is `drawn LIST FILE`, where FILE is what the program writes for LIST, or `refused LIST LINE`,
 // where LINE is what it writes to the standard error. `memory` is there with -DWRAPPED, for the static library alone: see memory.c.
@@ -190,7 +190,7 @@ static void compare_lines(void) {
     report("an error that no call reports has no line");
     for (int number = 0; number < 16; number++) {
         const char *name = trirast_status_string((trirast_status)number);
-        int is_known = number <= TRIRAST_STATUS_BAD_POSITION;
+        int is_known = number <= TRIRAST_STATUS_BAD_TRIANGLE;
         for (int other = 0; other < number && is_known; other++)
             expect(strcmp(name, trirast_status_string((trirast_status)other)), "%d and %d: %s", other, number, name);
         expect(is_known == !!strcmp(name, "unknown status"), "%d: %s", number, name);
@@ -296,6 +296,7 @@ static void *draw_every_way(void *argument) {
     trirast_draw(one->list.bytes, one->list.length, 64, bytes, one->wanted.length + 4096, &error);
     trirast_draw_rows(one->list.bytes, one->list.length, 64, 0, 1, bytes, one->wanted.length + 4096, &error);
     trirast_error_line(&error, (char *)bytes, 4096);
+    ask_for_history(one);
     marked buffer = {bytes, bytes, one->wanted.length + 4096};
     if (one->arrays.bytes) draw_arrays(one, 64, &buffer, &error), draw_on_canvas(one);
     free(bytes);
@@ -341,6 +342,7 @@ int main(int count, char **arguments) {
         {"pictures", compare_pictures}, {"rows", compare_rows},       {"buffers", compare_buffers},
         {"refused", compare_refused},   {"odd", compare_odd_lists},   {"lines", compare_lines},   {"threads", compare_threads},
         {"stack", compare_stack},       {"scenes", compare_scenes},   {"canvases", compare_canvases}, {"large", compare_large_batches},
+        {"histories", compare_histories},
 #ifdef WRAPPED
         {"memory", compare_memory},
 #endif

@@ -1,6 +1,7 @@
 // Lets the library's allocations fail: each in turn, and each with all after it. It is linked with -Wl,--wrap for malloc,
 // realloc and free, so that the calls of the library come here.
 #include <stdlib.h>
+#include <string.h>
 
 #include "cases.h"
 
@@ -42,7 +43,28 @@ void __wrap_free(void *block) {
     __real_free(block);
 }
 
-// One call in which this allocation fails, and its status: 0 image info, 1 the file, 2 its first tile row, 3 the file from arrays.
+// The history of a sample, or how many samples a triangle has. Neither may write anything if it fails.
+static trirast_status ask(int call, const list_case *one, trirast_error *error) {
+    trirast_history_request request = TRIRAST_HISTORY_REQUEST_INIT;
+    trirast_event events[2], unset[2];
+    trirast_sample_info info, no_info;
+    trirast_sample_counts counts = {77, 77, 77};
+    request.all = 1;
+    memset(events, MARK, sizeof events), memset(unset, MARK, sizeof unset);
+    memset(&info, MARK, sizeof info), memset(&no_info, MARK, sizeof no_info);
+    trirast_status status = call == 4 ? trirast_history(one->list.bytes, one->list.length, &request, events, 2, &info, error)
+                                      : trirast_triangle_samples(one->list.bytes, one->list.length, 0, 0, &counts, error);
+    if (status) {
+        expect(!memcmp(events, unset, sizeof events) && !memcmp(&info, &no_info, sizeof info), "%s: a history", one->name);
+        expect(counts.covered == 77 && counts.changed == 77 && counts.shown == 77, "%s: counts", one->name);
+    }
+    // A list may have no triangle.
+    if (status == TRIRAST_STATUS_BAD_TRIANGLE) *error = (trirast_error){0}, status = TRIRAST_STATUS_OK;
+    return status;
+}
+
+// One call in which this allocation fails, and its status: 0 image info, 1 the file, 2 its first tile row, 3 the file from arrays, 4 the
+// history of a sample, 5 the samples of a triangle.
 static trirast_status call_short_of_memory(int call, const list_case *one, marked *buffer, long number, int with_later) {
     trirast_error error = UNSET;
     trirast_image_info info;
@@ -52,6 +74,8 @@ static trirast_status call_short_of_memory(int call, const list_case *one, marke
     if (call == 0) status = trirast_read_image_info(one->list.bytes, one->list.length, &info, &error);
     else if (call == 3)
         status = draw_arrays(one, 16, buffer, &error);
+    else if (call > 3)
+        status = ask(call, one, &error);
     else if (call == 1)
         status = trirast_draw(one->list.bytes, one->list.length, 16, buffer->bytes, buffer->size, &error);
     else
@@ -69,7 +93,7 @@ static long fail_each(int call, const list_case *one, trirast_status due, int wi
         marked buffer = mark(due ? 64 : one->wanted.length);
         trirast_status status = call_short_of_memory(call, one, &buffer, number, with_later);
         const char *wanted = one->wanted.bytes;
-        size_t length = call && !status ? one->wanted.length : 0;
+        size_t length = call && call < 4 && !status ? one->wanted.length : 0;
         if (call == 2) wanted += one->info.header_bytes, length = status ? 0 : offset_of(one, 16, 1);
         expect(holds_just(&buffer, wanted, length), "%s, call %d, allocation %ld: other bytes", one->name, call, number);
         expect(status == due || (status == TRIRAST_STATUS_OUT_OF_MEMORY && heap.failures),
@@ -83,9 +107,9 @@ static long fail_each(int call, const list_case *one, trirast_status due, int wi
 void compare_memory(void) {
     for (int with_later = 0; with_later < 2; with_later++) {
         long ended = 0;
-        for (int call = 0; call < 4; call++) {
+        for (int call = 0; call < 6; call++) {
             for (int k = 0; k < drawn_count; k++) ended += fail_each(call, &drawn[k], TRIRAST_STATUS_OK, with_later);
-            for (int k = 0; k < refused_count && call < 3; k++)
+            for (int k = 0; k < refused_count && call != 3; k++)
                 ended += fail_each(call, &refused[k], TRIRAST_STATUS_BAD_LIST, with_later);
         }
         expect(ended > 0, "no call was out of memory");

@@ -9,6 +9,7 @@ mod image_info;
 mod input;
 mod messages;
 mod picture;
+mod sample_history;
 mod scene_picture;
 mod tile_rows;
 
@@ -17,6 +18,8 @@ pub use error::CallError;
 pub use image_info::{ImageInfo, trirast_read_image_info};
 pub use messages::trirast_error_line;
 pub use picture::trirast_draw;
+pub use sample_events::{HistoryRequest, SampleEvent, SampleInfo, TriangleSamples};
+pub use sample_history::{trirast_history, trirast_triangle_samples};
 pub use scene_picture::{PictureHead, trirast_draw_scene};
 pub use tile_rows::trirast_draw_rows;
 

@@ -31,11 +31,13 @@ from ._errors import (
     LimitError,
     MemorySizeError,
     OutOfMemoryError,
+    PixelError,
     PositionError,
     SampleError,
     StructSizeError,
     TileRowsError,
     TileSizeError,
+    TriangleError,
 )
 from ._history import Event, Fragment, PixelHistory, SampleHistory, Stored, TriangleSamples, triangle_samples, why
 from ._picture import ImageInfo, Picture
@@ -44,7 +46,7 @@ from ._version import VERSION as __version__
 
 __all__ = [
     "BufferTooSmallError", "Canvas", "CanvasError", "Draw", "DrawList", "DrawListError", "Error", "Event", "FormatError", "Fragment",
-    "ImageInfo", "LimitError", "MemorySizeError", "OutOfMemoryError", "Picture", "PixelHistory", "PositionError", "SampleError",
-    "SampleHistory", "Stored", "StructSizeError", "TileRowsError", "TileSizeError", "TriangleSamples", "__version__", "draw", "draw_file",
-    "draw_scene", "edges", "image_info", "triangle_samples", "why",
+    "ImageInfo", "LimitError", "MemorySizeError", "OutOfMemoryError", "Picture", "PixelError", "PixelHistory", "PositionError",
+    "SampleError", "SampleHistory", "Stored", "StructSizeError", "TileRowsError", "TileSizeError", "TriangleError", "TriangleSamples",
+    "__version__", "draw", "draw_file", "draw_scene", "edges", "image_info", "triangle_samples", "why",
 ]

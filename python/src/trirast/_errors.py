@@ -60,12 +60,20 @@ class FormatError(Error, ValueError):
     """There is no such format. No function of this package passes one."""
 
 
-class SampleError(Error, ValueError):
+class SampleError(Error, ValueError, IndexError):
     """A pixel has no sample of this index."""
 
 
 class PositionError(Error, ValueError):
     """A position is outside of -8388608 to 8388607."""
+
+
+class PixelError(Error, IndexError):
+    """The picture has no such pixel."""
+
+
+class TriangleError(Error, IndexError):
+    """The draw list has no such draw, or the draw no such triangle."""
 
 
 BY_STATUS: Dict[int, Type[Error]] = {
@@ -80,6 +88,8 @@ BY_STATUS: Dict[int, Type[Error]] = {
     10: FormatError,
     11: SampleError,
     12: PositionError,
+    13: PixelError,
+    14: TriangleError,
 }
 
 # Of the statuses for which trirast_error_line has no line.
@@ -92,4 +102,6 @@ TEXTS: Dict[int, str] = {
     10: "trirast: no such format",
     11: "trirast: no such sample",
     12: "trirast: position out of range",
+    13: "trirast: no such pixel",
+    14: "trirast: no such triangle",
 }

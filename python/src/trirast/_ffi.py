@@ -136,6 +136,86 @@ class CEdges(ctypes.Structure):
     _fields_ = [(name, ctypes.c_int64) for name in ("a", "b", "c", "doubled_area")] + [("covered", ctypes.c_uint64)]
 
 
+class CStored(ctypes.Structure):
+    """trirast_stored of the header."""
+
+    red: int
+    green: int
+    blue: int
+    depth: int
+    _fields_ = [(name, ctypes.c_uint32) for name in ("red", "green", "blue", "depth")]
+
+
+class CFragment(ctypes.Structure):
+    """trirast_fragment of the header."""
+
+    red: int
+    green: int
+    blue: int
+    alpha: int
+    depth: int
+    _fields_ = [(name, ctypes.c_uint32) for name in ("red", "green", "blue", "alpha", "depth")]
+
+
+class CEvent(ctypes.Structure):
+    """trirast_event of the header."""
+
+    draw: int
+    triangle: int
+    result: int
+    reasons: int
+    covered: int
+    fragment: CFragment
+    before: CStored
+    after: CStored
+    _fields_ = [
+        *((name, ctypes.c_int64) for name in ("doubled_area", "edge_ab", "edge_bc", "edge_ca")),
+        *((name, ctypes.c_size_t) for name in ("number", "draw", "triangle")),
+        *((name, ctypes.c_uint32) for name in ("failure_ab", "failure_bc", "failure_ca", "result", "reasons", "writes", "covered")),
+        ("fragment", CFragment),
+        ("before", CStored),
+        ("after", CStored),
+    ]
+
+
+class CSampleInfo(ctypes.Structure):
+    """trirast_sample_info of the header."""
+
+    event_count: int
+    samples: int
+    output: int
+    x: int
+    y: int
+    begin: CStored
+    end: CStored
+    _fields_ = [
+        ("event_count", ctypes.c_size_t),
+        ("samples", ctypes.c_uint32),
+        ("output", ctypes.c_uint32),
+        ("x", ctypes.c_int32),
+        ("y", ctypes.c_int32),
+        ("begin", CStored),
+        ("end", CStored),
+    ]
+
+
+class CHistoryRequest(ctypes.Structure):
+    """trirast_history_request of the header."""
+
+    _fields_ = [
+        (name, ctypes.c_uint32) for name in ("struct_size", "event_size", "info_size", "x", "y", "sample", "all")
+    ]
+
+
+class CSampleCounts(ctypes.Structure):
+    """trirast_sample_counts of the header."""
+
+    covered: int
+    changed: int
+    shown: int
+    _fields_ = [(name, ctypes.c_uint32) for name in ("covered", "changed", "shown")]
+
+
 JSON = [ctypes.c_char_p, ctypes.c_size_t]
 NUMBER = [ctypes.c_uint32]
 BUFFER = [ctypes.c_void_p, ctypes.c_size_t]
@@ -152,6 +232,16 @@ PROTOTYPES: Tuple[Tuple[str, Any, Any], ...] = (
     (
         "trirast_draw_scene",
         [ctypes.POINTER(CSceneHead), ctypes.POINTER(CBatch)] + NUMBER + BUFFER + ERROR,
+        ctypes.c_uint32,
+    ),
+    (
+        "trirast_history",
+        JSON + [ctypes.POINTER(CHistoryRequest)] + BUFFER + [ctypes.POINTER(CSampleInfo)] + ERROR,
+        ctypes.c_uint32,
+    ),
+    (
+        "trirast_triangle_samples",
+        JSON + [ctypes.c_size_t, ctypes.c_size_t, ctypes.POINTER(CSampleCounts)] + ERROR,
         ctypes.c_uint32,
     ),
     ("trirast_canvas_bytes", 5 * NUMBER, ctypes.c_size_t),

@@ -1,22 +1,19 @@
-"""Why a pixel is what it is: the history of its samples, and how many samples a triangle has, by the program `trirast_why`.
+"""Why a pixel is what it is: the history of its samples, and how many samples a triangle has."""
 
-The program is the one that the environment's TRIRAST_WHY names, else bin/trirast_why of the repository in which this file lies, else
-the `trirast_why` on PATH. The library has no such call yet.
-"""
-
-import json
-import os
-import re
-import subprocess
-from typing import Any, Dict, List, NamedTuple, Optional, Tuple
+from ctypes import sizeof
+from typing import Any, List, NamedTuple, Optional, SupportsIndex, Tuple
 
 from ._draw_list import DrawList, as_bytes
-from ._errors import BAD_LIST, BY_STATUS, DrawListError, Error
+from ._ffi import CError, CEvent, CFragment, CHistoryRequest, CSampleCounts, CSampleInfo, CStored, library, number
 
 Color = Tuple[int, int, int]
 
-TOO_LONG, NO_MEMORY, REFUSED = 2, 3, 2
-LIST_ERROR = re.compile(r"trirast: list fault (\d+) \w+(?: in draw (\d+))?")
+# The names of an event's result, by its number in C, and those of its reasons, by their bits.
+RESULTS = ("missed", "depth_failed", "drawn")
+REASONS = ("culled", "zero_area", "not_covered", "outside_scissor", "masked", "depth_failed")
+# As many events as the array of a first call holds. Few samples have more.
+FEW = 64
+DEPTHS = 1  # the output of a list that shows depths
 
 
 class Stored(NamedTuple):
@@ -106,80 +103,76 @@ class TriangleSamples(NamedTuple):
         return f"draw {self.draw} triangle {self.triangle} covers {self.covered}, changes {self.changed}, shown by {self.shown} samples"
 
 
-def why(draw_list: DrawList, x: int, y: int, sample: Optional[int] = None, all_triangles: bool = False) -> PixelHistory:
+def why(
+    draw_list: DrawList, x: SupportsIndex, y: SupportsIndex, sample: Optional[SupportsIndex] = None, all_triangles: bool = False
+) -> PixelHistory:
     """Returns the history of the samples of the pixel in column `x` and row `y`, or of one of them: an event for each triangle that
     covers the sample, or for each triangle. `draw_list` is a text or its bytes, or a value that json writes as one. Print what is
-    returned, or take its parts.
+    returned, or take its parts. Each sample is a call of the library, which reads the whole list.
 
-    Runs the program `trirast_why`. Raises FileNotFoundError if it is not there, IndexError if the picture has no such pixel or
-    the pixel no such sample, and an Error, as `draw` does, of a list that is not drawn.
+    Raises a PixelError or a SampleError, which are IndexErrors, if the picture has no such pixel or the pixel no such sample, and
+    another Error, as `draw` does, of a list that is not drawn.
     """
-    options = [f"{x},{y}"]
-    options += [] if sample is None else ["--sample", str(sample)]
-    options += ["--all"] if all_triangles else []
-    value = report(draw_list, options, f"the picture has no pixel {x}, {y}, or the pixel no sample {sample}")
-    return pixel_of(value)
+    data, column, row, chosen = as_bytes(draw_list), number(x), number(y), 0 if sample is None else number(sample)
+    found, info = sample_history(data, column, row, chosen, all_triangles)
+    samples: Tuple[SampleHistory, ...] = (found,)
+    others = [s for s in range(info.samples) if s != chosen]
+    if sample is None:
+        samples += tuple(sample_history(data, column, row, s, all_triangles)[0] for s in others)
+        ends = {each.sample: each.end for each in samples}
+    else:
+        ends = {s: stored_of(read_events(data, column, row, s, False, 0)[1].end) for s in others}
+        ends[chosen] = found.end
+    if info.output == DEPTHS:
+        return PixelHistory(column, row, None, ends[0].depth, samples)
+    return PixelHistory(column, row, resolved([end.color for end in ends.values()]), None, samples)
 
 
-def triangle_samples(draw_list: DrawList, draw: int, triangle: int) -> TriangleSamples:
+def triangle_samples(draw_list: DrawList, draw: SupportsIndex, triangle: SupportsIndex) -> TriangleSamples:
     """Returns how many samples of the picture this triangle of this draw covers, how many it changes, and how many still show it:
     it is the last triangle that changes them. Both numbers count from 0; a strip and quads count the triangles as which they are drawn.
 
-    Runs the program `trirast_why`, and raises what `why` raises; IndexError if the list has no such triangle.
+    Raises a TriangleError, which is an IndexError, if the list has no such triangle, and another Error of a list that is not drawn.
     """
-    value = report(draw_list, ["--triangle", f"{draw},{triangle}"], f"the list has no draw {draw}, or the draw no triangle {triangle}")
-    return TriangleSamples(value["draw"], value["triangle"], value["covered"], value["changed"], value["shown"])
+    data, counts = as_bytes(draw_list), CSampleCounts()
+    place = number(draw), number(triangle)
+    library().trirast_triangle_samples(data, len(data), *place, counts, CError())
+    return TriangleSamples(*place, counts.covered, counts.changed, counts.shown)
 
 
-def report(draw_list: DrawList, options: List[str], refused: str) -> Any:
-    """The value of JSON that the program writes. `refused` is said of a pixel, a sample or a triangle that is not there."""
-    command = [program(), "--json", *options]
-    run = subprocess.run(command, input=as_bytes(draw_list), stdout=subprocess.PIPE, stderr=subprocess.PIPE, check=False)
-    if run.returncode == REFUSED:
-        raise IndexError(refused)
-    if run.returncode:
-        raise error_of(run.stderr.decode().rstrip("\n"))
-    return json.loads(run.stdout)
-
-
-def program() -> str:
-    """The path of the program, or its name."""
-    top = os.path.abspath(os.path.join(os.path.dirname(__file__), "..", "..", ".."))
-    beside = os.path.join(top, "bin", "trirast_why")
-    return os.environ.get("TRIRAST_WHY") or (beside if os.path.exists(beside) else "trirast_why")
-
-
-def error_of(line: str) -> Error:
-    """The exception of a line of the program, as the library would raise it."""
-    found = LIST_ERROR.fullmatch(line)
-    if found:
-        return DrawListError(BAD_LIST, line, int(found[1]), int(found[2]) if found[2] else None)
-    status = TOO_LONG if line == "trirast: input too long" else NO_MEMORY
-    return BY_STATUS[status](status, line)
-
-
-def color_of(value: List[int]) -> Color:
-    red, green, blue = value
+def resolved(colors: List[Color]) -> Color:
+    """The mean of the colours of a pixel's samples, halves rounded up."""
+    red, green, blue = ((2 * sum(channel) + len(colors)) // (2 * len(colors)) for channel in zip(*colors))
     return red, green, blue
 
 
-def stored_of(value: Dict[str, Any]) -> Stored:
-    return Stored(color_of(value["color"]), value["depth"])
+def read_events(data: bytes, x: int, y: int, sample: int, is_all: bool, capacity: int) -> Tuple[Any, CSampleInfo]:
+    """The first events of a sample's history, at most this many, and what the library says of the sample."""
+    request = CHistoryRequest(*map(sizeof, (CHistoryRequest, CEvent, CSampleInfo)), x, y, sample, is_all)
+    events, info = (CEvent * capacity)(), CSampleInfo()
+    library().trirast_history(data, len(data), request, events, capacity, info, CError())
+    return events, info
 
 
-def event_of(value: Dict[str, Any]) -> Event:
-    given = value["fragment"]
-    fragment = None if given is None else Fragment(color_of(given["color"]), given["alpha"], given["depth"])
-    numbers = (value["draw"], value["triangle"], value["result"], tuple(value["reasons"]))
-    return Event(*numbers, fragment, stored_of(value["before"]), stored_of(value["after"]))
+def sample_history(data: bytes, x: int, y: int, sample: int, is_all: bool) -> Tuple[SampleHistory, CSampleInfo]:
+    """The whole history of a sample, and what the library says of the sample."""
+    events, info = read_events(data, x, y, sample, is_all, FEW)
+    if info.event_count > FEW:
+        events, info = read_events(data, x, y, sample, is_all, info.event_count)
+    listed = tuple(event_of(event) for event in events[: info.event_count])
+    return SampleHistory(sample, (info.x, info.y), stored_of(info.begin), listed, stored_of(info.end)), info
 
 
-def sample_of(value: Dict[str, Any]) -> SampleHistory:
-    x, y = value["position"]
-    events = tuple(event_of(event) for event in value["events"])
-    return SampleHistory(value["sample"], (x, y), stored_of(value["begin"]), events, stored_of(value["end"]))
+def stored_of(given: CStored) -> Stored:
+    return Stored((given.red, given.green, given.blue), given.depth)
 
 
-def pixel_of(value: Dict[str, Any]) -> PixelHistory:
-    color = color_of(value["color"]) if "color" in value else None
-    return PixelHistory(value["x"], value["y"], color, value.get("depth"), tuple(map(sample_of, value["samples"])))
+def fragment_of(given: CFragment) -> Fragment:
+    return Fragment((given.red, given.green, given.blue), given.alpha, given.depth)
+
+
+def event_of(given: CEvent) -> Event:
+    reasons = tuple(name for bit, name in enumerate(REASONS) if given.reasons >> bit & 1)
+    fragment = fragment_of(given.fragment) if given.covered else None
+    numbers = (given.draw, given.triangle, RESULTS[given.result], reasons)
+    return Event(*numbers, fragment, stored_of(given.before), stored_of(given.after))

@@ -24,6 +24,28 @@ pub const TRIRAST_STATUS_BAD_MEMORY: u32 = 9;
 pub const TRIRAST_STATUS_BAD_FORMAT: u32 = 10;
 pub const TRIRAST_STATUS_BAD_SAMPLE: u32 = 11;
 pub const TRIRAST_STATUS_BAD_POSITION: u32 = 12;
+pub const TRIRAST_STATUS_BAD_PIXEL: u32 = 13;
+pub const TRIRAST_STATUS_BAD_TRIANGLE: u32 = 14;
+
+pub const TRIRAST_RESULT_MISSED: u32 = 0;
+pub const TRIRAST_RESULT_DEPTH_FAILED: u32 = 1;
+pub const TRIRAST_RESULT_DRAWN: u32 = 2;
+
+pub const TRIRAST_REASON_CULLED: u32 = 1;
+pub const TRIRAST_REASON_ZERO_AREA: u32 = 2;
+pub const TRIRAST_REASON_NOT_COVERED: u32 = 4;
+pub const TRIRAST_REASON_OUTSIDE_SCISSOR: u32 = 8;
+pub const TRIRAST_REASON_MASKED: u32 = 16;
+pub const TRIRAST_REASON_DEPTH_FAILED: u32 = 32;
+
+pub const TRIRAST_FAILURE_NONE: u32 = 0;
+pub const TRIRAST_FAILURE_OUTSIDE: u32 = 1;
+pub const TRIRAST_FAILURE_ON_EDGE: u32 = 2;
+
+pub const TRIRAST_WRITE_RED: u32 = 1;
+pub const TRIRAST_WRITE_GREEN: u32 = 2;
+pub const TRIRAST_WRITE_BLUE: u32 = 4;
+pub const TRIRAST_WRITE_DEPTH: u32 = 8;
 
 /// Bytes of the samples of one index of a block of 8 by 8 pixels: the unit of a canvas's memory.
 pub const TRIRAST_PLANE_BYTES: usize = 320;
@@ -122,6 +144,85 @@ pub struct trirast_batch {
     pub index_count: usize,
 }
 
+/// What a sample stores.
+#[repr(C)]
+#[derive(Clone, Copy, Debug, Default, PartialEq, Eq)]
+pub struct trirast_stored {
+    pub red: u32,
+    pub green: u32,
+    pub blue: u32,
+    pub depth: u32,
+}
+
+/// What a triangle has at a sample, each value rounded down.
+#[repr(C)]
+#[derive(Clone, Copy, Debug, Default, PartialEq, Eq)]
+pub struct trirast_fragment {
+    pub red: u32,
+    pub green: u32,
+    pub blue: u32,
+    pub alpha: u32,
+    pub depth: u32,
+}
+
+/// What a triangle of a draw list did to a sample, and why.
+#[repr(C)]
+#[derive(Clone, Copy, Debug, Default, PartialEq, Eq)]
+pub struct trirast_event {
+    pub doubled_area: i64,
+    pub edge_ab: i64,
+    pub edge_bc: i64,
+    pub edge_ca: i64,
+    pub number: usize,
+    pub draw: usize,
+    pub triangle: usize,
+    pub failure_ab: u32,
+    pub failure_bc: u32,
+    pub failure_ca: u32,
+    pub result: u32,
+    pub reasons: u32,
+    pub writes: u32,
+    pub covered: u32,
+    pub fragment: trirast_fragment,
+    pub before: trirast_stored,
+    pub after: trirast_stored,
+}
+
+/// A sample beside its events.
+#[repr(C)]
+#[derive(Clone, Copy, Debug, Default, PartialEq, Eq)]
+pub struct trirast_sample_info {
+    pub event_count: usize,
+    pub samples: u32,
+    pub output: u32,
+    pub x: i32,
+    pub y: i32,
+    pub begin: trirast_stored,
+    pub end: trirast_stored,
+}
+
+/// The sample whose history is asked for.
+#[repr(C)]
+#[derive(Clone, Copy, Debug, Default, PartialEq, Eq)]
+pub struct trirast_history_request {
+    pub struct_size: u32,
+    pub event_size: u32,
+    pub info_size: u32,
+    pub x: u32,
+    pub y: u32,
+    pub sample: u32,
+    pub all: u32,
+}
+
+/// How many samples of the picture a triangle has.
+#[repr(C)]
+#[derive(Clone, Copy, Debug, Default, PartialEq, Eq)]
+pub struct trirast_sample_counts {
+    pub covered: u32,
+    pub changed: u32,
+    pub shown: u32,
+}
+
 /// The tile rows of a canvas, or some of them, with the memory of their samples.
 #[repr(C)]
 #[derive(Clone, Copy, Debug)]
@@ -196,6 +297,23 @@ extern "C" {
         buffer_size: usize,
         error: *mut trirast_error,
     ) -> u32;
+    pub fn trirast_history(
+        json: *const c_char,
+        json_len: usize,
+        request: *const trirast_history_request,
+        events: *mut trirast_event,
+        capacity: usize,
+        info: *mut trirast_sample_info,
+        error: *mut trirast_error,
+    ) -> u32;
+    pub fn trirast_triangle_samples(
+        json: *const c_char,
+        json_len: usize,
+        draw: usize,
+        triangle: usize,
+        counts: *mut trirast_sample_counts,
+        error: *mut trirast_error,
+    ) -> u32;
     pub fn trirast_canvas_bytes(width: u32, height: u32, samples: u32, first: u32, end: u32) -> usize;
     pub fn trirast_canvas_rows(height: u32) -> u32;
     pub fn trirast_canvas_row_pixels() -> u32;
@@ -250,6 +368,8 @@ pub fn trirast_status_string(status: u32) -> &'static str {
         TRIRAST_STATUS_BAD_FORMAT => "no such format",
         TRIRAST_STATUS_BAD_SAMPLE => "no such sample",
         TRIRAST_STATUS_BAD_POSITION => "position out of range",
+        TRIRAST_STATUS_BAD_PIXEL => "no such pixel",
+        TRIRAST_STATUS_BAD_TRIANGLE => "no such triangle",
         _ => "unknown status",
     }
 }

@@ -1,0 +1,29 @@
+use Rattle.std.proofs.Common.{◌≤◌, ◌∙◌, length, arith}
+use Rattle.sample_events.specs.Walk.{start_of}
+use Rattle.sample_events.proofs.Walking.{further, smaller, put_more, pass_more, all_walked}
+use Rattle.sample_events.proofs.walk.write_events.Goals as goal
+use Rattle.sample_events.proofs.walk.write_events.Goals.{then-count-events, else-count-events}
+
+pub overflow_add-count : goal.overflow_add-count
+overflow_add-count c =
+    let step = further c.args.all c.loop-event.history c.next_event.new.history c.in-Some.event c.in-Some.ensures.event in
+    let within : c.next_event.new.history.number ≤ length c.args.list.now.triangles = rw c.loop-event.invariant.same.scene at step.within in
+    omega (arith, c.loop-event.invariant.few, step.before, within, c.triangles-most.ensures.value, c.triangles-most.ensures.greatest)
+
+pub loop-event-smaller : goal.loop-event-smaller
+loop-event-smaller c = smaller c.args.all c.loop-event.history c.next_event.new.history c.in-Some.event c.in-Some.ensures.event
+
+pub loop-event-preserved : goal.loop-event-preserved
+loop-event-preserved c =
+    let q = start_of c.args.list.now c.args.px c.args.py c.args.s in
+    elim c.if-count-events.branch [
+      | then-count-events w ↦ put_more c.args.all q c.loop-event.history c.next_event.new.history c.in-Some.event c.args.events.now c.loop-event.events c.loop-event.count
+          c.if-count-events.events w.of.result c.loop-event.invariant c.in-Some.ensures.event w.if-count-events.true w.events-is w.of.ensures
+      | else-count-events w ↦ pass_more c.args.all q c.loop-event.history c.next_event.new.history c.in-Some.event c.args.events.now c.loop-event.events c.loop-event.count
+          c.if-count-events.events c.loop-event.invariant c.in-Some.ensures.event w.if-count-events.false w.events-is
+    ]
+
+pub returns-clause-written : goal.returns-clause-written
+returns-clause-written c =
+    all_walked c.args.all (start_of c.args.list.now c.args.px c.args.py c.args.s) c.loop-event.history c.args.events.now c.loop-event.events c.loop-event.count c.stored.result
+    c.loop-event.invariant c.in_default.ensures.over (c.stored.ensures ∙ c.in_default.ensures.stored)

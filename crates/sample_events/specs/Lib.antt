@@ -1,0 +1,49 @@
+-- The definitions of this crate, each file behind those that it uses; `python3 -m tools.definitions` writes these lines.
+--
+-- Errors.antt
+--   number_of: The status of a call that ends in this error.
+--   reported: What the caller gets of each error.
+--   IsReported: The status and the error that the caller gets of a call that ended so.
+--   IsShort: The text has as few bytes as a draw list may have.
+--   ExplainsRead: What each error says of the text of a call that reads a list alone: that it is too long, or its first error.
+--
+-- Events.antt
+--   flag: The value of a flag if it is set, and else 0.
+--   fails_an_edge: The sample fails the top-left rule at one of the edges.
+--   reasons_of: The flags of the reasons that hold, added.
+--   writes_of: The flags of what the triangle's draw writes, added: red, green, blue and depth.
+--   failure_of: How a sample fails the top-left rule at an edge, by its number in C; 0 if it does not.
+--   result_of: The result of an event, by its number in C.
+--   stored_of: What a sample stores, as C has it.
+--   fragment_of: A fragment as C has it: all zeros if there is none.
+--   event_of: An event as C has it.
+--
+-- Walk.antt
+--   start_of: Where the history of sample s of pixel (i, j) begins: before the first triangle, with the clear colour and depth.
+--   IsNextAsked: The next event that is asked for: if all are, that of the next triangle, else that of the next one that covers the sample.
+--   IsOver: No event that is asked for is to come.
+--   AreEventsFrom: These are the events to come that are asked for, all of them, in draw order.
+--   written: What an array holds after these events are written at its beginning, as many as it has elements.
+--   AreWritten: The events to come that are asked for are written at the beginning of the array.
+--
+-- History.antt
+--   HasSizes: The structs have the sizes, in bytes, that this library knows.
+--   HasPixel: The picture has the pixel that is asked for.
+--   HasSample: A pixel has the sample that is asked for.
+--   output_number: What a picture shows, by its number in C.
+--   IsInfoOf: The sample beside its events: their number, what the picture is, where it lies, and what it begins and ends with.
+--   HoldsHistory: The caller's memory holds the history of the sample that is asked for, of the list that the text denotes.
+--   HasFault: The list that the text denotes has this fault.
+--   ExplainsLack: What an error says of a list that is read: that its picture has no such pixel, or else that the pixel has no such sample.
+--   ExplainsHistory: What each error of a call says that writes a history.
+--
+-- Triangles.antt
+--   HoldsSamples: The caller's memory holds the counts of the triangle in this place, of the list that the text denotes.
+--   LacksTriangle: The list that the text denotes has no triangle in this place.
+--   ExplainsSamples: What each error of a call says that counts the samples of a triangle.
+
+pub mod Errors
+pub mod Events
+pub mod Walk
+pub mod History
+pub mod Triangles

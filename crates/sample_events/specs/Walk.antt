@@ -1,0 +1,41 @@
+-- The events of a sample that are asked for, and the array into which they are written.
+use Rattle.std.specs.Prelude.{◌≡◌, ℕ, Bool, true, false, List, [], ◌∷◌, length}
+use Rattle.shade.specs.declared.sample.Sample.{Sample}
+use Rattle.model.specs.Scene.{Scene}
+use Rattle.list_history.specs.Walk.{ListPlace, IsNextOfList, IsNextCoveredOfList, AreUncoveredOfList}
+use Rattle.list_history.specs.declared.list_event.ListEvent.{ListEvent}
+use Rattle.sample_events.specs.declared.event.SampleEvent.{SampleEvent}
+use Rattle.sample_events.specs.Events.{event_of}
+
+-- Where the history of sample s of pixel (i, j) begins: before the first triangle, with the clear colour and depth.
+abbrev pub start_of : Scene → ℕ → ℕ → ℕ → ListPlace
+start_of l i j s = record { scene = l; i = i; j = j; s = s; number = 0; stored = l.clear }
+
+-- The next event that is asked for: if all are, that of the next triangle, else that of the next one that covers the sample.
+abbrev pub IsNextAsked : Bool → ListPlace → ListEvent → ListPlace → Type 0
+IsNextAsked true = IsNextOfList
+IsNextAsked false = IsNextCoveredOfList
+
+-- No event that is asked for is to come.
+abbrev pub IsOver : Bool → ListPlace → Type 0
+IsOver true q = q.number ≡ length q.scene.triangles
+IsOver false q = AreUncoveredOfList q (length q.scene.triangles)
+
+-- These are the events to come that are asked for, all of them, in draw order. The last leaves `end`.
+abbrev pub AreEventsFrom : Bool → ListPlace → List ListEvent → Sample → Type 0
+AreEventsFrom all q [] end = IsOver all q × (end ≡ q.stored)
+AreEventsFrom all q (e ∷ es) end = (next : ListPlace) × IsNextAsked all q e next × AreEventsFrom all next es end
+
+-- What an array holds after these events are written at its beginning, as many as it has elements. Behind them it holds what it held.
+abbrev pub written : List ListEvent → List SampleEvent → List SampleEvent
+written [] old = old
+written (e ∷ es) [] = []
+written (e ∷ es) (o ∷ os) = event_of e ∷ written es os
+
+-- The events to come that are asked for are written at the beginning of the array. The count is that of all of them, also if the array
+-- holds only the first ones, and the last leaves `end`.
+pub record AreWritten (all : Bool) (q : ListPlace) (old new : List SampleEvent) (count : ℕ) (end : Sample) : Type 0 where
+  pub events : List ListEvent
+  pub are : AreEventsFrom all q events end
+  pub put : new ≡ written events old
+  pub counted : count ≡ length events

@@ -1,0 +1,53 @@
+//! The events of a sample, one after another into the caller's array.
+ghost use Rattle.std.specs.Prelude.{◌≡◌, ◌<◌, IfSome, IfNone};
+ghost use Rattle.grid.specs.Samples.{count_of};
+ghost use Rattle.model.specs.Picture.{IsEnd};
+ghost use Rattle.sample_events.specs.Walk.{start_of, IsNextAsked, IsOver, AreWritten};
+
+use crate::event::SampleEvent;
+use list_history::{ListEvent, ListHistory};
+use model::DrawList;
+use shade::Sample;
+
+/// Returns the history's next event: that of the next triangle, or of the next one that covers the sample.
+fn next_event(history: &mut ListHistory<'_>, all: bool) -> Option<ListEvent>
+    ensures event { IfSome result (λ e. IsNextAsked all history.old e history.new) }
+    ensures over { IfNone result (IsOver all history.old) }
+    ensures end { IfNone result (IsEnd history.old.scene history.old.i history.old.j history.old.s history.old.stored) }
+    ensures stored { IfNone result (history.new.stored ≡ history.old.stored) }
+{
+    if all {
+        history.next()
+    } else {
+        history.next_covered()
+    }
+}
+
+/// Writes the events of sample `s` of the pixel in column `px` and row `py` at the beginning of the array, in draw order, as many as
+/// it holds. Returns how many there are in all, and the sample after all triangles.
+pub(crate) fn write_events(
+    list: &DrawList,
+    px: u32,
+    py: u32,
+    s: u32,
+    all: bool,
+    events: &mut [SampleEvent],
+) -> (usize, Sample)
+    requires column { px < 4096 }
+    requires row { py < 4096 }
+    requires sample { s < count_of list.now.count }
+    ensures written { AreWritten all (start_of list.now px py s) events.old events.new result.0 result.1 }
+    ensures end { IsEnd list.now px py s result.1 }
+{
+    // A list's triangles are few, so that their events can be counted.
+    let _most = list.triangles();
+    let mut history = ListHistory::new(list, px, py, s);
+    let mut count = 0;
+    while let Some(event) = next_event(&mut history, all) {
+        if count < events.len() {
+            events[count] = SampleEvent::of(&event);
+        }
+        count += 1;
+    }
+    (count, history.stored())
+}
