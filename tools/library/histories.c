@@ -55,7 +55,7 @@ static int are_covering(const trirast_event *some, size_t some_count, const trir
     return found == some_count;
 }
 
-// The history of a sample, by arrays that are too small, just large enough and too large. Gives what is told beside the events.
+// The history of a sample, by arrays that are too small, just large enough and too large. Gives the sample beside its events.
 static trirast_sample_info compare_sample(const list_case *one, uint32_t x, uint32_t y, uint32_t sample) {
     trirast_sample_info info, again;
     marked kept[2];

@@ -62,7 +62,7 @@ pub record HoldsHistory (json : List ℕ) (request : HistoryRequest) (old new : 
   pub end : Stored
   pub written : AreWritten all (start_of list request.x request.y request.sample) old new event_count end
   pub is_end : IsEnd list request.x request.y request.sample end
-  pub told : IsInfoOf list request event_count end info
+  pub is_info : IsInfoOf list request event_count end info
 
 -- The list that the text denotes has this fault.
 pub record HasFault (json : List ℕ) (Fails : Scene → Type 0) : Type 0 where

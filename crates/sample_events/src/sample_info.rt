@@ -7,7 +7,7 @@ use grid::sample_at;
 use model::{DrawList, Output};
 use shade::Sample;
 
-/// What is told of a sample beside its events, laid out as in C.
+/// A sample beside its events, laid out as in C.
 #[repr(C)]
 #[derive(Clone, Copy, Debug, PartialEq, Eq)]
 pub struct SampleInfo {
@@ -28,7 +28,7 @@ pub struct SampleInfo {
 }
 
 impl SampleInfo {
-    /// What is told of a sample whose history has this number of events, and which ends as `end`.
+    /// The sample whose history has this number of events, and which ends as `end`.
     pub(crate) fn of(
         list: &DrawList,
         request: &HistoryRequest,
