@@ -46,6 +46,15 @@
 --   AreReached: A column of tiles and a tile row bear the mark of triangle k if it meets a sample in them.
 --   IsMaskOf: A triangle whose bit is not set meets no sample of the tile.
 --
+-- Rows.antt
+--   HasPlace: Span k, from its number in the first list to before its number in the second, has this place.
+--   AreBounds: The columns and the tile rows of triangle k, for each of the first n triangles, have the tile of each sample that it meets.
+--   numbered: The triangles of these numbers; `none` stands for a number past the last triangle.
+--   AreOfRow: The first numbers are those of triangles, each with the columns of tiles in which it can meet a sample of this tile row.
+--   MissesTile: The triangle covers no sample of this tile.
+--   HasReached: Those of some columns of tiles in which the triangle covers a sample of this tile row are among the others.
+--   AreOfTile: Those of the triangles of these numbers that meet a sample of the tile have its column among theirs.
+--
 -- Loaded.antt
 --   coloured: The sample in the colour of these bytes of a pixel.
 --   AreChanged: The samples of some pixels in these tile rows end as `end_of` makes them, and all other samples are unchanged.
