@@ -27,10 +27,6 @@
 --   entry_of: The index of the first entry of pixel (i, j), of which there are `unit`.
 --   AreWritten: The entries of each pixel of the picture in these tile rows are as `IsPixel` says, and all other entries are unchanged.
 --
--- Entries.antt
---   FitEntries: Planes of samples and entries fit the tile rows from `first` to before `end`.
---   IsEntriesMisfit: What does not fit, if one of the three does not.
---
 -- Colours.antt
 --   IsColourOfPixel: The colour of pixel (i, j): each channel resolved from the pixel's samples, in planes from tile row `first` on.
 --   AreBytesOfColour: The bytes have this colour in the format.
@@ -55,7 +51,7 @@
 --   HasPlace: Span k, from its number in the first list to before its number in the second, has this place.
 --   AreBounds: The columns and the tile rows of triangle k, for each of the first n triangles, have the tile of each sample that it meets.
 --   numbered: The triangles of these numbers; `none` stands for a number past the last triangle.
---   AreOfRow: The first of these numbers are those of triangles, each with the columns of tiles of this tile row in which it can meet a sample.
+--   AreOfRow: The first numbers are those of triangles, each with the columns of tiles in which it can meet a sample of this tile row.
 --   MissesTile: The triangle covers no sample of this tile.
 --   HasReached: Those of some columns of tiles in which the triangle covers a sample of this tile row are among the others.
 --   AreOfTile: Those of the triangles of these numbers that meet a sample of the tile have its column among theirs.
@@ -91,7 +87,6 @@
 pub mod Layout
 pub mod Drawing
 pub mod Pixels
-pub mod Entries
 pub mod Colours
 pub mod Reach
 pub mod Rows

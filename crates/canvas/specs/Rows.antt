@@ -31,7 +31,7 @@ AreBounds ts n column_firsts column_ends row_firsts row_ends span =
 abbrev pub numbered : List Placed → Placed → List ℕ → List Placed
 numbered ts none numbers = map (λ n. slice_index_or ts n none) numbers
 
--- The first of these numbers are those of triangles, each with the columns of tiles of this tile row in which it can meet a sample.
+-- The first numbers are those of triangles, each with the columns of tiles in which it can meet a sample of this tile row.
 -- What they make of a sample of the tile row, the first n triangles make of it.
 pub record AreOfRow (ts : List Placed) (c : Canvas) (row n : ℕ) (numbers firsts ends : List ℕ) (many : ℕ) (span : Span) : Type 0 where
   pub below : (p : ℕ) → p < many → slice_index numbers p < length ts
