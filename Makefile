@@ -33,7 +33,8 @@
 #                  and check-web where there is a C compiler, and the tests of the gate's counts, of the documents, of docs/statement.md and of the must-fail edits
 #   make races     run the program under valgrind; no part of the gate
 #   make bench     time the program on generated scenes
-#   make frames    build the program that times frames by themselves, for python3 -m bench.llvmpipe
+#   make frames    build the program that times frames by themselves, bin/frames, for python3 -m bench.llvmpipe and others;
+#                  with CPU=x86-64-v3 also bin/x86-64-v3/frames, which those time beside it
 #   make model     build the same rules in C++ to time beside, for python3 -m bench.llvmpipe: g++ 12 or clang++ 14, or later, on x86-64
 #   make conformance        compare the machine's OpenGL driver with the program, sample by sample; out/conformance.html.
 #                  With DEVICE=d3d11 Direct3D 11, here by Wine: out/conformance-d3d11.html; ADAPTER=warp or a number, else hardware
@@ -57,6 +58,7 @@ PROGRAM := bin/$(if $(CPU),$(CPU)/)trirast
 WHY := bin/trirast_why
 TILES := bin/refused_tiles
 READER := bin/list_bench
+FRAMES := bin/$(if $(CPU),$(CPU)/)frames
 MODEL := bench/out/model
 RASTERIZE := conformance/out/rasterize.exe
 ARCHIVE := crates/trirast_c/out/libtrirast_c.a
@@ -285,7 +287,8 @@ races: $(PROGRAM)
 	$(PYTHON) -m tools.races
 
 frames: $(PROGRAM)
-	cd crates/frames && $(RT) run < "$(CURDIR)/examples/triangle.json" > /dev/null
+	cd crates/frames && $(RT) run $(if $(CPU),--cpu $(CPU)) < "$(CURDIR)/examples/triangle.json" > /dev/null
+	install -D -m 755 crates/frames/out/frames $(FRAMES)
 
 model: $(MODEL)
 

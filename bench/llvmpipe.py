@@ -6,7 +6,8 @@ A frame of llvmpipe goes from its clear to the pixels read back, warm, with each
 frame of the program goes from a list that was read to its picture's last byte, thrown away (`crates/frames`). The two
 take turns, and the least time of each counts, with the processor time of the whole process in brackets. `--model` names a
 third program that takes `--frames N --workers N`, reads a list and prints `least_ms N` on standard error. A whole process
-of ours starts, reads the list, draws it once and ends; llvmpipe has no such number, since it reads no list.
+of ours starts, reads the list, draws it once and ends; llvmpipe has no such number, since it reads no list. If there is a
+build of crates/frames for x86-64-v3 (`make frames CPU=x86-64-v3`) and the processor runs it, it takes turns with them.
 
 llvmpipe's numbers are floating point, so its pictures are near the program's and not equal: the last column is the share
 of pixels of which a channel is more than 4 away. Mesa's EGL and OpenGL are called by ctypes, so nothing is compiled.
@@ -27,7 +28,7 @@ from bench import scenes
 from bench.run import Run, load
 from tools import picture_file
 from tools.answers import drawn
-from tools.places import BENCH_OUT, FRAMES_PROGRAM, MODEL_PROGRAM, PROGRAM, TOP, is_built
+from tools.places import BENCH_OUT, EXAMPLES, FRAMES_OF_LEVEL, FRAMES_PROGRAM, LEVEL, MODEL_PROGRAM, PROGRAM, TOP, is_built
 
 SCENES = (
     "smooth", "small", "mesh", "slivers", "blended", "flat", "flat_depth", "flat_blended", "large_mesh", "whole_values",
@@ -37,6 +38,7 @@ WORKERS = (1, 4)
 FRAMES_A_TURN = 3
 NEAR = 4
 COLUMNS = ("list", "workers", "llvmpipe frame (processor), ms", "frame, ms", "by llvmpipe")
+LEVEL_COLUMNS = (f"frame of {LEVEL}, ms", "by the frame")
 MODEL_COLUMNS = ("model's frame, ms", "by the model")
 LAST_COLUMNS = ("whole process (processor), ms", "pixels that differ by more")
 
@@ -141,8 +143,8 @@ def far_pixels(program: str, source: str, target: str) -> str:
 class Table:
     """The rows of lists that all programs draw, for these options."""
 
-    def __init__(self, options: argparse.Namespace, model: str | None) -> None:
-        self.program, self.frames, self.model = options.program, options.frames, model
+    def __init__(self, options: argparse.Namespace, model: str | None, of_level: str | None) -> None:
+        self.program, self.frames, self.model, self.of_level = options.program, options.frames, model, of_level
         self.runs, self.workers = options.runs, options.workers
         self.renderer = ""
 
@@ -150,15 +152,18 @@ class Table:
         """The times of one row: the programs in turn, and the least time of each."""
         driver = Llvmpipe(source, os.path.join(BENCH_OUT, "llvmpipe.rgba"), workers)
         self.renderer = driver.name
-        theirs, frames, models, whole = [], [], [], []
+        theirs, frames, levels, models, whole = [], [], [], [], []
         for _ in range(self.runs):
             theirs.append(driver.turn())
             frames.append(frame_seconds(self.frames, source, workers))
+            levels += [frame_seconds(self.of_level, source, workers)] if self.of_level else []
             models += [model_seconds(self.model, source, workers)] if self.model else []
             whole.append(whole_process(self.program, source, workers))
         driver.end()
         (wall, processor), frame, (process, spent) = min(theirs), min(frames), min(whole)
         cells = [f"{1000 * wall:.2f} ({1000 * processor:.1f})", f"{1000 * frame:.2f}", f"{frame / wall:.2f}"]
+        if levels:
+            cells += [f"{1000 * min(levels):.2f}", f"{min(levels) / frame:.2f}"]
         if models:
             cells += [f"{1000 * min(models):.2f}", f"{frame / min(models):.2f}"]
         return cells + [f"{1000 * process:.1f} ({1000 * spent:.1f})"]
@@ -171,7 +176,7 @@ class Table:
         print("| " + " | ".join([label, str(workers), *cells, far]) + " |", flush=True)
 
     def print(self, lists: list[str]) -> None:
-        columns = (*COLUMNS, *(MODEL_COLUMNS if self.model else ()), *LAST_COLUMNS)
+        columns = (*COLUMNS, *(LEVEL_COLUMNS if self.of_level else ()), *(MODEL_COLUMNS if self.model else ()), *LAST_COLUMNS)
         print("| " + " | ".join(columns) + " |\n" + "|---" * len(columns) + "|")
         for source in lists:
             if self.model:
@@ -184,7 +189,8 @@ class Table:
 def parsed() -> argparse.Namespace:
     parser = argparse.ArgumentParser(description="Times the program and llvmpipe.")
     parser.add_argument("--program", default=PROGRAM, help="default bin/trirast")
-    parser.add_argument("--frames", default=FRAMES_PROGRAM, help="the program of crates/frames (default: where rt builds it)")
+    parser.add_argument("--frames", default=FRAMES_PROGRAM, help="the program of crates/frames (default: where make frames leaves it)")
+    parser.add_argument("--of-level", help=f"the same for {LEVEL} (default: where make frames CPU={LEVEL} leaves it, if it is there)")
     parser.add_argument("--model", help="the program of bench/model (default: where make model builds it, if it is there)")
     parser.add_argument("--runs", type=int, default=5, help="turns of each program, of which the best counts (default 5)")
     parser.add_argument("--workers", type=int, nargs="+", default=WORKERS, help="default 1 4")
@@ -204,13 +210,26 @@ def chosen_model(chosen: str | None) -> str | None:
     return None
 
 
+def program_of_level(chosen: str | None) -> str | None:
+    """The build for the higher level of x86-64 to time, or `None` if it is not there or the processor does not run it."""
+    program = chosen or FRAMES_OF_LEVEL
+    if not os.access(program, os.X_OK):
+        print(f"no program at {program}, so its columns are left out; run make frames CPU={LEVEL} for them", file=sys.stderr)
+        return None
+    with open(os.path.join(EXAMPLES, "triangle.json"), "rb") as file:
+        if subprocess.run([program], stdin=file, stdout=subprocess.DEVNULL).returncode:
+            print(f"this processor does not run {program}, so its columns are left out", file=sys.stderr)
+            return None
+    return os.path.abspath(program)
+
+
 def main() -> int:
     options = parsed()
     if not is_built(options.program) or not is_built(options.frames, made_by="make frames"):
         return 2
     lists = options.lists or scenes.write_all(options.scenes)
     try:
-        Table(options, chosen_model(options.model)).print(lists)
+        Table(options, chosen_model(options.model), program_of_level(options.of_level)).print(lists)
     except (subprocess.CalledProcessError, NotTimed) as error:
         print(f"llvmpipe: {error}", file=sys.stderr)
         return 2

@@ -17,16 +17,18 @@ TILES_PROGRAM = os.path.join(TOP, "bin", "refused_tiles")
 HISTORY_PROGRAM = os.path.join(TOP, "bin", "trirast_why")
 READER_PROGRAM = os.path.join(TOP, "bin", "list_bench")
 # What `make frames` and `make model` build.
-FRAMES_PROGRAM = os.path.join(TOP, "crates", "frames", "out", "frames")
+FRAMES_PROGRAM = os.path.join(TOP, "bin", "frames")
 BENCH_OUT = os.path.join(TOP, "bench", "out")
 MODEL_PROGRAM = os.path.join(BENCH_OUT, "model")
 # The library that `make library` builds, and its bindings.
 LIB = os.path.join(TOP, "lib")
 STATIC_LIBRARY = os.path.join(LIB, "libtrirast.a")
 SHARED_LIBRARY = os.path.join(LIB, "libtrirast.so")
-# The second level of x86-64, and the shared library for it.
+# The second level of x86-64, the shared library for it, and the programs that `make` and `make frames` build for it.
 LEVEL = "x86-64-v3"
 SECOND_LEVEL = os.path.join(LIB, LEVEL, "libtrirast.so.1")
+PROGRAM_OF_LEVEL = os.path.join(TOP, "bin", LEVEL, "trirast")
+FRAMES_OF_LEVEL = os.path.join(TOP, "bin", LEVEL, "frames")
 INCLUDE = os.path.join(TOP, "include")
 PYTHON_SOURCES = os.path.join(TOP, "python", "src")
 

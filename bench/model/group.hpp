@@ -3,6 +3,7 @@
 #pragma once
 
 #include <cstdint>
+#include <vector>
 
 #include "lanes.hpp"
 #include "planes.hpp"
@@ -36,6 +37,31 @@ struct Mode {
     static constexpr int first = depths_ == Depths::Plane ? Depth : Red;
     static constexpr int end = colours_ == Colours::Flat ? Red : over_ ? Attributes : Alpha;
 };
+
+#ifdef COUNT_GROUPS
+// How many groups were met in a mode, of how many some sample was drawn, and how many samples these were; by one thread alone.
+struct GroupCount {
+    Depths depths;
+    Colours colours;
+    bool over, whole, stores_depth;
+    uint64_t met = 0, drawn = 0, samples = 0;
+};
+
+inline std::vector<GroupCount>& group_counts() {
+    static std::vector<GroupCount> counts;
+    return counts;
+}
+
+template <class Mode>
+GroupCount& count_of(const State& state) {
+    for (GroupCount& count : group_counts())
+        if (count.depths == Mode::depths && count.colours == Mode::colours && count.over == Mode::over &&
+            count.whole == Mode::whole && count.stores_depth == state.depth_write)
+            return count;
+    group_counts().push_back({Mode::depths, Mode::colours, Mode::over, Mode::whole, state.depth_write});
+    return group_counts().back();
+}
+#endif
 
 inline Halves passes(Test test, const Halves& fresh, const Halves& old) {
     switch (test) {
@@ -109,10 +135,17 @@ ALWAYS_INLINE void put_colours(const Triangle& t, const Halves* values, const Ha
 template <class Mode>
 ALWAYS_INLINE void draw_group(const Triangle& t, const Planes& planes, const Group& group, Samples& samples) {
     Halves mask = group.mask, values[Attributes];
+#ifdef COUNT_GROUPS
+    ++count_of<Mode>(*t.state).met;
+#endif
     if (Mode::depths != Depths::None) {
         mask = test_depths<Mode>(t, planes, group, samples);
         if (!any(mask)) return;
     }
+#ifdef COUNT_GROUPS
+    ++count_of<Mode>(*t.state).drawn;
+    count_of<Mode>(*t.state).samples += static_cast<uint64_t>(__builtin_popcount(bits_of(mask)));
+#endif
     if (Mode::colours == Colours::Flat)
         for (int attribute = Red; attribute < (Mode::over ? Attributes : Alpha); ++attribute)
             values[attribute] = halves_of(t.values[attribute][0]);

@@ -60,7 +60,8 @@ ALWAYS_INLINE Halves mask_of(unsigned bits) {
 }
 
 ALWAYS_INLINE Bytes narrow_mask(const Halves& mask) { return {_mm_packs_epi16(mask.part[0], mask.part[1])}; }
-ALWAYS_INLINE bool any(const Halves& mask) { return _mm_movemask_epi8(narrow_mask(mask).all) != 0; }
+ALWAYS_INLINE unsigned bits_of(const Halves& mask) { return static_cast<unsigned>(_mm_movemask_epi8(narrow_mask(mask).all)); }
+ALWAYS_INLINE bool any(const Halves& mask) { return bits_of(mask) != 0; }
 ALWAYS_INLINE Bytes narrow(const Halves& lanes) { return {_mm_packus_epi16(lanes.part[0], lanes.part[1])}; }
 
 ALWAYS_INLINE Halves widen(Bytes lanes) {

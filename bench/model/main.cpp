@@ -3,6 +3,7 @@
 // It draws as trirast does: bins, tiles of blocks of 8 by 8 pixels, coverage and values in lanes. So it shows what such a
 // program takes without contracts. bench/draw_list.hpp reads the list, and trusts it. A frame goes from the list that was
 // read to the pixels in memory. The picture goes to standard output, and the time of the fastest frame to standard error.
+// With COUNT_GROUPS, which bench/limits.py defines, it also counts the groups of sixteen samples that one frame by one worker meets.
 //
 //     make model
 //     bench/out/model [--frames 1] [--workers 1] [--tile 32] < list.json > picture.ppm
@@ -40,6 +41,16 @@ double milliseconds(Frame& frame) {
     return std::chrono::duration<double, std::milli>(std::chrono::steady_clock::now() - begin).count();
 }
 
+#ifdef COUNT_GROUPS
+void print_counts() {
+    for (const GroupCount& count : group_counts())
+        std::fprintf(stderr, "depths %d colours %d over %d whole %d stores_depth %d met %llu drawn %llu samples %llu\n",
+                     static_cast<int>(count.depths), static_cast<int>(count.colours), count.over, count.whole, count.stores_depth,
+                     static_cast<unsigned long long>(count.met), static_cast<unsigned long long>(count.drawn),
+                     static_cast<unsigned long long>(count.samples));
+}
+#endif
+
 bool write(const Scene& scene, const std::vector<uint8_t>& pixels) {
     std::printf("P6\n%d %d\n255\n", scene.width, scene.height);
     return std::fwrite(pixels.data(), 1, pixels.size(), stdout) == pixels.size() && std::fflush(stdout) == 0;
@@ -59,5 +70,8 @@ int main(int count, char** words) {
     for (int k = 1; k < options.frames; ++k) least = std::min(least, milliseconds(frame));
     if (!write(scene, frame.pixels())) fail("write failed");
     std::fprintf(stderr, "least_ms %.3f\n", least);
+#ifdef COUNT_GROUPS
+    print_counts();
+#endif
     return 0;
 }

@@ -1,0 +1,89 @@
+"""Times reading beside parsers that only parse, and prints one table.
+
+    python3 -m bench.reading [--runs 5] [--scenes long_list mesh small]
+
+Needs `make bin/list_bench`. `list::read` checks a list and builds it; `serde_json` builds its tree of values, and simdjson its tape of
+values, or goes over all values on demand, and neither knows what a list is. The programs take turns, each reads the same bytes seven
+times a turn, and the least time of each counts. simdjson's columns need its library (Debian: libsimdjson-dev) and a C++ compiler, and
+are left out without them.
+"""
+
+from __future__ import annotations
+
+import argparse
+import os
+import re
+import shutil
+import subprocess
+import sys
+
+from bench import scenes
+from bench.run import load, processor_name
+from tools.places import BENCH_OUT, READER_PROGRAM, TOP, is_built
+
+SCENES = ("long_list", "mesh", "small")
+PARSER = os.path.join(BENCH_OUT, "simdjson")
+COLUMNS = ("list", "MB", "`list::read`, ms", "GB/s", "serde_json's tree, ms", "by it")
+PARSER_COLUMNS = ("simdjson's tape, ms", "by it", "parser kept, ms", "by it", "on demand, ms", "by it")
+
+
+def built_parser() -> bool:
+    """Builds the program over simdjson. If it cannot be built, says why on standard error."""
+    compiler = shutil.which("g++") or shutil.which("clang++")
+    if compiler is None:
+        print("there is no C++ compiler, so simdjson's columns are left out", file=sys.stderr)
+        return False
+    source = os.path.join(TOP, "bench", "simdjson.cpp")
+    probe = [compiler, "-std=c++17", "-fsyntax-only", "-include", "simdjson.h", "-x", "c++", os.devnull]
+    if subprocess.run(probe, stderr=subprocess.DEVNULL).returncode:
+        print("simdjson is not installed (Debian: libsimdjson-dev), so its columns are left out", file=sys.stderr)
+        return False
+    subprocess.run([compiler, "-O3", "-std=c++17", "-o", PARSER, source, "-lsimdjson"], check=True)
+    return True
+
+
+def times(command: list[str], source: str, count: int) -> list[int]:
+    """The first times in nanoseconds that a program prints of the bytes on its standard input."""
+    with open(source, "rb") as file:
+        output = subprocess.run(command, stdin=file, stdout=subprocess.PIPE, check=True, text=True).stdout
+    found = [int(number) for number in re.findall(r"(\d+) ns", output)][:count]
+    if len(found) != count:
+        raise ValueError(f"not {count} times in {output!r}")
+    return found
+
+
+def row_of(source: str, with_parser: bool, runs: int) -> str:
+    """The table's row of a list: the least time of each way."""
+    turns = []
+    for _ in range(runs):
+        turn = times([READER_PROGRAM, "--time"], source, 2)
+        turns.append(turn + (times([PARSER], source, 3) if with_parser else []))
+    ours, *others = [min(each) for each in zip(*turns)]
+    size = os.path.getsize(source)
+    name = os.path.splitext(os.path.basename(source))[0]
+    cells = [name, f"{size / 1e6:.1f}", f"{ours / 1e6:.1f}", f"{size / ours:.2f}"]
+    for other in others:
+        cells += [f"{other / 1e6:.1f}", f"{ours / other:.2f}"]
+    return f"| {' | '.join(cells)} |"
+
+
+def main() -> int:
+    parser = argparse.ArgumentParser(description="Times reading beside parsers that only parse.")
+    parser.add_argument("--runs", type=int, default=5, help="turns of seven rounds, of which the least counts (default 5)")
+    parser.add_argument("--scenes", nargs="+", choices=tuple(scenes.SCENES), default=SCENES, metavar="NAME", help="default " + ", ".join(SCENES))
+    options = parser.parse_args()
+    if not is_built(READER_PROGRAM, made_by="make bin/list_bench"):
+        return 2
+    sources = scenes.write_all(options.scenes)
+    with_parser = built_parser()
+    print(f"Machine: {processor_name()}; load before the run {load()}. Least of {options.runs} turns of seven rounds.\n")
+    columns = (*COLUMNS, *(PARSER_COLUMNS if with_parser else ()))
+    print(f"| {' | '.join(columns)} |\n" + "|---" * len(columns) + "|")
+    for source in sources:
+        print(row_of(source, with_parser, options.runs), flush=True)
+    print(f"\nLoad after the run {load()}.")
+    return 0
+
+
+if __name__ == "__main__":
+    sys.exit(main())
