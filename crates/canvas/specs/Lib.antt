@@ -27,6 +27,10 @@
 --   entry_of: The index of the first entry of pixel (i, j), of which there are `unit`.
 --   AreWritten: The entries of each pixel of the picture in these tile rows are as `IsPixel` says, and all other entries are unchanged.
 --
+-- Entries.antt
+--   FitEntries: Planes of samples and entries fit the tile rows from `first` to before `end`.
+--   IsEntriesMisfit: What does not fit, if one of the three does not.
+--
 -- Colours.antt
 --   IsColourOfPixel: The colour of pixel (i, j): each channel resolved from the pixel's samples, in planes from tile row `first` on.
 --   AreBytesOfColour: The bytes have this colour in the format.
@@ -87,6 +91,7 @@
 pub mod Layout
 pub mod Drawing
 pub mod Pixels
+pub mod Entries
 pub mod Colours
 pub mod Reach
 pub mod Rows
