@@ -6,8 +6,8 @@ Needs rt, perf and valgrind. One worker draws. The time is the share of perf's s
 those that valgrind's callgrind counts of one frame, the same in each run. A stage is the sum of functions, by the table STAGES.
 
 In the program most stages are inlined into one function. So the program that is measured here is another one: `--build` copies the
-crates with their kept proofs to bench/out/split (3 GB), writes `#[inline(never)]` before the functions of OUT_OF_LINE, and builds
-crates/frames there (some minutes). It takes 1 to 4 % more instructions. What is inlined there counts where it stands: the edges of a
+crates with their kept proofs to bench/out/split (4 GB), writes `#[inline(never)]` before the functions of OUT_OF_LINE, and builds
+crates/frames there (some minutes). It takes 1 to 5 % more instructions. What is inlined there counts where it stands: the edges of a
 triangle with its fetch, the classes of squares, the masks and the scissor with the blocks of a triangle.
 """
 
@@ -85,10 +85,11 @@ def build(rt: str) -> None:
         path = os.path.join(SPLIT, "crates", name)
         with open(path, encoding="utf-8") as file:
             source = file.read()
-        if source.count(f"\n{function}") != 1:
+        source, found = re.subn(rf"^( *){re.escape(function)}", r"\1#[inline(never)]\n\g<0>", source, flags=re.MULTILINE)
+        if found != 1:
             raise SystemExit(f"stages: {name} has not one {function}")
         with open(path, "w", encoding="utf-8") as file:
-            file.write(source.replace(f"\n{function}", f"\n#[inline(never)]\n{function}"))
+            file.write(source)
     with open(os.path.join(EXAMPLES, "triangle.json"), "rb") as triangle:
         subprocess.run([rt, "run"], cwd=os.path.join(SPLIT, "crates", "frames"), stdin=triangle, stdout=subprocess.DEVNULL, check=True)
 

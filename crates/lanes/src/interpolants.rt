@@ -87,8 +87,8 @@ impl Interpolants {
         Interpolants {
             placed: *placed,
             mode: DrawMode::Groups(depth, colour),
-            depth: DepthPlane::new(&depth_slope, reciprocal, search),
-            colour: ColourPlanes::new(&slopes, reciprocal, search),
+            depth: DepthPlane::of_used(by_plane, &depth_slope, reciprocal, search),
+            colour: ColourPlanes::of_used(by_planes, &slopes, reciprocal, search),
         }
     }
 

@@ -1,9 +1,8 @@
 -- The plane of a slope, as the code forms it.
-use Rattle.std.proofs.Common.{◌≡◌, refl, inl, inr, [], ◌∷◌, List, get_or, length, arith, ℕ, ◌+◌, ◌-◌, ◌*◌, ◌/◌, ◌%◌, ◌<◌, ◌^◌, FitsSigned, w32, w64, to_z, of_z, ℤ, pos, ◌*ℤ◌, ◌+ℤ◌}
+use Rattle.std.proofs.Common.{◌≡◌, refl, [], ◌∷◌, List, get_or, length, ℕ, ◌+◌, ◌-◌, ◌*◌, ◌/◌, ◌%◌, ◌<◌, ◌^◌, FitsSigned, w32, w64, to_z, of_z, ℤ, pos, ◌*ℤ◌, ◌+ℤ◌}
 use Rattle.std.specs.Prelude.{replicate}
 use lib.Lanes.{zip2}
 use Rattle.std.proofs.lemmas.Int.{to_z-of_z}
-use Rattle.std.proofs.lemmas.Bool.{cases_lt}
 use Rattle.grid.proofs.Ring.{var, lit, plus, times, ring}
 use Rattle.planes.specs.declared.plane.Plane.{Plane}
 use Rattle.planes.specs.declared.slope.Slope.{Slope}
@@ -48,53 +47,23 @@ height_of x y a d start m fx fy h =
     wrapped_sum _ _ _ _ (modulo_self start) part
 
 -- ---- lanes, which are stepped by additions
-part_next : (a d n : ℤ) → n *ℤ a +ℤ pos 0 *ℤ d +ℤ pos 256 *ℤ a ≡ (n +ℤ pos 256) *ℤ a +ℤ pos 0 *ℤ d
-part_next a d n =
-    ring (a ∷ d ∷ n ∷ []) (plus (plus (times (var 2) (var 0)) (times (lit (pos 0)) (var 1))) (times (lit (pos 256)) (var 0)))
-    (plus (times (plus (var 2) (lit (pos 256))) (var 0)) (times (lit (pos 0)) (var 1))) refl
+pub passed : (distance g : ℤ) (n : ℕ) → FitsSigned w64 g → IsModulo (distance *ℤ to_z w64 (of_z w64 g)) n → IsModulo (distance *ℤ g) n
+passed distance g n fits h = rw (to_z-of_z w64 g fits) at h
 
-part_below : (a d n : ℤ) → n *ℤ a +ℤ pos 0 *ℤ d +ℤ pos 256 *ℤ d ≡ n *ℤ a +ℤ pos 256 *ℤ d
-part_below a d n =
-    ring (a ∷ d ∷ n ∷ []) (plus (plus (times (var 2) (var 0)) (times (lit (pos 0)) (var 1))) (times (lit (pos 256)) (var 1)))
-    (plus (times (var 2) (var 0)) (times (lit (pos 256)) (var 1))) refl
-
-pub part_none : (p : Plane) → IsIncrement p (pos 0) (pos 0) 0
-part_none p =
-    let none : pos 0 *ℤ p.across +ℤ pos 0 *ℤ p.down ≡ pos 0 = ring (p.across ∷ p.down ∷ []) (plus (times (lit (pos 0)) (var 0)) (times (lit (pos 0)) (var 1))) (lit (pos 0)) refl in
+pub nothing : (g : ℤ) → IsModulo (pos 0 *ℤ g) 0
+nothing g =
+    let none : pos 0 *ℤ g ≡ pos 0 = ring (g ∷ []) (times (lit (pos 0)) (var 0)) (lit (pos 0)) refl in
     rw none (modulo_self 0)
 
-passed : (g : ℤ) (n : ℕ) → FitsSigned w64 g → IsModulo (pos 256 *ℤ to_z w64 (of_z w64 g)) n → IsModulo (pos 256 *ℤ g) n
-passed g n fits h = rw (to_z-of_z w64 g fits) at h
-
-pub part_stepped : (p : Plane) (n m across : ℕ) → FitsSigned w64 p.across → IsIncrement p (pos n) (pos 0) m → IsModulo (pos 256 *ℤ to_z w64 (of_z w64 p.across)) across → IsIncrement p (pos (n + 256)) (pos 0) ((m + across) % 2 ^ 64)
-part_stepped p n m across fits h k =
-    let sum = wrapped_sum _ _ _ _ h (passed p.across across fits k) in
-    rw (part_next p.across p.down (pos n)) at sum
-
-pub part_lower : (p : Plane) (n m down : ℕ) → FitsSigned w64 p.down → IsIncrement p (pos n) (pos 0) m → IsModulo (pos 256 *ℤ to_z w64 (of_z w64 p.down)) down → IsIncrement p (pos n) (pos 256) ((m + down) % 2 ^ 64)
-part_lower p n m down fits h k =
-    let sum = wrapped_sum _ _ _ _ h (passed p.down down fits k) in
-    rw (part_below p.across p.down (pos n)) at sum
+-- the growth over two distances across and one down, one after another
+pub grown : (p : Plane) (x y z : ℤ) (l m n : ℕ) → IsModulo (x *ℤ p.across) l → IsModulo (y *ℤ p.across) m → IsModulo (z *ℤ p.down) n → IsIncrement p (x +ℤ y) z (((l + m) % 2 ^ 64 + n) % 2 ^ 64)
+grown p x y z l m n h k j =
+    let both : x *ℤ p.across +ℤ y *ℤ p.across ≡ (x +ℤ y) *ℤ p.across =
+    ring (x ∷ y ∷ p.across ∷ []) (plus (times (var 0) (var 2)) (times (var 1) (var 2))) (times (plus (var 0) (var 1)) (var 2)) refl in
+    wrapped_sum _ _ _ _ (rw both at (wrapped_sum _ _ _ _ h k)) j
 
 pub half_of : (p : Plane) (x y : ℤ) (m : ℕ) → m < 2 ^ 64 → IsIncrement p x y m → IsHighPart p x y (m / 2 ^ 32)
 half_of p x y m fits h = record { part = m; fits = fits; is_part = h; is = refl }
-
--- both rows of eight columns are the sixteen lanes
-pub row_of : (p : Plane) (parts : List ℕ) → ((k : ℕ) → k < 8 → IsIncrement p (pos (256 * k)) (pos 0) (get_or parts k 0)) → ((k : ℕ) → k < 8 → IsIncrement p (pos (256 * k)) (pos 256) (get_or parts (k + 8) 0))
-    → (i : ℕ) → i < 16 → IsIncrement p (pos (256 * (i % 8))) (pos (256 * (i / 8))) (get_or parts i 0)
-row_of p parts first second i less =
-    elim (cases_lt i 8) [
-      | inl l ↦
-          let column : 256 * (i % 8) ≡ 256 * i = omega (arith, l) in
-          let row : 256 * (i / 8) ≡ 0 = omega (arith, l) in
-          rw (column, row) (first i l)
-      | inr l ↦
-          let column : 256 * (i % 8) ≡ 256 * (i - 8) = omega (arith, l, less) in
-          let row : 256 * (i / 8) ≡ 256 = omega (arith, l, less) in
-          let place : i - 8 + 8 ≡ i = omega (arith, l) in
-          let part = second (i - 8) (omega (arith, l, less)) in
-          rw (column, row) (rw place at part)
-    ]
 
 -- the heights at sixteen pixels
 translated : (start x y r b a d : ℤ) → start +ℤ (x *ℤ a +ℤ y *ℤ d) +ℤ (r *ℤ a +ℤ b *ℤ d) ≡ start +ℤ ((x +ℤ r) *ℤ a +ℤ (y +ℤ b) *ℤ d)

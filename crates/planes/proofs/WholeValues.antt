@@ -4,6 +4,7 @@ use Rattle.std.specs.Int.{◌∣◌, int_rem_euclid}
 use Rattle.std.specs.Option.{is_some}
 use Rattle.std.specs.Int.RustNames.{unsigned_abs}
 use Rattle.std.proofs.lemmas.Int.{ints, to_z-of_z, unsigned_abs-mul}
+use Rattle.std.proofs.Math.Nat.{one-dvd}
 use Rattle.std.proofs.lemmas.Nat.{div-add-mod'}
 use Rattle.std.proofs.lemmas.Nat.Gcd.{mod-eq-zero_of_dvd, dvd_trans}
 use Rattle.grid.specs.declared.sample_count.SampleCount.{SampleCount}
@@ -138,6 +139,15 @@ whole_from k area s m n (Some g) across a down d corner e f e' f' is past_x past
   of_numerator = whole_numerator g area s m n divides.of_area (multiple_of_32 g s.across a across e e' divides.of_across) (multiple_of_32 g s.down d down f f' divides.of_down) past_x past_y
       (multiple_of_size g (m +ℤ n) (subst (λ c. g ∣ c) is divides.of_corner));
   few = few;
+}
+
+-- the unit is 1
+pub whole_of_one : (k area bits : ℕ) (s : Slope) → 6 * area < 2 ^ bits * 2 ^ k → bits ≡ 0 → IsWholeSlope k area s
+whole_of_one k area bits s few none = record {
+  unit = 1;
+  of_area = one-dvd area;
+  of_numerator = λ x y on_x on_y. record { times = numerator s area x y; is = omega (arith, ints) };
+  few = rw none at few;
 }
 
 -- ---- the samples of a pixel

@@ -1,5 +1,5 @@
 -- What a triangle's vertices have, as planes.
-use Rattle.std.specs.Prelude.{◌≡◌, ◌⊎◌, ℕ, true, pos, ◌*◌, ◌/◌, ◌%◌, ◌<◌, ◌≤◌, List, length, slice_index}
+use Rattle.std.specs.Prelude.{◌≡◌, ◌⊎◌, ℕ, IsTrue, true, pos, ◌*◌, ◌/◌, ◌%◌, ◌<◌, ◌≤◌, List, length, slice_index}
 use Rattle.std.specs.Int.RustNames.{unsigned_abs}
 use Rattle.grid.specs.Position.{Position}
 use Rattle.grid.specs.Triangle.{doubled_area, Covers}
@@ -90,6 +90,7 @@ pub record AreColourSlopes (t : Placed) (s : ColourSlopes) : Type 0 where
   pub of_green : Writes t.state.merge 1 → IsChannelSlope t 1 s.green
   pub of_blue : Writes t.state.merge 2 → IsChannelSlope t 2 s.blue
   pub of_alpha : t.state.merge.over ≡ true → IsChannelSlope t 3 s.alpha
+  pub has_alpha : t.state.merge.over ≡ true → IsTrue s.has_alpha
 
 -- The growths of all four channels fit 41 bits and a sign.
 pub record AreBounded (s : ColourSlopes) : Type 0 where

@@ -58,6 +58,8 @@ pub struct ColourSlopes {
     green: Slope,
     blue: Slope,
     alpha: Slope,
+    /// Whether alpha is asked for.
+    has_alpha: bool,
 }
 
 impl ColourSlopes {
@@ -76,6 +78,7 @@ impl ColourSlopes {
             green: channel_slope(used && merge.write[1], placed, 1),
             blue: channel_slope(used && merge.write[2], placed, 2),
             alpha: channel_slope(used && merge.over, placed, 3),
+            has_alpha: used && merge.over,
         }
     }
 
@@ -130,7 +133,25 @@ impl ColourPlanes {
             red: AttributePlane::new(&slopes.red, reciprocal, 24, search),
             green: AttributePlane::new(&slopes.green, reciprocal, 24, search),
             blue: AttributePlane::new(&slopes.blue, reciprocal, 24, search),
-            alpha: AttributePlane::new(&slopes.alpha, reciprocal, 24, search),
+            alpha: AttributePlane::new_if(slopes.has_alpha, &slopes.alpha, reciprocal, 24, search),
+        }
+    }
+
+    /// The same if they are used, and else planes that nobody reads.
+    #[inline(always)]
+    pub fn of_used(
+        used: bool,
+        slopes: &ColourSlopes,
+        reciprocal: Reciprocal,
+        search: bool,
+    ) -> ColourPlanes
+        requires { AreLevel reciprocal.area slopes.now }
+        ensures { (t : Triangle) → IsTrue used → reciprocal.area ≡ unsigned_abs (doubled_area t.tri.a t.tri.b t.tri.c) → AreColourSlopes t slopes.now → AreColourPlanes t result }
+    {
+        if used {
+            ColourPlanes::new(slopes, reciprocal, search)
+        } else {
+            ColourPlanes::none()
         }
     }
 

@@ -24,8 +24,10 @@ impl Corrections {
 
     /// Whether whole values have to be searched for: once, if there were many corrections.
     pub fn ask_for_search(&mut self) -> bool {
-        let asks = !self.searched && self.count >= MANY;
-        self.searched |= asks;
-        asks
+        if self.count < MANY || self.searched {
+            return false;
+        }
+        self.searched = true;
+        true
     }
 }

@@ -1,4 +1,4 @@
-ghost use Rattle.std.specs.Prelude.{◌≡◌, ◌<◌, ℕ, IfSome, length, slice_index};
+ghost use Rattle.std.specs.Prelude.{◌≡◌, ◌<◌, ℕ, IfSome, IsTrue, length, slice_index};
 ghost use Rattle.std.specs.Int.RustNames.{unsigned_abs};
 ghost use Rattle.grid.specs.Triangle.{doubled_area, Covers};
 ghost use Rattle.shade.specs.declared.placed.Placed.{Placed as Triangle};
@@ -33,6 +33,20 @@ impl DepthPlane {
     {
         DepthPlane {
             depth: AttributePlane::new(slope, reciprocal, 16, search),
+        }
+    }
+
+    /// The same if it is used, and else a plane that nobody reads.
+    #[inline(always)]
+    pub fn of_used(used: bool, slope: &Slope, reciprocal: Reciprocal, search: bool) -> DepthPlane
+        requires { IsLevel 48 reciprocal.area slope.now }
+        ensures { (t : Triangle) → IsTrue used → reciprocal.area ≡ unsigned_abs (doubled_area t.tri.a t.tri.b t.tri.c)
+            → IsSlope t.tri.a t.tri.b t.tri.c (slice_index t.z 0) (slice_index t.z 1) (slice_index t.z 2) slope.now → Are16Bit (slice_index t.z 0) (slice_index t.z 1) (slice_index t.z 2) → IsDepthPlane t result }
+    {
+        if used {
+            DepthPlane::new(slope, reciprocal, search)
+        } else {
+            DepthPlane::none()
         }
     }
 

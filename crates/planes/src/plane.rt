@@ -150,21 +150,29 @@ impl Plane {
         self.start.wrapping_add(self.part(x, y))
     }
 
-    /// The growth to each of sixteen pixels, eight columns by two rows, modulo 2^64.
+    /// The growth to each of sixteen pixels, eight columns by two rows, modulo 2^64. It is a sum of lanes that have few different
+    /// numbers, so that few of them are formed one by one.
     #[inline(always)]
     fn parts(&self) -> u64x16
         ensures length { length result ≡ 16 }
         ensures each { (i : ℕ) → i < 16 → IsIncrement self.now (pos (256 * (i % 8))) (pos (256 * (i / 8))) (slice_index result i) }
     {
-        let (across, down) = (scaled(256, self.across), scaled(256, self.down));
-        let mut parts = [0; 16];
-        let mut part: u64 = 0;
-        for i in 0..8 {
-            parts[i] = part;
-            parts[i + 8] = part.wrapping_add(down);
-            part = part.wrapping_add(across);
-        }
-        u64x16::from_array(parts)
+        let (one, two, three) = (
+            scaled(256, self.across),
+            scaled(512, self.across),
+            scaled(768, self.across),
+        );
+        let (four, below) = (scaled(1024, self.across), scaled(256, self.down));
+        let columns = u64x16::from_array([
+            0, one, two, three, 0, one, two, three, 0, one, two, three, 0, one, two, three,
+        ]);
+        let fours = u64x16::from_array([
+            0, 0, 0, 0, four, four, four, four, 0, 0, 0, 0, four, four, four, four,
+        ]);
+        let rows = u64x16::from_array([
+            0, 0, 0, 0, 0, 0, 0, 0, below, below, below, below, below, below, below, below,
+        ]);
+        columns + fours + rows
     }
 
     /// The high halves of the growth to each of sixteen pixels, eight columns by two rows.

@@ -114,6 +114,13 @@ impl Slope {
         requires fraction { (fraction ≡ 16) ⊎ (fraction ≡ 24) }
         ensures { IsTrue result → IsWholeSlope fraction reciprocal.area self.now }
     {
+        let bits = reciprocal.unit_bits(fraction);
+        if bits == 0 {
+            return true;
+        }
+        if !search && !is_multiple(reciprocal.area, bits) {
+            return false;
+        }
         let corner = past_eighth(self.x, self.across) + past_eighth(self.y, self.down);
         large_unit(
             reciprocal,

@@ -1,32 +1,34 @@
-use Rattle.std.proofs.Common.{◌≡◌, ◌≢◌, refl, ◌<◌, ◌+◌, ◌*◌, length, slice_set, arith, rules, get_or-set_other, get_or-set_same, below_more, FitsSigned, w64}
-use Rattle.planes.proofs.FixedPoint.{part_none, part_stepped, part_lower, row_of}
+use Rattle.std.proofs.Common.{ℕ, ◌+◌, ◌/◌, ◌%◌, ◌*◌, ◌^◌, List, [], ◌∷◌, get_or, pos, rules, FitsSigned, w64}
+use lib.Lanes.{zip2}
+use Rattle.planes.specs.Plane.{IsIncrement}
+use Rattle.planes.proofs.Lanes.{sixteen}
+use Rattle.planes.proofs.FixedPoint.{passed, nothing, grown}
 use Rattle.planes.proofs.plane.Plane.parts.Goals as goal
 
-pub loop-i-init : goal.loop-i-init
-loop-i-init c = (refl, part_none c.args.self.now, λ k h. absurd (omega (arith, h)), λ k h. absurd (omega (arith, h)))
-
-pub loop-i-preserved : goal.loop-i-preserved
-loop-i-preserved c =
-    let i = c.loop-i.i in
+pub returns-clause-each : goal.returns-clause-each
+returns-clause-each c =
     let p = c.args.self.now in
-    let m = c.loop-i.part in
-    let less : i < 8 = omega (arith, c.loop-i-test.true) in
     let across : FitsSigned w64 p.across = search rules in
     let down : FitsSigned w64 p.down = search rules in
-    let room : i < length c.loop-i.parts = omega (arith, c.loop-i.invariant.0, less) in
-    let long : length (slice_set c.loop-i.parts i (m)) ≡ 16 = search (rules, c.loop-i.invariant.0) in
-    let room' : i + 8 < length (slice_set c.loop-i.parts i (m)) = omega (arith, long, less) in
-    let apart : i ≢ i + 8 = omega arith in
-    let next : 256 * i + 256 ≡ 256 * (i + 1) = omega arith in (
-      search rules,
-      rw next at (part_stepped p (256 * i) m c.scaled-across.result across c.loop-i.invariant.1 c.scaled-across.ensures),
-      below_more _ _
-          (λ k h. let ne : k ≢ i = omega arith in let ne' : k ≢ i + 8 = omega arith in rw (get_or-set_other, get_or-set_other) (c.loop-i.invariant.2 k h))
-          (rw (get_or-set_other, get_or-set_same) c.loop-i.invariant.1),
-      below_more _ _
-          (λ k h. let ne : k + 8 ≢ i = omega arith in let ne' : k + 8 ≢ i + 8 = omega arith in rw (get_or-set_other, get_or-set_other) (c.loop-i.invariant.3 k h))
-          (rw get_or-set_same (part_lower p (256 * i) m c.scaled-down.result down c.loop-i.invariant.1 c.scaled-down.ensures)),
-    )
-
-pub returns-clause-each : goal.returns-clause-each
-returns-clause-each c = row_of c.args.self.now c.loop-i.parts (λ k l. c.loop-i.invariant.2 k (omega (arith, l, c.loop-i-test.false))) (λ k l. c.loop-i.invariant.3 k (omega (arith, l, c.loop-i-test.false)))
+    let none = nothing p.across in
+    let one = passed (pos 256) p.across c.scaled-one.result across c.scaled-one.ensures in
+    let two = passed (pos 512) p.across c.scaled-two.result across c.scaled-two.ensures in
+    let three = passed (pos 768) p.across c.scaled-three.result across c.scaled-three.ensures in
+    let four = passed (pos 1024) p.across c.scaled-four.result across c.scaled-four.ensures in
+    let here = nothing p.down in
+    let below = passed (pos 256) p.down c.scaled-below.result down c.scaled-below.ensures in
+    let a = c.scaled-one.result in
+    let b = c.scaled-two.result in
+    let d = c.scaled-three.result in
+    let f = c.scaled-four.result in
+    let r = c.scaled-below.result in
+    let add : List ℕ → List ℕ → List ℕ = zip2 (λ m n. (m + n) % 2 ^ 64) in
+    let columns : List ℕ = 0 ∷ a ∷ b ∷ d ∷ 0 ∷ a ∷ b ∷ d ∷ 0 ∷ a ∷ b ∷ d ∷ 0 ∷ a ∷ b ∷ d ∷ [] in
+    let fours : List ℕ = 0 ∷ 0 ∷ 0 ∷ 0 ∷ f ∷ f ∷ f ∷ f ∷ 0 ∷ 0 ∷ 0 ∷ 0 ∷ f ∷ f ∷ f ∷ f ∷ [] in
+    let rows : List ℕ = 0 ∷ 0 ∷ 0 ∷ 0 ∷ 0 ∷ 0 ∷ 0 ∷ 0 ∷ r ∷ r ∷ r ∷ r ∷ r ∷ r ∷ r ∷ r ∷ [] in
+    let sum = add (add columns fours) rows in
+    sixteen (λ i. IsIncrement p (pos (256 * (i % 8))) (pos (256 * (i / 8))) (get_or sum i 0))
+    (grown p (pos 0) (pos 0) (pos 0) _ _ _ none none here) (grown p (pos 256) (pos 0) (pos 0) _ _ _ one none here) (grown p (pos 512) (pos 0) (pos 0) _ _ _ two none here) (grown p (pos 768) (pos 0) (pos 0) _ _ _ three none here)
+    (grown p (pos 0) (pos 1024) (pos 0) _ _ _ none four here) (grown p (pos 256) (pos 1024) (pos 0) _ _ _ one four here) (grown p (pos 512) (pos 1024) (pos 0) _ _ _ two four here) (grown p (pos 768) (pos 1024) (pos 0) _ _ _ three four here)
+    (grown p (pos 0) (pos 0) (pos 256) _ _ _ none none below) (grown p (pos 256) (pos 0) (pos 256) _ _ _ one none below) (grown p (pos 512) (pos 0) (pos 256) _ _ _ two none below) (grown p (pos 768) (pos 0) (pos 256) _ _ _ three none below)
+    (grown p (pos 0) (pos 1024) (pos 256) _ _ _ none four below) (grown p (pos 256) (pos 1024) (pos 256) _ _ _ one four below) (grown p (pos 512) (pos 1024) (pos 256) _ _ _ two four below) (grown p (pos 768) (pos 1024) (pos 256) _ _ _ three four below)

@@ -1,7 +1,10 @@
 use Rattle.std.proofs.Common.{refl, rules, subst, arith, IsTrue, FitsSigned, w32, w64}
 use Rattle.std.proofs.lemmas.Int.{ints, to_z-of_z}
-use Rattle.planes.proofs.WholeValues.{whole_from}
+use Rattle.planes.proofs.WholeValues.{whole_from, whole_of_one}
 use Rattle.planes.proofs.slope.Slope.is_whole.Goals as goal
+
+pub returns-then-bits-eq0 : goal.returns-then-bits-eq0
+returns-then-bits-eq0 c found = whole_of_one c.args.fraction c.args.reciprocal.area c.unit_bits-bits.result c.args.self.now c.unit_bits-bits.ensures.few c.if-bits-eq0.true
 
 pub returns : goal.returns
 returns c found =
