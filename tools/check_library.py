@@ -15,7 +15,7 @@ import os
 import shutil
 import sys
 
-from tools.library import arm64, canvas_examples, canvas_page, examples, from_rust, in_c, install
+from tools.library import arm64, canvas_examples, examples, from_rust, in_c, install, page_examples
 from tools.library.commands import OUT, PACKAGE_ENVIRONMENT
 from tools.library.lists import write_lists
 from tools.library.tally import Tally
@@ -32,13 +32,16 @@ def check_all(tally: Tally, seed: int) -> None:
     in_c.check_libraries(tally)
     in_c.check_by_c(tally)
     in_c.check_by_cpp(tally)
-    for language in ("c", "cpp", "python", "rust"):
-        tally.run(f"docs/canvas.md: the example in {language}", canvas_page.check, language)
+    for page, language in page_examples.AROUND:
+        tally.run(f"{page}: the example in {language}", page_examples.check, page, language)
     for threads in (1, 4, 7):
         tally.run(f"examples/c: frames by {threads} threads", examples.check_frames, threads)
+    tally.run("examples/c: canvas", examples.check_c_canvas)
+    tally.run("memcheck finds nothing in examples/c/canvas", examples.check_c_canvas, "memcheck")
     tally.run("examples/cpp: draw", examples.check_cpp)
     tally.run("examples/cpp: canvas", examples.check_cpp_canvas)
     canvas_examples.check(tally)
+    tally.run("examples/python: canvas", examples.check_python_canvas)
     tally.run("examples/python: coverage", examples.check_coverage)
     tally.run("examples/python: viewer", examples.check_viewer)
     tally.run("examples/python: what the viewer refuses", examples.check_viewer_refuses)

@@ -130,6 +130,14 @@ class Names(unittest.TestCase):
         of_toolchain = set[str]().union(*named.values()) - set(named)
         self.assertLessEqual(of_toolchain, set(re.findall(r"`(\w+)`", trusted[0].split("\n\n")[0])))
 
+    def test_quoted_programs(self) -> None:
+        for page, language, *path in (
+            ("docs/canvas.md", "c", "examples", "c", "canvas.c"),
+            ("docs/canvas.md", "python", "examples", "python", "canvas.py"),
+        ):
+            quoted = re.search(rf"```{language}\n(.*?)```", text_of(page), re.DOTALL)
+            self.assertTrue(quoted and quoted[1] == text_of(*path), f"{page} does not begin with {os.path.join(*path)}")
+
     def test_number_of_mutants(self) -> None:
         self.assertIn(f"that {len(mutants.MUTANTS)} wrong rules", text_of("docs/proofs.md"))
 

@@ -11,14 +11,16 @@ import sys
 from tools import picture_file, places, reference
 from tools.draw_list import DrawList, encode
 from tools.library.commands import (
-    OUT, PACKAGE_ENVIRONMENT, SHARED, WARNINGS, drawn_by_program, must_be_the_programs, need, python_with, run,
+    OUT, PACKAGE_ENVIRONMENT, SHARED, WARNINGS, drawn_by_program, must_be_silent, must_be_the_programs, need, python_with, run,
 )
 from tools.library.lists import read_lists
+from tools.library.page_examples import SCENE
 from tools.library.tally import MAX_SECONDS, must
 from tools.places import EXAMPLES, INCLUDE, STATIC_LIBRARY
 
 C_EXAMPLE = os.path.join(EXAMPLES, "c", "frames.c")
 CPP_EXAMPLE = os.path.join(EXAMPLES, "cpp", "draw.cpp")
+C_CANVAS_EXAMPLE = os.path.join(EXAMPLES, "c", "canvas.c")
 CANVAS_EXAMPLE = os.path.join(EXAMPLES, "cpp", "canvas.cpp")
 PYTHON_EXAMPLES = os.path.join(EXAMPLES, "python")
 FRAMES = 6
@@ -56,6 +58,23 @@ def check_cpp() -> str:
         wanted = drawn_by_program(text)
         must((done.returncode, done.stdout, done.stderr) == wanted, f"other bytes for {text[:200]!r}")
     return f"{len(lists.drawn)} lists drawn and {len(lists.refused)} refused"
+
+
+# ---- Canvases
+
+
+def check_c_canvas(tool: str = "") -> None:
+    """canvas.c writes the program's picture of its triangle, if a tool is given under that tool of valgrind, which finds nothing."""
+    program = os.path.join(OUT, "c_canvas")
+    run([need("gcc"), "-std=c11", "-O2", "-g", *WARNINGS, "-I", INCLUDE, "-o", program, C_CANVAS_EXAMPLE, STATIC_LIBRARY])
+    written = must_be_silent(tool, [program]) if tool else run([program])
+    must(written == drawn_by_program(encode(SCENE)).output, "another picture")
+
+
+def check_python_canvas() -> None:
+    """canvas.py writes the program's picture of its triangle."""
+    written = run([sys.executable, os.path.join(PYTHON_EXAMPLES, "canvas.py")], env=PACKAGE_ENVIRONMENT)
+    must(written == drawn_by_program(encode(SCENE)).output, "another picture")
 
 
 # What canvas.cpp draws.
