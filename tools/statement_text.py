@@ -21,9 +21,17 @@ COUNTING = tuple(("crates/trirast/src/counted.rt", call) for call in ("new", "re
 BEGINNING = """\
 # What is proved
 
-This page has the theorem about `trirast::run` and every definition of this repository that it rests on, in reading order. Who
-reads it knows what is proved, without the code and without the proofs. `python3 -m tools.statement` makes it of the sources,
-and the gate compares the two.
+This page has the theorem about `trirast::run`, the call that reads a draw list and writes its picture, and every definition of this
+repository that the theorem rests on, in reading order. With it a reader needs neither the code nor the proofs of that call.
+
+The page covers `trirast::run` only. [proofs.md](proofs.md) has the promises of all other calls, each with the clauses that carry it:
+[the program](proofs.md#the-program), [the library for C](proofs.md#the-library), [a canvas](proofs.md#a-canvas). Their definitions stand
+in `crates/*/specs`.
+
+The [Glossary](#glossary) explains each symbol and each name of the toolchain, as `negsuc` and `R.remaining`. The [Index](#index) says which
+section defines a name of this repository, as `Counted`.
+
+`python3 -m tools.statement` makes the page from the sources, and CI compares the two.
 """
 
 HOW_TO_READ = """\
@@ -44,11 +52,25 @@ HOW_TO_READ = """\
 
 THEOREM_TEXT = """\
 If a run returns `Ok`, the input's bytes denote a draw list, and what was written is the file of that list's picture. If it
-returns an error, `Explains` says what was read and written by then. `EndsAs`, the last definition of this page, is both. It
-speaks of the bytes that a reader and a writer make known, as those over memory do.
+returns an error, `Explains` says what was read and written by then. `EndsAs`, the last definition of this page, is both. Its
+arguments are these:
 
-The rest of the page begins with what a sample is and ends with `EndsAs`; each definition uses only what stands before it. That a
-run ever ends is not proved. `README.md` has the premises and what is trusted, and `docs/proofs.md` has all other promises.
+| Argument | In the theorem | Meaning |
+|---|---|---|
+| `side` | `options.tile` | the tile size |
+| `result` | `result` | what the run returns: `Ok`, or an error, which is a `Fault` |
+| `left` | `R.remaining input.old.inner` | the bytes that the reader has left before the run |
+| `left_after` | `R.remaining input.new.inner` | the bytes that the reader has left after the run |
+| `held` | `W.contents output.old.inner` | the bytes that the writer holds before the run |
+| `held_after` | `W.contents output.new.inner` | the bytes that the writer holds after the run |
+| `ReadHasFailed` | `input.old.failures < input.new.failures` | a call of the reader failed in the run |
+| `WriteHasFailed` | `output.old.failures < output.new.failures` | a call of the writer failed in the run |
+
+`left` and `held` are known of readers and writers that make their bytes known, as those over memory do. Of others, as standard input and
+output, they are `None`, and the theorem then leaves their bytes open. That those report their bytes as memory does is the first of the
+[premises](proofs.md#premises). What is trusted stands in [proofs.md](proofs.md#trusted) too. That a run ever ends is not proved.
+
+The rest of the page begins with what a sample is and ends with `EndsAs`. Each definition uses only what stands before it.
 """
 
 GLOSSARY_TEXT = """\
