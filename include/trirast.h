@@ -265,7 +265,7 @@ typedef struct trirast_vertex {
 
 /* One draw of a batch. Begin with TRIRAST_BATCH_DRAW_INIT, and set vertex_count, index_count and topology. */
 typedef struct trirast_batch_draw {
-    uint32_t vertex_count; /* its vertices, which follow those of the draws before it: at most 65,536 */
+    uint32_t vertex_count; /* its vertices, which follow those of the draws before it: in a scene at most 65,536 */
     uint32_t index_count;  /* its indices, which follow those of the draws before it */
     uint32_t topology;     /* a trirast_topology */
     uint32_t cull;         /* a trirast_cull */
@@ -276,20 +276,20 @@ typedef struct trirast_batch_draw {
     uint32_t write_green;
     uint32_t write_blue;
     uint32_t sample_mask;  /* bit s is 1 if sample s is drawn: 0 to 15 */
-    uint32_t scissor_left; /* the pixels that are drawn, right and bottom outside: 0 to 4096 each */
+    uint32_t scissor_left; /* the pixels that are drawn, right and bottom outside: 0 to 4096 each, on a canvas 0 to 32,768 */
     uint32_t scissor_top;
     uint32_t scissor_right;
     uint32_t scissor_bottom;
 } trirast_batch_draw;
 
-/* The draws of a scene with their vertices and indices. Begin with TRIRAST_BATCH_INIT. */
+/* Draws with their vertices and indices, for a scene or a canvas. Begin with TRIRAST_BATCH_INIT. */
 typedef struct trirast_batch {
     uint32_t struct_size;            /* sizeof(trirast_batch) */
     uint32_t draw_size;              /* sizeof(trirast_batch_draw) */
     uint32_t vertex_size;            /* sizeof(trirast_vertex) */
     uint32_t index_size;             /* sizeof(uint32_t) */
     const trirast_batch_draw *draws; /* in the order in which they are drawn */
-    size_t draw_count;               /* at most 1,024 */
+    size_t draw_count;               /* in a scene at most 1,024, on a canvas at most 4,294,967,295 */
     const trirast_vertex *vertices;  /* of all draws, one draw's after another's */
     size_t vertex_count;
     const uint32_t *indices;         /* of all draws, one draw's after another's; 0 is the first vertex of the draw */
@@ -297,7 +297,7 @@ typedef struct trirast_batch {
 } trirast_batch;
 
 /* The defaults of the format of draw lists, for a declaration: trirast_scene_head head = TRIRAST_SCENE_HEAD_INIT;
- * What has no default is 0. The scissor is as large as any picture. */
+ * What has no default is 0. The scissor is as large as any picture; a canvas may need a larger one (trirast_canvas_draw). */
 #define TRIRAST_SCENE_HEAD_INIT {sizeof(trirast_scene_head), 0, 0, 1, TRIRAST_OUTPUT_COLOR, 0, 0, 0, 65535}
 #define TRIRAST_BATCH_DRAW_INIT \
     {0, 0, TRIRAST_TOPOLOGY_TRIANGLES, TRIRAST_CULL_NONE, TRIRAST_DEPTH_ALWAYS, 0, TRIRAST_BLEND_NONE, 1, 1, 1, 15, 0, 0, \
