@@ -95,8 +95,8 @@ trirast = {{ path = "{}" }}
 COMPILERS = {"c": ("gcc", "-std=c11"), "cpp": ("g++", "-std=c++17")}
 
 
-def written_by(name: str, language: str, text: str) -> bytes:
-    """Builds a program of this name and runs it. Returns what it writes."""
+def written_by(name: str, language: str, text: str, draw_list: bytes) -> bytes:
+    """Builds a program of this name and runs it on a list, which it need not read. Returns what it writes."""
     if language == "python":
         return run([sys.executable, "-c", text], env=PACKAGE_ENVIRONMENT)
     if language == "rust":
@@ -109,7 +109,7 @@ def written_by(name: str, language: str, text: str) -> bytes:
     with open(source, "w", encoding="ascii") as file:
         file.write(text)
     run([need(compiler), standard, *WARNINGS, "-I", INCLUDE, "-o", program, source, STATIC_LIBRARY])
-    return run([program])
+    return run([program], input=draw_list)
 
 
 def check(page: str, language: str) -> None:
@@ -118,7 +118,8 @@ def check(page: str, language: str) -> None:
     must(len(blocks) > 0, f"no example in {language}")
     around = AROUND[page, language]
     name = f"page_{os.path.basename(page).split('.')[0].lower()}_{language}"
-    written = written_by(name, language, "".join([around.before, *blocks, around.behind]))
-    wanted = drawn_by_program(encode(around.scene)).output
+    draw_list = encode(around.scene)
+    written = written_by(name, language, "".join([around.before, *blocks, around.behind]), draw_list)
+    wanted = drawn_by_program(draw_list).output
     pixels = picture_file.decode(wanted).pixel_data
     must(written in (wanted, pixels, f"{list(pixels[:3])}\n".encode()), "another picture")
