@@ -21,8 +21,8 @@ COUNTING = tuple(("crates/trirast/src/counted.rt", call) for call in ("new", "re
 BEGINNING = """\
 # What is proved
 
-This page has the theorem about `trirast::run`, the call that reads a draw list and writes its picture, and every definition of this
-repository that the theorem rests on, in reading order. With it a reader needs neither the code nor the proofs of that call.
+This page has the theorem about `trirast::run`, the call that reads a draw list and writes its picture. It has every definition of this
+repository that the theorem rests on, in reading order. So its reader needs neither the code nor the proofs of that call.
 
 The page covers `trirast::run` only. [proofs.md](proofs.md) has the promises of all other calls, each with the clauses that carry it:
 [the program](proofs.md#the-program), [the library for C](proofs.md#the-library), [a canvas](proofs.md#a-canvas). Their definitions stand
