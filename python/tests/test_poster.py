@@ -242,13 +242,13 @@ class Stopped(Files):
         """Draws some rows of windows, and then fails as where a disk is full."""
         kept = _journal.Journal.kept
 
-        def kept_then_full(journal: _journal.Journal, windows: Any) -> None:
+        def kept_then_full(journal: _journal.Journal, checksum: str) -> None:
             if len(lines) == rows:
                 raise OSError("full")
-            lines.append(windows)
-            kept(journal, windows)
+            lines.append(checksum)
+            kept(journal, checksum)
 
-        lines: List[Any] = []
+        lines: List[str] = []
         with mock.patch.object(_journal.Journal, "kept", kept_then_full), self.assertRaises(OSError):
             poster.draw_poster(random_scene(6), self.path(out), window=32, **how)
 
@@ -271,10 +271,10 @@ class Stopped(Files):
         self.assertEqual(self.content("a.ppm"), trirast.draw_file(as_list(random_scene(6))))
 
     def test_a_journal_that_was_cut_is_read_as_far_as_it_goes(self) -> None:
-        path = self.write("journal", b'{"list": "a"}\n{"windows": ["b"]}\n{"wind')
+        path = self.write("journal", b'{"list": "a"}\n{"row": "b"}\n{"ro')
         journal = _journal.Journal(path, {"list": "a"}, resume=True)
         self.addCleanup(journal.close)
-        self.assertEqual(journal.rows, [["b"]])
+        self.assertEqual(journal.rows, ["b"])
 
 
 class Command(Files):
