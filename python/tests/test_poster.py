@@ -7,6 +7,7 @@ import os
 import tempfile
 import unittest
 import zlib
+from concurrent.futures import ThreadPoolExecutor
 from contextlib import redirect_stderr
 from typing import Any, Dict, List
 from unittest import mock
@@ -125,20 +126,43 @@ class Arrays(Files):
 
 
 class Windows(unittest.TestCase):
-    def test_index_has_the_triangles_whose_bounds_meet_a_window(self) -> None:
+    def test_index_has_the_triangles_whose_bounds_meet_a_tile_row(self) -> None:
         scene = random_scene(2, triangles=1000)
-        windows = _windows.Windows(scene.sheet, 37)
-        index = _index.Index.of(scene, windows, least=1)
         corners = scene.vertices[:, :2][scene.triangles].astype(np.int64)
-        for window in windows.from_row(0):
-            low = np.array((window.left, window.top)) * 256
-            size = np.array((window.width, window.height)) * 256
-            meets = ((corners.max(1) >= low) & (corners.min(1) < low + size)).all(1)
-            # The last window's bounds reach past the sheet by less than a window; what is there meets no sample.
-            found = index.of_window(window)
-            self.assertTrue(set(np.flatnonzero(meets)) <= set(found.tolist()), window)
-            self.assertEqual(sorted(found.tolist()), found.tolist())
-            self.assertLess(len(found), len(scene.triangles))
+        for side in (37, 64, 100, 192):
+            windows = _windows.Windows(scene.sheet, side)
+            index = _index.Index.of(scene, windows, chunk=7)
+            for window in windows.from_row(0):
+                # The last window's bounds reach past the sheet by less than a window; what is there meets no sample.
+                found, ends = index.of_window(window)
+                self.assertEqual((len(ends), ends[-1]), (windows.tile_rows, len(found)))
+                for area, begin, end in zip(window.tile_rows, [0, *ends], ends):
+                    low, behind = np.array(area).reshape(2, 2) * 256
+                    meets = ((corners.max(1) >= low) & (corners.min(1) < behind)).all(1)
+                    self.assertTrue(set(np.flatnonzero(meets)) <= set(found[begin:end].tolist()), area)
+                    self.assertEqual(sorted(set(found[begin:end].tolist())), found[begin:end].tolist())
+                    self.assertLess(end - begin, len(scene.triangles))
+
+    def test_neighbours_in_one_place_are_one_run(self) -> None:
+        vertices = np.zeros((4, 7), np.int32)
+        vertices[:, 0] = 10, 99, 16383, 16384
+        scene = poster.Scene(poster.Sheet(200, 64), vertices, np.array([[0, 1, 2], [2, 1, 0], [1, 2, 3], [0, 0, 0]], np.int32), [poster.PosterDraw(4)])
+        windows = _windows.Windows(scene.sheet, 64)
+        runs = _index.runs_of(_index.cells_of(vertices, windows, ThreadPoolExecutor(1)).numbers, scene.triangles, 5, windows)
+        self.assertEqual([each.tolist() for each in runs], [[5, 7, 7, 8], [2, 1, 1, 1], [0, 0, 1, 0]])
+
+    def test_pieces_are_where_triangles_are(self) -> None:
+        vertices = np.array([[256 * x, 256 * y, 0, 9, 9, 9, 9] for x, y in ((10, 10), (12, 10), (10, 150), (900, 70), (999, 70), (950, 80))])
+        value = {"width": 1024, "height": 200, "draws": [{"triangles": 1, "blend": "over"}, {"triangles": 0}, {"triangles": 1}]}
+        scene = poster.scene_of_arrays(vertices, np.array([[0, 1, 2], [3, 4, 5]]), value)
+        windows = _windows.Windows(scene.sheet, 1024)
+        (part,) = (_part.part_of(scene, _index.Index.of(scene, windows), window) for window in windows.from_row(0))
+        # The first triangle meets three tile rows, and the second one of them. Their bounds together are 16 tiles wide.
+        self.assertEqual([piece.area for piece in part.pieces], [(10, 10, 13, 64), (10, 64, 1000, 128), (10, 128, 13, 151)])
+        draws = [[(draw.triangles, dict(draw.state)) for draw in piece.draws] for piece in part.pieces]
+        self.assertEqual(draws, [[(1, {"blend": "over"})], [(1, {"blend": "over"}), (1, {})], [(1, {"blend": "over"})]])
+        (part,) = (_part.part_of(scene, _index.Index.of(scene, windows), window._replace(width=320)) for window in windows.from_row(0))
+        self.assertEqual([piece.area for piece in part.pieces], [(10, 10, 320, 151)])
 
     def test_a_part_has_its_vertices_alone(self) -> None:
         triangles = np.array([[7, 9, 7], [500000, 9, 8]], np.int32)
@@ -157,7 +181,7 @@ class Windows(unittest.TestCase):
             windows = _windows.Windows(scene.sheet, 128)
             index = _index.Index.of(part_scene, windows)
             parts = [_part.part_of(part_scene, index, window) for window in windows.from_row(0)]
-            self.assertEqual([_part.origin_of(part, part.window)[0] for part in parts], wanted)
+            self.assertEqual([_part.origin_of(part, part.window.area)[0] for part in parts], wanted)
 
     def test_a_triangle_that_cannot_be_moved_is_named(self) -> None:
         vertices = np.array([[-8388608, 0], [8388607, 0], [8388607, 70000]])
@@ -178,9 +202,11 @@ class Pictures(Files):
     def test_are_the_lists(self) -> None:
         scene = random_scene(3)
         wanted = trirast.draw_file(as_list(scene))
-        for workers, side in ((1, 64), (3, 50), (2, 512)):
-            poster.draw_poster(scene, self.path("a.ppm"), window=side, workers=workers)
-            self.assertEqual(self.content("a.ppm"), wanted)
+        for workers, side in ((1, 64), (3, 50), (2, 512), (2, 100)):
+            for few, together in ((_part.FEW, _part.TOGETHER), (_part.FEW, 0), (0, 0)):
+                with mock.patch.multiple(_part, FEW=few, TOGETHER=together):
+                    poster.draw_poster(scene, self.path("a.ppm"), window=side, workers=workers)
+                self.assertEqual(self.content("a.ppm"), wanted, (side, few, together))
         self.assertEqual(os.listdir(self.folder), ["a.ppm"])
 
     def test_a_pixel_may_have_more_than_a_list_has(self) -> None:

@@ -6,6 +6,8 @@ import hashlib
 import json
 from concurrent.futures import ThreadPoolExecutor
 from dataclasses import dataclass, field
+from functools import cached_property
+from itertools import accumulate
 from typing import TYPE_CHECKING, Any, Mapping, Sequence
 
 import numpy as np
@@ -55,6 +57,14 @@ class Sheet:
             return np.empty((height, width), ">u2")
         return np.empty((height, width, 3), np.uint8)
 
+    def cleared(self, height: int, width: int) -> Pixels:
+        """Pixels at which nothing is drawn."""
+        pixels = self.blank(height, width)
+        pixels[:1] = self.clear_depth if self.is_depth else self.clear
+        # Whole rows are copied many times faster than pixels.
+        pixels[1:] = pixels[:1]
+        return pixels
+
 
 @dataclass(frozen=True)
 class PosterDraw:
@@ -77,10 +87,10 @@ class Scene:
     triangles: Triangles
     draws: Sequence[PosterDraw]
 
-    @property
-    def ends(self) -> NDArray[np.int64]:
+    @cached_property
+    def ends(self) -> list[int]:
         """Of each draw the index at which its triangles end."""
-        return np.cumsum(np.array([draw.triangles for draw in self.draws], np.int64), dtype=np.int64)
+        return list(accumulate(draw.triangles for draw in self.draws))
 
     def checksum(self, threads: int = 1) -> str:
         """A checksum (BLAKE2b) of all that is drawn: of the state and the checksums of parts of the arrays."""
