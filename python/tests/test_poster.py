@@ -7,7 +7,6 @@ import os
 import tempfile
 import unittest
 import zlib
-from concurrent.futures import ThreadPoolExecutor
 from contextlib import redirect_stderr
 from typing import Any, Dict, List
 from unittest import mock
@@ -127,29 +126,30 @@ class Arrays(Files):
 
 class Windows(unittest.TestCase):
     def test_index_has_the_triangles_whose_bounds_meet_a_tile_row(self) -> None:
-        scene = random_scene(2, triangles=1000)
+        scene = random_scene(2, triangles=1000, reach=300)
         corners = scene.vertices[:, :2][scene.triangles].astype(np.int64)
-        for side in (37, 64, 100, 192):
+        low, high = corners.min(1), corners.max(1)
+        has_sample = np.zeros(1000, bool)
+        for place in ((96, 32), (224, 96), (32, 160), (160, 224)):
+            first = -((np.array(place) - low) // 256) * 256 + place
+            has_sample |= (first <= high).all(1)
+        for side, threads in ((37, 1), (64, 2), (100, 3), (192, 1)):
             windows = _windows.Windows(scene.sheet, side)
-            index = _index.Index.of(scene, windows, chunk=7)
+            with mock.patch.object(_index, "CHUNK", 150):
+                index = _index.Index.of(scene, windows, threads)
             for window in windows.from_row(0):
-                # The last window's bounds reach past the sheet by less than a window; what is there meets no sample.
-                found, ends = index.of_window(window)
+                found, ends, areas = index.of_window(window)
                 self.assertEqual((len(ends), ends[-1]), (windows.tile_rows, len(found)))
-                for area, begin, end in zip(window.tile_rows, [0, *ends], ends):
-                    low, behind = np.array(area).reshape(2, 2) * 256
-                    meets = ((corners.max(1) >= low) & (corners.min(1) < behind)).all(1)
-                    self.assertTrue(set(np.flatnonzero(meets)) <= set(found[begin:end].tolist()), area)
-                    self.assertEqual(sorted(set(found[begin:end].tolist())), found[begin:end].tolist())
-                    self.assertLess(end - begin, len(scene.triangles))
-
-    def test_neighbours_in_one_place_are_one_run(self) -> None:
-        vertices = np.zeros((4, 7), np.int32)
-        vertices[:, 0] = 10, 99, 16383, 16384
-        scene = poster.Scene(poster.Sheet(200, 64), vertices, np.array([[0, 1, 2], [2, 1, 0], [1, 2, 3], [0, 0, 0]], np.int32), [poster.PosterDraw(4)])
-        windows = _windows.Windows(scene.sheet, 64)
-        runs = _index.runs_of(_index.cells_of(vertices, windows, ThreadPoolExecutor(1)).numbers, scene.triangles, 5, windows)
-        self.assertEqual([each.tolist() for each in runs], [[5, 7, 7, 8], [2, 1, 1, 1], [0, 0, 1, 0]])
+                for area, tile_row, begin, end in zip(areas, window.tile_rows, [0, *ends], ends):
+                    here = found[begin:end].tolist()
+                    least, behind = np.array(tile_row).reshape(2, 2) * 256
+                    meets = np.flatnonzero(((high >= least) & (low < behind)).all(1) & has_sample)
+                    # The last window's bounds reach past the sheet by less than a window; what is there meets no sample.
+                    self.assertTrue(set(meets) <= set(here) <= set(np.flatnonzero(has_sample)), tile_row)
+                    self.assertEqual(sorted(set(here)), here)
+                    if here:
+                        bounds = (low[here].min(0) // 256).tolist() + (high[here].max(0) // 256 + 1).tolist()
+                        self.assertEqual(area, _windows.Area(*bounds).within(tile_row))
 
     def test_pieces_are_where_triangles_are(self) -> None:
         vertices = np.array([[256 * x, 256 * y, 0, 9, 9, 9, 9] for x, y in ((10, 10), (12, 10), (10, 150), (900, 70), (999, 70), (950, 80))])
@@ -203,11 +203,23 @@ class Pictures(Files):
         scene = random_scene(3)
         wanted = trirast.draw_file(as_list(scene))
         for workers, side in ((1, 64), (3, 50), (2, 512), (2, 100)):
-            for few, together in ((_part.FEW, _part.TOGETHER), (_part.FEW, 0), (0, 0)):
-                with mock.patch.multiple(_part, FEW=few, TOGETHER=together):
+            for few in (_part.FEW, 0):
+                with mock.patch.object(_part, "FEW", few):
                     poster.draw_poster(scene, self.path("a.ppm"), window=side, workers=workers)
-                self.assertEqual(self.content("a.ppm"), wanted, (side, few, together))
+                self.assertEqual(self.content("a.ppm"), wanted, (side, few))
         self.assertEqual(os.listdir(self.folder), ["a.ppm"])
+
+    def test_small_triangles_at_samples_are_the_lists(self) -> None:
+        pick = np.random.default_rng(4)
+        for samples, places in ((1, [(128, 128)]), (4, [(96, 32), (224, 96), (32, 160), (160, 224)])):
+            scene = random_scene(9, 70, 70, 70 * 70, 2)
+            pixels = np.stack(np.meshgrid(np.arange(70), np.arange(70)), 2).reshape(-1, 1, 2) * 256
+            at = pick.choice(np.array(places), (70 * 70, 1)) + pick.integers(-3, 4, (70 * 70, 1, 2))
+            scene.vertices[:, :2] = (pixels + at + pick.integers(-2, 3, (70 * 70, 3, 2))).reshape(-1, 2)
+            scene = poster.Scene(poster.Sheet(70, 70, samples), scene.vertices, scene.triangles, [poster.PosterDraw(70 * 70)])
+            poster.draw_poster(scene, self.path("a.ppm"), window=70)
+            self.assertEqual(self.content("a.ppm"), trirast.draw_file(as_list(scene)))
+            self.assertGreater(len(self.content("a.ppm")) - self.content("a.ppm").count(0), 99)
 
     def test_a_pixel_may_have_more_than_a_list_has(self) -> None:
         for draws, each in ((1025, 1), (1, 70_000)):

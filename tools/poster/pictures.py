@@ -29,8 +29,8 @@ from tools.poster import lists
 from tools.poster.common import content, dask, generated, local_cluster, program_file, run_checks
 
 TILE = 256
-# How windows are cut into pieces: by the bounds of their triangles, by those of each tile row, and into whole tile rows.
-CUTS = ({"FEW": _part.FEW}, {"TOGETHER": 0}, {"FEW": 0})
+# How many triangles of several tile rows are drawn together: as many as the package says, or none.
+FEW = (_part.FEW, 0)
 
 
 # ---- Lists up to 4096 pixels
@@ -58,10 +58,9 @@ def check_list(seed: int, folder: str, scheduler: Optional[str], workers: int) -
     wanted = program_file(value)
     path = os.path.join(folder, "list.ppm")
     scene = as_arrays(value, os.path.join(folder, "list.npz")) if seed % 2 else poster.scene_of_list(json.dumps(value).encode())
-    cut = CUTS[seed // 4 % len(CUTS)]
-    with mock.patch.multiple(_part, **cut):
+    with mock.patch.object(_part, "FEW", FEW[seed // 4 % 2]):
         got = draw(scene, path, window=side, workers=workers, scheduler=scheduler)
-    must(got == wanted, f"seed {seed}, window {side}, {workers} workers, {cut}: other bytes")
+    must(got == wanted, f"seed {seed}, window {side}, {workers} workers, FEW {FEW[seed // 4 % 2]}: other bytes")
     if seed % 5 == 0:
         png = draw(scene, os.path.join(folder, "list.png"), window=side, workers=workers, scheduler=scheduler)
         must(png_pixels(png) == wanted[-len(png_pixels(png)) :], f"seed {seed}, window {side}: other pixels in the PNG file")

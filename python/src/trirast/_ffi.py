@@ -276,10 +276,10 @@ def library_path() -> str:
 
 
 @lru_cache(maxsize=None)
-def library() -> Any:
-    """The library with the types of its calls. ctypes releases Python's lock during a call."""
+def library(kind: Any = ctypes.CDLL) -> Any:
+    """The library with the types of its calls. ctypes releases Python's lock during a call, and keeps it if the kind is ctypes.PyDLL."""
     path = library_path()
-    loaded = ctypes.CDLL(path)
+    loaded = kind(path)
     for name, takes, gives in PROTOTYPES:
         call = getattr(loaded, name)
         call.argtypes, call.restype = takes, gives

@@ -1,147 +1,178 @@
-"""Which triangles meet which tile rows of which windows, by their bounds, in the order in which they are drawn.
+"""Which triangles are drawn in which tile rows of which windows, by their bounds, in the order in which they are drawn.
 
-Triangles that are neighbours in a list mostly lie in one tile row of one window, so they are kept by runs: triangles one after
-another that meet the same places. The places of a sheet are the tile rows of its windows, window after window.
+Triangles whose bounds hold no sample are in no tile row: of a fine mesh these may be half. The places of a sheet are the tile rows of
+its windows, window after window.
 """
 
 from __future__ import annotations
 
 from concurrent.futures import ThreadPoolExecutor
-from typing import NamedTuple, Sequence
+from typing import NamedTuple, Optional, Sequence
 
 import numpy as np
 from numpy.typing import NDArray
 
 from ._draw_list import LIST_SIDE
 from ._errors import GuardBandError
-from ._scene import LOW, UNIT, Indices, Scene, Triangles, Vertices
-from ._windows import Window, Windows
+from ._scene import LOW, SAMPLES, UNIT, Boxes, Indices, Scene
+from ._windows import Area, Window, Windows
 
-# Vertices, or triangles, that are looked at together.
-CHUNK = 1 << 16
+# Triangles that are looked at together. Of fewer Python's lock would be handed from thread to thread too often.
+CHUNK = 1 << 17
 
 
-class Cells(NamedTuple):
-    """Of each vertex the column of windows and the tile row of the sheet in which it lies, 16 bits each, as one number.
+class Bounds(NamedTuple):
+    """Of each triangle the least and the greatest position of a corner on one axis, in 1/256 pixel."""
 
-    `low` is the least x and the least y of all vertices.
+    low: Indices
+    high: Indices
+
+
+class Group(NamedTuple):
+    """Some triangles by places: place after place, and ascending in each, as many as `counts` says.
+
+    `boxes` has of each place the pixels within the bounds of its triangles: the left column, the upper row, and of the right column and
+    the lower row the complements. `low` is the least x and the least y of all triangles, and of those that are left out.
     """
 
-    numbers: Indices
+    counts: NDArray[np.int64]
+    triangles: Indices
+    boxes: Boxes
     low: tuple[int, int]
 
 
-class Runs(NamedTuple):
-    """Runs by places: the first triangle of each, how many triangles it has, and one of the places that they meet."""
-
-    firsts: Indices
-    counts: Indices
-    places: Indices
-
-
 class Index:
-    """For each tile row of each window of a poster the indices of the triangles whose bounds meet it."""
+    """For each tile row of each window of a poster the indices of the triangles that are drawn there."""
 
-    def __init__(self, runs: Sequence[Runs], low: tuple[int, int], windows: Windows) -> None:
-        # No triangle has a corner with a smaller x, or with a smaller y.
-        self.low = low
+    def __init__(self, groups: Sequence[Group], windows: Windows, pool: ThreadPoolExecutor) -> None:
         self._columns, self._tile_rows = windows.columns, windows.tile_rows
-        count = len(windows) * windows.tile_rows
-        firsts, counts, places = (np.concatenate(arrays) for arrays in zip(EMPTY, *runs))
-        # numpy sorts 16 bits several times faster than 32.
-        order = np.argsort(places.astype(np.uint16) if count <= 1 << 16 else places, kind="stable")
-        self._firsts, self._counts = firsts[order], counts[order]
-        self._starts = np.zeros(count + 1, np.int64)
-        np.cumsum(np.bincount(places, minlength=count), out=self._starts[1:])
+        counts = np.array([group.counts for group in groups])
+        self._ends = np.cumsum(counts.sum(0))
+        self._boxes = np.minimum.reduce([group.boxes for group in groups])
+        self._triangles = np.empty(self._ends[-1], np.int32)
+
+        def put(group: Group, first: NDArray[np.int64]) -> None:
+            """Puts the triangles of a group to those of the groups before it; `first` is where they go, by places."""
+            moved = np.repeat(first - (np.cumsum(group.counts) - group.counts), group.counts)
+            self._triangles[np.arange(len(moved)) + moved] = group.triangles
+
+        list(pool.map(put, groups, self._ends - counts.sum(0) + np.cumsum(counts, 0) - counts))
+        x, y = (min(group.low[axis] for group in groups) for axis in range(2))
+        # The least x and the least y of all triangles.
+        self.low = (x, y)
 
     @classmethod
-    def of(cls, scene: Scene, windows: Windows, threads: int = 1, chunk: int = CHUNK) -> Index:
+    def of(cls, scene: Scene, windows: Windows, threads: int = 1) -> Index:
         """The index of a scene. Raises GuardBandError if a triangle cannot be moved into a window that it meets."""
+        count = len(scene.triangles)
+        ends = [count * (thread + 1) // threads for thread in range(threads)]
         with ThreadPoolExecutor(threads) as pool:
-            cells = cells_of(scene.vertices, windows, pool)
+            groups = pool.map(lambda first, end: group_of(scene, first, end, windows), [0, *ends], ends)
+            return cls(list(groups), windows, pool)
 
-            def runs_at(first: int) -> Runs:
-                triangles = np.asarray(scene.triangles[first : first + chunk])
-                check_guard_band(scene.vertices, triangles, first, windows, cells.low)
-                return runs_of(cells.numbers, triangles, first, windows)
-
-            return cls(list(pool.map(runs_at, range(0, len(scene.triangles), chunk))), cells.low, windows)
-
-    def of_window(self, window: Window) -> tuple[NDArray[np.int64], list[int]]:
-        """The triangles of a window, tile row after tile row and ascending in each, and where those of each tile row end."""
-        place = (window.row * self._columns + window.column) * self._tile_rows
-        starts = self._starts[place : place + self._tile_rows + 1]
-        runs = slice(starts[0], starts[-1])
-        counts = self._counts[runs]
-        ends = np.zeros(len(counts) + 1, np.int64)
-        np.cumsum(counts, out=ends[1:])
-        triangles = np.arange(ends[-1])
-        triangles += np.repeat(self._firsts[runs] - ends[:-1], counts)
-        return triangles, ends[starts[1:] - starts[0]].tolist()
+    def of_window(self, window: Window) -> tuple[Indices, list[int], list[Area]]:
+        """The triangles of a window, tile row after tile row and ascending in each; where those of each tile row end; and the pixels
+        of each tile row that are within their bounds."""
+        first = (window.row * self._columns + window.column) * self._tile_rows
+        places = slice(first, first + self._tile_rows)
+        ends = self._ends[places].tolist()
+        begin = int(self._ends[first - 1]) if first else 0
+        boxes = self._boxes[places].tolist()
+        areas = [
+            area.within(Area(left, top, -right, -bottom)) for area, (left, top, right, bottom) in zip(window.tile_rows, boxes)
+        ]
+        return self._triangles[begin : ends[-1]], [end - begin for end in ends], areas
 
 
-EMPTY = Runs(*np.zeros((3, 0), np.int32))
+def group_of(scene: Scene, first: int, end: int, windows: Windows) -> Group:
+    """The triangles from `first` to before `end` by places."""
+    vertices = np.asarray(scene.vertices)
+    lows, found = [(0, 0)][: first == end], [(np.zeros(0, np.int32), np.zeros(0, np.int32), no_boxes(0))]
+    for begin in range(first, end, CHUNK):
+        corners = np.ascontiguousarray(scene.triangles[begin : min(begin + CHUNK, end)].T, np.intp)
+        across, down = (bounds_of(vertices[:, axis], corners) for axis in range(2))
+        for axis, bounds in enumerate((across, down)):
+            check_guard_band(bounds, begin, axis, windows)
+        lows.append((int(across.low.min()), int(down.low.min())))
+        drawn = np.flatnonzero(hold_samples(across, down, scene.sheet.samples))
+        across, down = (Bounds(bounds.low[drawn], bounds.high[drawn]) for bounds in (across, down))
+        count, places = meetings(across, down, windows)
+        found.append((np.repeat((drawn + begin).astype(np.int32), count), places, np.repeat(boxes_of(across, down), count, 0)))
+    triangles, places, boxes = (np.concatenate(arrays) for arrays in zip(*found))
+    del found
+    return grouped(triangles, windows.places[places], boxes, len(windows.places), (min(x for x, _ in lows), min(y for _, y in lows)))
 
 
-def cells_of(vertices: Vertices, windows: Windows, pool: ThreadPoolExecutor) -> Cells:
-    """The cells of vertices."""
-    numbers = np.empty(len(vertices), np.int32)
-
-    def set_cells(first: int) -> tuple[int, int]:
-        part = vertices[first : first + CHUNK]
-        x, y = (np.ascontiguousarray(part[:, axis]) for axis in range(2))
-        pairs = numbers[first : first + CHUNK].view(np.int16).reshape(-1, 2)
-        pairs[:, 0], pairs[:, 1] = windows.columns_at(x), windows.tile_rows_at(y)
-        return int(x.min()), int(y.min())
-
-    lows = list(pool.map(set_cells, range(0, len(vertices), CHUNK)))
-    x, y = (min(low[axis] for low in lows) if lows else 0 for axis in range(2))
-    return Cells(numbers, (x, y))
+def grouped(triangles: Indices, places: Indices, boxes: Boxes, count: int, low: tuple[int, int]) -> Group:
+    """A group of triangles, each with a place that it meets, and with its box."""
+    # numpy sorts 16 bits several times faster than 32.
+    order = np.argsort(places.astype(np.uint16) if count <= 1 << 16 else places, kind="stable")
+    counts = np.bincount(places, minlength=count)
+    met = np.flatnonzero(counts)
+    of_places = no_boxes(count)
+    if len(met):
+        of_places[met] = np.minimum.reduceat(boxes.take(order, 0), (np.cumsum(counts) - counts)[met])
+    return Group(counts, triangles[order], of_places, low)
 
 
-def runs_of(cells: Indices, triangles: Triangles, first: int, windows: Windows) -> Runs:
-    """The runs of some triangles, the first of which has the index `first`. A triangle that lies in several cells is a run."""
-    corners = cells.take(triangles)
-    cell = corners[:, 0]
-    is_spread = (corners[:, 1] != cell) | (corners[:, 2] != cell)
-    begins = is_spread.copy()
-    begins[:1] = True
-    begins[1:] |= is_spread[:-1] | (cell[1:] != cell[:-1])
-    firsts = np.flatnonzero(begins)
-    counts = np.diff(firsts, append=len(triangles)).astype(np.int32)
-    which, places = meetings(corners[firsts], windows)
-    return Runs(firsts[which].astype(np.int32) + np.int32(first), counts[which], places)
+def boxes_of(across: Bounds, down: Bounds) -> Boxes:
+    """The pixels within bounds, as a group has them."""
+    boxes = np.empty((len(across.low), 4), np.int16)
+    for side, positions in enumerate((across.low, down.low, ~across.high, ~down.high)):
+        boxes[:, side] = positions >> 8
+    return boxes
 
 
-def meetings(corners: Indices, windows: Windows) -> tuple[NDArray[np.int64], Indices]:
-    """Each meeting of a triangle, by the cells of its corners, and a place: the number of the triangle, ascending, and the place."""
-    a, b, c = corners.view(np.int16).reshape(-1, 3, 2).transpose(1, 0, 2)
-    last = np.array((windows.columns - 1, windows.last_tile_row), np.int16)
-    low = np.maximum(np.minimum(np.minimum(a, b), c), 0).astype(np.int32)
-    high = np.minimum(np.maximum(np.maximum(a, b), c), last)
-    size = np.maximum(high - low + 1, 0)
-    count = size[:, 0] * size[:, 1]
-    which = np.repeat(np.arange(len(count)), count)
-    # Of each triangle the places are counted row by row.
-    number = np.arange(len(which)) - np.repeat(np.cumsum(count) - count, count)
-    down, across = np.divmod(number, size[which, 0])
-    row, tile_row = np.divmod(low[which, 1] + down, windows.tile_rows)
-    return which, ((row * windows.columns + low[which, 0] + across) * windows.tile_rows + tile_row).astype(np.int32)
+def no_boxes(count: int) -> Boxes:
+    """Boxes without a pixel."""
+    return np.full((count, 4), 32767, np.int16)
 
 
-def check_guard_band(vertices: Vertices, triangles: Triangles, first: int, windows: Windows, low: tuple[int, int]) -> None:
-    """Raises GuardBandError if one of some triangles, the first of which has the index `first`, cannot be moved into a window that
-    it meets. No vertex lies left of `low` or above it."""
-    for axis, most in enumerate((windows.columns, windows.rows)):
-        step = windows.side * UNIT
-        # A window can take every vertex that lies no further left or above than this.
-        if low[axis] >= (most - 1) * step + LOW:
-            continue
-        positions = vertices[:, axis][triangles]
-        least, last = positions.min(1), np.minimum(positions.max(1) // step, most - 1)
-        far = np.flatnonzero((np.maximum(least // step, 0) <= last) & is_too_far(least, last, axis, windows))
-        if len(far):
-            raise GuardBandError(first + int(far[0]), "xy"[axis])
+def bounds_of(positions: Indices, corners: NDArray[np.intp]) -> Bounds:
+    """The bounds of triangles, of which `corners` has the first, the second and the third corners."""
+    a, b, c = positions[corners]
+    return Bounds(np.minimum(np.minimum(a, b), c), np.maximum(np.maximum(a, b), c))
+
+
+def hold_samples(across: Bounds, down: Bounds, samples: int) -> NDArray[np.bool_]:
+    """Of each triangle whether a sample lies within its bounds."""
+    right, below = (bounds.high.astype(np.uint8) for bounds in (across, down))
+    wide, tall = (np.minimum(bounds.high - bounds.low, UNIT - 1).astype(np.uint8) for bounds in (across, down))
+    found = np.zeros(len(wide), np.bool_)
+    for x, y in SAMPLES[samples]:
+        # The differences, of which 8 bits stay, are how far the last sample within the upper bound lies before that.
+        found |= (right - np.uint8(x) <= wide) & (below - np.uint8(y) <= tall)
+    return found
+
+
+def meetings(across: Bounds, down: Bounds, windows: Windows) -> tuple[Indices, Indices]:
+    """How many places each triangle meets, and the places, triangle after triangle, each counted along the tile rows of the sheet."""
+    left, right = np.maximum(windows.columns_at(across.low), 0), np.minimum(windows.columns_at(across.high), windows.columns - 1)
+    top, bottom = np.maximum(windows.tile_rows_at(down.low), 0), np.minimum(windows.tile_rows_at(down.high), windows.last_tile_row)
+    wide = np.maximum(right - left + 1, 0)
+    count = wide * np.maximum(bottom - top + 1, 0)
+    places = np.repeat(top * np.int32(windows.columns) + left, count)
+    # Nearly all triangles meet one place. The places of the others are counted row by row.
+    many = np.flatnonzero(count > 1)
+    if len(many):
+        counts = count[many].astype(np.int64)
+        number = np.arange(int(counts.sum())) - np.repeat(np.cumsum(counts) - counts, counts)
+        row, column = np.divmod(number, np.repeat(wide[many], counts))
+        begin = np.repeat(np.cumsum(count, dtype=np.int64)[many] - counts, counts)
+        places[begin + number] += (row * windows.columns + column).astype(np.int32)
+    return count, places
+
+
+def check_guard_band(bounds: Bounds, first: int, axis: int, windows: Windows) -> None:
+    """Raises GuardBandError if one of some triangles cannot be moved into a window that it meets. The first has the index `first`."""
+    most, step = (windows.columns, windows.rows)[axis], windows.side * UNIT
+    # A window can take every vertex that lies no further left or above than this.
+    if int(bounds.low.min()) >= (most - 1) * step + LOW:
+        return
+    last = np.minimum(bounds.high // step, most - 1)
+    far = np.flatnonzero((np.maximum(bounds.low // step, 0) <= last) & is_too_far(bounds.low, last, axis, windows))
+    if len(far):
+        raise GuardBandError(first + int(far[0]), "xy"[axis])
 
 
 def is_too_far(low: Indices, last: Indices, axis: int, windows: Windows) -> NDArray[np.bool_]:

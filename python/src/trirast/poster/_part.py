@@ -9,7 +9,7 @@ import numpy as np
 from numpy.typing import NDArray
 
 from ._index import Index
-from ._scene import HIGH, LOW, UNIT, Scene, Sheet, Triangles, Vertices
+from ._scene import HIGH, LOW, UNIT, Indices, Scene, Sheet, Triangles, Vertices
 from ._windows import Area, Window
 
 # Vertices are looked up in blocks of 256: neighbours in a list are neighbours on the sheet, so a window names few blocks. If a table of
@@ -17,9 +17,8 @@ from ._windows import Area, Window
 BLOCK_BITS = 8
 BLOCK_MASK = (1 << BLOCK_BITS) - 1
 SPREAD = 16
-# Of at most FEW triangles the bounds are found, outside of which nothing is drawn. Within bounds of at most TOGETHER tiles they are
-# drawn together, and else tile row by tile row.
-FEW = 4096
+# At most FEW triangles of several tile rows are drawn together, if they lie within TOGETHER tiles.
+FEW = 256
 TOGETHER = 16
 
 
@@ -54,46 +53,28 @@ class Part(NamedTuple):
 
 def part_of(scene: Scene, index: Index, window: Window) -> Part:
     """The part of a window, over all vertices of the scene."""
-    chosen, ends = index.of_window(window)
-    triangles = scene.triangles.take(chosen, 0)
-    areas = window.tile_rows
+    chosen, ends, areas = index.of_window(window)
     if len(chosen) <= FEW:
-        areas, bounds = areas_of(np.asarray(scene.vertices), triangles, window, ends)
+        bounds = bounds_of([area for area in areas if area.pixels])
         if bounds.tiles <= TOGETHER:
             # A triangle that meets several tile rows is drawn once.
             chosen = np.unique(chosen)
-            triangles, areas, ends = scene.triangles.take(chosen, 0), [bounds], [len(chosen)]
-    pieces = pieces_of(scene, chosen, areas, ends)
+            areas, ends = [bounds], [len(chosen)]
+    triangles = scene.triangles.take(chosen, 0)
+    pieces = []
+    for area, begin, end in zip(areas, [0, *ends], ends):
+        if begin < end and area.pixels:
+            pieces.append(Piece(area, begin, draws_of(scene, chosen[begin:end])))
     return Part(scene.sheet, window, low_of(scene, index, window, triangles), scene.vertices, triangles, pieces)
 
 
-def areas_of(vertices: Vertices, triangles: Triangles, window: Window, ends: Sequence[int]) -> tuple[list[Area], Area]:
-    """Of each tile row of a window the pixels that its triangles can meet, and those that any triangle can meet."""
-    areas, begins = window.tile_rows, [0, *ends]
-    met = [row for row in range(len(areas)) if begins[row] < ends[row]]
-    if not met:
-        return areas, window.area._replace(right=window.left)
-    a, b, c = vertices[:, :2][triangles.T.ravel()].reshape(3, -1, 2)
-    first = [begins[row] for row in met]
-    low = np.minimum.reduceat(np.minimum(np.minimum(a, b), c), first) // UNIT
-    high = np.maximum.reduceat(np.maximum(np.maximum(a, b), c), first) // UNIT + 1
-    for row, least, most in zip(met, low.tolist(), high.tolist()):
-        areas[row] = Area(*least, *most).within(areas[row])
-    return areas, Area(*low.min(0).tolist(), *high.max(0).tolist()).within(window.area)
+def bounds_of(areas: Sequence[Area]) -> Area:
+    """The smallest area in which areas lie."""
+    lefts, tops, rights, bottoms = zip(*areas) if areas else ((0,),) * 4
+    return Area(min(lefts), min(tops), max(rights), max(bottoms))
 
 
-def pieces_of(scene: Scene, chosen: NDArray[np.int64], areas: Sequence[Area], ends: Sequence[int]) -> list[Piece]:
-    """The pieces of areas, each of which has the triangles that are chosen up to its end."""
-    pieces = []
-    begin = 0
-    for area, end in zip(areas, ends):
-        if begin < end and area.pixels:
-            pieces.append(Piece(area, begin, draws_of(scene, chosen[begin:end])))
-        begin = end
-    return pieces
-
-
-def draws_of(scene: Scene, chosen: NDArray[np.int64]) -> list[PartDraw]:
+def draws_of(scene: Scene, chosen: Indices) -> list[PartDraw]:
     """The draws that have some triangles, which are ascending."""
     draws = []
     while len(chosen):

@@ -21,6 +21,8 @@ if TYPE_CHECKING:
 # The guard band: positions are in 1/256 pixel.
 LOW, HIGH = -8388608, 8388607
 UNIT = 256
+# Where the samples of a pixel lie, in 1/256 pixel (docs/rules.md), by their number.
+SAMPLES = {1: ((128, 128),), 4: ((96, 32), (224, 96), (32, 160), (160, 224))}
 # Sides of a poster, in pixels: what the guard band reaches.
 MAX_SIDE = 32768
 VERTEX_NUMBERS = 7
@@ -33,6 +35,7 @@ Vertices: TypeAlias = "NDArray[np.int32]"
 Triangles: TypeAlias = "NDArray[np.int32]"
 Pixels: TypeAlias = "NDArray[Any]"
 Indices: TypeAlias = "NDArray[np.int32]"
+Boxes: TypeAlias = "NDArray[np.int16]"
 
 
 @dataclass(frozen=True)

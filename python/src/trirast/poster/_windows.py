@@ -4,6 +4,8 @@ from __future__ import annotations
 
 from typing import Iterator, NamedTuple
 
+import numpy as np
+
 from ._draw_list import LIST_SIDE
 from ._scene import UNIT, Indices, Sheet
 
@@ -89,6 +91,10 @@ class Windows:
         # The tile rows of a window, and the last one of the sheet.
         self.tile_rows = -(-side // TILE)
         self.last_tile_row = (self.rows - 1) * self.tile_rows + (self.row_height(self.rows - 1) - 1) // TILE
+
+        # The tile rows of windows, window after window, by their numbers along the tile rows of the sheet.
+        places = np.arange(len(self) * self.tile_rows, dtype=np.int32).reshape(self.rows, self.columns, self.tile_rows)
+        self.places: Indices = np.ascontiguousarray(places.transpose(0, 2, 1)).ravel()
 
     def __len__(self) -> int:
         return self.columns * self.rows
