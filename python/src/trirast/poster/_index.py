@@ -19,6 +19,8 @@ from ._windows import Area, Window, Windows
 
 # Triangles that are looked at together. Of fewer Python's lock would be handed from thread to thread too often.
 CHUNK = 1 << 17
+# A group has at least as many triangles for each place, since it has a table of them.
+FOR_A_PLACE = 4
 
 
 class Bounds(NamedTuple):
@@ -32,7 +34,7 @@ class Group(NamedTuple):
     """Some triangles by places: place after place, and ascending in each, as many as `counts` says.
 
     `boxes` has of each place the pixels within the bounds of its triangles: the left column, the upper row, and of the right column and
-    the lower row the complements. `low` is the least x and the least y of all triangles, and of those that are left out.
+    the lower row the complements. No triangle, also of those that are left out, lies left of `low` or above it.
     """
 
     counts: NDArray[np.int64]
@@ -58,17 +60,18 @@ class Index:
 
         list(pool.map(put, groups, self._ends - counts.sum(0) + np.cumsum(counts, 0) - counts))
         x, y = (min(group.low[axis] for group in groups) for axis in range(2))
-        # The least x and the least y of all triangles.
+        # No triangle lies left of it or above it.
         self.low = (x, y)
 
     @classmethod
     def of(cls, scene: Scene, windows: Windows, threads: int = 1) -> Index:
         """The index of a scene. Raises GuardBandError if a triangle cannot be moved into a window that it meets."""
         count = len(scene.triangles)
-        ends = [count * (thread + 1) // threads for thread in range(threads)]
+        groups = max(1, min(threads, count // (FOR_A_PLACE * len(windows.places))))
+        ends = [count * (group + 1) // groups for group in range(groups)]
         with ThreadPoolExecutor(threads) as pool:
-            groups = pool.map(lambda first, end: group_of(scene, first, end, windows), [0, *ends], ends)
-            return cls(list(groups), windows, pool)
+            found = pool.map(lambda first, end: group_of(scene, first, end, windows), [0, *ends], ends)
+            return cls(list(found), windows, pool)
 
     def of_window(self, window: Window) -> tuple[Indices, list[int], list[Area]]:
         """The triangles of a window, tile row after tile row and ascending in each; where those of each tile row end; and the pixels
@@ -86,21 +89,21 @@ class Index:
 
 def group_of(scene: Scene, first: int, end: int, windows: Windows) -> Group:
     """The triangles from `first` to before `end` by places."""
-    vertices = np.asarray(scene.vertices)
-    lows, found = [(0, 0)][: first == end], [(np.zeros(0, np.int32), np.zeros(0, np.int32), no_boxes(0))]
+    vertices, low = np.asarray(scene.vertices), (0, 0)
+    found = [(np.zeros(0, np.int32), np.zeros(0, np.int32), no_boxes(0))]
     for begin in range(first, end, CHUNK):
         corners = np.ascontiguousarray(scene.triangles[begin : min(begin + CHUNK, end)].T, np.intp)
         across, down = (bounds_of(vertices[:, axis], corners) for axis in range(2))
         for axis, bounds in enumerate((across, down)):
             check_guard_band(bounds, begin, axis, windows)
-        lows.append((int(across.low.min()), int(down.low.min())))
+        low = min(low[0], int(across.low.min())), min(low[1], int(down.low.min()))
         drawn = np.flatnonzero(hold_samples(across, down, scene.sheet.samples))
         across, down = (Bounds(bounds.low[drawn], bounds.high[drawn]) for bounds in (across, down))
         count, places = meetings(across, down, windows)
         found.append((np.repeat((drawn + begin).astype(np.int32), count), places, np.repeat(boxes_of(across, down), count, 0)))
     triangles, places, boxes = (np.concatenate(arrays) for arrays in zip(*found))
     del found
-    return grouped(triangles, windows.places[places], boxes, len(windows.places), (min(x for x, _ in lows), min(y for _, y in lows)))
+    return grouped(triangles, windows.places[places], boxes, len(windows.places), low)
 
 
 def grouped(triangles: Indices, places: Indices, boxes: Boxes, count: int, low: tuple[int, int]) -> Group:
