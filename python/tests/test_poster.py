@@ -140,29 +140,33 @@ class Windows(unittest.TestCase):
             for window in windows.from_row(0):
                 found, ends, areas = index.of_window(window)
                 self.assertEqual((len(ends), ends[-1]), (windows.tile_rows, len(found)))
-                for area, tile_row, begin, end in zip(areas, window.tile_rows, [0, *ends], ends):
+                for tile_row, (area, begin, end) in enumerate(zip(areas, [0, *ends], ends)):
                     here = found[begin:end].tolist()
-                    least, behind = np.array(tile_row).reshape(2, 2) * 256
+                    top = window.top + 64 * tile_row
+                    pixels = np.array((window.left, top, window.right, min(top + 64, window.bottom)))
+                    least, behind = pixels.reshape(2, 2) * 256
                     meets = np.flatnonzero(((high >= least) & (low < behind)).all(1) & has_sample)
                     # The last window's bounds reach past the sheet by less than a window; what is there meets no sample.
                     self.assertTrue(set(meets) <= set(here) <= set(np.flatnonzero(has_sample)), tile_row)
                     self.assertEqual(sorted(set(here)), here)
                     if here:
-                        bounds = (low[here].min(0) // 256).tolist() + (high[here].max(0) // 256 + 1).tolist()
-                        self.assertEqual(area, _windows.Area(*bounds).within(tile_row))
+                        bounds = np.maximum(low[here].min(0) // 256, pixels[:2]), np.minimum(high[here].max(0) // 256 + 1, pixels[2:])
+                        self.assertEqual(list(area), np.concatenate(bounds).tolist())
 
     def test_pieces_are_where_triangles_are(self) -> None:
-        vertices = np.array([[256 * x, 256 * y, 0, 9, 9, 9, 9] for x, y in ((10, 10), (12, 10), (10, 150), (900, 70), (999, 70), (950, 80))])
         value = {"width": 1024, "height": 200, "draws": [{"triangles": 1, "blend": "over"}, {"triangles": 0}, {"triangles": 1}]}
-        scene = poster.scene_of_arrays(vertices, np.array([[0, 1, 2], [3, 4, 5]]), value)
-        windows = _windows.Windows(scene.sheet, 1024)
-        (part,) = (_part.part_of(scene, _index.Index.of(scene, windows), window) for window in windows.from_row(0))
-        # The first triangle meets three tile rows, and the second one of them. Their bounds together are 16 tiles wide.
-        self.assertEqual([piece.area for piece in part.pieces], [(10, 10, 13, 64), (10, 64, 1000, 128), (10, 128, 13, 151)])
-        draws = [[(draw.triangles, dict(draw.state)) for draw in piece.draws] for piece in part.pieces]
-        self.assertEqual(draws, [[(1, {"blend": "over"})], [(1, {"blend": "over"}), (1, {})], [(1, {"blend": "over"})]])
-        (part,) = (_part.part_of(scene, _index.Index.of(scene, windows), window._replace(width=320)) for window in windows.from_row(0))
-        self.assertEqual([piece.area for piece in part.pieces], [(10, 10, 320, 151)])
+        # The first triangle meets three tile rows, and the second one of them. Their bounds together are 16 tiles wide, or 5.
+        apart = [((10, 10, 13, 64), [1, 0]), ((10, 64, 1000, 128), [1, 1]), ((10, 128, 13, 151), [1, 0])]
+        for right, wanted in ((999, apart), (310, [((10, 10, 311, 151), [1, 1])])):
+            places = ((10, 10), (12, 10), (10, 150), (200, 70), (right, 70), (250, 80))
+            vertices = np.array([[256 * x, 256 * y, 0, 9, 9, 9, 9] for x, y in places])
+            scene = poster.scene_of_arrays(vertices, np.array([[0, 1, 2], [3, 4, 5]]), value)
+            windows = _windows.Windows(scene.sheet, 1024)
+            (part,) = (_part.part_of(scene, _index.Index.of(scene, windows), window) for window in windows.from_row(0))
+            self.assertEqual([piece.area for piece in part.pieces], [area for area, _ in wanted])
+            for piece, (_, counts) in zip(part.pieces, wanted):
+                draws = [(count, draw) for count, draw in zip(counts, ({"blend": "over"}, {})) if count]
+                self.assertEqual([(draw.triangles, dict(draw.state)) for draw in piece.draws], draws)
 
     def test_a_part_has_its_vertices_alone(self) -> None:
         triangles = np.array([[7, 9, 7], [500000, 9, 8]], np.int32)

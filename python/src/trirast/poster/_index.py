@@ -15,7 +15,7 @@ from numpy.typing import NDArray
 from ._draw_list import LIST_SIDE
 from ._errors import GuardBandError
 from ._scene import LOW, SAMPLES, UNIT, Boxes, Indices, Scene
-from ._windows import Area, Window, Windows
+from ._windows import TILE, Area, Window, Windows
 
 # Triangles that are looked at together. Of fewer Python's lock would be handed from thread to thread too often.
 CHUNK = 1 << 17
@@ -50,7 +50,7 @@ class Index:
         self._columns, self._tile_rows = windows.columns, windows.tile_rows
         counts = np.array([group.counts for group in groups])
         self._ends = np.cumsum(counts.sum(0))
-        self._boxes = np.minimum.reduce([group.boxes for group in groups])
+        self._areas = areas_of(np.minimum.reduce([group.boxes for group in groups]).astype(np.int32), windows)
         self._triangles = np.empty(self._ends[-1], np.int32)
 
         def put(group: Group, first: NDArray[np.int64]) -> None:
@@ -80,10 +80,7 @@ class Index:
         places = slice(first, first + self._tile_rows)
         ends = self._ends[places].tolist()
         begin = int(self._ends[first - 1]) if first else 0
-        boxes = self._boxes[places].tolist()
-        areas = [
-            area.within(Area(left, top, -right, -bottom)) for area, (left, top, right, bottom) in zip(window.tile_rows, boxes)
-        ]
+        areas = list(map(Area._make, self._areas[places].tolist()))
         return self._triangles[begin : ends[-1]], [end - begin for end in ends], areas
 
 
@@ -129,6 +126,16 @@ def boxes_of(across: Bounds, down: Bounds) -> Boxes:
 def no_boxes(count: int) -> Boxes:
     """Boxes without a pixel."""
     return np.full((count, 4), 32767, np.int16)
+
+
+def areas_of(boxes: Indices, windows: Windows) -> Indices:
+    """Of each place the pixels of its tile row that are in its box: the numbers of an Area."""
+    window, tile_row = np.divmod(np.arange(len(boxes), dtype=np.int32), np.int32(windows.tile_rows))
+    row, column = np.divmod(window, np.int32(windows.columns))
+    left, top = column * windows.side, row * windows.side + tile_row * TILE
+    right, bottom = np.minimum(left + windows.side, windows.width), np.minimum((row + 1) * windows.side, windows.height)
+    ends = np.minimum(-boxes[:, 2], right), np.minimum(-boxes[:, 3], np.minimum(top + TILE, bottom))
+    return np.stack((np.maximum(boxes[:, 0], left), np.maximum(boxes[:, 1], top), *ends), 1)
 
 
 def bounds_of(positions: Indices, corners: NDArray[np.intp]) -> Bounds:

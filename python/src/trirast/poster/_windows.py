@@ -23,30 +23,14 @@ class Area(NamedTuple):
     bottom: int
 
     @property
-    def width(self) -> int:
-        """How many columns it has."""
-        return max(self.right - self.left, 0)
-
-    @property
-    def height(self) -> int:
-        """How many rows it has."""
-        return max(self.bottom - self.top, 0)
-
-    @property
     def pixels(self) -> int:
         """How many pixels it has."""
-        return self.width * self.height
+        return max(self.right - self.left, 0) * max(self.bottom - self.top, 0)
 
     @property
     def tiles(self) -> int:
         """How many tiles a canvas of this size has."""
-        return -(-self.width // TILE) * -(-self.height // TILE)
-
-    def within(self, other: Area) -> Area:
-        """The pixels of both."""
-        return Area(
-            max(self.left, other.left), max(self.top, other.top), min(self.right, other.right), min(self.bottom, other.bottom)
-        )
+        return -(-(self.right - self.left) // TILE) * -(-(self.bottom - self.top) // TILE)
 
 
 class Window(NamedTuple):
@@ -73,11 +57,6 @@ class Window(NamedTuple):
     def area(self) -> Area:
         """Its pixels."""
         return Area(self.left, self.top, self.right, self.bottom)
-
-    @property
-    def tile_rows(self) -> list[Area]:
-        """The pixels of each of its tile rows, from the top."""
-        return [Area(self.left, top, self.right, min(top + TILE, self.bottom)) for top in range(self.top, self.bottom, TILE)]
 
 
 class Windows:
