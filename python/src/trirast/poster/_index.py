@@ -17,9 +17,9 @@ from ._errors import GuardBandError
 from ._scene import LOW, SAMPLES, UNIT, Boxes, Indices, Scene
 from ._windows import TILE, Area, Window, Windows
 
-# Triangles that are looked at together. Of fewer Python's lock would be handed from thread to thread too often.
+# Triangles of a group. Of fewer Python's lock would be handed from thread to thread too often. There are at least as many for each place,
+# since a group has a table of them.
 CHUNK = 1 << 17
-# A group has at least as many triangles for each place, since it has a table of them.
 FOR_A_PLACE = 4
 
 
@@ -66,12 +66,10 @@ class Index:
     @classmethod
     def of(cls, scene: Scene, windows: Windows, threads: int = 1) -> Index:
         """The index of a scene. Raises GuardBandError if a triangle cannot be moved into a window that it meets."""
-        count = len(scene.triangles)
-        groups = max(1, min(threads, count // (FOR_A_PLACE * len(windows.places))))
-        ends = [count * (group + 1) // groups for group in range(groups)]
+        chunk = max(CHUNK, FOR_A_PLACE * len(windows.places))
         with ThreadPoolExecutor(threads) as pool:
-            found = pool.map(lambda first, end: group_of(scene, first, end, windows), [0, *ends], ends)
-            return cls(list(found), windows, pool)
+            groups = pool.map(lambda first: group_of(scene, first, first + chunk, windows), range(0, max(1, len(scene.triangles)), chunk))
+            return cls(list(groups), windows, pool)
 
     def of_window(self, window: Window) -> tuple[Indices, list[int], list[Area]]:
         """The triangles of a window, tile row after tile row and ascending in each; where those of each tile row end; and the pixels
@@ -86,33 +84,24 @@ class Index:
 
 def group_of(scene: Scene, first: int, end: int, windows: Windows) -> Group:
     """The triangles from `first` to before `end` by places."""
-    vertices, low = np.asarray(scene.vertices), (0, 0)
-    found = [(np.zeros(0, np.int32), np.zeros(0, np.int32), no_boxes(0))]
-    for begin in range(first, end, CHUNK):
-        corners = np.ascontiguousarray(scene.triangles[begin : min(begin + CHUNK, end)].T, np.intp)
-        across, down = (bounds_of(vertices[:, axis], corners) for axis in range(2))
-        for axis, bounds in enumerate((across, down)):
-            check_guard_band(bounds, begin, axis, windows)
-        low = min(low[0], int(across.low.min())), min(low[1], int(down.low.min()))
-        drawn = np.flatnonzero(hold_samples(across, down, scene.sheet.samples))
-        across, down = (Bounds(bounds.low[drawn], bounds.high[drawn]) for bounds in (across, down))
-        count, places = meetings(across, down, windows)
-        found.append((np.repeat((drawn + begin).astype(np.int32), count), places, np.repeat(boxes_of(across, down), count, 0)))
-    triangles, places, boxes = (np.concatenate(arrays) for arrays in zip(*found))
-    del found
-    return grouped(triangles, windows.places[places], boxes, len(windows.places), low)
-
-
-def grouped(triangles: Indices, places: Indices, boxes: Boxes, count: int, low: tuple[int, int]) -> Group:
-    """A group of triangles, each with a place that it meets, and with its box."""
+    vertices = np.asarray(scene.vertices)
+    corners = np.ascontiguousarray(scene.triangles[first:end].T, np.intp)
+    across, down = (bounds_of(vertices[:, axis], corners) for axis in range(2))
+    for axis, bounds in enumerate((across, down)):
+        check_guard_band(bounds, first, axis, windows)
+    low = int(across.low.min(initial=0)), int(down.low.min(initial=0))
+    drawn = np.flatnonzero(hold_samples(across, down, scene.sheet.samples))
+    across, down = (Bounds(bounds.low[drawn], bounds.high[drawn]) for bounds in (across, down))
+    count, places = meetings(across, down, windows)
+    places = windows.places[places]
     # numpy sorts 16 bits several times faster than 32.
-    order = np.argsort(places.astype(np.uint16) if count <= 1 << 16 else places, kind="stable")
-    counts = np.bincount(places, minlength=count)
+    order = np.argsort(places.astype(np.uint16) if len(windows.places) <= 1 << 16 else places, kind="stable")
+    counts = np.bincount(places, minlength=len(windows.places))
+    boxes = no_boxes(len(counts))
     met = np.flatnonzero(counts)
-    of_places = no_boxes(count)
     if len(met):
-        of_places[met] = np.minimum.reduceat(boxes.take(order, 0), (np.cumsum(counts) - counts)[met])
-    return Group(counts, triangles[order], of_places, low)
+        boxes[met] = np.minimum.reduceat(np.repeat(boxes_of(across, down), count, 0).take(order, 0), (np.cumsum(counts) - counts)[met])
+    return Group(counts, np.repeat((drawn + first).astype(np.int32), count)[order], boxes, low)
 
 
 def boxes_of(across: Bounds, down: Bounds) -> Boxes:
@@ -177,7 +166,7 @@ def check_guard_band(bounds: Bounds, first: int, axis: int, windows: Windows) ->
     """Raises GuardBandError if one of some triangles cannot be moved into a window that it meets. The first has the index `first`."""
     most, step = (windows.columns, windows.rows)[axis], windows.side * UNIT
     # A window can take every vertex that lies no further left or above than this.
-    if int(bounds.low.min()) >= (most - 1) * step + LOW:
+    if int(bounds.low.min(initial=0)) >= (most - 1) * step + LOW:
         return
     last = np.minimum(bounds.high // step, most - 1)
     far = np.flatnonzero((np.maximum(bounds.low // step, 0) <= last) & is_too_far(bounds.low, last, axis, windows))
