@@ -7,7 +7,7 @@ its windows, window after window.
 from __future__ import annotations
 
 from concurrent.futures import ThreadPoolExecutor
-from typing import NamedTuple, Optional, Sequence
+from typing import Iterable, NamedTuple
 
 import numpy as np
 from numpy.typing import NDArray
@@ -37,7 +37,7 @@ class Group(NamedTuple):
     the lower row the complements. No triangle, also of those that are left out, lies left of `low` or above it.
     """
 
-    counts: NDArray[np.int64]
+    counts: Indices
     triangles: Indices
     boxes: Boxes
     low: tuple[int, int]
@@ -46,22 +46,26 @@ class Group(NamedTuple):
 class Index:
     """For each tile row of each window of a poster the indices of the triangles that are drawn there."""
 
-    def __init__(self, groups: Sequence[Group], windows: Windows, pool: ThreadPoolExecutor) -> None:
+    def __init__(self, groups: Iterable[Group], windows: Windows, pool: ThreadPoolExecutor) -> None:
         self._columns, self._tile_rows = windows.columns, windows.tile_rows
-        counts = np.array([group.counts for group in groups])
+        boxes, found = no_boxes(len(windows.places)), []
+        # No triangle lies left of it or above it.
+        self.low = (0, 0)
+        for group in groups:
+            np.minimum(boxes, group.boxes, out=boxes)
+            self.low = min(self.low[0], group.low[0]), min(self.low[1], group.low[1])
+            found.append((group.counts, group.triangles))
+        self._areas = areas_of(boxes.astype(np.int32), windows)
+        counts = np.array([each for each, _ in found])
         self._ends = np.cumsum(counts.sum(0))
-        self._areas = areas_of(np.minimum.reduce([group.boxes for group in groups]).astype(np.int32), windows)
         self._triangles = np.empty(self._ends[-1], np.int32)
 
-        def put(group: Group, first: NDArray[np.int64]) -> None:
+        def put(counts: Indices, triangles: Indices, first: NDArray[np.int64]) -> None:
             """Puts the triangles of a group to those of the groups before it; `first` is where they go, by places."""
-            moved = np.repeat(first - (np.cumsum(group.counts) - group.counts), group.counts)
-            self._triangles[np.arange(len(moved)) + moved] = group.triangles
+            moved = np.repeat(first - (np.cumsum(counts) - counts), counts)
+            self._triangles[np.arange(len(moved)) + moved] = triangles
 
-        list(pool.map(put, groups, self._ends - counts.sum(0) + np.cumsum(counts, 0) - counts))
-        x, y = (min(group.low[axis] for group in groups) for axis in range(2))
-        # No triangle lies left of it or above it.
-        self.low = (x, y)
+        list(pool.map(put, *zip(*found), self._ends - counts.sum(0) + np.cumsum(counts, 0) - counts))
 
     @classmethod
     def of(cls, scene: Scene, windows: Windows, threads: int = 1) -> Index:
@@ -69,7 +73,7 @@ class Index:
         chunk = max(CHUNK, FOR_A_PLACE * len(windows.places))
         with ThreadPoolExecutor(threads) as pool:
             groups = pool.map(lambda first: group_of(scene, first, first + chunk, windows), range(0, max(1, len(scene.triangles)), chunk))
-            return cls(list(groups), windows, pool)
+            return cls(groups, windows, pool)
 
     def of_window(self, window: Window) -> tuple[Indices, list[int], list[Area]]:
         """The triangles of a window, tile row after tile row and ascending in each; where those of each tile row end; and the pixels
@@ -96,7 +100,7 @@ def group_of(scene: Scene, first: int, end: int, windows: Windows) -> Group:
     places = windows.places[places]
     # numpy sorts 16 bits several times faster than 32.
     order = np.argsort(places.astype(np.uint16) if len(windows.places) <= 1 << 16 else places, kind="stable")
-    counts = np.bincount(places, minlength=len(windows.places))
+    counts = np.bincount(places, minlength=len(windows.places)).astype(np.int32)
     boxes = no_boxes(len(counts))
     met = np.flatnonzero(counts)
     if len(met):
