@@ -70,8 +70,8 @@ VERSION := $(shell cat VERSION)
 SHARED := libtrirast.so.1
 # The second level of x86-64, as glibc's loader names the folder in which it looks for it by itself.
 LEVEL := x86-64-v3
-LIBRARY_x86_64 := lib/libtrirast.a lib/libtrirast.so lib/$(LEVEL)/$(SHARED) lib/trirast.pc
-LIBRARY_aarch64 := lib/aarch64/libtrirast.a lib/aarch64/libtrirast.so
+LIBRARY_x86_64 := lib/libtrirast.a lib/libtrirast.so lib/$(LEVEL)/$(SHARED) lib/load.so lib/trirast.pc
+LIBRARY_aarch64 := lib/aarch64/libtrirast.a lib/aarch64/libtrirast.so lib/aarch64/load.so
 PROGRAM_x86_64 := $(PROGRAM)
 PROGRAM_aarch64 := bin/aarch64/trirast
 CMAKE_FILES := trirast-config.cmake trirast-config-version.cmake
@@ -178,6 +178,16 @@ $(OBJECTS:%/trirast.o=%/$(SHARED)): %/$(SHARED): %/trirast.o
 
 $(OBJECTS:%/trirast.o=%/libtrirast.so): %/libtrirast.so: %/$(SHARED)
 	ln -sf $(SHARED) $@
+
+# What Python loads, here and in a wheel: it holds nothing and needs the library beside it, so that the loader takes the one for the
+# processor's level.
+lib/load.so lib/aarch64/load.so: %/load.so: %/$(SHARED)
+	$(CC) -shared -nostdlib -s -Wl,--build-id=none -o $@ -Wl,--no-as-needed $< '-Wl,-rpath,$$ORIGIN'
+
+lib/load.so: lib/glibc-hwcaps/$(LEVEL)/$(SHARED)
+lib/glibc-hwcaps/$(LEVEL)/$(SHARED): lib/$(LEVEL)/$(SHARED)
+	@mkdir -p $(@D)
+	ln -sf ../../$(LEVEL)/$(SHARED) $@
 
 lib/trirast.pc: Makefile VERSION | lib
 	$(file >$@,$(PACKAGE))

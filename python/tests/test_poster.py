@@ -125,20 +125,48 @@ class Arrays(Files):
 
 
 class Windows(unittest.TestCase):
-    def test_index_has_the_triangles_whose_bounds_meet_a_window(self) -> None:
-        scene = random_scene(2, triangles=1000)
-        windows = _windows.Windows(scene.sheet, 37)
-        index = _index.Index.of(scene, windows, least=1)
+    def test_index_has_the_triangles_whose_bounds_meet_a_tile_row(self) -> None:
+        scene = random_scene(2, triangles=1000, reach=300)
         corners = scene.vertices[:, :2][scene.triangles].astype(np.int64)
-        for window in windows.from_row(0):
-            low = np.array((window.left, window.top)) * 256
-            size = np.array((window.width, window.height)) * 256
-            meets = ((corners.max(1) >= low) & (corners.min(1) < low + size)).all(1)
-            # The last window's bounds reach past the sheet by less than a window; what is there meets no sample.
-            found = index.of_window(window)
-            self.assertTrue(set(np.flatnonzero(meets)) <= set(found.tolist()), window)
-            self.assertEqual(sorted(found.tolist()), found.tolist())
-            self.assertLess(len(found), len(scene.triangles))
+        low, high = corners.min(1), corners.max(1)
+        has_sample = np.zeros(1000, bool)
+        for place in ((96, 32), (224, 96), (32, 160), (160, 224)):
+            first = -((np.array(place) - low) // 256) * 256 + place
+            has_sample |= (first <= high).all(1)
+        for side, threads in ((37, 1), (64, 2), (100, 3), (192, 1)):
+            windows = _windows.Windows(scene.sheet, side)
+            with mock.patch.object(_index, "CHUNK", 150):
+                index = _index.Index.of(scene, windows, threads)
+            for window in windows.from_row(0):
+                found, ends, areas = index.of_window(window)
+                self.assertEqual((len(ends), ends[-1]), (windows.tile_rows, len(found)))
+                for tile_row, (area, begin, end) in enumerate(zip(areas, [0, *ends], ends)):
+                    here = found[begin:end].tolist()
+                    top = window.top + 64 * tile_row
+                    pixels = np.array((window.left, top, window.right, min(top + 64, window.bottom)))
+                    least, behind = pixels.reshape(2, 2) * 256
+                    meets = np.flatnonzero(((high >= least) & (low < behind)).all(1) & has_sample)
+                    # The last window's bounds reach past the sheet by less than a window; what is there meets no sample.
+                    self.assertTrue(set(meets) <= set(here) <= set(np.flatnonzero(has_sample)), tile_row)
+                    self.assertEqual(sorted(set(here)), here)
+                    if here:
+                        bounds = np.maximum(low[here].min(0) // 256, pixels[:2]), np.minimum(high[here].max(0) // 256 + 1, pixels[2:])
+                        self.assertEqual(list(area), np.concatenate(bounds).tolist())
+
+    def test_pieces_are_where_triangles_are(self) -> None:
+        value = {"width": 1024, "height": 200, "draws": [{"triangles": 1, "blend": "over"}, {"triangles": 0}, {"triangles": 1}]}
+        # The first triangle meets three tile rows, and the second one of them. Their bounds together are 16 tiles wide, or 5.
+        apart = [((10, 10, 13, 64), [1, 0]), ((10, 64, 1000, 128), [1, 1]), ((10, 128, 13, 151), [1, 0])]
+        for right, wanted in ((999, apart), (310, [((10, 10, 311, 151), [1, 1])])):
+            places = ((10, 10), (12, 10), (10, 150), (200, 70), (right, 70), (250, 80))
+            vertices = np.array([[256 * x, 256 * y, 0, 9, 9, 9, 9] for x, y in places])
+            scene = poster.scene_of_arrays(vertices, np.array([[0, 1, 2], [3, 4, 5]]), value)
+            windows = _windows.Windows(scene.sheet, 1024)
+            (part,) = (_part.part_of(scene, _index.Index.of(scene, windows), window) for window in windows.from_row(0))
+            self.assertEqual([piece.area for piece in part.pieces], [area for area, _ in wanted])
+            for piece, (_, counts) in zip(part.pieces, wanted):
+                draws = [(count, draw) for count, draw in zip(counts, ({"blend": "over"}, {})) if count]
+                self.assertEqual([(draw.triangles, dict(draw.state)) for draw in piece.draws], draws)
 
     def test_a_part_has_its_vertices_alone(self) -> None:
         triangles = np.array([[7, 9, 7], [500000, 9, 8]], np.int32)
@@ -157,7 +185,7 @@ class Windows(unittest.TestCase):
             windows = _windows.Windows(scene.sheet, 128)
             index = _index.Index.of(part_scene, windows)
             parts = [_part.part_of(part_scene, index, window) for window in windows.from_row(0)]
-            self.assertEqual([_part.origin_of(part, part.window)[0] for part in parts], wanted)
+            self.assertEqual([_part.origin_of(part, part.window.area)[0] for part in parts], wanted)
 
     def test_a_triangle_that_cannot_be_moved_is_named(self) -> None:
         vertices = np.array([[-8388608, 0], [8388607, 0], [8388607, 70000]])
@@ -178,10 +206,24 @@ class Pictures(Files):
     def test_are_the_lists(self) -> None:
         scene = random_scene(3)
         wanted = trirast.draw_file(as_list(scene))
-        for workers, side in ((1, 64), (3, 50), (2, 512)):
-            poster.draw_poster(scene, self.path("a.ppm"), window=side, workers=workers)
-            self.assertEqual(self.content("a.ppm"), wanted)
+        for workers, side in ((1, 64), (3, 50), (2, 512), (2, 100)):
+            for few in (_part.FEW, 0):
+                with mock.patch.object(_part, "FEW", few):
+                    poster.draw_poster(scene, self.path("a.ppm"), window=side, workers=workers)
+                self.assertEqual(self.content("a.ppm"), wanted, (side, few))
         self.assertEqual(os.listdir(self.folder), ["a.ppm"])
+
+    def test_small_triangles_at_samples_are_the_lists(self) -> None:
+        pick = np.random.default_rng(4)
+        for samples, places in ((1, [(128, 128)]), (4, [(96, 32), (224, 96), (32, 160), (160, 224)])):
+            scene = random_scene(9, 70, 70, 70 * 70, 2)
+            pixels = np.stack(np.meshgrid(np.arange(70), np.arange(70)), 2).reshape(-1, 1, 2) * 256
+            at = pick.choice(np.array(places), (70 * 70, 1)) + pick.integers(-3, 4, (70 * 70, 1, 2))
+            scene.vertices[:, :2] = (pixels + at + pick.integers(-2, 3, (70 * 70, 3, 2))).reshape(-1, 2)
+            scene = poster.Scene(poster.Sheet(70, 70, samples), scene.vertices, scene.triangles, [poster.PosterDraw(70 * 70)])
+            poster.draw_poster(scene, self.path("a.ppm"), window=70)
+            self.assertEqual(self.content("a.ppm"), trirast.draw_file(as_list(scene)))
+            self.assertGreater(len(self.content("a.ppm")) - self.content("a.ppm").count(0), 99)
 
     def test_a_pixel_may_have_more_than_a_list_has(self) -> None:
         for draws, each in ((1025, 1), (1, 70_000)):
@@ -242,13 +284,13 @@ class Stopped(Files):
         """Draws some rows of windows, and then fails as where a disk is full."""
         kept = _journal.Journal.kept
 
-        def kept_then_full(journal: _journal.Journal, windows: Any) -> None:
+        def kept_then_full(journal: _journal.Journal, checksum: str) -> None:
             if len(lines) == rows:
                 raise OSError("full")
-            lines.append(windows)
-            kept(journal, windows)
+            lines.append(checksum)
+            kept(journal, checksum)
 
-        lines: List[Any] = []
+        lines: List[str] = []
         with mock.patch.object(_journal.Journal, "kept", kept_then_full), self.assertRaises(OSError):
             poster.draw_poster(random_scene(6), self.path(out), window=32, **how)
 
@@ -271,10 +313,10 @@ class Stopped(Files):
         self.assertEqual(self.content("a.ppm"), trirast.draw_file(as_list(random_scene(6))))
 
     def test_a_journal_that_was_cut_is_read_as_far_as_it_goes(self) -> None:
-        path = self.write("journal", b'{"list": "a"}\n{"windows": ["b"]}\n{"wind')
+        path = self.write("journal", b'{"list": "a"}\n{"row": "b"}\n{"ro')
         journal = _journal.Journal(path, {"list": "a"}, resume=True)
         self.addCleanup(journal.close)
-        self.assertEqual(journal.rows, [["b"]])
+        self.assertEqual(journal.rows, ["b"])
 
 
 class Command(Files):

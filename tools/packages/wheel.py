@@ -3,7 +3,7 @@
     python3 -m tools.packages.wheel x86_64|aarch64 ..
 
 `make wheel` builds the libraries first. A wheel is a zip file of a fixed form (PEP 427), written here by the standard library.
-Two runs over the same files give the same bytes. It needs a C compiler for each processor, and readelf.
+Two runs over the same files give the same bytes. It needs readelf.
 """
 
 from __future__ import annotations
@@ -20,13 +20,13 @@ import zipfile
 from dataclasses import dataclass
 
 from tools import places
-from tools.packages.common import DIST, FILE_MODE, OUT, PROGRAM_MODE, files_below, make_anew, release, release_time, run
+from tools.packages.common import DIST, FILE_MODE, PROGRAM_MODE, files_below, release, release_time, run
 from tools.places import LIB, PYTHON_SOURCES, TOP
 
 SHARED = "libtrirast.so.1"
 LEVEL = "x86-64-v3"
-# The folder of the library in the package, and what Python loads there: it holds nothing, and the loader takes the library that
-# it needs from the folder itself or from the one of the processor's level.
+# The folder of the library in the package, and what Python loads there: `make library` makes it. It holds nothing, and the loader
+# takes the library that it needs from the folder itself or from the one of the processor's level.
 FOLDER, LOADED = "lib", "load.so"
 # The oldest glibc on which the wheels run, as their names say: it is that of the tags manylinux2014.
 GLIBC = (2, 17)
@@ -68,14 +68,6 @@ def check_glibc(path: str) -> None:
         raise SystemExit(f"{path} needs glibc {later[-1]}")
 
 
-def loaded(processor: Processor, folder: str) -> bytes:
-    """The shared library that holds nothing and needs the library beside it."""
-    path = os.path.join(folder, LOADED)
-    needed = ["-Wl,--no-as-needed", processor.libraries[SHARED], "-Wl,-rpath,$ORIGIN"]
-    run([processor.compiler, "-shared", "-nostdlib", "-s", "-Wl,--build-id=none", "-o", path, *needed])
-    return places.bytes_of(path)
-
-
 def field(key: str) -> str:
     """A string of the package's pyproject.toml, of which each stands on a line of its own."""
     found = re.search(rf'^{key} = (?:\{{text = )?"(.*?)"\}}?$', places.text_of("python", "pyproject.toml"), re.MULTILINE)
@@ -111,7 +103,7 @@ def members(processor: str) -> dict[str, bytes]:
     for name, path in chosen.libraries.items():
         check_glibc(path)
         found[f"trirast/{FOLDER}/{name}"] = places.bytes_of(path)
-    found[f"trirast/{FOLDER}/{LOADED}"] = loaded(chosen, make_anew(os.path.join(OUT, f"wheel-{processor}")))
+    found[f"trirast/{FOLDER}/{LOADED}"] = places.bytes_of(os.path.dirname(chosen.libraries[SHARED]), LOADED)
     about = f"trirast-{release()}.dist-info"
     for name in LICENSES:
         found[f"{about}/{name}"] = places.bytes_of(name)

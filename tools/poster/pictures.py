@@ -14,11 +14,13 @@ import shutil
 import struct
 import zlib
 from typing import Any, Optional
+from unittest import mock
 
 import numpy as np
 
 import trirast
 from trirast import poster
+from trirast.poster import _part
 
 from tools import generated_lists
 from tools.draw_list import DrawList
@@ -27,6 +29,8 @@ from tools.poster import lists
 from tools.poster.common import content, dask, generated, local_cluster, program_file, run_checks
 
 TILE = 256
+# How many triangles of several tile rows are drawn together: as many as the package says, or none.
+FEW = (_part.FEW, 0)
 
 
 # ---- Lists up to 4096 pixels
@@ -54,8 +58,9 @@ def check_list(seed: int, folder: str, scheduler: Optional[str], workers: int) -
     wanted = program_file(value)
     path = os.path.join(folder, "list.ppm")
     scene = as_arrays(value, os.path.join(folder, "list.npz")) if seed % 2 else poster.scene_of_list(json.dumps(value).encode())
-    got = draw(scene, path, window=side, workers=workers, scheduler=scheduler)
-    must(got == wanted, f"seed {seed}, window {side}, {workers} workers: other bytes")
+    with mock.patch.object(_part, "FEW", FEW[seed // 4 % 2]):
+        got = draw(scene, path, window=side, workers=workers, scheduler=scheduler)
+    must(got == wanted, f"seed {seed}, window {side}, {workers} workers, FEW {FEW[seed // 4 % 2]}: other bytes")
     if seed % 5 == 0:
         png = draw(scene, os.path.join(folder, "list.png"), window=side, workers=workers, scheduler=scheduler)
         must(png_pixels(png) == wanted[-len(png_pixels(png)) :], f"seed {seed}, window {side}: other pixels in the PNG file")

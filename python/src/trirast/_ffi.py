@@ -1,7 +1,7 @@
 """The structs and calls of include/trirast.h by ctypes, and the buffers that go in and out.
 
 The library is loaded at the first call. It is the one that the environment's TRIRAST_LIBRARY names, else the one in the folder
-lib of this package, as a wheel has it, else lib/libtrirast.so of the repository in which this file lies, else the installed one.
+lib of this package, as a wheel has it, else the one in lib of the repository in which this file lies, else the installed one.
 """
 
 import ctypes
@@ -269,18 +269,17 @@ STATUS = (
 def library_path() -> str:
     """Where the library is, or its name, by which the system's loader finds it."""
     package = os.path.dirname(os.path.abspath(__file__))
-    # A wheel's load.so is empty and needs the library, so that the loader takes the one for the processor's level.
-    in_wheel = os.path.join(package, "lib", "load.so")
-    in_repository = os.path.join(package, "..", "..", "..", "lib", "libtrirast.so")
+    # load.so is empty and needs the library, so that the loader takes the one for the processor's level.
+    in_wheel, in_repository = (os.path.join(folder, "lib", "load.so") for folder in (package, os.path.join(package, "..", "..", "..")))
     found = [path for path in (in_wheel, in_repository) if os.path.exists(path)]
     return os.environ.get("TRIRAST_LIBRARY") or (found or ["libtrirast.so.1"])[0]
 
 
 @lru_cache(maxsize=None)
-def library() -> Any:
-    """The library with the types of its calls. ctypes releases Python's lock during a call."""
+def library(kind: Any = ctypes.CDLL) -> Any:
+    """The library with the types of its calls. ctypes releases Python's lock during a call, and keeps it if the kind is ctypes.PyDLL."""
     path = library_path()
-    loaded = ctypes.CDLL(path)
+    loaded = kind(path)
     for name, takes, gives in PROTOTYPES:
         call = getattr(loaded, name)
         call.argtypes, call.restype = takes, gives

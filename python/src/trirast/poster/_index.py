@@ -1,115 +1,181 @@
-"""Which triangles meet which window, by their bounds, in the order in which they are drawn."""
+"""Which triangles are drawn in which tile rows of which windows, by their bounds, in the order in which they are drawn.
+
+Triangles whose bounds hold no sample are in no tile row: of a fine mesh these may be half. The places of a sheet are the tile rows of
+its windows, window after window.
+"""
 
 from __future__ import annotations
 
 from concurrent.futures import ThreadPoolExecutor
-from typing import NamedTuple, Sequence
+from typing import Iterable, NamedTuple
 
 import numpy as np
 from numpy.typing import NDArray
 
 from ._draw_list import LIST_SIDE
 from ._errors import GuardBandError
-from ._scene import LOW, UNIT, Indices, Scene, Triangles, Vertices
-from ._windows import Window, Windows
+from ._scene import LOW, SAMPLES, UNIT, Boxes, Indices, Scene
+from ._windows import TILE, Area, Window, Windows
 
-# Triangles whose windows are found together. A chunk has at least four triangles for each window, since it has a table of them.
+# Triangles of a group. Of fewer Python's lock would be handed from thread to thread too often. There are at least as many for each place,
+# since a group has a table of them.
 CHUNK = 1 << 17
-FOR_A_WINDOW = 4
+FOR_A_PLACE = 4
 
 
-class Span(NamedTuple):
-    """Of each triangle the first and the last column (or row) of windows that its bounds meet. None if last < first.
+class Bounds(NamedTuple):
+    """Of each triangle the least and the greatest position of a corner on one axis, in 1/256 pixel."""
 
-    `low` is the least position of all the triangles.
+    low: Indices
+    high: Indices
+
+
+class Group(NamedTuple):
+    """Some triangles by places: place after place, and ascending in each, as many as `counts` says.
+
+    `boxes` has of each place the pixels within the bounds of its triangles: the left column, the upper row, and of the right column and
+    the lower row the complements. No triangle, also of those that are left out, lies left of `low` or above it.
     """
 
-    first: Indices
-    last: Indices
-    low: int
-
-
-class Chunk(NamedTuple):
-    """Some triangles by windows: those of window k are indices[starts[k] : starts[k + 1]], ascending.
-
-    `low` is the least x and the least y of all of them.
-    """
-
-    starts: Indices
-    indices: Indices
+    counts: Indices
+    triangles: Indices
+    boxes: Boxes
     low: tuple[int, int]
 
 
 class Index:
-    """For each window of a poster the indices of the triangles whose bounds meet it."""
+    """For each tile row of each window of a poster the indices of the triangles that are drawn there."""
 
-    def __init__(self, chunks: Sequence[Chunk], columns: int) -> None:
-        self._chunks = chunks
-        self._columns = columns
-        x, y = (min((chunk.low[axis] for chunk in chunks), default=0) for axis in range(2))
-        # The least x and the least y of all triangles.
-        self.low = (x, y)
+    def __init__(self, groups: Iterable[Group], windows: Windows, pool: ThreadPoolExecutor) -> None:
+        self._columns, self._tile_rows = windows.columns, windows.tile_rows
+        boxes, found = no_boxes(len(windows.places)), []
+        # No triangle lies left of it or above it.
+        self.low = (0, 0)
+        for group in groups:
+            np.minimum(boxes, group.boxes, out=boxes)
+            self.low = min(self.low[0], group.low[0]), min(self.low[1], group.low[1])
+            found.append((group.counts, group.triangles))
+        self._areas = areas_of(boxes.astype(np.int32), windows)
+        counts = np.array([each for each, _ in found])
+        self._ends = np.cumsum(counts.sum(0))
+        self._triangles = np.empty(self._ends[-1], np.int32)
+
+        def put(counts: Indices, triangles: Indices, first: NDArray[np.int64]) -> None:
+            """Puts the triangles of a group to those of the groups before it; `first` is where they go, by places."""
+            moved = np.repeat(first - (np.cumsum(counts) - counts), counts)
+            self._triangles[np.arange(len(moved)) + moved] = triangles
+
+        list(pool.map(put, *zip(*found), self._ends - counts.sum(0) + np.cumsum(counts, 0) - counts))
 
     @classmethod
-    def of(cls, scene: Scene, windows: Windows, threads: int = 1, least: int = CHUNK) -> Index:
+    def of(cls, scene: Scene, windows: Windows, threads: int = 1) -> Index:
         """The index of a scene. Raises GuardBandError if a triangle cannot be moved into a window that it meets."""
-        chunk = max(least, FOR_A_WINDOW * len(windows))
-
-        def chunk_at(first: int) -> Chunk:
-            return chunk_of(scene.vertices, np.asarray(scene.triangles[first : first + chunk]), first, windows)
-
+        chunk = max(CHUNK, FOR_A_PLACE * len(windows.places))
         with ThreadPoolExecutor(threads) as pool:
-            return cls(list(pool.map(chunk_at, range(0, len(scene.triangles), chunk))), windows.columns)
+            groups = pool.map(lambda first: group_of(scene, first, first + chunk, windows), range(0, max(1, len(scene.triangles)), chunk))
+            return cls(groups, windows, pool)
 
-    def of_window(self, window: Window) -> Indices:
-        """The triangles of a window, ascending."""
-        cell = window.row * self._columns + window.column
-        parts = [each.indices[each.starts[cell] : each.starts[cell + 1]] for each in self._chunks]
-        return np.concatenate(parts) if parts else np.zeros(0, np.int32)
+    def of_window(self, window: Window) -> tuple[Indices, list[int], list[Area]]:
+        """The triangles of a window, tile row after tile row and ascending in each; where those of each tile row end; and the pixels
+        of each tile row that are within their bounds."""
+        first = (window.row * self._columns + window.column) * self._tile_rows
+        places = slice(first, first + self._tile_rows)
+        ends = self._ends[places].tolist()
+        begin = int(self._ends[first - 1]) if first else 0
+        areas = list(map(Area._make, self._areas[places].tolist()))
+        return self._triangles[begin : ends[-1]], [end - begin for end in ends], areas
 
 
-def chunk_of(vertices: Vertices, triangles: Triangles, first: int, windows: Windows) -> Chunk:
-    """The windows of some triangles, the first of which has the index `first`."""
-    across = span_of(vertices, triangles, first, 0, windows.columns, windows)
-    down = span_of(vertices, triangles, first, 1, windows.rows, windows)
-    which, cells = meetings(across, down, windows)
+def group_of(scene: Scene, first: int, end: int, windows: Windows) -> Group:
+    """The triangles from `first` to before `end` by places."""
+    vertices = np.asarray(scene.vertices)
+    corners = np.ascontiguousarray(scene.triangles[first:end].T, np.intp)
+    across, down = (bounds_of(vertices[:, axis], corners) for axis in range(2))
+    for axis, bounds in enumerate((across, down)):
+        check_guard_band(bounds, first, axis, windows)
+    low = int(across.low.min(initial=0)), int(down.low.min(initial=0))
+    drawn = np.flatnonzero(hold_samples(across, down, scene.sheet.samples))
+    across, down = (Bounds(bounds.low[drawn], bounds.high[drawn]) for bounds in (across, down))
+    count, places = meetings(across, down, windows)
+    places = windows.places[places]
     # numpy sorts 16 bits several times faster than 32.
-    order = np.argsort(cells.astype(np.uint16) if len(windows) <= 1 << 16 else cells, kind="stable")
-    starts = np.zeros(len(windows) + 1, np.int32)
-    np.cumsum(np.bincount(cells, minlength=len(windows)), out=starts[1:])
-    return Chunk(starts, which[order] + np.int32(first), (across.low, down.low))
+    order = np.argsort(places.astype(np.uint16) if len(windows.places) <= 1 << 16 else places, kind="stable")
+    counts = np.bincount(places, minlength=len(windows.places)).astype(np.int32)
+    boxes = no_boxes(len(counts))
+    met = np.flatnonzero(counts)
+    if len(met):
+        boxes[met] = np.minimum.reduceat(np.repeat(boxes_of(across, down), count, 0).take(order, 0), (np.cumsum(counts) - counts)[met])
+    return Group(counts, np.repeat((drawn + first).astype(np.int32), count)[order], boxes, low)
 
 
-def meetings(across: Span, down: Span, windows: Windows) -> tuple[Indices, Indices]:
-    """Each meeting of a triangle and a window: the triangle, ascending, and the number of the window."""
-    wide = np.maximum(across.last - across.first + 1, 0)
-    count = wide * np.maximum(down.last - down.first + 1, 0)
-    which = np.repeat(np.arange(len(count), dtype=np.int32), count)
-    cells = (down.first * np.int32(windows.columns) + across.first)[which]
-    # Nearly all triangles meet one window. The windows of the others are counted row by row.
+def boxes_of(across: Bounds, down: Bounds) -> Boxes:
+    """The pixels within bounds, as a group has them."""
+    boxes = np.empty((len(across.low), 4), np.int16)
+    for side, positions in enumerate((across.low, down.low, ~across.high, ~down.high)):
+        boxes[:, side] = positions >> 8
+    return boxes
+
+
+def no_boxes(count: int) -> Boxes:
+    """Boxes without a pixel."""
+    return np.full((count, 4), 32767, np.int16)
+
+
+def areas_of(boxes: Indices, windows: Windows) -> Indices:
+    """Of each place the pixels of its tile row that are in its box: the numbers of an Area."""
+    window, tile_row = np.divmod(np.arange(len(boxes), dtype=np.int32), np.int32(windows.tile_rows))
+    row, column = np.divmod(window, np.int32(windows.columns))
+    left, top = column * windows.side, row * windows.side + tile_row * TILE
+    right, bottom = np.minimum(left + windows.side, windows.width), np.minimum((row + 1) * windows.side, windows.height)
+    ends = np.minimum(-boxes[:, 2], right), np.minimum(-boxes[:, 3], np.minimum(top + TILE, bottom))
+    return np.stack((np.maximum(boxes[:, 0], left), np.maximum(boxes[:, 1], top), *ends), 1)
+
+
+def bounds_of(positions: Indices, corners: NDArray[np.intp]) -> Bounds:
+    """The bounds of triangles, of which `corners` has the first, the second and the third corners."""
+    a, b, c = positions[corners]
+    return Bounds(np.minimum(np.minimum(a, b), c), np.maximum(np.maximum(a, b), c))
+
+
+def hold_samples(across: Bounds, down: Bounds, samples: int) -> NDArray[np.bool_]:
+    """Of each triangle whether a sample lies within its bounds."""
+    right, below = (bounds.high.astype(np.uint8) for bounds in (across, down))
+    wide, tall = (np.minimum(bounds.high - bounds.low, UNIT - 1).astype(np.uint8) for bounds in (across, down))
+    found = np.zeros(len(wide), np.bool_)
+    for x, y in SAMPLES[samples]:
+        # The differences, of which 8 bits stay, are how far the last sample within the upper bound lies before that.
+        found |= (right - np.uint8(x) <= wide) & (below - np.uint8(y) <= tall)
+    return found
+
+
+def meetings(across: Bounds, down: Bounds, windows: Windows) -> tuple[Indices, Indices]:
+    """How many places each triangle meets, and the places, triangle after triangle, each counted along the tile rows of the sheet."""
+    left, right = np.maximum(windows.columns_at(across.low), 0), np.minimum(windows.columns_at(across.high), windows.columns - 1)
+    top, bottom = np.maximum(windows.tile_rows_at(down.low), 0), np.minimum(windows.tile_rows_at(down.high), windows.last_tile_row)
+    wide = np.maximum(right - left + 1, 0)
+    count = wide * np.maximum(bottom - top + 1, 0)
+    places = np.repeat(top * np.int32(windows.columns) + left, count)
+    # Nearly all triangles meet one place. The places of the others are counted row by row.
     many = np.flatnonzero(count > 1)
     if len(many):
         counts = count[many].astype(np.int64)
-        place = np.arange(int(counts.sum())) - np.repeat(np.cumsum(counts) - counts, counts)
-        row, column = np.divmod(place, np.repeat(wide[many], counts))
-        begin = np.repeat(np.searchsorted(which, many), counts)
-        cells[begin + place] += (row * windows.columns + column).astype(np.int32)
-    return which, cells
+        number = np.arange(int(counts.sum())) - np.repeat(np.cumsum(counts) - counts, counts)
+        row, column = np.divmod(number, np.repeat(wide[many], counts))
+        begin = np.repeat(np.cumsum(count, dtype=np.int64)[many] - counts, counts)
+        places[begin + number] += (row * windows.columns + column).astype(np.int32)
+    return count, places
 
 
-def span_of(vertices: Vertices, triangles: Triangles, first: int, axis: int, most: int, windows: Windows) -> Span:
-    """The columns (axis 0) or rows (axis 1) of windows that the bounds of triangles meet."""
-    positions = vertices[:, axis]
-    a, b, c = (positions[triangles[:, corner]] for corner in range(3))
-    low, high = np.minimum(np.minimum(a, b), c), np.maximum(np.maximum(a, b), c)
-    step = windows.side * UNIT
-    span = Span(np.maximum(low // step, 0), np.minimum(high // step, most - 1), int(low.min()))
+def check_guard_band(bounds: Bounds, first: int, axis: int, windows: Windows) -> None:
+    """Raises GuardBandError if one of some triangles cannot be moved into a window that it meets. The first has the index `first`."""
+    most, step = (windows.columns, windows.rows)[axis], windows.side * UNIT
     # A window can take every vertex that lies no further left or above than this.
-    if span.low < (most - 1) * step + LOW:
-        far = np.flatnonzero((span.first <= span.last) & is_too_far(low, span.last, axis, windows))
-        if len(far):
-            raise GuardBandError(first + int(far[0]), "xy"[axis])
-    return span
+    if int(bounds.low.min(initial=0)) >= (most - 1) * step + LOW:
+        return
+    last = np.minimum(bounds.high // step, most - 1)
+    far = np.flatnonzero((np.maximum(bounds.low // step, 0) <= last) & is_too_far(bounds.low, last, axis, windows))
+    if len(far):
+        raise GuardBandError(first + int(far[0]), "xy"[axis])
 
 
 def is_too_far(low: Indices, last: Indices, axis: int, windows: Windows) -> NDArray[np.bool_]:

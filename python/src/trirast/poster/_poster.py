@@ -4,6 +4,7 @@ from __future__ import annotations
 
 import contextlib
 import os
+import zlib
 from concurrent.futures import Future, ThreadPoolExecutor
 from functools import partial
 from typing import Callable, Iterable, Iterator, List, Optional, Union
@@ -11,7 +12,7 @@ from typing import Callable, Iterable, Iterator, List, Optional, Union
 import numpy as np
 
 from ._dask import draw_by_dask
-from ._drawn import Drawn, checksum_of
+from ._drawn import Drawn
 from ._index import Index
 from ._journal import Journal, path_of
 from ._part import Part, part_of
@@ -60,7 +61,7 @@ def draw_poster(
         journal = Journal(path_of(file, folder), run, resume)
         stack.callback(journal.close)
         writers = list(writers_of(scene.sheet, file, folder, resume, count, stack))
-        first = kept_rows(windows, journal, writers, scene.sheet)
+        first = kept_rows(journal, windows, writers)
         step = stack.enter_context(progress(len(windows), first * windows.columns, show_progress))
         part = partial(part_of, scene, index)
         drawn = engine_of(windows.from_row(first), part, count, scheduler)
@@ -97,51 +98,42 @@ def engine_of(
     return draw_by_dask(windows, part, workers, scheduler)
 
 
-def kept_rows(windows: Windows, journal: Journal, writers: List[Writer], sheet: Sheet) -> int:
+def kept_rows(journal: Journal, windows: Windows, writers: List[Writer]) -> int:
     """How many rows of windows a stopped run left: those that each writer has, with the checksums of the journal."""
-    for row, checksums in enumerate(journal.rows):
+    for row, checksum in enumerate(journal.rows):
         read = [writer.read(windows.row_height(row)) for writer in writers]
         rows = [each for each in read if each is not None]
-        if len(rows) < len(read) or any(row_checksums(each, windows, row) != list(checksums) for each in rows):
+        if len(rows) < len(read) or any(checksum_of(each) != checksum for each in rows):
             return row
         for writer, each in zip(writers, rows):
             writer.keep(each)
-        journal.kept(checksums)
+        journal.kept(checksum)
     return len(journal.rows)
 
 
-def row_checksums(rows: Pixels, windows: Windows, row: int) -> List[str]:
-    """The checksums of the windows of a row."""
-    return [checksum_of(rows[:, window.left : window.left + window.width]) for window in windows.in_row(row)]
+def checksum_of(pixels: Pixels) -> str:
+    """A checksum (CRC-32) of pixels, row after row."""
+    return f"{zlib.crc32(np.ascontiguousarray(pixels).data):08x}"
 
 
-class Row:
-    """A row of windows: its pixels, and the checksums of its windows."""
-
-    def __init__(self, pixels: Pixels) -> None:
-        self.pixels = pixels
-        self.checksums: List[str] = []
-
-
-def rows_of(drawn: Iterable[Drawn], windows: Windows, sheet: Sheet, step: Step) -> Iterator[Row]:
+def rows_of(drawn: Iterable[Drawn], windows: Windows, sheet: Sheet, step: Step) -> Iterator[Pixels]:
     """Whole rows of windows, of windows in their order."""
-    row = Row(np.zeros(0))
-    for window, pixels, checksum in drawn:
+    row: Pixels = np.zeros(0)
+    for window, pixels in drawn:
         if window.column == 0:
-            row = Row(sheet.blank(window.height, sheet.width))
-        row.pixels[:, window.left : window.left + window.width] = pixels
-        row.checksums.append(checksum)
+            row = sheet.blank(window.height, sheet.width)
+        row[:, window.left : window.left + window.width] = pixels
         step(window)
         if window.column == windows.columns - 1:
             yield row
 
 
-def write_rows(rows: Iterable[Row], journal: Journal, writers: List[Writer]) -> None:
+def write_rows(rows: Iterable[Pixels], journal: Journal, writers: List[Writer]) -> None:
     """Writes rows by a thread of its own, while the next row is drawn."""
-    def write(row: Row) -> None:
+    def write(row: Pixels) -> None:
         for writer in writers:
-            writer.write(row.pixels)
-        journal.kept(row.checksums)
+            writer.write(row)
+        journal.kept(checksum_of(row))
 
     with ThreadPoolExecutor(1) as pool:
         last: Optional[Future[None]] = None

@@ -6,6 +6,8 @@ import hashlib
 import json
 from concurrent.futures import ThreadPoolExecutor
 from dataclasses import dataclass, field
+from functools import cached_property
+from itertools import accumulate
 from typing import TYPE_CHECKING, Any, Mapping, Sequence
 
 import numpy as np
@@ -19,6 +21,8 @@ if TYPE_CHECKING:
 # The guard band: positions are in 1/256 pixel.
 LOW, HIGH = -8388608, 8388607
 UNIT = 256
+# Where the samples of a pixel lie, in 1/256 pixel (docs/rules.md), by their number.
+SAMPLES = {1: ((128, 128),), 4: ((96, 32), (224, 96), (32, 160), (160, 224))}
 # Sides of a poster, in pixels: what the guard band reaches.
 MAX_SIDE = 32768
 VERTEX_NUMBERS = 7
@@ -31,6 +35,7 @@ Vertices: TypeAlias = "NDArray[np.int32]"
 Triangles: TypeAlias = "NDArray[np.int32]"
 Pixels: TypeAlias = "NDArray[Any]"
 Indices: TypeAlias = "NDArray[np.int32]"
+Boxes: TypeAlias = "NDArray[np.int16]"
 
 
 @dataclass(frozen=True)
@@ -55,6 +60,14 @@ class Sheet:
             return np.empty((height, width), ">u2")
         return np.empty((height, width, 3), np.uint8)
 
+    def cleared(self, height: int, width: int) -> Pixels:
+        """Pixels at which nothing is drawn."""
+        pixels = self.blank(height, width)
+        pixels[:1] = self.clear_depth if self.is_depth else self.clear
+        # Whole rows are copied many times faster than pixels.
+        pixels[1:] = pixels[:1]
+        return pixels
+
 
 @dataclass(frozen=True)
 class PosterDraw:
@@ -77,10 +90,10 @@ class Scene:
     triangles: Triangles
     draws: Sequence[PosterDraw]
 
-    @property
-    def ends(self) -> NDArray[np.int64]:
+    @cached_property
+    def ends(self) -> list[int]:
         """Of each draw the index at which its triangles end."""
-        return np.cumsum(np.array([draw.triangles for draw in self.draws], np.int64), dtype=np.int64)
+        return list(accumulate(draw.triangles for draw in self.draws))
 
     def checksum(self, threads: int = 1) -> str:
         """A checksum (BLAKE2b) of all that is drawn: of the state and the checksums of parts of the arrays."""

@@ -1,11 +1,36 @@
-"""The windows of a poster: squares of pixels, row by row from the top, cut at the right and lower border."""
+"""The windows of a poster: squares of pixels, row by row from the top, cut at the right and lower border, and their tile rows."""
 
 from __future__ import annotations
 
 from typing import Iterator, NamedTuple
 
+import numpy as np
+
 from ._draw_list import LIST_SIDE
-from ._scene import Sheet
+from ._scene import UNIT, Indices, Sheet
+
+# The pixels of a tile's side (docs/canvas.md). A window's tile rows are drawn one after another, since the samples of one fit into a
+# processor's second cache, where they are cleared, drawn and resolved.
+TILE = 64
+
+
+class Area(NamedTuple):
+    """A rectangle of a sheet's pixels: from the column `left` to before `right`, and from the row `top` to before `bottom`."""
+
+    left: int
+    top: int
+    right: int
+    bottom: int
+
+    @property
+    def pixels(self) -> int:
+        """How many pixels it has."""
+        return max(self.right - self.left, 0) * max(self.bottom - self.top, 0)
+
+    @property
+    def tiles(self) -> int:
+        """How many tiles a canvas of this size has."""
+        return -(-(self.right - self.left) // TILE) * -(-(self.bottom - self.top) // TILE)
 
 
 class Window(NamedTuple):
@@ -28,6 +53,11 @@ class Window(NamedTuple):
         """The row of pixels behind the last one."""
         return self.top + self.height
 
+    @property
+    def area(self) -> Area:
+        """Its pixels."""
+        return Area(self.left, self.top, self.right, self.bottom)
+
 
 class Windows:
     """The windows of a sheet, `side` pixels wide and high. Raises ValueError if the side is not 1 to 4096."""
@@ -37,6 +67,13 @@ class Windows:
             raise ValueError(f"window: 1 to {LIST_SIDE} pixels, and not {side}")
         self.width, self.height, self.side = sheet.width, sheet.height, side
         self.columns, self.rows = -(-sheet.width // side), -(-sheet.height // side)
+        # The tile rows of a window, and the last one of the sheet.
+        self.tile_rows = -(-side // TILE)
+        self.last_tile_row = (self.rows - 1) * self.tile_rows + (self.row_height(self.rows - 1) - 1) // TILE
+
+        # The tile rows of windows, window after window, by their numbers along the tile rows of the sheet.
+        places = np.arange(len(self) * self.tile_rows, dtype=np.int32).reshape(self.rows, self.columns, self.tile_rows)
+        self.places: Indices = np.ascontiguousarray(places.transpose(0, 2, 1)).ravel()
 
     def __len__(self) -> int:
         return self.columns * self.rows
@@ -55,3 +92,14 @@ class Windows:
         """All windows from a row on."""
         for row in range(first, self.rows):
             yield from self.in_row(row)
+
+    def columns_at(self, x: Indices) -> Indices:
+        """The column of windows in which each x lies, in 1/256 pixel. It is negative to the left of the sheet."""
+        return x // (UNIT * self.side)
+
+    def tile_rows_at(self, y: Indices) -> Indices:
+        """The tile row of the sheet in which each y lies, in 1/256 pixel: that of a window, and all those of the windows above it."""
+        if self.side % TILE == 0:
+            return y // (UNIT * TILE)
+        row = y // (UNIT * self.side)
+        return row * self.tile_rows + (y - row * (UNIT * self.side)) // (UNIT * TILE)
