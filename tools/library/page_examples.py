@@ -37,7 +37,7 @@ def array(vertices: list[list[int]]) -> str:
 
 
 RUST_VERTEX = "Vertex {{ x: {}, y: {}, depth: {}, red: {}, green: {}, blue: {}, alpha: {} }}"
-CPP_HEAD = "#include <cstdio>\n#include <trirast.hpp>\nint main() {{\nconst trirast_vertex {}[] = {};\nconst std::uint32_t indices[] = {{0, 1, 2}};\n"
+CPP_HEAD = "#include <cstdio>\n#include <trirast.hpp>\nint main() {{\nconst trirast_vertex vertices[] = {};\nconst std::uint32_t indices[] = {{0, 1, 2}};\n"
 CPP_END = "std::fwrite(pixels.data(), 1, pixels.size(), stdout);\n}\n"
 
 
@@ -51,7 +51,7 @@ class Around(NamedTuple):
 
 AROUND = {
     (CANVAS, "c"): Around(SCENE),
-    (CANVAS, "cpp"): Around(SCENE, CPP_HEAD.format("vertices", array(VERTICES)), CPP_END),
+    (CANVAS, "cpp"): Around(SCENE, CPP_HEAD.format(array(VERTICES)), CPP_END),
     (CANVAS, "python"): Around(
         SCENE, "",
         "assert {id for row in memoryview(ids).tolist() for id in row} == {0, 16777215} and memoryview(depths).shape == (480, 640)\n",
@@ -64,7 +64,6 @@ AROUND = {
         "Ok(std::io::stdout().write_all(&pixels)?)\n}\n",
     ),
     (README, "c"): Around(SMALL_SCENE),
-    (README, "cpp"): Around(SMALL_SCENE, CPP_HEAD.format("corners", array(SMALL_VERTICES)), CPP_END),
     (README, "python"): Around(SMALL_SCENE),
     (POSTERS, "c"): Around(
         POSTER_SCENE, "#include <stdio.h>\n",
