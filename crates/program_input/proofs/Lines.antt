@@ -1,5 +1,5 @@
 -- A line that was written, or what of it could be.
-use Rattle.std.proofs.Common.{sym, subst, ℕ, ◌-◌, List, length, take, Option, Result, Ok, Err}
+use Rattle.std.proofs.Common.{sym, subst, ℕ, ◌-◌, List, length, Option, Result, Ok, Err}
 use Rattle.std.proofs.Math.Seq.{take-length}
 use Rattle.std.specs.Io.KnownBytes.{Appends}
 use Rattle.picture_file.specs.declared.write_all.WriteFault.{WriteFault}
