@@ -88,15 +88,13 @@ INSTALLED := bin/trirast share/man/man1/trirast.1 share/trirast/draw-list.schema
 all: $(PROGRAM_$(ARCH))
 
 $(PROGRAM): $(SOURCES)
-	@$(PYTHON) -m tools.prove trirast_cli
-	cd crates/trirast_cli && $(RT) run $(if $(CPU),--cpu $(CPU)) < "$(CURDIR)/examples/triangle.json" > /dev/null
+	@RT="$(RT)" $(PYTHON) -m tools.prove $(if $(CPU),--cpu $(CPU)) trirast_cli < examples/triangle.json
 	install -D -m 755 crates/trirast_cli/out/trirast_cli $@
 
 why: $(WHY)
 
 $(WHY): $(SOURCES)
-	@$(PYTHON) -m tools.prove trirast_why
-	cd crates/trirast_why && $(RT) run -- 0,0 < "$(CURDIR)/examples/triangle.json" > /dev/null
+	@RT="$(RT)" $(PYTHON) -m tools.prove trirast_why 0,0 < examples/triangle.json
 	install -D -m 755 crates/trirast_why/out/trirast_why $@
 
 look:

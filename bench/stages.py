@@ -48,12 +48,12 @@ class Stage(NamedTuple):
 
 # The first that has a function counts.
 STAGES = (
-    Stage("bins", "#8c6bb1", ("trirast::tile_rows::TileRows::bins", "bins::")),
+    Stage("bins", "#8c6bb1", ("tile_rows::tile_rows::TileRows::bins", "bins::")),
     Stage("edges of triangles", "#225ea8", ("tile::tile_pixels::draw_bin", "model::", "cover::setup::")),
     Stage("planes of values", "#41b6c4", ("lanes::interpolants::", "planes::whole_values::", "planes::plane::", "__udivti3")),
     Stage("coverage of blocks", "#7fbc41", ("raster::rasterize::", "raster::", "cover::")),
     Stage("values and merging", "#fdae61", ("lanes::", "planes::", "shade::")),
-    Stage("clearing", "#bdbdbd", ("trirast::tile_rows::TileJobJob::work", "__memset", "memset", "tile::store::")),
+    Stage("clearing", "#bdbdbd", ("tile_rows::tile_rows::TileJobJob::work", "__memset", "memset", "tile::store::")),
     Stage("resolve", "#d7301f", ("tile::pixels::",)),
     Stage("joining and output", "#737373", ("",)),
 )

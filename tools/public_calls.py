@@ -14,8 +14,8 @@ from tools import places
 # The crates that the program and the library are made of.
 CRATES = (
     "grid", "shade", "history", "planes", "lanes", "cover", "raster", "canvas", "model", "canvas_picture", "checking_reader",
-    "fast_reader", "list", "scene", "list_history", "plain", "bins", "pool", "tile", "command_line", "trirast", "sample_events",
-    "trirast_c", "why",
+    "fast_reader", "list", "scene", "list_history", "plain", "bins", "pool", "picture_file", "command_line", "program_input", "tile_row",
+    "tile", "tile_rows", "trirast", "sample_events", "trirast_c", "why",
 )
 HEAD = re.compile(r"(?:pub )?(impl|trait)\b(?:<(?:[^<>]|<[^<>]*>)*>)? (?!.* for )(\w+)")
 CALL = re.compile(r'( {4})?(pub )?(?:extern "C" )?fn (\w+)')

@@ -16,7 +16,7 @@ class Group(NamedTuple):
 
 # The contract that the page is of, and those of the calls that alone change what it counts.
 THEOREM = ("crates/trirast/src/engine.rt", "run")
-COUNTING = tuple(("crates/trirast/src/counted.rt", call) for call in ("new", "read", "write", "flush"))
+COUNTING = tuple(("crates/picture_file/src/counted.rt", call) for call in ("new", "read", "write", "flush"))
 
 BEGINNING = """\
 # What is proved
@@ -175,7 +175,7 @@ GROUPS = (
         "A picture of colours is a binary PPM file, and a picture of depths is a binary PGM file. Each has one spelling: the header, "
         "and then the rows.",
         "Netpbm's ppm(5) and pgm(5), one spelling of each.",
-        ("crates/trirast/specs/File.antt",),
+        ("crates/picture_file/specs/File.antt",),
     ),
     Group(
         "Parts of a JSON value",
@@ -214,7 +214,7 @@ GROUPS = (
         "A run reads and writes through `Counted`, which counts the calls that failed. Its `read`, `write` and `flush` are all that "
         "raise the count, so their contracts stand here too.",
         "`Read` and `Write` of Rust's standard library; counting is this project's own.",
-        ("crates/trirast/specs/Device.antt", "crates/trirast/specs/Counted.antt", "crates/trirast/src/counted.rt"),
+        ("crates/picture_file/specs/Device.antt", "crates/picture_file/specs/Counted.antt", "crates/picture_file/src/counted.rt"),
     ),
     Group(
         "What a run does",
@@ -226,7 +226,8 @@ GROUPS = (
             "crates/grid/specs/Pixels.antt#side_of",
             "crates/command_line/src/drawing_options.rt",
             "crates/pool/src/fault.rt",
-            "crates/trirast/src/fault.rt",
+            "crates/program_input/src/fault.rt",
+            "crates/program_input/specs/Input.antt",
             "crates/trirast/specs/Runs.antt",
         ),
     ),

@@ -110,7 +110,7 @@ class Names(unittest.TestCase):
         texts = {path.split(os.sep)[1]: "" for path in sources("src/**/*.rt")}
         for path, text in sources("src/**/*.rt").items():
             texts[path.split(os.sep)[1]] += text
-        lines = {line.rstrip() for line in re.findall(r'"(trirast: [a-z ]+)', texts["trirast"])}
+        lines = {line.rstrip() for line in re.findall(r'"(trirast: [a-z ]+)', texts["program_input"])}
         lines |= {f"trirast: {line}" for line in re.findall(r'"([a-z ]+ fault) \{', texts["pool"])}
         self.assertLessEqual({"trirast: list fault", "trirast: pool fault", "trirast: out of memory"}, lines)
         for line in lines:

@@ -14,7 +14,8 @@ use Rattle.bins.proofs.Tiles.{starts_within, in_rect}
 use Rattle.bins.proofs.Drawn.{bin_at_sample}
 use Rattle.raster.specs.declared.tile.Tile.{Tile}
 use Rattle.raster.specs.Samples.{stored}
-use Rattle.tile.specs.Picture.{IsTileAt, IsPictureIn, IsShown, IsTileBin, AreEnds}
+use Rattle.tile_row.specs.Pixels.{IsPictureIn}
+use Rattle.tile.specs.Picture.{IsTileAt, IsShown, IsTileBin, AreEnds}
 use Rattle.raster.specs.Colours.{IsColourAt}
 
 -- tile k stands in one of the columns and rows

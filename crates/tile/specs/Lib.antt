@@ -5,12 +5,10 @@
 --
 -- Picture.antt
 --   IsTileAt: The tile lies where tile k of the picture does, and has its size.
---   IsPictureIn: The bytes of the picture in a rectangle, row by row.
 --   IsShown: A sample of the tile whose pixel is in the picture.
 --   IsTileBin: The numbers are a bin of each sample of the tile whose pixel is in the picture.
 --   AreEnds: The samples whose pixels are in the picture have their final values.
 --   AreDepthsAt: The bytes of the depths of the eight pixels in a row of the tile and a column of its blocks.
---   AddsPixelRun: The new bytes are the old ones, and behind them those of `many` pixels of one row of the picture, from pixel (i, j) on.
 
 pub mod Store
 pub mod Picture

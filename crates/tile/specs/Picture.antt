@@ -1,12 +1,10 @@
 -- A tile's part of the picture.
-use Rattle.std.specs.Prelude.{◌≡◌, ℕ, ◌+◌, ◌*◌, ◌/◌, ◌%◌, ◌<◌, List, ◌++◌, slice_index, pos}
+use Rattle.std.specs.Prelude.{◌≡◌, ℕ, ◌+◌, ◌*◌, ◌/◌, ◌%◌, ◌<◌, List, slice_index}
 use Rattle.grid.specs.Pixels.{side_of}
-use Rattle.grid.specs.declared.pixels.PixelBox.{PixelBox}
 use Rattle.lanes.specs.declared.block_samples.BlockSamples.{BlockSamples}
 use Rattle.shade.specs.Placed.{Meets}
 use Rattle.model.specs.Scene.{Scene}
-use Rattle.model.specs.PixelPrefix.{IsPixelRun}
-use Rattle.model.specs.Picture.{IsEnd, IsPart}
+use Rattle.model.specs.Picture.{IsEnd}
 use Rattle.bins.specs.Grid.{TileGrid, columns_of}
 use Rattle.bins.specs.Bin.{IsBin}
 use Rattle.raster.specs.declared.tile.Tile.{Tile}
@@ -17,18 +15,6 @@ pub record IsTileAt (g : TileGrid) (k : ℕ) (tile : Tile) : Type 0 where
   pub left : 8 * tile.bx ≡ side_of g.side * (k % columns_of g)
   pub top : 8 * tile.by ≡ side_of g.side * (k / columns_of g)
   pub side : tile.side ≡ g.side
-
--- The bytes of the picture in a rectangle, row by row.
-pub record IsPictureIn (l : Scene) (r : PixelBox) (bytes : List ℕ) : Type 0 where
-  pub x : ℕ
-  pub y : ℕ
-  pub width : ℕ
-  pub height : ℕ
-  pub left : r.x0 ≡ pos x
-  pub top : r.y0 ≡ pos y
-  pub right : r.x1 ≡ pos (x + width)
-  pub bottom : r.y1 ≡ pos (y + height)
-  pub part : IsPart l x y width height bytes
 
 -- A sample of the tile whose pixel is in the picture.
 pub record IsShown (l : Scene) (tile : Tile) (row column s : ℕ) : Type 0 where
@@ -52,9 +38,3 @@ abbrev pub AreDepthsAt : Tile → List BlockSamples → ℕ → ℕ → List ℕ
 AreDepthsAt tile samples row column bytes =
     (i : ℕ) → i < 8
     → (slice_index bytes (2 * i) ≡ (stored tile samples row (8 * column + i) 0).z / 256) × (slice_index bytes (2 * i + 1) ≡ (stored tile samples row (8 * column + i) 0).z % 256)
-
--- The new bytes are the old ones, and behind them those of `many` pixels of one row of the picture, from pixel (i, j) on.
-pub record AddsPixelRun (l : Scene) (i j many : ℕ) (old new : List ℕ) : Type 0 where
-  pub run : List ℕ
-  pub is : IsPixelRun l i j many run
-  pub behind : new ≡ old ++ run

@@ -7,4 +7,5 @@ mod store;
 mod tile_pixels;
 
 pub use store::Store;
-pub use tile_pixels::{TilePixels, render};
+pub use tile_pixels::render;
+pub use tile_row::TilePixels;

@@ -5,26 +5,18 @@ ghost use Rattle.grid.specs.Pixels.{side_of};
 ghost use Rattle.bins.specs.Grid.{tiles_of, rect_of};
 ghost use Rattle.bins.specs.Bin.{HasTile, IsBinOf, bin_of};
 ghost use Rattle.raster.specs.Samples.{planes_of, AreAll};
-ghost use Rattle.tile.specs.Picture.{IsTileAt, IsPictureIn, IsTileBin, AreEnds};
+ghost use Rattle.tile_row.specs.Pixels.{IsPictureIn};
+ghost use Rattle.tile.specs.Picture.{IsTileAt, IsTileBin, AreEnds};
 
 use crate::pixels::SampledTile;
 use crate::store::Store;
 use bins::{Batch, Bins, Tiling};
-use grid::{OutOfMemory, PixelBox, SampleCount, TileSide};
+use grid::{OutOfMemory, SampleCount, TileSide};
 use lanes::BlockSamples;
 use model::DrawList;
 use raster::{Tile, clear, draw_triangle};
 use std::alloc::Global;
-
-/// A tile of the picture.
-#[derive(Debug, Drop)]
-pub struct TilePixels {
-    /// The tile's pixels, as far as they are in the picture.
-    pub rect: PixelBox,
-    /// The rows of the rectangle from top to bottom, the pixels of a row from left to right. Of a pixel either red, green and blue
-    /// or, if the list's output is its depths, the more and the less significant byte of the depth.
-    pub bytes: Vec<u8>,
-}
+use tile_row::TilePixels;
 
 /// Draws the triangles of the tile's bin, one after another, over cleared samples. They are fetched some at a time.
 fn draw_bin(list: &DrawList, numbers: &[u32], tile: &Tile, samples: &mut [BlockSamples])

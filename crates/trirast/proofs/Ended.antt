@@ -6,9 +6,10 @@ use Rattle.grid.specs.declared.pixels.TileSide.{TileSide}
 use Rattle.model.specs.Denotes.{Denotes}
 use Rattle.model.specs.Scene.{Scene}
 use Rattle.trirast.specs.Picture.{ExplainsPicture, fault_of}
-use Rattle.trirast.specs.Runs.{EndsAs, GivesAll}
-use Rattle.trirast.specs.declared.fault.Fault.{Fault}
-use Rattle.trirast.specs.declared.fault.Fault.TheVariants.{InputFailed}
+use Rattle.program_input.specs.Input.{GivesAll}
+use Rattle.trirast.specs.Runs.{EndsAs}
+use Rattle.program_input.specs.declared.fault.Fault.{Fault}
+use Rattle.program_input.specs.declared.fault.Fault.TheVariants.{InputFailed}
 use Rattle.trirast.specs.declared.picture.PictureFault.{PictureFault}
 use Rattle.trirast.specs.declared.picture.PictureFault.TheVariants.{NotBegun, OutOfMemory, WriteFailed}
 

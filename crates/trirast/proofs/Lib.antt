@@ -1,9 +1,3 @@
-pub mod Beginnings
-pub mod Columns
 pub mod Ended
-pub mod Intervals
-pub mod JoinedRows
-pub mod Lines
-pub mod Tiled
 pub mod Writing
 pub mod Written

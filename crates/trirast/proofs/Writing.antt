@@ -17,12 +17,12 @@ use Rattle.model.proofs.Parts.{part-append}
 use Rattle.model.proofs.Pixels.{bytes_of_none, bytes_up_to}
 use Rattle.bins.specs.Bin.{TileBins, AreBins}
 use Rattle.bins.specs.Grid.{TileGrid, tiles_over}
-use Rattle.trirast.specs.TileRow.{AddsTileRows, AreTileRows}
+use Rattle.tile_row.specs.TileRow.{AddsTileRows, AreTileRows}
 use Rattle.trirast.specs.Runs.{WritesAll}
 use Rattle.trirast.specs.Picture.{CutsRows, ExplainsPicture, ExplainsRows, WritesRows}
 use Rattle.trirast.specs.declared.picture.PictureFault.{PictureFault}
 use Rattle.trirast.specs.declared.picture.PictureFault.TheVariants.{NotBegun, OutOfMemory, WriteFailed}
-use Rattle.trirast.proofs.Beginnings.{Appends-front}
+use Rattle.picture_file.proofs.Beginnings.{Appends-front}
 use Rattle.trirast.proofs.Written.{HasWritten, all_written, tile_rows_cut, tile_rows_written, whole_tile_rows}
 
 -- no rows of pixels

@@ -3,10 +3,10 @@ use Rattle.std.specs.Prelude.{◌≡◌, ℕ, ◌+◌, ◌-◌, ◌<◌, ◌≤�
 use Rattle.std.specs.Io.KnownBytes.{Keeps, Appends}
 use Rattle.grid.specs.declared.pixels.TileSide.{TileSide}
 use Rattle.model.specs.Scene.{Scene}
-use Rattle.trirast.specs.TileRow.{AreTileRows}
+use Rattle.tile_row.specs.TileRow.{AreTileRows}
 use Rattle.trirast.specs.Runs.{WritesTileRows, WritesFileUpTo}
-use Rattle.trirast.specs.declared.fault.Fault.{Fault}
-use Rattle.trirast.specs.declared.fault.Fault.TheVariants.{OutOfMemory as NoMemory, WriteFailed as FailedWrite}
+use Rattle.program_input.specs.declared.fault.Fault.{Fault}
+use Rattle.program_input.specs.declared.fault.Fault.TheVariants.{OutOfMemory as NoMemory, WriteFailed as FailedWrite}
 use Rattle.trirast.specs.declared.picture.PictureFault.{PictureFault}
 use Rattle.trirast.specs.declared.picture.PictureFault.TheVariants.{NotBegun, OutOfMemory, WriteFailed}
 

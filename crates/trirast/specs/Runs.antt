@@ -1,29 +1,19 @@
 -- What a run from an input to an output does.
-use Rattle.std.specs.Prelude.{◌≡◌, ◌↔◌, ℕ, ◌+◌, ◌*◌, ◌<◌, ◌≤◌, ◌⊎◌, List, ◌++◌, length, take, Option, Result, OnOk, IfErr, IsErrOf}
-use Rattle.std.specs.Io.KnownBytes.{Keeps, Appends, Consumes, IsAtEnd}
+use Rattle.std.specs.Prelude.{◌≡◌, ◌↔◌, ℕ, ◌+◌, ◌*◌, ◌<◌, ◌≤◌, ◌⊎◌, List, length, take, Option, Result, OnOk, IfErr, IsErrOf}
+use Rattle.std.specs.Io.KnownBytes.{Keeps, Appends}
 use Rattle.grid.specs.Pixels.{side_of}
 use Rattle.grid.specs.declared.pixels.TileSide.{TileSide}
 use Rattle.model.specs.Picture.{pixel_bytes}
 use Rattle.model.specs.Scene.{Scene}
 use Rattle.model.specs.declared.fault.ReadFault.{ReadFault}
-use Rattle.trirast.specs.declared.fault.Fault.{Fault}
-use Rattle.trirast.specs.declared.fault.Fault.TheVariants.{List as BadList, Pool, InputFailed, InputTooLong, WriteFailed, OutOfMemory}
+use Rattle.program_input.specs.declared.fault.Fault.{Fault}
+use Rattle.program_input.specs.declared.fault.Fault.TheVariants.{List as BadList, Pool, InputFailed, InputTooLong, WriteFailed, OutOfMemory}
 use Rattle.model.specs.Checks.{all_checks}
 use Rattle.model.specs.Denotes.{Denotes}
 use Rattle.model.specs.Json.{json_of}
 use Rattle.model.specs.FirstFault.{IsFirstFault}
-use Rattle.trirast.specs.File.{header_of, IsPictureFile}
-
--- A reader with the bytes `left` gave these bytes, and then was at its end.
-pub record GivesAll (left left_after : Option (List ℕ)) (bytes : List ℕ) : Type 0 where
-  pub given : Consumes left left_after bytes
-  pub ended : IsAtEnd left_after
-
--- What the reader gave stands behind the old bytes.
-pub record TakesOver (left left_after : Option (List ℕ)) (old new : List ℕ) : Type 0 where
-  pub more : List ℕ
-  pub given : Consumes left left_after more
-  pub behind : new ≡ old ++ more
+use Rattle.picture_file.specs.File.{header_of, IsPictureFile}
+use Rattle.program_input.specs.Input.{GivesAll, Gives}
 
 -- What was written is the file of the draw list's picture.
 pub record WritesFile (list : Scene) (held held_after : Option (List ℕ)) : Type 0 where
@@ -88,12 +78,6 @@ pub record HasFault (left left_after : Option (List ℕ)) (fault : ReadFault) : 
   pub bytes : List ℕ
   pub input : GivesAll left left_after bytes
   pub first : IsFirstFault (all_checks (json_of bytes)) fault
-
--- The input gave exactly `count` bytes.
-pub record Gives (left left_after : Option (List ℕ)) (count : ℕ) : Type 0 where
-  pub bytes : List ℕ
-  pub given : Consumes left left_after bytes
-  pub many : length bytes ≡ count
 
 -- What each error says of the input's and the output's bytes, with tiles of this size. A run never ends in an error of the pool:
 -- what workers could not draw is drawn by the calling thread.

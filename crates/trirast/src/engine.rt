@@ -7,13 +7,12 @@ ghost use Rattle.model.specs.Json.{json_of};
 ghost use Rattle.model.specs.FirstFault.{IsFirstFault};
 ghost use Rattle.trirast.specs.Runs.{EndsAs};
 
-use crate::counted::Counted;
-use crate::fault::Fault;
-use crate::input::read_input;
 use crate::picture::write_picture;
 use command_line::Options;
 use list::{DrawList, MOST_BYTES, read};
+use picture_file::Counted;
 use pool::{Gate, Open};
+use program_input::{Fault, read_input};
 use std::alloc::Global;
 use std::io::{Read, Write};
 use std::sync::Wait;

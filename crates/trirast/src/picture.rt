@@ -5,20 +5,17 @@ ghost use Rattle.trirast.specs.Picture.{ExplainsPicture, ExplainsRows, WritesRow
 ghost use Rattle.trirast.specs.Runs.{WritesAll, WritesFile};
 ghost use Rattle.trirast.specs.declared.picture.PictureFault.TheVariants as picture;
 
-use crate::counted::Counted;
-use crate::fault::Fault;
-use crate::header::write_header;
-use crate::ppm::ppm_rows;
-use crate::tile_rows::{Beside, TileRows, rows_together};
-use crate::write_all::WriteFault;
 use bins::Tiling;
 use command_line::Options;
-use list::DrawList;
+use model::DrawList;
+use picture_file::{Counted, WriteFault, ppm_rows, write_header};
 use pool::Gate;
+use program_input::Fault;
 use std::alloc::Global;
 use std::io::Write;
 use std::sync::Wait;
 use std::thread::Threads;
+use tile_rows::{Beside, TileRows, rows_together};
 
 /// Why a picture's file was not written whole.
 #[derive(Clone, Copy, Debug, PartialEq, Eq)]

@@ -1,17 +1,17 @@
 //! The bytes of a picture, drawn on the calling thread alone: no thread is started, and none is waited for.
 ghost use Rattle.std.specs.Prelude.{◌≡◌, ◌≤◌, IfOk, OnOk};
 ghost use Rattle.bins.specs.Grid.{tiles_over};
-ghost use Rattle.trirast.specs.TileRow.{AreTileRows, AddsTileRows};
-ghost use Rattle.trirast.specs.File.{IsPictureFile};
+ghost use Rattle.tile_row.specs.TileRow.{AreTileRows, AddsTileRows};
+ghost use Rattle.picture_file.specs.File.{IsPictureFile};
 
-use crate::header::{HEADER_BYTES, file_header};
-use crate::tile_rows::TileRows;
 use bins::Tiling;
 use grid::{OutOfMemory, TileSide};
-use list::DrawList;
+use model::DrawList;
+use picture_file::{HEADER_BYTES, file_header};
 use pool::Open;
 use std::alloc::Global;
 use tile::Store;
+use tile_rows::TileRows;
 
 /// How many bytes the rows of pixels in `rows` tile rows take at most.
 fn most_bytes(list: &DrawList, tile: TileSide, rows: u32) -> usize

@@ -1,13 +1,14 @@
 //! The command line program, over arguments and streams.
 ghost use Rattle.std.specs.Prelude.{◌≡◌, ◌<◌, ◌⊎◌, map};
-ghost use Rattle.trirast.specs.Program.{EndsByFault, WritesLine, refusal_line, usage_line};
-ghost use Rattle.trirast.specs.Runs.{WritesPicture};
 ghost use Rattle.command_line.specs.Args.{AsksForHelp, status_of};
+ghost use Rattle.program_input.specs.Refusal.{WritesLine, refusal_line};
+ghost use Rattle.trirast.specs.Program.{EndsByFault, usage_line};
+ghost use Rattle.trirast.specs.Runs.{WritesPicture};
 
-use crate::counted::Counted;
 use crate::engine::run;
-use crate::fault::Fault;
 use command_line::{LineFault, fault_line, options};
+use picture_file::Counted;
+use program_input::{refuse_with, write_line};
 use std::alloc::Global;
 use std::io::{Read, Write};
 use std::sync::Wait;
@@ -16,9 +17,6 @@ use std::thread::Threads;
 /// What `--help` prints.
 pub const USAGE: &[u8] =
     b"usage: trirast [--tile 8|16|32|64] [--workers 1..16] < list.json > picture.ppm\n";
-
-/// The line that reports arguments that the program does not have.
-const REFUSAL: &[u8] = b"trirast: command line refused\n";
 
 /// Reads the arguments, of which the first is the program's name, and a draw list from the input, and writes its picture. Returns the
 /// program's status: 0 if the picture was written or the usage line was asked for, 1 if the run failed or memory ran out while the
@@ -49,18 +47,17 @@ pub fn command<'a, Rt: Threads + Wait + Sync, R: Read, W: Write, E: Write>(
         Ok(options) => match run(rt, alloc, input, output, options) {
             Ok(()) => 0,
             Err(fault) => {
-                tell(fault_line(&fault).as_str().as_bytes(), errors);
+                write_line(fault_line(&fault).as_str().as_bytes(), errors);
                 1
             }
         },
-        Err(fault) => refuse(USAGE, fault, output, errors),
+        Err(fault) => refuse(fault, output, errors),
     }
 }
 
-/// Reports that the arguments do not say what to do: writes the program's usage line to the output if it was asked for, else the line
-/// of the error to `errors`. Returns the program's status.
+/// Reports that the arguments give no options: writes the usage line to the output if it was asked for, else the line of the error to
+/// `errors`. Returns the program's status.
 pub fn refuse<W: Write, E: Write>(
-    usage: &[u8],
     fault: LineFault,
     output: &mut Counted<W>,
     errors: &mut Counted<E>,
@@ -68,34 +65,12 @@ pub fn refuse<W: Write, E: Write>(
     requires output { output.old.failures < u64.MAX }
     requires errors { errors.old.failures < u64.MAX }
     ensures help { result ≡ 0 → fault ≡ LineFault.Help }
-    ensures usage { result ≡ 0 → WritesLine usage.now (W.contents output.old.inner) (W.contents output.new.inner) }
+    ensures usage { result ≡ 0 → WritesLine usage_line (W.contents output.old.inner) (W.contents output.new.inner) }
     ensures quiet { result ≡ 0 → errors.new ≡ errors.old }
     ensures failed { result ≡ 1 → output.new ≡ output.old }
     ensures refused { result ≡ 2 → output.new ≡ output.old }
     ensures refusal { result ≡ 2 → WritesLine refusal_line (E.contents errors.old.inner) (E.contents errors.new.inner) }
     ensures status { result ≡ status_of fault }
 {
-    match fault {
-        LineFault::Help => {
-            tell(usage, output);
-            0
-        }
-        LineFault::Refused => {
-            tell(REFUSAL, errors);
-            2
-        }
-        LineFault::OutOfMemory => {
-            tell(fault_line(&Fault::OutOfMemory).as_str().as_bytes(), errors);
-            1
-        }
-    }
-}
-
-/// Writes a line, or what of it can be written.
-#[tactic(auto, using(crate::proofs::Lines::writes_line))]
-fn tell<W: Write>(line: &[u8], out: &mut Counted<W>)
-    requires { out.old.failures < u64.MAX }
-    ensures { WritesLine line.now (W.contents out.old.inner) (W.contents out.new.inner) }
-{
-    let _ = out.write_all(line, 0);
+    refuse_with(USAGE, fault, output, errors)
 }

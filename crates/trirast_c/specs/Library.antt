@@ -15,8 +15,8 @@ use Rattle.scene.specs.declared.draw.SceneDraw.{SceneDraw}
 use Rattle.scene.specs.declared.head.SceneHead.{SceneHead}
 use Rattle.scene.specs.declared.vertex.SceneVertex.{SceneVertex}
 use Rattle.bins.specs.Grid.{tiles_over}
-use Rattle.trirast.specs.TileRow.{AreTileRows}
-use Rattle.trirast.specs.File.{header_of, IsPictureFile}
+use Rattle.tile_row.specs.TileRow.{AreTileRows}
+use Rattle.picture_file.specs.File.{header_of, IsPictureFile}
 use Rattle.batch.specs.Arrays.{HasSizes as HasBatchSizes}
 use Rattle.batch.specs.declared.arrays.Batch.{Batch}
 use Rattle.trirast_c.specs.declared.error.CallError.{CallError}

@@ -2,7 +2,7 @@
 ghost use Rattle.std.specs.Prelude.{◌≡◌, ◌≢◌, ◌<◌, ◌≤◌, ℕ, List, length, OnOk, OnErr, IfErr};
 ghost use Rattle.model.specs.Denotes.{Denotes};
 ghost use Rattle.bins.specs.Grid.{tiles_over};
-ghost use Rattle.trirast.specs.TileRow.{AreTileRows};
+ghost use Rattle.tile_row.specs.TileRow.{AreTileRows};
 ghost use Rattle.trirast_c.specs.Errors.{no_error, number_of, reported};
 ghost use Rattle.trirast_c.specs.Library.{DrawsRows, ExplainsRows, text};
 

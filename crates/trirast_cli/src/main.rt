@@ -2,17 +2,17 @@
 #![tactic(auto)]
 
 use std::process::ExitCode;
-use trirast::{Counted, LineFault, USAGE, as_slices, command, own_arguments, refuse};
+use trirast::{Counted, LineFault, as_slices, command, own_arguments, refuse};
 
 fn main(rt: HostRuntime) -> ExitCode {
     let mut output = Counted::new(rt.stdout());
     let mut errors = Counted::new(rt.stderr());
     let arguments = match own_arguments(&rt) {
         Ok(arguments) => arguments,
-        Err(fault) => return ExitCode::from(refuse(USAGE, fault, &mut output, &mut errors)),
+        Err(fault) => return ExitCode::from(refuse(fault, &mut output, &mut errors)),
     };
     let Ok(arguments) = as_slices(rt.alloc(), &arguments) else {
-        let status = refuse(USAGE, LineFault::OutOfMemory, &mut output, &mut errors);
+        let status = refuse(LineFault::OutOfMemory, &mut output, &mut errors);
         return ExitCode::from(status);
     };
     let mut input = Counted::new(rt.stdin());

@@ -1,8 +1,10 @@
 //! The program `trirast_why`: its arguments and standard streams, given to `why::command`.
 #![tactic(auto)]
 
+use command_line::{LineFault, as_slices, own_arguments};
+use picture_file::Counted;
+use program_input::refuse_with;
 use std::process::ExitCode;
-use trirast::{Counted, LineFault, as_slices, own_arguments, refuse};
 use why::{USAGE, command};
 
 fn main(rt: HostRuntime) -> ExitCode {
@@ -10,10 +12,10 @@ fn main(rt: HostRuntime) -> ExitCode {
     let mut errors = Counted::new(rt.stderr());
     let arguments = match own_arguments(&rt) {
         Ok(arguments) => arguments,
-        Err(fault) => return ExitCode::from(refuse(USAGE, fault, &mut output, &mut errors)),
+        Err(fault) => return ExitCode::from(refuse_with(USAGE, fault, &mut output, &mut errors)),
     };
     let Ok(arguments) = as_slices(rt.alloc(), &arguments) else {
-        let status = refuse(USAGE, LineFault::OutOfMemory, &mut output, &mut errors);
+        let status = refuse_with(USAGE, LineFault::OutOfMemory, &mut output, &mut errors);
         return ExitCode::from(status);
     };
     let mut input = Counted::new(rt.stdin());

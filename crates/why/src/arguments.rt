@@ -1,9 +1,9 @@
 //! What the arguments ask for.
 
 use clap::{Arg, ArgAction, Command};
+use command_line::LineFault;
 use model::TrianglePlace;
 use std::alloc::Global;
-use trirast::LineFault;
 
 /// How a report is written.
 #[derive(Clone, Copy, Debug, PartialEq, Eq)]

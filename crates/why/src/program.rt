@@ -1,15 +1,18 @@
 //! The command line program, over arguments and streams.
 ghost use Rattle.std.specs.Prelude.{◌≡◌, ◌<◌, ◌⊎◌};
-ghost use Rattle.trirast.specs.Program.{WritesLine, refusal_line};
+ghost use Rattle.program_input.specs.Refusal.{WritesLine, refusal_line};
 ghost use Rattle.why.specs.declared.program.Failure.TheVariants.{Run};
 
 use crate::arguments::{Question, read_arguments};
 use crate::counts::report_triangle;
 use crate::text::{ReportFault, report};
-use model::DrawList;
+use command_line::{LineFault, fault_line};
+use list::read;
+use model::{DrawList, ReadFault};
+use picture_file::Counted;
+use program_input::{Fault, read_input, refuse_with, write_line};
 use std::alloc::Global;
 use std::io::{Read, Write};
-use trirast::{Counted, Fault, LineFault, fault_line, ppm_rows, read_input, read_list, refuse};
 
 /// What `--help` prints.
 pub const USAGE: &[u8] =
@@ -31,6 +34,12 @@ impl From<Fault> for Failure {
     }
 }
 
+impl From<ReadFault> for Failure {
+    fn from(fault: ReadFault) -> Failure {
+        Failure::Run(Fault::from(fault))
+    }
+}
+
 impl From<ReportFault> for Failure {
     fn from(fault: ReportFault) -> Failure {
         match fault {
@@ -44,7 +53,7 @@ impl From<ReportFault> for Failure {
 fn write_text<W: Write>(text: &str, output: &mut Counted<W>) -> Result<(), Fault>
     requires { output.old.failures < u64.MAX }
 {
-    let written = ppm_rows(text.as_bytes(), 0, output)?;
+    let written = output.write_all(text.as_bytes(), 0)?;
     match output.flush() {
         Ok(()) => Ok(()),
         Err(_) => Err(Fault::WriteFailed(written)),
@@ -77,7 +86,7 @@ fn answer<R: Read, W: Write>(
     ensures { (result ≡ Err Failure.NotThere) → output.new ≡ output.old }
 {
     let bytes = read_input(alloc, input)?;
-    let list = read_list(alloc, bytes.as_slice())?;
+    let list = read(alloc, bytes.as_slice())?;
     // Nothing needs the JSON text any more.
     drop(bytes);
     let text = text_of(alloc, &list, question)?;
@@ -105,13 +114,13 @@ pub fn command<'a, R: Read, W: Write, E: Write>(
 {
     let question = match read_arguments(alloc, arguments) {
         Ok(question) => question,
-        Err(fault) => return refuse(USAGE, fault, output, errors),
+        Err(fault) => return refuse_with(USAGE, fault, output, errors),
     };
     match answer(alloc, input, output, &question) {
         Ok(()) => 0,
-        Err(Failure::NotThere) => refuse(USAGE, LineFault::Refused, output, errors),
+        Err(Failure::NotThere) => refuse_with(USAGE, LineFault::Refused, output, errors),
         Err(Failure::Run(fault)) => {
-            let _ = ppm_rows(fault_line(&fault).as_str().as_bytes(), 0, errors);
+            write_line(fault_line(&fault).as_str().as_bytes(), errors);
             1
         }
     }

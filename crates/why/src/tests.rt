@@ -1,9 +1,11 @@
 //! Reports of a small picture, with each value worked by hand.
 use crate::{Asked, AskedTriangle, Form, Question, USAGE, command, read_arguments};
+use command_line::LineFault;
 use model::TrianglePlace;
+use picture_file::Counted;
+use program_input::refuse_with;
 use std::alloc::Global;
 use std::test::Fail;
-use trirast::{Counted, LineFault, refuse};
 
 /// 3 by 3 pixels, and a triangle over the upper left half of them: the centre of pixel (1, 1) lies on the hypotenuse, a right edge.
 const TRIANGLE: &str =
@@ -146,6 +148,9 @@ fn reads_what_is_asked(rt: HostRuntime) -> Result<(), Fail> {
     assert_eq!(rt; found, Ok(Question::Triangle(expected)));
     let mut output: Counted<Vec<u8>> = Counted::new(Vec::new(rt.alloc()));
     let mut errors: Counted<Vec<u8>> = Counted::new(Vec::new(rt.alloc()));
-    assert_eq!(rt; refuse(USAGE, LineFault::Help, &mut output, &mut errors), 0);
+    assert_eq!(rt;
+        refuse_with(USAGE, LineFault::Help, &mut output, &mut errors),
+        0
+    );
     Ok(())
 }

@@ -1,0 +1,20 @@
+-- What a reader gave.
+use Rattle.std.specs.Prelude.{◌≡◌, ℕ, List, ◌++◌, length, Option}
+use Rattle.std.specs.Io.KnownBytes.{Consumes, IsAtEnd}
+
+-- A reader with the bytes `left` gave these bytes, and then was at its end.
+pub record GivesAll (left left_after : Option (List ℕ)) (bytes : List ℕ) : Type 0 where
+  pub given : Consumes left left_after bytes
+  pub ended : IsAtEnd left_after
+
+-- What the reader gave stands behind the old bytes.
+pub record TakesOver (left left_after : Option (List ℕ)) (old new : List ℕ) : Type 0 where
+  pub more : List ℕ
+  pub given : Consumes left left_after more
+  pub behind : new ≡ old ++ more
+
+-- The input gave exactly `count` bytes.
+pub record Gives (left left_after : Option (List ℕ)) (count : ℕ) : Type 0 where
+  pub bytes : List ℕ
+  pub given : Consumes left left_after bytes
+  pub many : length bytes ≡ count

@@ -1,0 +1,4 @@
+pub mod Columns
+pub mod Intervals
+pub mod JoinedRows
+pub mod Tiled

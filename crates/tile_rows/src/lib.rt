@@ -1,0 +1,6 @@
+//! Tile rows that are drawn together, by several workers or on the calling thread, and put together.
+#![tactic(auto)]
+
+mod tile_rows;
+
+pub use tile_rows::{Beside, TileRows, rows_together};
