@@ -1,9 +1,9 @@
 //! Reports of a small picture, with each value worked by hand.
-use crate::{Asked, AskedTriangle, Form, Question, USAGE, command, read_arguments};
 use model::TrianglePlace;
 use std::alloc::Global;
 use std::test::Fail;
 use trirast::{Counted, LineFault, refuse};
+use why::{Asked, AskedTriangle, Form, Question, USAGE, command, read_arguments};
 
 /// 3 by 3 pixels, and a triangle over the upper left half of them: the centre of pixel (1, 1) lies on the hypotenuse, a right edge.
 const TRIANGLE: &str =
