@@ -1,11 +1,11 @@
-"""Times the must-fail edits of crates, one after another, each over the proofs that were kept before it.
+"""Times the must-fail edits of crates, each by itself over what a check of the crate as it stands proved, as `rt ci` tries them.
 
     python3 -m tools.edit_times [--from-nothing] [--only WORD] CRATE..
 
 An edit counts for the gate as long as the prover searches before it refuses it: one that takes long is best replaced by another
-of the same meaning. The proofs that `rt check` left in a crate's folder are copied, so that no edit proves what it does not
-change; with --from-nothing the first edit proves the whole crate, as under `rt ci`. Prints the seconds of each edit, the slowest
-first, and the first line of one that was not refused. Exit status 1 if there is such an edit.
+of the same meaning. The first check begins with the proofs that `rt check` left in the crate's folder; with --from-nothing it proves
+the whole crate, as under `rt ci`. Prints the seconds of a processor, which other work on the machine changes little, of that first
+check, and of each edit with what rt says of it, the slowest first. Exit status 1 if an edit was not refused.
 """
 
 from __future__ import annotations
@@ -14,11 +14,10 @@ import argparse
 import importlib.machinery
 import importlib.util
 import os
+import resource
 import shutil
 import subprocess
 import sys
-import tempfile
-import time
 from types import ModuleType
 from typing import Any
 
@@ -36,6 +35,12 @@ def load(path: str) -> ModuleType:
     sys.modules["rt"] = module
     loader.exec_module(module)
     return module
+
+
+def processor_seconds() -> float:
+    """The seconds that processors spent on commands which have ended."""
+    used = resource.getrusage(resource.RUSAGE_CHILDREN)
+    return used.ru_utime + used.ru_stime
 
 
 def command() -> str:
@@ -56,20 +61,22 @@ def crates(rt: Any, names: list[str]) -> list[Any]:
 
 def times(rt: Any, crate: Any, only: str, is_from_nothing: bool) -> list[tuple[float, bool, str]]:
     """The seconds of each edit whose name has the word, whether it was refused, and what rt says of it."""
-    found = []
-    with tempfile.TemporaryDirectory(prefix="edit-times-") as room:
-        kept = os.path.join(room, "kept")
-        own = os.path.join(crate.folder, "out", "incremental")
-        if os.path.isdir(own) and not is_from_nothing:
-            shutil.copytree(own, kept)
-        else:
-            os.mkdir(kept)
-        for edit in rt.edits_of(crate)[0]:
-            if only in os.path.basename(edit):
-                start = time.monotonic()
-                is_refused, text = rt.must_fail(crate, edit, ONE_AT_A_TIME, kept)
-                found.append((time.monotonic() - start, is_refused, text))
-                print(f"{found[-1][0]:7.1f}  {text[:180]}", file=sys.stderr, flush=True)
+    found: list[tuple[float, bool, str]] = []
+    own = os.path.join(crate.folder, "out", "incremental")
+    start = processor_seconds()
+    room = rt.seeded(crate, ONE_AT_A_TIME, own if os.path.isdir(own) and not is_from_nothing else None)
+    if not room:
+        sys.exit(f"{crate.name} is not proved")
+    print(f"{processor_seconds() - start:7.1f}  {crate.name} as it stands", file=sys.stderr, flush=True)
+    over = os.path.join(room, "over")
+    for edit in rt.edits_of(crate)[0]:
+        if only in os.path.basename(edit):
+            rt.linked(os.path.join(room, "seed"), over)
+            start = processor_seconds()
+            kind, text = rt.must_fail(crate, edit, ONE_AT_A_TIME, over)
+            found.append((processor_seconds() - start, kind in (rt.REFUSED, rt.AT_LIMIT), text))
+            shutil.rmtree(over)
+            print(f"{found[-1][0]:7.1f}  {text[:180]}", file=sys.stderr, flush=True)
     return found
 
 
@@ -82,8 +89,9 @@ def main() -> int:
     rt: Any = load(command())
     rt.rtlib.guarded()
     found = []
-    for crate in crates(rt, options.crates):
-        found += times(rt, crate, options.only, options.from_nothing)
+    with rt.ending():
+        for crate in crates(rt, options.crates):
+            found += times(rt, crate, options.only, options.from_nothing)
     for seconds, _is_refused, text in sorted(found, reverse=True):
         print(f"{seconds:7.1f}  {text.splitlines()[0]}")
     print(f"{sum(seconds for seconds, _is_refused, _text in found):7.1f}  in all")

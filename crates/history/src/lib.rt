@@ -17,6 +17,3 @@ pub use laws::{events_are_exact, events_chain, has_every_reason};
 pub use reasons::Reasons;
 pub use sample_history::{SampleHistory, changes, events_of};
 pub use samples::{meets, samples_met};
-
-#[cfg(test)]
-mod tests;

@@ -20,6 +20,3 @@ pub use sample_history::write_history;
 pub use sample_info::SampleInfo;
 pub use stored::{Fragment, StoredSample};
 pub use triangle::{TriangleSamples, write_triangle_samples};
-
-#[cfg(test)]
-mod tests;

@@ -15,6 +15,3 @@ pub use arguments::{Asked, AskedTriangle, Form, Question, read_arguments};
 pub use counts::report_triangle;
 pub use program::{USAGE, command};
 pub use text::{Pixel, ReportFault, report};
-
-#[cfg(test)]
-mod tests;

@@ -1,8 +1,8 @@
-use crate::{
+use batch::LibraryError;
+use sample_events::{
     Fragment, HistoryRequest, SampleEvent, SampleInfo, StoredSample, TriangleSamples,
     write_history, write_triangle_samples,
 };
-use batch::LibraryError;
 use std::alloc::Global;
 
 /// 3 by 3 pixels, and a white triangle over the upper left half of them.

@@ -1,11 +1,11 @@
 //! Reports of a small picture, with each value worked by hand.
-use crate::{Asked, AskedTriangle, Form, Question, USAGE, command, read_arguments};
 use command_line::LineFault;
 use model::TrianglePlace;
 use picture_file::Counted;
 use program_input::refuse_with;
 use std::alloc::Global;
 use std::test::Fail;
+use why::{Asked, AskedTriangle, Form, Question, USAGE, command, read_arguments};
 
 /// 3 by 3 pixels, and a triangle over the upper left half of them: the centre of pixel (1, 1) lies on the hypotenuse, a right edge.
 const TRIANGLE: &str =

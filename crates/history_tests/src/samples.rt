@@ -1,8 +1,8 @@
-use crate::{
+use grid::{Cull, PixelBox, Point, SampleCount, Tri};
+use history::{
     EdgeAt, EdgeReason, Event, Followed, Outcome, SampleHistory, changes, event_of, events_of,
     follow, meets, samples_met,
 };
-use grid::{Cull, PixelBox, Point, SampleCount, Tri};
 use shade::{DepthTest, Merge, Placed, Sample, State};
 use std::process::Abort;
 
