@@ -1,7 +1,7 @@
 use Rattle.std.proofs.Common.{◌*◌, ◌<◌, refl, arith}
 use Rattle.bins.specs.Grid.{tiles_over}
 use Rattle.tile_row.proofs.Intervals.{begin_fits}
-use Rattle.trirast_c.proofs.tile_rows.bytes_of_rows.Goals as goal
+use Rattle.trirast_c.proofs.picture_rows.bytes_of_rows.Goals as goal
 
 pub overflow_mul-top : goal.overflow_mul-top
 overflow_mul-top c =
