@@ -1,8 +1,8 @@
-"""A window's part of a scene: what is drawn there, as it is given or sent to a worker."""
+"""The part of a scene that some windows have: what is drawn there, as it is given or sent to a worker."""
 
 from __future__ import annotations
 
-from bisect import bisect_right
+from bisect import bisect_left, bisect_right
 from typing import Any, Mapping, NamedTuple, Sequence
 
 import numpy as np
@@ -10,16 +10,13 @@ from numpy.typing import NDArray
 
 from ._index import Index
 from ._scene import HIGH, LOW, UNIT, Indices, Scene, Sheet, Triangles, Vertices
-from ._windows import Area, Window
+from ._windows import Area, Span
 
 # Vertices are looked up in blocks of 256: neighbours in a list are neighbours on the sheet, so a window names few blocks. If a table of
 # these blocks had more entries for an index than SPREAD, the indices are sorted.
 BLOCK_BITS = 8
 BLOCK_MASK = (1 << BLOCK_BITS) - 1
 SPREAD = 16
-# At most FEW triangles of several tile rows are drawn together, if they lie within TOGETHER tiles.
-FEW = 256
-TOGETHER = 16
 
 
 class PartDraw(NamedTuple):
@@ -30,7 +27,7 @@ class PartDraw(NamedTuple):
 
 
 class Piece(NamedTuple):
-    """Pixels of a window that are drawn together, and the draws that meet them. `first` is the first of their triangles in the part."""
+    """Pixels of a tile row of a window that are drawn together, and the draws that meet them. `first` is the first of their triangles in the part."""
 
     area: Area
     first: int
@@ -38,57 +35,52 @@ class Piece(NamedTuple):
 
 
 class Part(NamedTuple):
-    """The triangles of a window by pieces, of each piece in the order in which they are drawn, with positions on the whole sheet.
+    """The triangles of windows by pieces, of each piece in the order in which they are drawn, with positions on the whole sheet.
 
-    No triangle meets a pixel that is in no piece. No vertex that the triangles name lies left of `low` or above it, in 1/256 pixel.
+    `area` has the pixels of the windows. No triangle meets one of them that is in no piece. No vertex that the triangles name lies left
+    of `low` or above it, in 1/256 pixel.
     """
 
     sheet: Sheet
-    window: Window
+    area: Area
     low: tuple[int, int]
     vertices: Vertices
     triangles: Triangles
     pieces: Sequence[Piece]
 
 
-def part_of(scene: Scene, index: Index, window: Window) -> Part:
-    """The part of a window, over all vertices of the scene."""
-    chosen, ends, areas = index.of_window(window)
-    if len(chosen) <= FEW:
-        bounds = bounds_of([area for area in areas if area.pixels])
-        if bounds.tiles <= TOGETHER:
-            # A triangle that meets several tile rows is drawn once.
-            chosen = np.unique(chosen)
-            areas, ends = [bounds], [len(chosen)]
+def part_of(scene: Scene, index: Index, span: Span) -> Part:
+    """The part of some windows, over all vertices of the scene. There is one, unless each of their pixels is near in the index."""
+    chosen, ends, areas = index.of_span(span)
+    # Python's lock is let go for few long calls of numpy, and so it is for all windows at once.
     triangles = scene.triangles.take(chosen, 0)
-    pieces = []
-    for area, begin, end in zip(areas, [0, *ends], ends):
-        if begin < end and area.pixels:
-            pieces.append(Piece(area, begin, draws_of(scene, chosen[begin:end])))
-    return Part(scene.sheet, window, low_of(scene, index, window, triangles), scene.vertices, triangles, pieces)
+    return Part(scene.sheet, span.area, low_of(scene, index, span, triangles), scene.vertices, triangles, pieces_of(scene, chosen, ends, areas))
 
 
-def bounds_of(areas: Sequence[Area]) -> Area:
-    """The smallest area in which areas lie."""
-    lefts, tops, rights, bottoms = zip(*areas) if areas else ((0,),) * 4
-    return Area(min(lefts), min(tops), max(rights), max(bottoms))
+def pieces_of(scene: Scene, chosen: Indices, ends: Indices, areas: Indices) -> list[Piece]:
+    """The pieces that are met: tile rows with a triangle, as an index has them."""
+    begins = np.concatenate((np.zeros(1, ends.dtype), ends[:-1]))
+    # A triangle may lie behind the last pixel of a window that reaches past the sheet.
+    met = np.flatnonzero((begins < ends) & (areas[:, 0] < areas[:, 2]) & (areas[:, 1] < areas[:, 3]))
+    rows = zip(areas[met].tolist(), begins[met].tolist(), ends[met].tolist())
+    return [Piece(Area._make(area), begin, draws_of(scene, chosen, begin, end)) for area, begin, end in rows]
 
 
-def draws_of(scene: Scene, chosen: Indices) -> list[PartDraw]:
-    """The draws that have some triangles, which are ascending."""
-    draws = []
-    while len(chosen):
-        number = bisect_right(scene.ends, int(chosen[0]))
-        end = scene.ends[number]
-        count = len(chosen) if chosen[-1] < end else int(np.searchsorted(chosen, end))
-        draws.append(PartDraw(count, scene.draws[number].state))
-        chosen = chosen[count:]
+def draws_of(scene: Scene, chosen: Indices, begin: int, end: int) -> list[PartDraw]:
+    """The draws that have the chosen triangles from `begin` to before `end`, which are ascending."""
+    draws, last = [], int(chosen[end - 1])
+    while begin < end:
+        number = bisect_right(scene.ends, int(chosen[begin]))
+        behind = scene.ends[number]
+        middle = end if last < behind else bisect_left(chosen, behind, begin, end)  # type: ignore[arg-type]
+        draws.append(PartDraw(middle - begin, scene.draws[number].state))
+        begin = middle
     return draws
 
 
-def low_of(scene: Scene, index: Index, window: Window, triangles: Triangles) -> tuple[int, int]:
-    """A position left of and above all corners of triangles: that of the whole scene, if the window can take it."""
-    if min(low - LOW - UNIT * first for low, first in zip(index.low, (window.right, window.bottom))) >= 0:
+def low_of(scene: Scene, index: Index, span: Span, triangles: Triangles) -> tuple[int, int]:
+    """A position left of and above all corners of triangles: that of the whole scene, if all windows can take it."""
+    if index.is_near(span.area):
         return index.low
     x, y = (int(scene.vertices[:, axis][triangles].min(initial=HIGH)) for axis in range(2))
     return x, y

@@ -16,6 +16,7 @@ from .._canvas import FARTHEST, FORMATS, aligned
 from .._ffi import PLANE_BYTES, CBatch, CBatchDraw, CCanvas, CError, CVertex, library
 from .._scene import Draw
 from ._scene import Pixels, Sheet, Triangles, Vertices
+from ._windows import TILE, Area
 
 OWN = threading.local()
 # Calls of a few microseconds keep Python's lock: to get it back from another thread may take longer. These are those on samples of at most
@@ -23,6 +24,8 @@ OWN = threading.local()
 QUICK = ctypes.PyDLL
 FEW_BYTES, FEW = 2 * 4096 * 4 * 5, 16
 INDEX_BYTES = ctypes.sizeof(ctypes.c_uint32)
+TRIANGLE_BYTES = 3 * INDEX_BYTES
+FORMAT, PIXEL_BYTES = FORMATS["rgb"]
 
 
 class Arrays:
@@ -34,33 +37,58 @@ class Arrays:
         self.vertex_count = len(vertices)
 
 
+class Target:
+    """The pixels of an area of a sheet, whose rows may lie apart, and their address."""
+
+    def __init__(self, pixels: Pixels, area: Area) -> None:
+        self._pixels, self._area = pixels, area
+        self._address, self.stride = pixels.ctypes.data, pixels.strides[0]
+
+    def address(self, area: Area) -> int:
+        """Where the colours of an area within it begin."""
+        return self._address + (area.top - self._area.top) * self.stride + (area.left - self._area.left) * PIXEL_BYTES
+
+    def put(self, area: Area, pixels: Pixels) -> None:
+        """Copies the last rows and columns of pixels to an area within it."""
+        left, top = area.left - self._area.left, area.top - self._area.top
+        last = pixels[pixels.shape[0] - area.height :, pixels.shape[1] - area.width :]
+        self._pixels[top : top + area.height, left : left + area.width] = last
+
+
 class ThreadCanvas:
-    """The samples of a canvas. `place` comes before the other calls."""
+    """The samples of a canvas. `begin` and `place` come before the other calls."""
 
     def __init__(self) -> None:
-        self._memory, self._size, self._is_small = aligned(0), 0, True
+        self._memory, self._size, self._address, self._is_small = aligned(0)[0], 0, 0, True
         self._canvas = CCanvas(ctypes.sizeof(CCanvas))
         self._batch = CBatch(ctypes.sizeof(CBatch), ctypes.sizeof(CBatchDraw), ctypes.sizeof(CVertex), INDEX_BYTES, None, 1)
         self._error = CError()
+        self._quick, self._calls = library(QUICK), library()
 
-    def place(self, origin: tuple[int, int], width: int, height: int, samples: int) -> None:
-        """Makes it a canvas of this size whose upper left pixel is that of the sheet at `origin`. What its samples begin with is not
-        specified."""
-        canvas, calls = self._canvas, library(QUICK)
-        rows = calls.trirast_canvas_rows(height)
-        size = calls.trirast_canvas_bytes(width, height, samples, 0, rows)
+    def begin(self, sheet: Sheet) -> None:
+        """Makes it a canvas of this sheet."""
+        self._color, self._depth, self._is_depth = (ctypes.c_uint8 * 3)(*sheet.clear), sheet.clear_depth, sheet.is_depth
+        self._canvas.samples = sheet.samples
+
+    def place(self, origin: tuple[int, int], area: Area) -> None:
+        """Makes it a canvas whose upper left pixel is that of the sheet at `origin`, and whose last one is the last of the area. What its
+        samples begin with is not specified."""
+        canvas, quick = self._canvas, self._quick
+        left, top = origin
+        width, height = area.right - left, area.bottom - top
+        rows = 1 if height <= TILE else quick.trirast_canvas_rows(height)
+        size = quick.trirast_canvas_bytes(width, height, canvas.samples, 0, rows)
         if size > self._size:
-            self._memory, self._size = aligned(size), size
-        memory, first = self._memory
-        canvas.width, canvas.height, canvas.samples = width, height, samples
-        canvas.origin_x, canvas.origin_y = origin
-        canvas.first, canvas.end = 0, rows
-        canvas.memory, canvas.plane_count = ctypes.addressof(memory) + first, size // PLANE_BYTES
+            self._memory, first = aligned(size)
+            self._size, self._address = size, ctypes.addressof(self._memory) + first
+        canvas.width, canvas.height, canvas.origin_x, canvas.origin_y = width, height, left, top
+        canvas.end, canvas.memory, canvas.plane_count = rows, self._address, size // PLANE_BYTES
         self._is_small = size <= FEW_BYTES
 
-    def clear(self, sheet: Sheet) -> None:
+    def clear(self) -> None:
         """Makes each sample what those of the sheet begin with."""
-        library(QUICK).trirast_canvas_clear(self._canvas, (ctypes.c_uint8 * 3)(*sheet.clear), sheet.clear_depth)
+        calls = self._quick if self._is_small else self._calls
+        calls.trirast_canvas_clear(self._canvas, self._color, self._depth)
 
     def draw(self, arrays: Arrays, first: int, triangles: int, state: CBatchDraw) -> None:
         """Draws as many triangles from the triangle `first` of the arrays on. Raises DrawListError, and then nothing was drawn."""
@@ -68,26 +96,26 @@ class ThreadCanvas:
         state.vertex_count, state.index_count = arrays.vertex_count, 3 * triangles
         batch.draws = ctypes.addressof(state)
         batch.vertices, batch.vertex_count = arrays.vertices, arrays.vertex_count
-        batch.indices, batch.index_count = arrays.indices + 3 * INDEX_BYTES * first, 3 * triangles
-        calls = library(QUICK) if self._is_small and triangles <= FEW else library()
+        batch.indices, batch.index_count = arrays.indices + TRIANGLE_BYTES * first, 3 * triangles
+        calls = self._quick if self._is_small and triangles <= FEW else self._calls
         calls.trirast_canvas_draw(self._canvas, batch, self._error)
 
-    def show(self, pixels: Pixels, is_depth: bool) -> None:
-        """Writes the colours, or the depths of the samples 0, of its last rows and columns into pixels, whose rows may lie apart."""
-        canvas, height, width = self._canvas, self._canvas.height, self._canvas.width
-        calls = library(QUICK) if self._is_small else library()
-        whole = pixels
-        if is_depth:
-            whole = np.empty((height, width), np.uint16)
-            calls.trirast_canvas_depths(canvas, 0, whole.ctypes.data, whole.size, width)
+    def show(self, target: Target, area: Area) -> None:
+        """Writes the colours, or the depths of the samples 0, of an area that its last rows and columns are."""
+        canvas = self._canvas
+        height, width = canvas.height, canvas.width
+        calls = self._quick if self._is_small else self._calls
+        if self._is_depth:
+            depths = np.empty((height, width), np.uint16)
+            calls.trirast_canvas_depths(canvas, 0, depths.ctypes.data, depths.size, width)
+            target.put(area, depths)
+        elif (height, width) == (area.height, area.width):
+            stride = target.stride
+            calls.trirast_canvas_resolve(canvas, FORMAT, target.address(area), (height - 1) * stride + width * PIXEL_BYTES, stride)
         else:
-            if pixels.shape[:2] != (height, width):
-                whole = np.empty((height, width, 3), np.uint8)
-            code, unit = FORMATS["rgb"]
-            stride = whole.strides[0]
-            calls.trirast_canvas_resolve(canvas, code, whole.ctypes.data, (height - 1) * stride + width * unit, stride)
-        if whole is not pixels:
-            pixels[...] = whole[height - pixels.shape[0] :, width - pixels.shape[1] :]
+            colors = np.empty((height, width, 3), np.uint8)
+            calls.trirast_canvas_resolve(canvas, FORMAT, colors.ctypes.data, colors.size, colors.strides[0])
+            target.put(area, colors)
 
 
 def state_of(state: Mapping[str, Any]) -> CBatchDraw:
