@@ -201,7 +201,7 @@ class Windows(unittest.TestCase):
             windows = _windows.Windows(scene.sheet, 128)
             index = _index.Index.of(part_scene, windows)
             parts = [_part.part_of(part_scene, index, window.span) for window in windows.from_row(0)]
-            self.assertEqual([_part.origin_of(part, part.area)[0] for part in parts], wanted)
+            self.assertEqual([min(part.area.left, _part.begin_of(part)[0]) for part in parts], wanted)
             self.assertEqual(len(list(_threads.spans_of(index, windows, 0, 1))) == 4, triangles == 2)
 
     def test_a_triangle_that_cannot_be_moved_is_named(self) -> None:

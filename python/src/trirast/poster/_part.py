@@ -10,7 +10,7 @@ from numpy.typing import NDArray
 
 from ._index import Index
 from ._scene import HIGH, LOW, UNIT, Indices, Scene, Sheet, Triangles, Vertices
-from ._windows import Area, Span
+from ._windows import TILE, Area, Span
 
 # Vertices are looked up in blocks of 256: neighbours in a list are neighbours on the sheet, so a window names few blocks. If a table of
 # these blocks had more entries for an index than SPREAD, the indices are sorted.
@@ -27,7 +27,10 @@ class PartDraw(NamedTuple):
 
 
 class Piece(NamedTuple):
-    """Pixels of a tile row of a window that are drawn together, and the draws that meet them. `first` is the first of their triangles in the part."""
+    """Pixels of a window that are drawn together, and the draws that meet them. `first` is the first of their triangles in the part.
+
+    They are those of a tile row, or of several tile rows with the same triangles.
+    """
 
     area: Area
     first: int
@@ -50,32 +53,53 @@ class Part(NamedTuple):
 
 
 def part_of(scene: Scene, index: Index, span: Span) -> Part:
-    """The part of some windows, over all vertices of the scene. There is one, unless each of their pixels is near in the index."""
+    """The part of some windows, over all vertices of the scene. These are several only if the index says that their pixels are near."""
     chosen, ends, areas = index.of_span(span)
-    # Python's lock is let go for few long calls of numpy, and so it is for all windows at once.
+    # A few long calls of numpy for all windows let Python's lock go, and many short ones would not.
     triangles = scene.triangles.take(chosen, 0)
-    return Part(scene.sheet, span.area, low_of(scene, index, span, triangles), scene.vertices, triangles, pieces_of(scene, chosen, ends, areas))
+    pieces = pieces_of(scene, chosen, ends, areas)
+    return Part(scene.sheet, span.area, low_of(scene, index, span, triangles), scene.vertices, triangles, pieces)
 
 
 def pieces_of(scene: Scene, chosen: Indices, ends: Indices, areas: Indices) -> list[Piece]:
-    """The pieces that are met: tile rows with a triangle, as an index has them."""
+    """The pieces of some windows, of whose tile rows each has the chosen triangles that end there, and these pixels."""
     begins = np.concatenate((np.zeros(1, ends.dtype), ends[:-1]))
     # A triangle may lie behind the last pixel of a window that reaches past the sheet.
     met = np.flatnonzero((begins < ends) & (areas[:, 0] < areas[:, 2]) & (areas[:, 1] < areas[:, 3]))
-    rows = zip(areas[met].tolist(), begins[met].tolist(), ends[met].tolist())
-    return [Piece(Area._make(area), begin, draws_of(scene, chosen, begin, end)) for area, begin, end in rows]
+    begins, ends, areas = begins[met], ends[met], areas[met]
+    first, last = chosen[begins], chosen[ends - 1]
+    heads = np.flatnonzero(~go_on(first, last, ends - begins, areas))
+    # A piece ends with the last tile row that goes on.
+    bottoms = areas[np.append(heads, len(met))[1:] - 1, 3:]
+    columns = (np.concatenate((areas[heads, :3], bottoms), 1), begins[heads], ends[heads], first[heads], last[heads])
+    rows = zip(*(column.tolist() for column in columns))
+    return [Piece(Area._make(area), begin, draws_of(scene, chosen, begin, *more)) for area, begin, *more in rows]
 
 
-def draws_of(scene: Scene, chosen: Indices, begin: int, end: int) -> list[PartDraw]:
-    """The draws that have the chosen triangles from `begin` to before `end`, which are ascending."""
-    draws, last = [], int(chosen[end - 1])
-    while begin < end:
-        number = bisect_right(scene.ends, int(chosen[begin]))
-        behind = scene.ends[number]
-        middle = end if last < behind else bisect_left(chosen, behind, begin, end)  # type: ignore[arg-type]
-        draws.append(PartDraw(middle - begin, scene.draws[number].state))
-        begin = middle
-    return draws
+def go_on(first: Indices, last: Indices, counts: Indices, areas: Indices) -> NDArray[np.bool_]:
+    """Of each tile row whether it goes on with what the one before it has: the same triangles in the same columns of one tile.
+
+    These are known by the first, the last and their number alone, so they have to be one after another in the list. A line down a window is
+    drawn once by this, and not in each tile row.
+    """
+    same = np.zeros(len(first), np.bool_)
+    same[1:] = (areas[1:, 1] == areas[:-1, 3]) & (areas[1:, 2] - areas[1:, 0] <= TILE) & (counts[1:] == last[1:] - first[1:] + 1)
+    for each in (first, counts, areas[:, 0], areas[:, 2]):
+        same[1:] &= each[1:] == each[:-1]
+    return same
+
+
+def draws_of(scene: Scene, chosen: Indices, begin: int, end: int, first: int, last: int) -> list[PartDraw]:
+    """The draws that have the chosen triangles from `begin` to before `end`, which are ascending from `first` to `last`."""
+    draws: list[PartDraw] = []
+    while True:
+        number = bisect_right(scene.ends, first)
+        behind, state = scene.ends[number], scene.draws[number].state
+        if last < behind:
+            return [*draws, PartDraw(end - begin, state)]
+        middle = bisect_left(chosen, behind, begin, end)  # type: ignore[arg-type]
+        draws.append(PartDraw(middle - begin, state))
+        begin, first = middle, int(chosen[middle])
 
 
 def low_of(scene: Scene, index: Index, span: Span, triangles: Triangles) -> tuple[int, int]:
@@ -86,10 +110,10 @@ def low_of(scene: Scene, index: Index, span: Span, triangles: Triangles) -> tupl
     return x, y
 
 
-def origin_of(part: Part, area: Area) -> tuple[int, int]:
-    """The pixel at which the picture of an area of a part begins: its own, or before it if a vertex would leave the guard band."""
+def begin_of(part: Part) -> tuple[int, int]:
+    """The pixel at or before which each picture of a part begins, so that no vertex leaves the guard band."""
     x, y = ((low - LOW) // UNIT for low in part.low)
-    return min(area.left, x), min(area.top, y)
+    return x, y
 
 
 def compact(part: Part) -> Part:

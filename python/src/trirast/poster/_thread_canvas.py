@@ -8,7 +8,7 @@ from __future__ import annotations
 
 import ctypes
 import threading
-from typing import Any, Mapping
+from typing import Any, Dict, Mapping, Tuple
 
 import numpy as np
 
@@ -23,6 +23,8 @@ OWN = threading.local()
 # FEW_BYTES, two tiles with four samples a pixel, and with at most FEW triangles.
 QUICK = ctypes.PyDLL
 FEW_BYTES, FEW = 2 * 4096 * 4 * 5, 16
+# How many states of draws a canvas keeps.
+STATES = 1024
 INDEX_BYTES = ctypes.sizeof(ctypes.c_uint32)
 TRIANGLE_BYTES = 3 * INDEX_BYTES
 FORMAT, PIXEL_BYTES = FORMATS["rgb"]
@@ -64,20 +66,22 @@ class ThreadCanvas:
         self._batch = CBatch(ctypes.sizeof(CBatch), ctypes.sizeof(CBatchDraw), ctypes.sizeof(CVertex), INDEX_BYTES, None, 1)
         self._error = CError()
         self._quick, self._calls = library(QUICK), library()
+        self._states: Dict[int, Tuple[Mapping[str, Any], CBatchDraw]] = {}
 
-    def begin(self, sheet: Sheet) -> None:
-        """Makes it a canvas of this sheet."""
+    def begin(self, sheet: Sheet, left: int, top: int) -> None:
+        """Makes it a canvas of this sheet, which begins at this pixel at the latest."""
         self._color, self._depth, self._is_depth = (ctypes.c_uint8 * 3)(*sheet.clear), sheet.clear_depth, sheet.is_depth
-        self._canvas.samples = sheet.samples
+        self._canvas.samples, self._samples = sheet.samples, sheet.samples
+        self._left, self._top = left, top
 
-    def place(self, origin: tuple[int, int], area: Area) -> None:
-        """Makes it a canvas whose upper left pixel is that of the sheet at `origin`, and whose last one is the last of the area. What its
-        samples begin with is not specified."""
+    def place(self, area: Area) -> None:
+        """Makes it a canvas whose last rows and columns are those of the area. What its samples begin with is not specified."""
         canvas, quick = self._canvas, self._quick
-        left, top = origin
-        width, height = area.right - left, area.bottom - top
+        left, top, right, bottom = area
+        left, top = min(left, self._left), min(top, self._top)
+        self._width, self._height = width, height = right - left, bottom - top
         rows = 1 if height <= TILE else quick.trirast_canvas_rows(height)
-        size = quick.trirast_canvas_bytes(width, height, canvas.samples, 0, rows)
+        size = quick.trirast_canvas_bytes(width, height, self._samples, 0, rows)
         if size > self._size:
             self._memory, first = aligned(size)
             self._size, self._address = size, ctypes.addressof(self._memory) + first
@@ -90,20 +94,30 @@ class ThreadCanvas:
         calls = self._quick if self._is_small else self._calls
         calls.trirast_canvas_clear(self._canvas, self._color, self._depth)
 
-    def draw(self, arrays: Arrays, first: int, triangles: int, state: CBatchDraw) -> None:
+    def draw(self, arrays: Arrays, first: int, triangles: int, state: Mapping[str, Any]) -> None:
         """Draws as many triangles from the triangle `first` of the arrays on. Raises DrawListError, and then nothing was drawn."""
-        batch = self._batch
-        state.vertex_count, state.index_count = arrays.vertex_count, 3 * triangles
-        batch.draws = ctypes.addressof(state)
+        draw, batch = self._state(state), self._batch
+        draw.vertex_count, draw.index_count = arrays.vertex_count, 3 * triangles
+        batch.draws = ctypes.addressof(draw)
         batch.vertices, batch.vertex_count = arrays.vertices, arrays.vertex_count
         batch.indices, batch.index_count = arrays.indices + TRIANGLE_BYTES * first, 3 * triangles
         calls = self._quick if self._is_small and triangles <= FEW else self._calls
         calls.trirast_canvas_draw(self._canvas, batch, self._error)
 
+    def _state(self, state: Mapping[str, Any]) -> CBatchDraw:
+        """A draw's state as the library takes it."""
+        found = self._states.get(id(state))
+        if found is None:
+            if len(self._states) == STATES:
+                self._states.clear()
+            # The state is kept, so that no other has its identity.
+            found = self._states[id(state)] = state, Draw(b"", b"", **state)._in_c(FARTHEST)
+        return found[1]
+
     def show(self, target: Target, area: Area) -> None:
         """Writes the colours, or the depths of the samples 0, of an area that its last rows and columns are."""
         canvas = self._canvas
-        height, width = canvas.height, canvas.width
+        height, width = self._height, self._width
         calls = self._quick if self._is_small else self._calls
         if self._is_depth:
             depths = np.empty((height, width), np.uint16)
@@ -116,11 +130,6 @@ class ThreadCanvas:
             colors = np.empty((height, width, 3), np.uint8)
             calls.trirast_canvas_resolve(canvas, FORMAT, colors.ctypes.data, colors.size, colors.strides[0])
             target.put(area, colors)
-
-
-def state_of(state: Mapping[str, Any]) -> CBatchDraw:
-    """A draw's state as the library takes it."""
-    return Draw(b"", b"", **state)._in_c(FARTHEST)
 
 
 def own_canvas() -> ThreadCanvas:

@@ -6,9 +6,9 @@ these are the pixels of the whole sheet.
 
 from __future__ import annotations
 
-from ._part import Part, origin_of
-from ._scene import LOW, UNIT, Pixels
-from ._thread_canvas import Arrays, Target, own_canvas, state_of
+from ._part import Part, begin_of
+from ._scene import Pixels
+from ._thread_canvas import Arrays, Target, own_canvas
 
 
 def window_pixels(part: Part) -> Pixels:
@@ -23,14 +23,11 @@ def put_pixels(part: Part, pixels: Pixels) -> None:
     if sum(piece.area.pixels for piece in part.pieces) < part.area.pixels:
         part.sheet.fill(pixels)
     canvas, arrays, target = own_canvas(), Arrays(part.vertices, part.triangles), Target(pixels, part.area)
-    canvas.begin(part.sheet)
-    # A part has few states, and many pieces that are drawn in them.
-    given = {id(draw.state): draw.state for piece in part.pieces for draw in piece.draws}
-    states = {name: state_of(state) for name, state in given.items()}
+    canvas.begin(part.sheet, *begin_of(part))
     for area, first, draws in part.pieces:
-        canvas.place(origin_of(part, area), area)
+        canvas.place(area)
         canvas.clear()
         for triangles, state in draws:
-            canvas.draw(arrays, first, triangles, states[id(state)])
+            canvas.draw(arrays, first, triangles, state)
             first += triangles
         canvas.show(target, area)
