@@ -2,7 +2,7 @@
 
 from __future__ import annotations
 
-from bisect import bisect_left, bisect_right
+from bisect import bisect_right
 from typing import Any, Mapping, NamedTuple, Sequence
 
 import numpy as np
@@ -40,12 +40,13 @@ class Piece(NamedTuple):
 class Part(NamedTuple):
     """The triangles of windows by pieces, of each piece in the order in which they are drawn, with positions on the whole sheet.
 
-    `area` has the pixels of the windows. No triangle meets one of them that is in no piece. No vertex that the triangles name lies left
-    of `low` or above it, in 1/256 pixel.
+    `area` has the pixels of the windows. No triangle meets one of them that is in no piece; `is_whole` says that each one is in a piece.
+    No vertex that the triangles name lies left of `low` or above it, in 1/256 pixel.
     """
 
     sheet: Sheet
     area: Area
+    is_whole: bool
     low: tuple[int, int]
     vertices: Vertices
     triangles: Triangles
@@ -58,7 +59,13 @@ def part_of(scene: Scene, index: Index, span: Span) -> Part:
     # A few long calls of numpy for all windows let Python's lock go, and many short ones would not.
     triangles = scene.triangles.take(chosen, 0)
     pieces = pieces_of(scene, chosen, ends, areas)
-    return Part(scene.sheet, span.area, low_of(scene, index, span, triangles), scene.vertices, triangles, pieces)
+    is_whole = pixels_of(areas) == span.area.pixels
+    return Part(scene.sheet, span.area, is_whole, low_of(scene, index, span, triangles), scene.vertices, triangles, pieces)
+
+
+def pixels_of(areas: Indices) -> int:
+    """How many pixels there are in areas, of which some may be empty."""
+    return int(np.maximum(areas[:, 2:] - areas[:, :2], 0).prod(1).sum())
 
 
 def pieces_of(scene: Scene, chosen: Indices, ends: Indices, areas: Indices) -> list[Piece]:
@@ -97,7 +104,7 @@ def draws_of(scene: Scene, chosen: Indices, begin: int, end: int, first: int, la
         behind, state = scene.ends[number], scene.draws[number].state
         if last < behind:
             return [*draws, PartDraw(end - begin, state)]
-        middle = bisect_left(chosen, behind, begin, end)  # type: ignore[arg-type]
+        middle = begin + int(chosen[begin:end].searchsorted(np.int32(behind)))
         draws.append(PartDraw(middle - begin, state))
         begin, first = middle, int(chosen[middle])
 

@@ -16,7 +16,7 @@ from .._canvas import FARTHEST, FORMATS, aligned
 from .._ffi import PLANE_BYTES, CBatch, CBatchDraw, CCanvas, CError, CVertex, library
 from .._scene import Draw
 from ._scene import Pixels, Sheet, Triangles, Vertices
-from ._windows import TILE, Area
+from ._windows import Area
 
 OWN = threading.local()
 # Calls of a few microseconds keep Python's lock: to get it back from another thread may take longer. These are those on samples of at most
@@ -43,89 +43,94 @@ class Target:
     """The pixels of an area of a sheet, whose rows may lie apart, and their address."""
 
     def __init__(self, pixels: Pixels, area: Area) -> None:
-        self._pixels, self._area = pixels, area
+        self._pixels, self._left, self._top = pixels, area.left, area.top
         self._address, self.stride = pixels.ctypes.data, pixels.strides[0]
 
-    def address(self, area: Area) -> int:
-        """Where the colours of an area within it begin."""
-        return self._address + (area.top - self._area.top) * self.stride + (area.left - self._area.left) * PIXEL_BYTES
+    def address(self, left: int, top: int) -> int:
+        """Where the colour of a pixel of the sheet lies."""
+        return self._address + (top - self._top) * self.stride + (left - self._left) * PIXEL_BYTES
 
     def put(self, area: Area, pixels: Pixels) -> None:
         """Copies the last rows and columns of pixels to an area within it."""
-        left, top = area.left - self._area.left, area.top - self._area.top
+        left, top = area.left - self._left, area.top - self._top
         last = pixels[pixels.shape[0] - area.height :, pixels.shape[1] - area.width :]
         self._pixels[top : top + area.height, left : left + area.width] = last
 
 
 class ThreadCanvas:
-    """The samples of a canvas. `begin` and `place` come before the other calls."""
+    """The samples of a canvas. `begin` and `place` come before the other calls. All that they can set is set there once."""
 
     def __init__(self) -> None:
-        self._memory, self._size, self._address, self._is_small = aligned(0)[0], 0, 0, True
+        self._memory, self._bytes, self._address, self._is_small = aligned(0)[0], 0, 0, True
         self._canvas = CCanvas(ctypes.sizeof(CCanvas))
         self._batch = CBatch(ctypes.sizeof(CBatch), ctypes.sizeof(CBatchDraw), ctypes.sizeof(CVertex), INDEX_BYTES, None, 1)
         self._error = CError()
         self._quick, self._calls = library(QUICK), library()
-        self._states: Dict[int, Tuple[Mapping[str, Any], CBatchDraw]] = {}
+        self._states: Dict[int, Tuple[Mapping[str, Any], CBatchDraw, int]] = {}
 
-    def begin(self, sheet: Sheet, left: int, top: int) -> None:
-        """Makes it a canvas of this sheet, which begins at this pixel at the latest."""
+    def begin(self, sheet: Sheet, begin: tuple[int, int], arrays: Arrays) -> None:
+        """Makes it a canvas of this sheet, for these arrays. It begins at the pixel `begin` at the latest."""
         self._color, self._depth, self._is_depth = (ctypes.c_uint8 * 3)(*sheet.clear), sheet.clear_depth, sheet.is_depth
-        self._canvas.samples, self._samples = sheet.samples, sheet.samples
-        self._left, self._top = left, top
+        self._canvas.samples = sheet.samples
+        self._size = 0, 0
+        self._begin = begin
+        self._arrays = arrays
+        self._batch.vertices, self._batch.vertex_count = arrays.vertices, arrays.vertex_count
 
     def place(self, area: Area) -> None:
         """Makes it a canvas whose last rows and columns are those of the area. What its samples begin with is not specified."""
+        left, top, right, bottom = self._area = area
+        x, y = self._begin
+        left, top = min(left, x), min(top, y)
+        size = right - left, bottom - top
+        if size != self._size:
+            self._resize(*size)
+        self._canvas.origin_x, self._canvas.origin_y = left, top
+
+    def _resize(self, width: int, height: int) -> None:
         canvas, quick = self._canvas, self._quick
-        left, top, right, bottom = area
-        left, top = min(left, self._left), min(top, self._top)
-        self._width, self._height = width, height = right - left, bottom - top
-        rows = 1 if height <= TILE else quick.trirast_canvas_rows(height)
-        size = quick.trirast_canvas_bytes(width, height, self._samples, 0, rows)
-        if size > self._size:
+        rows = quick.trirast_canvas_rows(height)
+        size = quick.trirast_canvas_bytes(width, height, canvas.samples, 0, rows)
+        if size > self._bytes:
             self._memory, first = aligned(size)
-            self._size, self._address = size, ctypes.addressof(self._memory) + first
-        canvas.width, canvas.height, canvas.origin_x, canvas.origin_y = width, height, left, top
-        canvas.end, canvas.memory, canvas.plane_count = rows, self._address, size // PLANE_BYTES
-        self._is_small = size <= FEW_BYTES
+            self._bytes, self._address = size, ctypes.addressof(self._memory) + first
+        canvas.width, canvas.height, canvas.end = width, height, rows
+        canvas.memory, canvas.plane_count = self._address, size // PLANE_BYTES
+        self._size, self._is_small = (width, height), size <= FEW_BYTES
 
     def clear(self) -> None:
         """Makes each sample what those of the sheet begin with."""
         calls = self._quick if self._is_small else self._calls
         calls.trirast_canvas_clear(self._canvas, self._color, self._depth)
 
-    def draw(self, arrays: Arrays, first: int, triangles: int, state: Mapping[str, Any]) -> None:
+    def draw(self, first: int, triangles: int, state: Mapping[str, Any]) -> None:
         """Draws as many triangles from the triangle `first` of the arrays on. Raises DrawListError, and then nothing was drawn."""
-        draw, batch = self._state(state), self._batch
+        _, draw, address = self._states.get(id(state)) or self._keep(state)
+        batch, arrays = self._batch, self._arrays
         draw.vertex_count, draw.index_count = arrays.vertex_count, 3 * triangles
-        batch.draws = ctypes.addressof(draw)
-        batch.vertices, batch.vertex_count = arrays.vertices, arrays.vertex_count
-        batch.indices, batch.index_count = arrays.indices + TRIANGLE_BYTES * first, 3 * triangles
+        batch.draws, batch.indices, batch.index_count = address, arrays.indices + TRIANGLE_BYTES * first, 3 * triangles
         calls = self._quick if self._is_small and triangles <= FEW else self._calls
         calls.trirast_canvas_draw(self._canvas, batch, self._error)
 
-    def _state(self, state: Mapping[str, Any]) -> CBatchDraw:
-        """A draw's state as the library takes it."""
-        found = self._states.get(id(state))
-        if found is None:
-            if len(self._states) == STATES:
-                self._states.clear()
-            # The state is kept, so that no other has its identity.
-            found = self._states[id(state)] = state, Draw(b"", b"", **state)._in_c(FARTHEST)
-        return found[1]
+    def _keep(self, state: Mapping[str, Any]) -> Tuple[Mapping[str, Any], CBatchDraw, int]:
+        """A draw's state, and as the library takes it, with its address. The state is kept, so that no other has its identity."""
+        if len(self._states) == STATES:
+            self._states.clear()
+        draw = Draw(b"", b"", **state)._in_c(FARTHEST)
+        self._states[id(state)] = kept = state, draw, ctypes.addressof(draw)
+        return kept
 
-    def show(self, target: Target, area: Area) -> None:
-        """Writes the colours, or the depths of the samples 0, of an area that its last rows and columns are."""
-        canvas = self._canvas
-        height, width = self._height, self._width
+    def show(self, target: Target) -> None:
+        """Writes the colours, or the depths of the samples 0, of the area that it was placed at."""
+        canvas, area, (width, height) = self._canvas, self._area, self._size
         calls = self._quick if self._is_small else self._calls
         if self._is_depth:
             depths = np.empty((height, width), np.uint16)
             calls.trirast_canvas_depths(canvas, 0, depths.ctypes.data, depths.size, width)
             target.put(area, depths)
-        elif (height, width) == (area.height, area.width):
+        elif (width, height) == (area.width, area.height):
             stride = target.stride
-            calls.trirast_canvas_resolve(canvas, FORMAT, target.address(area), (height - 1) * stride + width * PIXEL_BYTES, stride)
+            calls.trirast_canvas_resolve(canvas, FORMAT, target.address(area.left, area.top), (height - 1) * stride + width * PIXEL_BYTES, stride)
         else:
             colors = np.empty((height, width, 3), np.uint8)
             calls.trirast_canvas_resolve(canvas, FORMAT, colors.ctypes.data, colors.size, colors.strides[0])

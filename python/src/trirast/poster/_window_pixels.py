@@ -20,14 +20,14 @@ def window_pixels(part: Part) -> Pixels:
 
 def put_pixels(part: Part, pixels: Pixels) -> None:
     """Draws the area of a part into pixels, whose rows may lie apart."""
-    if sum(piece.area.pixels for piece in part.pieces) < part.area.pixels:
+    if not part.is_whole:
         part.sheet.fill(pixels)
-    canvas, arrays, target = own_canvas(), Arrays(part.vertices, part.triangles), Target(pixels, part.area)
-    canvas.begin(part.sheet, *begin_of(part))
+    canvas, target = own_canvas(), Target(pixels, part.area)
+    canvas.begin(part.sheet, begin_of(part), Arrays(part.vertices, part.triangles))
     for area, first, draws in part.pieces:
         canvas.place(area)
         canvas.clear()
         for triangles, state in draws:
-            canvas.draw(arrays, first, triangles, state)
+            canvas.draw(first, triangles, state)
             first += triangles
-        canvas.show(target, area)
+        canvas.show(target)
