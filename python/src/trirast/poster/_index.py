@@ -19,7 +19,7 @@ from ._windows import TILE, Area, Span, Windows
 
 # Triangles of a group. Of fewer Python's lock would be handed from thread to thread too often. There are at least as many for each place,
 # since a group has a table of them.
-CHUNK = 1 << 17
+CHUNK = 1 << 18
 FOR_A_PLACE = 4
 
 

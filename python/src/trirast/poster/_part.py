@@ -57,7 +57,7 @@ def part_of(scene: Scene, index: Index, span: Span) -> Part:
     """The part of some windows, over all vertices of the scene. These are several only if the index says that their pixels are near."""
     chosen, ends, areas = index.of_span(span)
     # A few long calls of numpy for all windows let Python's lock go, and many short ones would not.
-    triangles = scene.triangles.take(chosen, 0)
+    triangles = np.asarray(scene.triangles).take(chosen, 0)
     pieces = pieces_of(scene, chosen, ends, areas)
     is_whole = pixels_of(areas) == span.area.pixels
     return Part(scene.sheet, span.area, is_whole, low_of(scene, index, span, triangles), scene.vertices, triangles, pieces)

@@ -4,6 +4,7 @@ from __future__ import annotations
 
 import contextlib
 import sys
+import threading
 import time
 from typing import Callable, Iterator
 
@@ -14,7 +15,7 @@ Step = Callable[[Span], None]
 
 @contextlib.contextmanager
 def progress(windows: int, done: int, is_wanted: bool) -> Iterator[Step]:
-    """A call for windows that are drawn. `done` windows of all are there already."""
+    """A call for windows that are drawn, which any thread makes. `done` windows of all are there already."""
     if not is_wanted or not sys.stderr.isatty():
         yield lambda span: None
         return
@@ -23,13 +24,14 @@ def progress(windows: int, done: int, is_wanted: bool) -> Iterator[Step]:
     except ImportError:
         yield lambda span: None
         return
-    begun, pixels = time.monotonic(), 0
+    begun, pixels, lock = time.monotonic(), 0, threading.Lock()
     with tqdm(total=windows, initial=done, unit=" windows") as bar:
 
         def step(span: Span) -> None:
             nonlocal pixels
-            pixels += span.area.pixels
-            bar.set_postfix_str(f"{pixels / 1e6 / max(1e-3, time.monotonic() - begun):.1f} Mpixel/s", refresh=False)
-            bar.update(span.end - span.first)
+            with lock:
+                pixels += span.area.pixels
+                bar.set_postfix_str(f"{pixels / 1e6 / max(1e-3, time.monotonic() - begun):.1f} Mpixel/s", refresh=False)
+                bar.update(span.end - span.first)
 
         yield step

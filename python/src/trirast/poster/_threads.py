@@ -7,7 +7,7 @@ from __future__ import annotations
 
 from bisect import bisect_right
 from collections import deque
-from concurrent.futures import Future, ThreadPoolExecutor
+from concurrent.futures import FIRST_EXCEPTION, Future, ThreadPoolExecutor, wait
 from typing import Deque, Iterator, List, Tuple
 
 from ._index import Index
@@ -34,16 +34,16 @@ def rows_by_threads(scene: Scene, index: Index, windows: Windows, first: int, wo
     """
     pool = ThreadPoolExecutor(workers)
     memory = [scene.sheet.blank(windows.row_height(first), windows.width) for _ in range(AHEAD + 1)] if first < windows.rows else []
-    under_way: Deque[Tuple[Pixels, List[Tuple[Span, Future[None]]]]] = deque()
+    under_way: Deque[Tuple[Pixels, List[Future[None]]]] = deque()
     try:
         for row in range(first, windows.rows):
             pixels = memory[row % len(memory)][: windows.row_height(row)]
             spans = spans_of(index, windows, row, workers)
-            under_way.append((pixels, [(span, pool.submit(draw_span, scene, index, span, pixels)) for span in spans]))
+            under_way.append((pixels, [pool.submit(draw_span, scene, index, span, pixels, step) for span in spans]))
             if len(under_way) == AHEAD:
-                yield whole(*under_way.popleft(), step)
+                yield whole(*under_way.popleft())
         while under_way:
-            yield whole(*under_way.popleft(), step)
+            yield whole(*under_way.popleft())
     finally:
         pool.shutdown(cancel_futures=True)
 
@@ -64,14 +64,16 @@ def spans_of(index: Index, windows: Windows, row: int, workers: int) -> Iterator
         first = end
 
 
-def draw_span(scene: Scene, index: Index, span: Span, row: Pixels) -> None:
+def draw_span(scene: Scene, index: Index, span: Span, row: Pixels, step: Step) -> None:
     """Draws some windows into the pixels of their row."""
     put_pixels(part_of(scene, index, span), row[:, span.area.left : span.area.right])
+    step(span)
 
 
-def whole(pixels: Pixels, spans: List[Tuple[Span, Future[None]]], step: Step) -> Pixels:
+def whole(pixels: Pixels, drawn: List[Future[None]]) -> Pixels:
     """The pixels of a row, once its spans are drawn."""
-    for span, drawn in spans:
-        drawn.result()
-        step(span)
+    # To wait for each by itself would need Python's lock each time.
+    wait(drawn, return_when=FIRST_EXCEPTION)
+    for each in drawn:
+        each.result()
     return pixels
