@@ -283,7 +283,24 @@ class Png(unittest.TestCase):
             self.assertEqual(found, zlib.adler32(first + second))
 
 
-class Tiles(unittest.TestCase):
+class Tiles(Files):
+    def test_rows_stay_the_callers(self) -> None:
+        sheet = poster.Sheet(300, 700)
+        pixels = np.random.default_rng(2).integers(0, 256, (700, 300, 3)).astype(np.uint8)
+        for name, height in (("whole", 700), ("rows", 100), ("other", 300)):
+            writer = _tiles_writer.TilesWriter(self.path(name), sheet, False, 2)
+            memory = sheet.blank(height, 300)
+            for first in range(0, 700, height):
+                rows = memory[: min(height, 700 - first)]
+                rows[:] = pixels[first : first + height]
+                writer.write(rows)
+                rows[:] = 0
+            writer.finish()
+            writer.close()
+            for tile in ("0/0/0", "1/0/0", "1/0/1", "2/0/0", "2/0/1", "2/1/2"):
+                self.assertEqual(self.content(f"{name}/{tile}.png"), self.content(f"whole/{tile}.png"), (name, tile))
+        self.assertTrue(np.array_equal(_png.pixels_of(self.content("rows/2/0/1.png"), sheet), pixels[256:512, :256]))
+
     def test_a_coarser_pixel_is_the_mean_of_four(self) -> None:
         pixels = np.array([[1, 2, 9], [3, 4, 9], [255, 254, 7]], np.uint8)[:, :, None].repeat(3, 2)
         self.assertEqual(_tiles_writer.halved(pixels)[:, :, 0].tolist(), [[3, 9], [255, 7]])
