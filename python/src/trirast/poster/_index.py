@@ -14,7 +14,7 @@ from numpy.typing import NDArray
 
 from ._draw_list import LIST_SIDE
 from ._errors import GuardBandError
-from ._scene import LOW, SAMPLES, UNIT, Boxes, Indices, Scene
+from ._scene import LOW, SAMPLES, UNIT, Boxes, Indices, Scene, Triangles, Vertices
 from ._windows import TILE, Area, Span, Windows
 
 # Triangles of a group. Of fewer Python's lock would be handed from thread to thread too often. There are at least as many for each place,
@@ -33,8 +33,9 @@ class Bounds(NamedTuple):
 class Group(NamedTuple):
     """Some triangles by places: `triangles` has them place after place, and ascending in each; `places` the place of each.
 
-    `begins` has of each place where its triangles begin, and then where the last ones end. `boxes` has the pixels within their bounds: the
-    left column, the upper row, and of the right column and the lower row the complements. No triangle, also of those that are left out, lies left of `low` or above it.
+    `begins` has of each place where its triangles begin, and then where the last ones end. `boxes` has the pixels within their bounds:
+    the left column, the upper row, and of the right column and the lower row the complements. No triangle, also of those that are left
+    out, lies left of `low` or above it.
     """
 
     triangles: Indices
@@ -100,9 +101,7 @@ class Index:
 
 def group_of(scene: Scene, first: int, end: int, windows: Windows) -> Group:
     """The triangles from `first` to before `end` by places."""
-    vertices = np.asarray(scene.vertices)
-    corners = np.ascontiguousarray(scene.triangles[first:end].T, np.intp)
-    across, down = (bounds_of(vertices[:, axis], corners) for axis in range(2))
+    across, down = bounds_of(np.asarray(scene.vertices), np.asarray(scene.triangles)[first:end])
     for axis, bounds in enumerate((across, down)):
         check_guard_band(bounds, first, axis, windows)
     low = int(across.low.min(initial=0)), int(down.low.min(initial=0))
@@ -136,10 +135,21 @@ def areas_of(boxes: Indices, windows: Windows) -> Indices:
     return np.stack((np.maximum(boxes[:, 0], left), np.maximum(boxes[:, 1], top), *ends), 1)
 
 
-def bounds_of(positions: Indices, corners: NDArray[np.intp]) -> Bounds:
-    """The bounds of triangles, of which `corners` has the first, the second and the third corners."""
-    a, b, c = positions[corners]
-    return Bounds(np.minimum(np.minimum(a, b), c), np.maximum(np.maximum(a, b), c))
+def bounds_of(vertices: Vertices, triangles: Triangles) -> tuple[Bounds, Bounds]:
+    """The bounds of triangles across and down."""
+    found: list[Bounds] = []
+    # Corner after corner, so that few arrays are in memory at once.
+    for corner in range(3):
+        names = triangles[:, corner].astype(np.intp)
+        for axis in range(2):
+            positions = vertices[:, axis][names]
+            if corner == 0:
+                found.append(Bounds(positions, positions.copy()))
+            else:
+                np.minimum(found[axis].low, positions, out=found[axis].low)
+                np.maximum(found[axis].high, positions, out=found[axis].high)
+    across, down = found
+    return across, down
 
 
 def hold_samples(across: Bounds, down: Bounds, samples: int) -> NDArray[np.bool_]:
