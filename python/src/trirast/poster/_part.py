@@ -56,7 +56,6 @@ class Part(NamedTuple):
 def part_of(scene: Scene, index: Index, span: Span) -> Part:
     """The part of some windows, over all vertices of the scene. These are several only if the index says that their pixels are near."""
     chosen, ends, areas = index.of_span(span)
-    # A few long calls of numpy for all windows let Python's lock go, and many short ones would not.
     triangles = np.asarray(scene.triangles).take(chosen, 0)
     pieces = pieces_of(scene, chosen, ends, areas)
     is_whole = pixels_of(areas) == span.area.pixels
@@ -69,7 +68,8 @@ def pixels_of(areas: Indices) -> int:
 
 
 def pieces_of(scene: Scene, chosen: Indices, ends: Indices, areas: Indices) -> list[Piece]:
-    """The pieces of some windows, of whose tile rows each has the chosen triangles that end there, and these pixels."""
+    """The pieces of some windows. The chosen triangles of their tile rows end at `ends`, and `areas` has of each the pixels within their
+    bounds."""
     begins = np.concatenate((np.zeros(1, ends.dtype), ends[:-1]))
     # A triangle may lie behind the last pixel of a window that reaches past the sheet.
     met = np.flatnonzero((begins < ends) & (areas[:, 0] < areas[:, 2]) & (areas[:, 1] < areas[:, 3]))

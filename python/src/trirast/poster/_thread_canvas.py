@@ -58,7 +58,7 @@ class Target:
 
 
 class ThreadCanvas:
-    """The samples of a canvas. `begin` and `place` come before the other calls. All that they can set is set there once."""
+    """The samples of a canvas. `begin` comes before the other calls, and `place` before those of a piece."""
 
     def __init__(self) -> None:
         self._memory, self._bytes, self._address, self._is_small = aligned(0)[0], 0, 0, True
@@ -69,12 +69,10 @@ class ThreadCanvas:
         self._states: Dict[int, Tuple[Mapping[str, Any], CBatchDraw, int]] = {}
 
     def begin(self, sheet: Sheet, begin: tuple[int, int], arrays: Arrays) -> None:
-        """Makes it a canvas of this sheet, for these arrays. It begins at the pixel `begin` at the latest."""
+        """Makes it a canvas of this sheet, for triangles of these arrays. It will begin at the pixel `begin` or before it."""
         self._color, self._depth, self._is_depth = (ctypes.c_uint8 * 3)(*sheet.clear), sheet.clear_depth, sheet.is_depth
         self._canvas.samples = sheet.samples
-        self._size = 0, 0
-        self._begin = begin
-        self._arrays = arrays
+        self._size, self._begin, self._arrays = (0, 0), begin, arrays
         self._batch.vertices, self._batch.vertex_count = arrays.vertices, arrays.vertex_count
 
     def place(self, area: Area) -> None:
@@ -88,6 +86,7 @@ class ThreadCanvas:
         self._canvas.origin_x, self._canvas.origin_y = left, top
 
     def _resize(self, width: int, height: int) -> None:
+        """Gives it another size in pixels."""
         canvas, quick = self._canvas, self._quick
         rows = quick.trirast_canvas_rows(height)
         size = quick.trirast_canvas_bytes(width, height, canvas.samples, 0, rows)
@@ -129,8 +128,8 @@ class ThreadCanvas:
             calls.trirast_canvas_depths(canvas, 0, depths.ctypes.data, depths.size, width)
             target.put(area, depths)
         elif (width, height) == (area.width, area.height):
-            stride = target.stride
-            calls.trirast_canvas_resolve(canvas, FORMAT, target.address(area.left, area.top), (height - 1) * stride + width * PIXEL_BYTES, stride)
+            address, stride = target.address(area.left, area.top), target.stride
+            calls.trirast_canvas_resolve(canvas, FORMAT, address, (height - 1) * stride + width * PIXEL_BYTES, stride)
         else:
             colors = np.empty((height, width, 3), np.uint8)
             calls.trirast_canvas_resolve(canvas, FORMAT, colors.ctypes.data, colors.size, colors.strides[0])
