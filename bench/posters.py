@@ -18,13 +18,11 @@ import sys
 import tempfile
 import threading
 import time
-from functools import partial
 from typing import Dict
 
 from trirast import poster
 from trirast.poster._index import Index
-from trirast.poster._part import part_of
-from trirast.poster._threads import draw_by_threads
+from trirast.poster._threads import rows_by_threads
 from trirast.poster._windows import Windows
 
 from tools.processes import descendants
@@ -79,7 +77,7 @@ def time_drawing(path: str, window: int, threads: int) -> None:
     begun, used = time.perf_counter(), processor_seconds(resource.RUSAGE_SELF)
     index = Index.of(scene, windows, threads)
     indexed = time.perf_counter()
-    for _ in draw_by_threads(windows.from_row(0), partial(part_of, scene, index), threads):
+    for _ in rows_by_threads(scene, index, windows, 0, threads, lambda span: None):
         pass
     ended = time.perf_counter()
     print(

@@ -18,7 +18,7 @@ import numpy as np
 
 import trirast
 from trirast import poster
-from trirast.poster import _command, _draw_list, _index, _journal, _part, _png, _tiles_writer, _windows
+from trirast.poster import _command, _draw_list, _index, _journal, _part, _png, _threads, _tiles_writer, _windows
 from trirast.poster._dask import draw_by_dask
 
 from .common import DRAW_LIST, FILE, VERTICES
@@ -138,12 +138,12 @@ class Windows(unittest.TestCase):
             with mock.patch.object(_index, "CHUNK", 150):
                 index = _index.Index.of(scene, windows, threads)
             for window in windows.from_row(0):
-                found, ends, areas = index.of_window(window)
+                found, ends, areas = index.of_span(window.span)
                 self.assertEqual((len(ends), ends[-1]), (windows.tile_rows, len(found)))
                 for tile_row, (area, begin, end) in enumerate(zip(areas, [0, *ends], ends)):
                     here = found[begin:end].tolist()
                     top = window.top + 64 * tile_row
-                    pixels = np.array((window.left, top, window.right, min(top + 64, window.bottom)))
+                    pixels = np.array((window.left, top, window.area.right, min(top + 64, window.area.bottom)))
                     least, behind = pixels.reshape(2, 2) * 256
                     meets = np.flatnonzero(((high >= least) & (low < behind)).all(1) & has_sample)
                     # The last window's bounds reach past the sheet by less than a window; what is there meets no sample.
@@ -155,18 +155,34 @@ class Windows(unittest.TestCase):
 
     def test_pieces_are_where_triangles_are(self) -> None:
         value = {"width": 1024, "height": 200, "draws": [{"triangles": 1, "blend": "over"}, {"triangles": 0}, {"triangles": 1}]}
-        # The first triangle meets three tile rows, and the second one of them. Their bounds together are 16 tiles wide, or 5.
-        apart = [((10, 10, 13, 64), [1, 0]), ((10, 64, 1000, 128), [1, 1]), ((10, 128, 13, 151), [1, 0])]
-        for right, wanted in ((999, apart), (310, [((10, 10, 311, 151), [1, 1])])):
-            places = ((10, 10), (12, 10), (10, 150), (200, 70), (right, 70), (250, 80))
-            vertices = np.array([[256 * x, 256 * y, 0, 9, 9, 9, 9] for x, y in places])
-            scene = poster.scene_of_arrays(vertices, np.array([[0, 1, 2], [3, 4, 5]]), value)
-            windows = _windows.Windows(scene.sheet, 1024)
-            (part,) = (_part.part_of(scene, _index.Index.of(scene, windows), window) for window in windows.from_row(0))
+        # The first triangle meets three tile rows of the first window, and the second one of them, and one of the window beside it.
+        places = ((10, 10), (12, 10), (10, 150), (200, 70), (999, 70), (250, 80))
+        vertices = np.array([[256 * x, 256 * y, 0, 9, 9, 9, 9] for x, y in places])
+        scene = poster.scene_of_arrays(vertices, np.array([[0, 1, 2], [3, 4, 5]]), value)
+        first = [((10, 10, 13, 64), [1, 0]), ((10, 64, 512, 128), [1, 1]), ((10, 128, 13, 151), [1, 0])]
+        second = [((512, 70, 1000, 81), [0, 1])]
+        windows = _windows.Windows(scene.sheet, 512)
+        index = _index.Index.of(scene, windows)
+        for begin, end, wanted in ((0, 1, first), (1, 2, second), (0, 2, first + second)):
+            part = _part.part_of(scene, index, windows.span(0, begin, end))
             self.assertEqual([piece.area for piece in part.pieces], [area for area, _ in wanted])
             for piece, (_, counts) in zip(part.pieces, wanted):
                 draws = [(count, draw) for count, draw in zip(counts, ({"blend": "over"}, {})) if count]
                 self.assertEqual([(draw.triangles, dict(draw.state)) for draw in piece.draws], draws)
+                self.assertEqual(part.triangles[piece.first].tolist(), [0, 1, 2] if counts[0] else [3, 4, 5])
+
+    def test_rows_are_cut_into_spans(self) -> None:
+        scene = random_scene(2, width=3000, triangles=1000, reach=300)
+        windows = _windows.Windows(scene.sheet, 64)
+        index = _index.Index.of(scene, windows)
+        for row, workers, weight in ((0, 1, 1 << 14), (1, 4, 1 << 14), (3, 1, 200), (2, 1, 0)):
+            with mock.patch.object(_threads, "WEIGHT", weight):
+                spans = list(_threads.spans_of(index, windows, row, workers))
+            self.assertEqual([span.first for span in spans] + [windows.columns], [0] + [span.end for span in spans])
+            self.assertTrue(all(span.row == row and span.first < span.end for span in spans))
+            self.assertEqual(sum(span.area.pixels for span in spans), 3000 * windows.row_height(row))
+            self.assertEqual(len(spans) == windows.columns, weight == 0)
+            self.assertGreaterEqual(len(spans), 2 * workers)
 
     def test_a_part_has_its_vertices_alone(self) -> None:
         triangles = np.array([[7, 9, 7], [500000, 9, 8]], np.int32)
@@ -184,8 +200,9 @@ class Windows(unittest.TestCase):
             part_scene = poster.Scene(scene.sheet, scene.vertices, scene.triangles[2 - triangles :], [poster.PosterDraw(triangles)])
             windows = _windows.Windows(scene.sheet, 128)
             index = _index.Index.of(part_scene, windows)
-            parts = [_part.part_of(part_scene, index, window) for window in windows.from_row(0)]
-            self.assertEqual([_part.origin_of(part, part.window.area)[0] for part in parts], wanted)
+            parts = [_part.part_of(part_scene, index, window.span) for window in windows.from_row(0)]
+            self.assertEqual([min(part.area.left, _part.begin_of(part)[0]) for part in parts], wanted)
+            self.assertEqual(len(list(_threads.spans_of(index, windows, 0, 1))) == 4, triangles == 2)
 
     def test_a_triangle_that_cannot_be_moved_is_named(self) -> None:
         vertices = np.array([[-8388608, 0], [8388607, 0], [8388607, 70000]])
@@ -207,10 +224,10 @@ class Pictures(Files):
         scene = random_scene(3)
         wanted = trirast.draw_file(as_list(scene))
         for workers, side in ((1, 64), (3, 50), (2, 512), (2, 100)):
-            for few in (_part.FEW, 0):
-                with mock.patch.object(_part, "FEW", few):
+            for weight in (_threads.WEIGHT, 200):
+                with mock.patch.object(_threads, "WEIGHT", weight):
                     poster.draw_poster(scene, self.path("a.ppm"), window=side, workers=workers)
-                self.assertEqual(self.content("a.ppm"), wanted, (side, few))
+                self.assertEqual(self.content("a.ppm"), wanted, (side, weight))
         self.assertEqual(os.listdir(self.folder), ["a.ppm"])
 
     def test_small_triangles_at_samples_are_the_lists(self) -> None:
@@ -266,7 +283,24 @@ class Png(unittest.TestCase):
             self.assertEqual(found, zlib.adler32(first + second))
 
 
-class Tiles(unittest.TestCase):
+class Tiles(Files):
+    def test_rows_stay_the_callers(self) -> None:
+        sheet = poster.Sheet(300, 700)
+        pixels = np.random.default_rng(2).integers(0, 256, (700, 300, 3)).astype(np.uint8)
+        for name, height in (("whole", 700), ("rows", 100), ("other", 300)):
+            writer = _tiles_writer.TilesWriter(self.path(name), sheet, False, 2)
+            memory = sheet.blank(height, 300)
+            for first in range(0, 700, height):
+                rows = memory[: min(height, 700 - first)]
+                rows[:] = pixels[first : first + height]
+                writer.write(rows)
+                rows[:] = 0
+            writer.finish()
+            writer.close()
+            for tile in ("0/0/0", "1/0/0", "1/0/1", "2/0/0", "2/0/1", "2/1/2"):
+                self.assertEqual(self.content(f"{name}/{tile}.png"), self.content(f"whole/{tile}.png"), (name, tile))
+        self.assertTrue(np.array_equal(_png.pixels_of(self.content("rows/2/0/1.png"), sheet), pixels[256:512, :256]))
+
     def test_a_coarser_pixel_is_the_mean_of_four(self) -> None:
         pixels = np.array([[1, 2, 9], [3, 4, 9], [255, 254, 7]], np.uint8)[:, :, None].repeat(3, 2)
         self.assertEqual(_tiles_writer.halved(pixels)[:, :, 0].tolist(), [[3, 9], [255, 7]])

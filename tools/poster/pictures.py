@@ -20,7 +20,7 @@ import numpy as np
 
 import trirast
 from trirast import poster
-from trirast.poster import _part
+from trirast.poster import _threads
 
 from tools import generated_lists
 from tools.draw_list import DrawList
@@ -29,8 +29,8 @@ from tools.poster import lists
 from tools.poster.common import content, dask, generated, local_cluster, program_file, run_checks
 
 TILE = 256
-# How many triangles of several tile rows are drawn together: as many as the package says, or none.
-FEW = (_part.FEW, 0)
+# How much windows weigh that a thread takes together: as much as the package says, or little.
+WEIGHTS = (_threads.WEIGHT, 300)
 
 
 # ---- Lists up to 4096 pixels
@@ -58,9 +58,9 @@ def check_list(seed: int, folder: str, scheduler: Optional[str], workers: int) -
     wanted = program_file(value)
     path = os.path.join(folder, "list.ppm")
     scene = as_arrays(value, os.path.join(folder, "list.npz")) if seed % 2 else poster.scene_of_list(json.dumps(value).encode())
-    with mock.patch.object(_part, "FEW", FEW[seed // 4 % 2]):
+    with mock.patch.object(_threads, "WEIGHT", WEIGHTS[seed // 4 % 2]):
         got = draw(scene, path, window=side, workers=workers, scheduler=scheduler)
-    must(got == wanted, f"seed {seed}, window {side}, {workers} workers, FEW {FEW[seed // 4 % 2]}: other bytes")
+    must(got == wanted, f"seed {seed}, window {side}, {workers} workers, weight {WEIGHTS[seed // 4 % 2]}: other bytes")
     if seed % 5 == 0:
         png = draw(scene, os.path.join(folder, "list.png"), window=side, workers=workers, scheduler=scheduler)
         must(png_pixels(png) == wanted[-len(png_pixels(png)) :], f"seed {seed}, window {side}: other pixels in the PNG file")

@@ -281,7 +281,7 @@ def check_lost_for_good(runs: Runs) -> str:
     out = runs.path("lost.ppm")
     with a_cluster(runs) as (_, address):
         program = ("import os, sys, trirast.poster._dask as engine, trirast.poster._command as command\n"
-                   "engine.draw_part, engine.SENT = (lambda part: os._exit(1)), 2\n"
+                   "engine.window_pixels, engine.SENT = (lambda part: os._exit(1)), 2\n"
                    f"sys.exit(command.main([{runs.scene!r}, '-o', {out!r}, '--scheduler', {address!r}]))")
         done = subprocess.run([sys.executable, "-c", program], capture_output=True, timeout=SECONDS)
     must(done.returncode == 1 and b"WorkerLostError" in done.stderr, f"status {done.returncode}: {done.stderr[-500:]!r}")

@@ -17,10 +17,11 @@ from concurrent.futures import CancelledError
 from typing import Any, Callable, Deque, Iterable, Iterator, NamedTuple
 
 from .._errors import OutOfMemoryError
-from ._drawn import Drawn, draw_part
 from ._errors import EngineMissingError, PosterError, SchedulerLostError, WorkerLostError
 from ._part import Part, compact
-from ._windows import Window
+from ._scene import Pixels
+from ._window_pixels import window_pixels
+from ._windows import Span, Window
 
 LOCAL = "local"
 # How many windows a worker has before it or done and not yet taken.
@@ -40,7 +41,7 @@ CONNECT = "10s"
 LOGGERS = ("distributed", "distributed.client", "distributed.utils", "distributed.core", "tornado.application", "asyncio")
 
 
-def draw_by_dask(windows: Iterable[Window], part: Callable[[Window], Part], workers: int, scheduler: str) -> Iterator[Drawn]:
+def draw_by_dask(windows: Iterable[Window], part: Callable[[Span], Part], workers: int, scheduler: str) -> Iterator[Drawn]:
     """Draws windows by Dask, and gives them back in their order.
 
     `scheduler` is an address, as tcp://host:8786, or "local": then `workers` processes are started. Raises EngineMissingError
@@ -108,6 +109,13 @@ def has_dashboard() -> bool:
     return True
 
 
+class Drawn(NamedTuple):
+    """A window and its pixels."""
+
+    window: Window
+    pixels: Pixels
+
+
 class Sent(NamedTuple):
     """A window that was sent."""
 
@@ -119,7 +127,7 @@ class Sent(NamedTuple):
 class Sending:
     """Windows on their way to a cluster and back."""
 
-    def __init__(self, distributed: Any, client: Any, part: Callable[[Window], Part], workers: int) -> None:
+    def __init__(self, distributed: Any, client: Any, part: Callable[[Span], Part], workers: int) -> None:
         self._distributed = distributed
         self._client = client
         self._part = part
@@ -143,12 +151,12 @@ class Sending:
         return sum(worker["nthreads"] for worker in self._client.scheduler_info()["workers"].values())
 
     def _send(self, window: Window, times: int) -> Sent:
-        part = compact(self._part(window))
+        part = compact(self._part(window.span))
         with warnings.catch_warnings():
             # Dask proposes to scatter large arguments. Scattered data dies with the worker that holds it.
             warnings.filterwarnings("ignore", "Large object", UserWarning)
             try:
-                return Sent(window, self._client.submit(draw_part, part, pure=False), times)
+                return Sent(window, self._client.submit(window_pixels, part, pure=False), times)
             except Exception as error:
                 raise self._lost(error) from error
 
@@ -157,8 +165,7 @@ class Sending:
         while True:
             window, future, times = self._under_way.popleft()
             try:
-                drawn: Drawn = self._wait(future)
-                return drawn
+                return Drawn(window, self._wait(future))
             except (self._distributed.scheduler.KilledWorker, MemoryError, OutOfMemoryError) as error:
                 if times == SENT:
                     raise WorkerLostError(f"window {window.column}, {window.row} was lost {times} times: {error}") from error

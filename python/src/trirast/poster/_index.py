@@ -7,19 +7,19 @@ its windows, window after window.
 from __future__ import annotations
 
 from concurrent.futures import ThreadPoolExecutor
-from typing import Iterable, NamedTuple
+from typing import Any, Iterable, NamedTuple
 
 import numpy as np
 from numpy.typing import NDArray
 
 from ._draw_list import LIST_SIDE
 from ._errors import GuardBandError
-from ._scene import LOW, SAMPLES, UNIT, Boxes, Indices, Scene
-from ._windows import TILE, Area, Window, Windows
+from ._scene import LOW, SAMPLES, UNIT, Boxes, Indices, Scene, Triangles, Vertices
+from ._windows import TILE, Area, Span, Windows
 
 # Triangles of a group. Of fewer Python's lock would be handed from thread to thread too often. There are at least as many for each place,
 # since a group has a table of them.
-CHUNK = 1 << 17
+CHUNK = 1 << 18
 FOR_A_PLACE = 4
 
 
@@ -31,14 +31,16 @@ class Bounds(NamedTuple):
 
 
 class Group(NamedTuple):
-    """Some triangles by places: place after place, and ascending in each, as many as `counts` says.
+    """Some triangles by places: `triangles` has them place after place, and ascending in each; `places` the place of each.
 
-    `boxes` has of each place the pixels within the bounds of its triangles: the left column, the upper row, and of the right column and
-    the lower row the complements. No triangle, also of those that are left out, lies left of `low` or above it.
+    `begins` has of each place where its triangles begin, and then where the last ones end. `boxes` has the pixels within their bounds:
+    the left column, the upper row, and of the right column and the lower row the complements. No triangle, also of those that are left
+    out, lies left of `low` or above it.
     """
 
-    counts: Indices
     triangles: Indices
+    places: NDArray[Any]
+    begins: NDArray[np.int64]
     boxes: Boxes
     low: tuple[int, int]
 
@@ -49,23 +51,24 @@ class Index:
     def __init__(self, groups: Iterable[Group], windows: Windows, pool: ThreadPoolExecutor) -> None:
         self._columns, self._tile_rows = windows.columns, windows.tile_rows
         boxes, found = no_boxes(len(windows.places)), []
+        counts = np.zeros(len(boxes), np.int64)
         # No triangle lies left of it or above it.
         self.low = (0, 0)
         for group in groups:
             np.minimum(boxes, group.boxes, out=boxes)
             self.low = min(self.low[0], group.low[0]), min(self.low[1], group.low[1])
-            found.append((group.counts, group.triangles))
+            # Those of a place lie behind those that the groups before have there.
+            found.append((group.triangles, group.places, counts - group.begins[:-1]))
+            counts = counts + np.diff(group.begins)
         self._areas = areas_of(boxes.astype(np.int32), windows)
-        counts = np.array([each for each, _ in found])
-        self._ends = np.cumsum(counts.sum(0))
-        self._triangles = np.empty(self._ends[-1], np.int32)
+        self._begins = np.concatenate((np.zeros(1, np.int64), np.cumsum(counts)))
+        self._triangles = np.empty(self._begins[-1], np.int32)
 
-        def put(counts: Indices, triangles: Indices, first: NDArray[np.int64]) -> None:
-            """Puts the triangles of a group to those of the groups before it; `first` is where they go, by places."""
-            moved = np.repeat(first - (np.cumsum(counts) - counts), counts)
-            self._triangles[np.arange(len(moved)) + moved] = triangles
+        def put(triangles: Indices, places: NDArray[Any], moved: NDArray[np.int64]) -> None:
+            """Puts the triangles of a group to their places."""
+            self._triangles[np.arange(len(places)) + (self._begins[:-1] + moved)[places]] = triangles
 
-        list(pool.map(put, *zip(*found), self._ends - counts.sum(0) + np.cumsum(counts, 0) - counts))
+        list(pool.map(put, *zip(*found)))
 
     @classmethod
     def of(cls, scene: Scene, windows: Windows, threads: int = 1) -> Index:
@@ -75,45 +78,46 @@ class Index:
             groups = pool.map(lambda first: group_of(scene, first, first + chunk, windows), range(0, max(1, len(scene.triangles)), chunk))
             return cls(groups, windows, pool)
 
-    def of_window(self, window: Window) -> tuple[Indices, list[int], list[Area]]:
-        """The triangles of a window, tile row after tile row and ascending in each; where those of each tile row end; and the pixels
-        of each tile row that are within their bounds."""
-        first = (window.row * self._columns + window.column) * self._tile_rows
-        places = slice(first, first + self._tile_rows)
-        ends = self._ends[places].tolist()
-        begin = int(self._ends[first - 1]) if first else 0
-        areas = list(map(Area._make, self._areas[places].tolist()))
-        return self._triangles[begin : ends[-1]], [end - begin for end in ends], areas
+    def of_span(self, span: Span) -> tuple[Indices, Indices, Indices]:
+        """The triangles of some windows, tile row after tile row and ascending in each; where those of each tile row end; and of each
+        tile row the pixels that are within their bounds, as an Area has them."""
+        first, end = (self._place(span.row, column) for column in (span.first, span.end))
+        begin = self._begins[first]
+        return self._triangles[begin : self._begins[end]], self._begins[first + 1 : end + 1] - begin, self._areas[first:end]
+
+    def triangles_before(self, row: int) -> list[int]:
+        """How many triangles there are before each window of a row and behind the last one."""
+        before: list[int] = self._begins[self._place(row, 0) : self._place(row + 1, 0) + 1 : self._tile_rows].tolist()
+        return before
+
+    def is_near(self, area: Area) -> bool:
+        """Whether each triangle of the scene can be moved into a picture that begins at any pixel of an area."""
+        return min(self.low[0] - UNIT * area.right, self.low[1] - UNIT * area.bottom) >= LOW
+
+    def _place(self, row: int, column: int) -> int:
+        """The place of the first tile row of a window."""
+        return (row * self._columns + column) * self._tile_rows
 
 
 def group_of(scene: Scene, first: int, end: int, windows: Windows) -> Group:
     """The triangles from `first` to before `end` by places."""
-    vertices = np.asarray(scene.vertices)
-    corners = np.ascontiguousarray(scene.triangles[first:end].T, np.intp)
-    across, down = (bounds_of(vertices[:, axis], corners) for axis in range(2))
+    across, down = bounds_of(np.asarray(scene.vertices), np.asarray(scene.triangles)[first:end])
     for axis, bounds in enumerate((across, down)):
         check_guard_band(bounds, first, axis, windows)
     low = int(across.low.min(initial=0)), int(down.low.min(initial=0))
     drawn = np.flatnonzero(hold_samples(across, down, scene.sheet.samples))
     across, down = (Bounds(bounds.low[drawn], bounds.high[drawn]) for bounds in (across, down))
-    count, places = meetings(across, down, windows)
-    places = windows.places[places]
+    numbers, places = meetings(across, down, windows)
     # numpy sorts 16 bits several times faster than 32.
-    order = np.argsort(places.astype(np.uint16) if len(windows.places) <= 1 << 16 else places, kind="stable")
-    counts = np.bincount(places, minlength=len(windows.places)).astype(np.int32)
-    boxes = no_boxes(len(counts))
-    met = np.flatnonzero(counts)
-    if len(met):
-        boxes[met] = np.minimum.reduceat(np.repeat(boxes_of(across, down), count, 0).take(order, 0), (np.cumsum(counts) - counts)[met])
-    return Group(counts, np.repeat((drawn + first).astype(np.int32), count)[order], boxes, low)
-
-
-def boxes_of(across: Bounds, down: Bounds) -> Boxes:
-    """The pixels within bounds, as a group has them."""
-    boxes = np.empty((len(across.low), 4), np.int16)
-    for side, positions in enumerate((across.low, down.low, ~across.high, ~down.high)):
-        boxes[:, side] = positions >> 8
-    return boxes
+    places = windows.places[places].astype(np.uint16 if len(windows.places) <= 1 << 16 else np.int32)
+    order = np.argsort(places, kind="stable")
+    numbers, places = numbers[order], places[order]
+    begins = np.searchsorted(places, np.arange(len(windows.places) + 1))
+    boxes = no_boxes(len(windows.places))
+    met = np.flatnonzero(np.diff(begins))
+    for side, positions in enumerate((across.low, down.low, ~across.high, ~down.high)) if len(met) else ():
+        boxes[met, side] = np.minimum.reduceat(positions[numbers], begins[met]) >> 8
+    return Group((drawn + first).astype(np.int32)[numbers], places, begins, boxes, low)
 
 
 def no_boxes(count: int) -> Boxes:
@@ -131,10 +135,21 @@ def areas_of(boxes: Indices, windows: Windows) -> Indices:
     return np.stack((np.maximum(boxes[:, 0], left), np.maximum(boxes[:, 1], top), *ends), 1)
 
 
-def bounds_of(positions: Indices, corners: NDArray[np.intp]) -> Bounds:
-    """The bounds of triangles, of which `corners` has the first, the second and the third corners."""
-    a, b, c = positions[corners]
-    return Bounds(np.minimum(np.minimum(a, b), c), np.maximum(np.maximum(a, b), c))
+def bounds_of(vertices: Vertices, triangles: Triangles) -> tuple[Bounds, Bounds]:
+    """The bounds of triangles across and down."""
+    found: list[Bounds] = []
+    # Corner after corner, so that few arrays are in memory at once.
+    for corner in range(3):
+        names = triangles[:, corner].astype(np.intp)
+        for axis in range(2):
+            positions = vertices[:, axis][names]
+            if corner == 0:
+                found.append(Bounds(positions, positions.copy()))
+            else:
+                np.minimum(found[axis].low, positions, out=found[axis].low)
+                np.maximum(found[axis].high, positions, out=found[axis].high)
+    across, down = found
+    return across, down
 
 
 def hold_samples(across: Bounds, down: Bounds, samples: int) -> NDArray[np.bool_]:
@@ -148,22 +163,28 @@ def hold_samples(across: Bounds, down: Bounds, samples: int) -> NDArray[np.bool_
     return found
 
 
-def meetings(across: Bounds, down: Bounds, windows: Windows) -> tuple[Indices, Indices]:
-    """How many places each triangle meets, and the places, triangle after triangle, each counted along the tile rows of the sheet."""
+def meetings(across: Bounds, down: Bounds, windows: Windows) -> tuple[NDArray[np.intp], Indices]:
+    """The numbers of triangles, ascending, each once for each place that it meets; and these places, counted along the tile rows of the
+    sheet."""
     left, right = np.maximum(windows.columns_at(across.low), 0), np.minimum(windows.columns_at(across.high), windows.columns - 1)
     top, bottom = np.maximum(windows.tile_rows_at(down.low), 0), np.minimum(windows.tile_rows_at(down.high), windows.last_tile_row)
-    wide = np.maximum(right - left + 1, 0)
-    count = wide * np.maximum(bottom - top + 1, 0)
-    places = np.repeat(top * np.int32(windows.columns) + left, count)
-    # Nearly all triangles meet one place. The places of the others are counted row by row.
-    many = np.flatnonzero(count > 1)
-    if len(many):
-        counts = count[many].astype(np.int64)
-        number = np.arange(int(counts.sum())) - np.repeat(np.cumsum(counts) - counts, counts)
-        row, column = np.divmod(number, np.repeat(wide[many], counts))
-        begin = np.repeat(np.cumsum(count, dtype=np.int64)[many] - counts, counts)
-        places[begin + number] += (row * windows.columns + column).astype(np.int32)
-    return count, places
+    wide, tall = right - left, bottom - top
+    places = top * np.int32(windows.columns) + left
+    # Nearly all triangles meet one place. Of the others, which may meet none, the places are counted row by row.
+    is_one = (wide | tall) == 0
+    one, other = np.flatnonzero(is_one), np.flatnonzero(~is_one)
+    counts = np.maximum(wide[other] + 1, 0).astype(np.int64) * np.maximum(tall[other] + 1, 0)
+    number = np.arange(int(counts.sum())) - np.repeat(np.cumsum(counts) - counts, counts)
+    row, column = np.divmod(number, np.repeat(wide[other] + 1, counts))
+    # Of those that meet one place as many lie before a triangle as there are triangles before it, without the others.
+    slots = np.arange(len(number)) + np.repeat(other - np.arange(len(other)), counts)
+    is_one = np.ones(len(one) + len(slots), np.bool_)
+    is_one[slots] = False
+    numbers = np.empty(len(is_one), np.intp)
+    numbers[is_one], numbers[slots] = one, np.repeat(other, counts)
+    places = places[numbers]
+    places[slots] += (row * windows.columns + column).astype(np.int32)
+    return numbers, places
 
 
 def check_guard_band(bounds: Bounds, first: int, axis: int, windows: Windows) -> None:

@@ -1,4 +1,4 @@
-"""A window's part of a scene: what is drawn there, as it is given or sent to a worker."""
+"""The part of a scene that some windows have: what is drawn there, as it is given or sent to a worker."""
 
 from __future__ import annotations
 
@@ -10,16 +10,13 @@ from numpy.typing import NDArray
 
 from ._index import Index
 from ._scene import HIGH, LOW, UNIT, Indices, Scene, Sheet, Triangles, Vertices
-from ._windows import Area, Window
+from ._windows import TILE, Area, Span
 
 # Vertices are looked up in blocks of 256: neighbours in a list are neighbours on the sheet, so a window names few blocks. If a table of
 # these blocks had more entries for an index than SPREAD, the indices are sorted.
 BLOCK_BITS = 8
 BLOCK_MASK = (1 << BLOCK_BITS) - 1
 SPREAD = 16
-# At most FEW triangles of several tile rows are drawn together, if they lie within TOGETHER tiles.
-FEW = 256
-TOGETHER = 16
 
 
 class PartDraw(NamedTuple):
@@ -30,7 +27,10 @@ class PartDraw(NamedTuple):
 
 
 class Piece(NamedTuple):
-    """Pixels of a window that are drawn together, and the draws that meet them. `first` is the first of their triangles in the part."""
+    """Pixels of a window that are drawn together, and the draws that meet them. `first` is the first of their triangles in the part.
+
+    They are those of a tile row, or of several tile rows with the same triangles.
+    """
 
     area: Area
     first: int
@@ -38,66 +38,89 @@ class Piece(NamedTuple):
 
 
 class Part(NamedTuple):
-    """The triangles of a window by pieces, of each piece in the order in which they are drawn, with positions on the whole sheet.
+    """The triangles of windows by pieces, of each piece in the order in which they are drawn, with positions on the whole sheet.
 
-    No triangle meets a pixel that is in no piece. No vertex that the triangles name lies left of `low` or above it, in 1/256 pixel.
+    `area` has the pixels of the windows. No triangle meets one of them that is in no piece; `is_whole` says that each one is in a piece.
+    No vertex that the triangles name lies left of `low` or above it, in 1/256 pixel.
     """
 
     sheet: Sheet
-    window: Window
+    area: Area
+    is_whole: bool
     low: tuple[int, int]
     vertices: Vertices
     triangles: Triangles
     pieces: Sequence[Piece]
 
 
-def part_of(scene: Scene, index: Index, window: Window) -> Part:
-    """The part of a window, over all vertices of the scene."""
-    chosen, ends, areas = index.of_window(window)
-    if len(chosen) <= FEW:
-        bounds = bounds_of([area for area in areas if area.pixels])
-        if bounds.tiles <= TOGETHER:
-            # A triangle that meets several tile rows is drawn once.
-            chosen = np.unique(chosen)
-            areas, ends = [bounds], [len(chosen)]
-    triangles = scene.triangles.take(chosen, 0)
-    pieces = []
-    for area, begin, end in zip(areas, [0, *ends], ends):
-        if begin < end and area.pixels:
-            pieces.append(Piece(area, begin, draws_of(scene, chosen[begin:end])))
-    return Part(scene.sheet, window, low_of(scene, index, window, triangles), scene.vertices, triangles, pieces)
+def part_of(scene: Scene, index: Index, span: Span) -> Part:
+    """The part of some windows, over all vertices of the scene. These are several only if the index says that their pixels are near."""
+    chosen, ends, areas = index.of_span(span)
+    triangles = np.asarray(scene.triangles).take(chosen, 0)
+    pieces = pieces_of(scene, chosen, ends, areas)
+    is_whole = pixels_of(areas) == span.area.pixels
+    return Part(scene.sheet, span.area, is_whole, low_of(scene, index, span, triangles), scene.vertices, triangles, pieces)
 
 
-def bounds_of(areas: Sequence[Area]) -> Area:
-    """The smallest area in which areas lie."""
-    lefts, tops, rights, bottoms = zip(*areas) if areas else ((0,),) * 4
-    return Area(min(lefts), min(tops), max(rights), max(bottoms))
+def pixels_of(areas: Indices) -> int:
+    """How many pixels there are in areas, of which some may be empty."""
+    return int(np.maximum(areas[:, 2:] - areas[:, :2], 0).prod(1).sum())
 
 
-def draws_of(scene: Scene, chosen: Indices) -> list[PartDraw]:
-    """The draws that have some triangles, which are ascending."""
-    draws = []
-    while len(chosen):
-        number = bisect_right(scene.ends, int(chosen[0]))
-        end = scene.ends[number]
-        count = len(chosen) if chosen[-1] < end else int(np.searchsorted(chosen, end))
-        draws.append(PartDraw(count, scene.draws[number].state))
-        chosen = chosen[count:]
-    return draws
+def pieces_of(scene: Scene, chosen: Indices, ends: Indices, areas: Indices) -> list[Piece]:
+    """The pieces of some windows. The chosen triangles of their tile rows end at `ends`, and `areas` has of each the pixels within their
+    bounds."""
+    begins = np.concatenate((np.zeros(1, ends.dtype), ends[:-1]))
+    # A triangle may lie behind the last pixel of a window that reaches past the sheet.
+    met = np.flatnonzero((begins < ends) & (areas[:, 0] < areas[:, 2]) & (areas[:, 1] < areas[:, 3]))
+    begins, ends, areas = begins[met], ends[met], areas[met]
+    first, last = chosen[begins], chosen[ends - 1]
+    heads = np.flatnonzero(~go_on(first, last, ends - begins, areas))
+    # A piece ends with the last tile row that goes on.
+    bottoms = areas[np.append(heads, len(met))[1:] - 1, 3:]
+    columns = (np.concatenate((areas[heads, :3], bottoms), 1), begins[heads], ends[heads], first[heads], last[heads])
+    rows = zip(*(column.tolist() for column in columns))
+    return [Piece(Area._make(area), begin, draws_of(scene, chosen, begin, *more)) for area, begin, *more in rows]
 
 
-def low_of(scene: Scene, index: Index, window: Window, triangles: Triangles) -> tuple[int, int]:
-    """A position left of and above all corners of triangles: that of the whole scene, if the window can take it."""
-    if min(low - LOW - UNIT * first for low, first in zip(index.low, (window.right, window.bottom))) >= 0:
+def go_on(first: Indices, last: Indices, counts: Indices, areas: Indices) -> NDArray[np.bool_]:
+    """Of each tile row whether it goes on with what the one before it has: the same triangles in the same columns of one tile.
+
+    These are known by the first, the last and their number alone, so they have to be one after another in the list. A line down a window is
+    drawn once by this, and not in each tile row.
+    """
+    same = np.zeros(len(first), np.bool_)
+    same[1:] = (areas[1:, 1] == areas[:-1, 3]) & (areas[1:, 2] - areas[1:, 0] <= TILE) & (counts[1:] == last[1:] - first[1:] + 1)
+    for each in (first, counts, areas[:, 0], areas[:, 2]):
+        same[1:] &= each[1:] == each[:-1]
+    return same
+
+
+def draws_of(scene: Scene, chosen: Indices, begin: int, end: int, first: int, last: int) -> list[PartDraw]:
+    """The draws that have the chosen triangles from `begin` to before `end`, which are ascending from `first` to `last`."""
+    draws: list[PartDraw] = []
+    while True:
+        number = bisect_right(scene.ends, first)
+        behind, state = scene.ends[number], scene.draws[number].state
+        if last < behind:
+            return [*draws, PartDraw(end - begin, state)]
+        middle = begin + int(chosen[begin:end].searchsorted(np.int32(behind)))
+        draws.append(PartDraw(middle - begin, state))
+        begin, first = middle, int(chosen[middle])
+
+
+def low_of(scene: Scene, index: Index, span: Span, triangles: Triangles) -> tuple[int, int]:
+    """A position left of and above all corners of triangles: that of the whole scene, if all windows can take it."""
+    if index.is_near(span.area):
         return index.low
     x, y = (int(scene.vertices[:, axis][triangles].min(initial=HIGH)) for axis in range(2))
     return x, y
 
 
-def origin_of(part: Part, area: Area) -> tuple[int, int]:
-    """The pixel at which the picture of an area of a part begins: its own, or before it if a vertex would leave the guard band."""
+def begin_of(part: Part) -> tuple[int, int]:
+    """The pixel at or before which each picture of a part begins, so that no vertex leaves the guard band."""
     x, y = ((low - LOW) // UNIT for low in part.low)
-    return min(area.left, x), min(area.top, y)
+    return x, y
 
 
 def compact(part: Part) -> Part:

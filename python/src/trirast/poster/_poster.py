@@ -11,18 +11,17 @@ from typing import Callable, Iterable, Iterator, List, Optional, Union
 
 import numpy as np
 
-from ._dask import draw_by_dask
-from ._drawn import Drawn
+from ._dask import Drawn, draw_by_dask
 from ._index import Index
 from ._journal import Journal, path_of
-from ._part import Part, part_of
+from ._part import part_of
 from ._png_writer import PngWriter
 from ._ppm_writer import PpmWriter
 from ._progress import Step, progress
 from ._scene import Pixels, Scene, Sheet
-from ._threads import draw_by_threads
+from ._threads import rows_by_threads
 from ._tiles_writer import TilesWriter
-from ._windows import Window, Windows
+from ._windows import Windows
 from ._writers import Writer
 
 Path = Union[str, "os.PathLike[str]"]
@@ -63,10 +62,12 @@ def draw_poster(
         writers = list(writers_of(scene.sheet, file, folder, resume, count, stack))
         first = kept_rows(journal, windows, writers)
         step = stack.enter_context(progress(len(windows), first * windows.columns, show_progress))
-        part = partial(part_of, scene, index)
-        drawn = engine_of(windows.from_row(first), part, count, scheduler)
-        stack.callback(drawn.close)  # type: ignore[attr-defined]
-        write_rows(rows_of(drawn, windows, scene.sheet, step), journal, writers)
+        if scheduler is None:
+            rows = rows_by_threads(scene, index, windows, first, count, step)
+        else:
+            rows = rows_of(draw_by_dask(windows.from_row(first), partial(part_of, scene, index), count, scheduler), windows, scene.sheet, step)
+        stack.callback(rows.close)  # type: ignore[attr-defined]
+        write_rows(rows, journal, writers)
         for writer in writers:
             writer.finish()
         journal.remove()
@@ -87,15 +88,6 @@ def writers_of(
         writer = maker()
         stack.callback(writer.close)
         yield writer
-
-
-def engine_of(
-    windows: Iterable[Window], part: Callable[[Window], Part], workers: int, scheduler: Optional[str]
-) -> Iterator[Drawn]:
-    """The windows drawn, in their order."""
-    if scheduler is None:
-        return draw_by_threads(windows, part, workers)
-    return draw_by_dask(windows, part, workers, scheduler)
 
 
 def kept_rows(journal: Journal, windows: Windows, writers: List[Writer]) -> int:
@@ -123,7 +115,7 @@ def rows_of(drawn: Iterable[Drawn], windows: Windows, sheet: Sheet, step: Step) 
         if window.column == 0:
             row = sheet.blank(window.height, sheet.width)
         row[:, window.left : window.left + window.width] = pixels
-        step(window)
+        step(window.span)
         if window.column == windows.columns - 1:
             yield row
 

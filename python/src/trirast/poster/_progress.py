@@ -4,32 +4,34 @@ from __future__ import annotations
 
 import contextlib
 import sys
+import threading
 import time
 from typing import Callable, Iterator
 
-from ._windows import Window
+from ._windows import Span
 
-Step = Callable[[Window], None]
+Step = Callable[[Span], None]
 
 
 @contextlib.contextmanager
 def progress(windows: int, done: int, is_wanted: bool) -> Iterator[Step]:
-    """A call for each window that is drawn. `done` windows of all are there already."""
+    """A call for windows that are drawn, which any thread makes. `done` windows of all are there already."""
     if not is_wanted or not sys.stderr.isatty():
-        yield lambda window: None
+        yield lambda span: None
         return
     try:
         from tqdm import tqdm
     except ImportError:
-        yield lambda window: None
+        yield lambda span: None
         return
-    begun, pixels = time.monotonic(), 0
+    begun, pixels, lock = time.monotonic(), 0, threading.Lock()
     with tqdm(total=windows, initial=done, unit=" windows") as bar:
 
-        def step(window: Window) -> None:
+        def step(span: Span) -> None:
             nonlocal pixels
-            pixels += window.width * window.height
-            bar.set_postfix_str(f"{pixels / 1e6 / max(1e-3, time.monotonic() - begun):.1f} Mpixel/s", refresh=False)
-            bar.update()
+            with lock:
+                pixels += span.area.pixels
+                bar.set_postfix_str(f"{pixels / 1e6 / max(1e-3, time.monotonic() - begun):.1f} Mpixel/s", refresh=False)
+                bar.update(span.end - span.first)
 
         yield step

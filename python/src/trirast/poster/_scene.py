@@ -60,13 +60,11 @@ class Sheet:
             return np.empty((height, width), ">u2")
         return np.empty((height, width, 3), np.uint8)
 
-    def cleared(self, height: int, width: int) -> Pixels:
-        """Pixels at which nothing is drawn."""
-        pixels = self.blank(height, width)
+    def fill(self, pixels: Pixels) -> None:
+        """Makes of pixels those at which nothing is drawn."""
         pixels[:1] = self.clear_depth if self.is_depth else self.clear
         # Whole rows are copied many times faster than pixels.
         pixels[1:] = pixels[:1]
-        return pixels
 
 
 @dataclass(frozen=True)

@@ -8,7 +8,7 @@ from __future__ import annotations
 
 import ctypes
 import threading
-from typing import Any, Mapping
+from typing import Any, Dict, Mapping, Tuple
 
 import numpy as np
 
@@ -16,13 +16,18 @@ from .._canvas import FARTHEST, FORMATS, aligned
 from .._ffi import PLANE_BYTES, CBatch, CBatchDraw, CCanvas, CError, CVertex, library
 from .._scene import Draw
 from ._scene import Pixels, Sheet, Triangles, Vertices
+from ._windows import Area
 
 OWN = threading.local()
 # Calls of a few microseconds keep Python's lock: to get it back from another thread may take longer. These are those on samples of at most
 # FEW_BYTES, two tiles with four samples a pixel, and with at most FEW triangles.
 QUICK = ctypes.PyDLL
 FEW_BYTES, FEW = 2 * 4096 * 4 * 5, 16
+# How many states of draws a canvas keeps.
+STATES = 1024
 INDEX_BYTES = ctypes.sizeof(ctypes.c_uint32)
+TRIANGLE_BYTES = 3 * INDEX_BYTES
+FORMAT, PIXEL_BYTES = FORMATS["rgb"]
 
 
 class Arrays:
@@ -34,65 +39,101 @@ class Arrays:
         self.vertex_count = len(vertices)
 
 
+class Target:
+    """The pixels of an area of a sheet, whose rows may lie apart, and their address."""
+
+    def __init__(self, pixels: Pixels, area: Area) -> None:
+        self._pixels, self._left, self._top = pixels, area.left, area.top
+        self._address, self.stride = pixels.ctypes.data, pixels.strides[0]
+
+    def address(self, left: int, top: int) -> int:
+        """Where the colour of a pixel of the sheet lies."""
+        return self._address + (top - self._top) * self.stride + (left - self._left) * PIXEL_BYTES
+
+    def put(self, area: Area, pixels: Pixels) -> None:
+        """Copies the last rows and columns of pixels to an area within it."""
+        left, top = area.left - self._left, area.top - self._top
+        last = pixels[pixels.shape[0] - area.height :, pixels.shape[1] - area.width :]
+        self._pixels[top : top + area.height, left : left + area.width] = last
+
+
 class ThreadCanvas:
-    """The samples of a canvas. `place` comes before the other calls."""
+    """The samples of a canvas. `begin` comes before the other calls, and `place` before those of a piece."""
 
     def __init__(self) -> None:
-        self._memory, self._size, self._is_small = aligned(0), 0, True
+        self._memory, self._bytes, self._address, self._is_small = aligned(0)[0], 0, 0, True
         self._canvas = CCanvas(ctypes.sizeof(CCanvas))
         self._batch = CBatch(ctypes.sizeof(CBatch), ctypes.sizeof(CBatchDraw), ctypes.sizeof(CVertex), INDEX_BYTES, None, 1)
         self._error = CError()
+        self._quick, self._calls = library(QUICK), library()
+        self._states: Dict[int, Tuple[Mapping[str, Any], CBatchDraw, int]] = {}
 
-    def place(self, origin: tuple[int, int], width: int, height: int, samples: int) -> None:
-        """Makes it a canvas of this size whose upper left pixel is that of the sheet at `origin`. What its samples begin with is not
-        specified."""
-        canvas, calls = self._canvas, library(QUICK)
-        rows = calls.trirast_canvas_rows(height)
-        size = calls.trirast_canvas_bytes(width, height, samples, 0, rows)
-        if size > self._size:
-            self._memory, self._size = aligned(size), size
-        memory, first = self._memory
-        canvas.width, canvas.height, canvas.samples = width, height, samples
-        canvas.origin_x, canvas.origin_y = origin
-        canvas.first, canvas.end = 0, rows
-        canvas.memory, canvas.plane_count = ctypes.addressof(memory) + first, size // PLANE_BYTES
-        self._is_small = size <= FEW_BYTES
+    def begin(self, sheet: Sheet, begin: tuple[int, int], arrays: Arrays) -> None:
+        """Makes it a canvas of this sheet, for triangles of these arrays. It will begin at the pixel `begin` or before it."""
+        self._color, self._depth, self._is_depth = (ctypes.c_uint8 * 3)(*sheet.clear), sheet.clear_depth, sheet.is_depth
+        self._canvas.samples = sheet.samples
+        self._size, self._begin, self._arrays = (0, 0), begin, arrays
+        self._batch.vertices, self._batch.vertex_count = arrays.vertices, arrays.vertex_count
 
-    def clear(self, sheet: Sheet) -> None:
+    def place(self, area: Area) -> None:
+        """Makes it a canvas whose last rows and columns are those of the area. What its samples begin with is not specified."""
+        left, top, right, bottom = self._area = area
+        x, y = self._begin
+        left, top = min(left, x), min(top, y)
+        size = right - left, bottom - top
+        if size != self._size:
+            self._resize(*size)
+        self._canvas.origin_x, self._canvas.origin_y = left, top
+
+    def _resize(self, width: int, height: int) -> None:
+        """Gives it another size in pixels."""
+        canvas, quick = self._canvas, self._quick
+        rows = quick.trirast_canvas_rows(height)
+        size = quick.trirast_canvas_bytes(width, height, canvas.samples, 0, rows)
+        if size > self._bytes:
+            self._memory, first = aligned(size)
+            self._bytes, self._address = size, ctypes.addressof(self._memory) + first
+        canvas.width, canvas.height, canvas.end = width, height, rows
+        canvas.memory, canvas.plane_count = self._address, size // PLANE_BYTES
+        self._size, self._is_small = (width, height), size <= FEW_BYTES
+
+    def clear(self) -> None:
         """Makes each sample what those of the sheet begin with."""
-        library(QUICK).trirast_canvas_clear(self._canvas, (ctypes.c_uint8 * 3)(*sheet.clear), sheet.clear_depth)
+        calls = self._quick if self._is_small else self._calls
+        calls.trirast_canvas_clear(self._canvas, self._color, self._depth)
 
-    def draw(self, arrays: Arrays, first: int, triangles: int, state: CBatchDraw) -> None:
+    def draw(self, first: int, triangles: int, state: Mapping[str, Any]) -> None:
         """Draws as many triangles from the triangle `first` of the arrays on. Raises DrawListError, and then nothing was drawn."""
-        batch = self._batch
-        state.vertex_count, state.index_count = arrays.vertex_count, 3 * triangles
-        batch.draws = ctypes.addressof(state)
-        batch.vertices, batch.vertex_count = arrays.vertices, arrays.vertex_count
-        batch.indices, batch.index_count = arrays.indices + 3 * INDEX_BYTES * first, 3 * triangles
-        calls = library(QUICK) if self._is_small and triangles <= FEW else library()
+        _, draw, address = self._states.get(id(state)) or self._keep(state)
+        batch, arrays = self._batch, self._arrays
+        draw.vertex_count, draw.index_count = arrays.vertex_count, 3 * triangles
+        batch.draws, batch.indices, batch.index_count = address, arrays.indices + TRIANGLE_BYTES * first, 3 * triangles
+        calls = self._quick if self._is_small and triangles <= FEW else self._calls
         calls.trirast_canvas_draw(self._canvas, batch, self._error)
 
-    def show(self, pixels: Pixels, is_depth: bool) -> None:
-        """Writes the colours, or the depths of the samples 0, of its last rows and columns into pixels, whose rows may lie apart."""
-        canvas, height, width = self._canvas, self._canvas.height, self._canvas.width
-        calls = library(QUICK) if self._is_small else library()
-        whole = pixels
-        if is_depth:
-            whole = np.empty((height, width), np.uint16)
-            calls.trirast_canvas_depths(canvas, 0, whole.ctypes.data, whole.size, width)
+    def _keep(self, state: Mapping[str, Any]) -> Tuple[Mapping[str, Any], CBatchDraw, int]:
+        """A draw's state, and as the library takes it, with its address. The state is kept, so that no other has its identity."""
+        if len(self._states) == STATES:
+            self._states.clear()
+        draw = Draw(b"", b"", **state)._in_c(FARTHEST)
+        self._states[id(state)] = kept = state, draw, ctypes.addressof(draw)
+        return kept
+
+    def show(self, target: Target) -> None:
+        """Writes the colours, or the depths of the samples 0, of the area that it was placed at."""
+        canvas, area, (width, height) = self._canvas, self._area, self._size
+        calls = self._quick if self._is_small else self._calls
+        if self._is_depth:
+            depths = np.empty((height, width), np.uint16)
+            calls.trirast_canvas_depths(canvas, 0, depths.ctypes.data, depths.size, width)
+            target.put(area, depths)
+        elif (width, height) == (area.width, area.height):
+            address, stride = target.address(area.left, area.top), target.stride
+            calls.trirast_canvas_resolve(canvas, FORMAT, address, (height - 1) * stride + width * PIXEL_BYTES, stride)
         else:
-            if pixels.shape[:2] != (height, width):
-                whole = np.empty((height, width, 3), np.uint8)
-            code, unit = FORMATS["rgb"]
-            stride = whole.strides[0]
-            calls.trirast_canvas_resolve(canvas, code, whole.ctypes.data, (height - 1) * stride + width * unit, stride)
-        if whole is not pixels:
-            pixels[...] = whole[height - pixels.shape[0] :, width - pixels.shape[1] :]
-
-
-def state_of(state: Mapping[str, Any]) -> CBatchDraw:
-    """A draw's state as the library takes it."""
-    return Draw(b"", b"", **state)._in_c(FARTHEST)
+            colors = np.empty((height, width, 3), np.uint8)
+            calls.trirast_canvas_resolve(canvas, FORMAT, colors.ctypes.data, colors.size, colors.strides[0])
+            target.put(area, colors)
 
 
 def own_canvas() -> ThreadCanvas:

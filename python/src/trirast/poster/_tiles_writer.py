@@ -58,12 +58,14 @@ class Level:
         self._coarser = Level(writer, number - 1) if number else None
 
     def take(self, rows: Pixels) -> None:
+        """Takes rows, which stay the caller's."""
         self._waiting.append(rows)
         while sum(map(len, self._waiting)) >= TILE:
             together = self._waiting[0] if len(self._waiting) == 1 else np.concatenate(self._waiting)
-            # An empty rest would keep the memory of all rows.
-            self._waiting = [together[TILE:]] if len(together) > TILE else []
+            self._waiting = [together[TILE:]]
             self._put(together[:TILE])
+        # The rest is a copy, which also keeps no memory of other rows.
+        self._waiting[-1:] = [rest.copy() for rest in self._waiting[-1:] if len(rest)]
 
     def finish(self) -> None:
         if sum(map(len, self._waiting)):

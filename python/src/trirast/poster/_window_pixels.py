@@ -1,4 +1,4 @@
-"""The pixels of a window: its triangles, drawn by a canvas that stands at one piece of the window after another.
+"""The pixels of windows: their triangles, drawn by a canvas that stands at one piece after another.
 
 A triangle that is moved by whole pixels meets the moved samples and makes the same of them (the law `canvas::moves_by_pixels`), so
 these are the pixels of the whole sheet.
@@ -6,37 +6,28 @@ these are the pixels of the whole sheet.
 
 from __future__ import annotations
 
-from typing import Mapping
-
-from .._ffi import CBatchDraw
-from ._part import Part, Piece, origin_of
+from ._part import Part, begin_of
 from ._scene import Pixels
-from ._thread_canvas import Arrays, own_canvas, state_of
+from ._thread_canvas import Arrays, Target, own_canvas
 
 
 def window_pixels(part: Part) -> Pixels:
-    """The pixels of a part's window."""
-    window = part.window
-    is_whole = sum(piece.area.pixels for piece in part.pieces) == window.width * window.height
-    pixels = (part.sheet.blank if is_whole else part.sheet.cleared)(window.height, window.width)
-    arrays = Arrays(part.vertices, part.triangles)
-    # A window has few states, and many pieces that are drawn in them.
-    given = {id(draw.state): draw.state for piece in part.pieces for draw in piece.draws}
-    states = {name: state_of(state) for name, state in given.items()}
-    for piece in part.pieces:
-        left, top, right, bottom = piece.area
-        draw_piece(part, piece, arrays, states, pixels[top - window.top : bottom - window.top, left - window.left : right - window.left])
+    """The pixels of a part's area."""
+    pixels = part.sheet.blank(part.area.height, part.area.width)
+    put_pixels(part, pixels)
     return pixels
 
 
-def draw_piece(part: Part, piece: Piece, arrays: Arrays, states: Mapping[int, CBatchDraw], pixels: Pixels) -> None:
-    """Draws the pixels of a piece. `states` are those of the draws, by their identities."""
-    sheet, area, first = part.sheet, piece.area, piece.first
-    left, top = origin = origin_of(part, area)
-    canvas = own_canvas()
-    canvas.place(origin, area.right - left, area.bottom - top, sheet.samples)
-    canvas.clear(sheet)
-    for draw in piece.draws:
-        canvas.draw(arrays, first, draw.triangles, states[id(draw.state)])
-        first += draw.triangles
-    canvas.show(pixels, sheet.is_depth)
+def put_pixels(part: Part, pixels: Pixels) -> None:
+    """Draws the area of a part into pixels, whose rows may lie apart."""
+    if not part.is_whole:
+        part.sheet.fill(pixels)
+    canvas, target = own_canvas(), Target(pixels, part.area)
+    canvas.begin(part.sheet, begin_of(part), Arrays(part.vertices, part.triangles))
+    for area, first, draws in part.pieces:
+        canvas.place(area)
+        canvas.clear()
+        for triangles, state in draws:
+            canvas.draw(first, triangles, state)
+            first += triangles
+        canvas.show(target)

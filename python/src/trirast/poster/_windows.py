@@ -23,14 +23,19 @@ class Area(NamedTuple):
     bottom: int
 
     @property
-    def pixels(self) -> int:
-        """How many pixels it has."""
-        return max(self.right - self.left, 0) * max(self.bottom - self.top, 0)
+    def width(self) -> int:
+        """How many columns it has."""
+        return self.right - self.left
 
     @property
-    def tiles(self) -> int:
-        """How many tiles a canvas of this size has."""
-        return -(-(self.right - self.left) // TILE) * -(-(self.bottom - self.top) // TILE)
+    def height(self) -> int:
+        """How many rows it has."""
+        return self.bottom - self.top
+
+    @property
+    def pixels(self) -> int:
+        """How many pixels it has."""
+        return self.width * self.height
 
 
 class Window(NamedTuple):
@@ -44,19 +49,23 @@ class Window(NamedTuple):
     height: int
 
     @property
-    def right(self) -> int:
-        """The column of pixels behind the last one."""
-        return self.left + self.width
-
-    @property
-    def bottom(self) -> int:
-        """The row of pixels behind the last one."""
-        return self.top + self.height
-
-    @property
     def area(self) -> Area:
         """Its pixels."""
-        return Area(self.left, self.top, self.right, self.bottom)
+        return Area(self.left, self.top, self.left + self.width, self.top + self.height)
+
+    @property
+    def span(self) -> Span:
+        """This window alone."""
+        return Span(self.row, self.column, self.column + 1, self.area)
+
+
+class Span(NamedTuple):
+    """Windows side by side: those of a row from the column `first` to before `end` among windows, and their pixels."""
+
+    row: int
+    first: int
+    end: int
+    area: Area
 
 
 class Windows:
@@ -87,6 +96,11 @@ class Windows:
         for column in range(self.columns):
             left = column * self.side
             yield Window(column, row, left, row * self.side, min(self.side, self.width - left), self.row_height(row))
+
+    def span(self, row: int, first: int, end: int) -> Span:
+        """Some windows of a row."""
+        left, top = first * self.side, row * self.side
+        return Span(row, first, end, Area(left, top, min(end * self.side, self.width), top + self.row_height(row)))
 
     def from_row(self, first: int) -> Iterator[Window]:
         """All windows from a row on."""

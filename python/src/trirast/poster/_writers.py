@@ -11,7 +11,7 @@ PART = ".part"
 
 
 class Writer(Protocol):
-    """A file or folder into which a poster goes, rows after rows from the top.
+    """A file or folder into which a poster goes, rows after rows from the top. Rows that it is given stay the caller's.
 
     Where a stopped run is resumed, `read` and `keep` come before `write`: `read` returns the next rows that the run left, or
     `None` if they are not there, and `keep` takes them as written.
