@@ -26,6 +26,7 @@ DEFINITION = re.compile(r"(?:abbrev |unfoldable )?pub (?!mod )(?:record |data |)
 SPLIT_FROM = {
     "planes": "shade", "lanes": "shade", "raster": "tile", "model": "list", "checking_reader": "list", "fast_reader": "list",
     "command_line": "trirast", "picture_file": "trirast", "program_input": "trirast", "tile_row": "trirast", "tile_rows": "trirast",
+    "reach": "canvas",
 }
 # Crates of tests and benchmarks, which promise nothing; so do those whose name ends in _tests.
 WITHOUT_PROMISES = ("acceptance", "cover_bench", "frames", "list_bench", "refused_tiles")

@@ -3,8 +3,8 @@ use Rattle.std.proofs.Common.{◌≢◌, ℕ, ◌+◌, ◌-◌, ◌/◌, arith}
 use Rattle.grid.specs.Samples.{sample_position}
 use Rattle.grid.specs.Triangle.{Covers}
 use Rattle.grid.specs.declared.triangle.Tri.{Tri}
+use Rattle.reach.specs.declared.span.Span.{Span}
 use Rattle.canvas.specs.declared.canvas.Canvas.{Canvas}
-use Rattle.canvas.specs.declared.reach.Span.{Span}
 use Rattle.canvas.specs.Layout.{IsStoredIn}
 use Rattle.canvas.specs.Rows.{MissesTile, HasReached}
 

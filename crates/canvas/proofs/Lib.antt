@@ -1,5 +1,3 @@
-pub mod Bits
-pub mod Boxes
 pub mod Cut
 pub mod Flat
 pub mod Places
@@ -13,7 +11,6 @@ pub mod DrawnIds
 pub mod Changes
 pub mod Moved
 pub mod Windows
-pub mod Sixteen
 pub mod Listed
 pub mod Sources
 pub mod ColumnCuts

@@ -16,12 +16,13 @@ use Rattle.lanes.specs.declared.block_samples.BlockSamples.{BlockSamples}
 use Rattle.raster.specs.declared.tile.Tile.{Tile}
 use Rattle.raster.specs.Samples.{IsSampleOf}
 use Rattle.raster.specs.Drawing.{DrawsTile}
+use Rattle.reach.specs.declared.span.Span.{Span}
+use Rattle.reach.specs.Bounds.{HasPlace, AreBounds}
+use Rattle.reach.specs.Reach.{IsInSpan}
 use Rattle.canvas.specs.declared.canvas.Canvas.{Canvas}
-use Rattle.canvas.specs.declared.reach.Span.{Span}
 use Rattle.canvas.specs.Layout.{IsStoredIn, columns_of, rows_of}
 use Rattle.canvas.specs.Drawing.{TileHasEnds}
-use Rattle.canvas.specs.Reach.{IsInSpan}
-use Rattle.canvas.specs.Rows.{HasPlace, AreBounds, AreOfRow, AreOfTile, numbered}
+use Rattle.canvas.specs.Rows.{AreOfRow, AreOfTile, numbered}
 use Rattle.canvas.proofs.Ends.{tile_more}
 use Rattle.canvas.proofs.Missed.{ends_unmet}
 

@@ -1,10 +1,10 @@
 -- Triangles that are left out of a tile.
-use Rattle.std.proofs.Common.{zero, suc, ◌-◌, subst, ◌≡◌, ◌⊎◌, inl, inr, refl, sym, ◌∙◌, ap, ℕ, ◌+◌, ◌*◌, ◌/◌, ◌%◌, ◌^◌, ◌<◌, ◌≤◌, List, length, take, get_or, slice_get, slice_index, None, Some, IsBitSet, bit_and, bit_or, arith}
+use Rattle.std.proofs.Common.{zero, suc, ◌-◌, subst, ◌≡◌, ◌⊎◌, inl, inr, refl, sym, ◌∙◌, ap, ℕ, ◌+◌, ◌*◌, ◌/◌, ◌%◌, ◌^◌, ◌<◌, ◌≤◌, List, length, take, get_or, slice_get, slice_index, None, Some, IsBitSet, bit_and, arith}
 use Rattle.std.specs.Int.{bit_at}
-use Rattle.std.proofs.lemmas.Option.{get_or_from_slice_get, slice_get_cases, slice_get-get_or}
+use Rattle.std.proofs.lemmas.Option.{slice_get_cases, slice_get-get_or}
 use Rattle.std.proofs.lemmas.Nat.{shr-shr}
 use Rattle.canvas.proofs.Ends.{tile_ends}
-use Rattle.std.proofs.lemmas.Nat.Bits.{bit_at-zero, bit_at_or, bit_at-lt, bit_at-pow_same}
+use Rattle.std.proofs.lemmas.Nat.Bits.{bit_at-zero}
 use Rattle.grid.specs.declared.pixels.TileSide.TheVariants.{T64}
 use Rattle.lanes.specs.declared.block_samples.BlockSamples.{BlockSamples}
 use Rattle.shade.specs.declared.placed.Placed.{Placed}
@@ -12,36 +12,13 @@ use Rattle.shade.specs.Placed.{Meets}
 use Rattle.shade.proofs.Endings.{ends_more}
 use Rattle.raster.specs.declared.tile.Tile.{Tile}
 use Rattle.raster.specs.Samples.{IsSampleOf}
-use Rattle.canvas.proofs.Bits.{is_one, is_set, both_set}
+use Rattle.reach.specs.declared.marks.Reached.{Reached}
+use Rattle.reach.specs.Reach.{MeetsOnScreen, AreReached}
+use Rattle.reach.proofs.Bits.{is_one, both_set}
 use Rattle.canvas.specs.declared.canvas.Canvas.{Canvas}
-use Rattle.canvas.specs.declared.chunk.Reached.{Reached}
 use Rattle.canvas.specs.Layout.{columns_of, rows_of}
 use Rattle.canvas.specs.Drawing.{TileHasEnds}
-use Rattle.canvas.specs.Reach.{MeetsOnScreen, AreReached, IsMaskOf}
-
--- ---- bits
-pub or_left : (a b k : ℕ) → IsBitSet a k → IsBitSet (bit_or a b) k
-or_left a b k h =
-    let one = is_one a k h in
-    let least = bit_at_or a b k in
-    let low : bit_at (bit_or a b) k < 2 = bit_at-lt (bit_or a b) k in
-    is_set (bit_or a b) k (omega (arith, one, least, low))
-
-pub or_right : (a b k : ℕ) → IsBitSet b k → IsBitSet (bit_or a b) k
-or_right a b k h =
-    let one = is_one b k h in
-    let least = bit_at_or a b k in
-    let low : bit_at (bit_or a b) k < 2 = bit_at-lt (bit_or a b) k in
-    is_set (bit_or a b) k (omega (arith, one, least, low))
-
-pub own_bit : (k : ℕ) → IsBitSet (2 ^ k) k
-own_bit k = is_set (2 ^ k) k (bit_at-pow_same k)
-
-pub no_bit : (n k : ℕ) → n ≡ 0 → ¬ IsBitSet n k
-no_bit n k none h =
-    let one : bit_at 0 k ≡ 1 = rw none at (is_one n k h) in
-    let least : bit_at 0 k ≡ 0 = bit_at-zero k in
-    omega (arith, one, least)
+use Rattle.canvas.specs.Rows.{IsMaskOf}
 
 -- ---- a triangle that is left out
 pub tile_past : (ts : List Placed) (tile : Tile) (n : ℕ) (t : Placed) (old new : List BlockSamples) → n < length ts → slice_get ts n ≡ Some t
@@ -67,16 +44,6 @@ mask_of_tile c ts r column row tile is wide high reached k t found unset tile_ro
     unset ((both_set (slice_index r.columns.words column) (slice_index r.rows.words row) k).1 (marks.0.bit, marks.1.bit))
 
 -- ---- places in the chunk
-found_when : (ts : List Placed) (k : ℕ) (t : Placed) → slice_get ts k ≡ Some t → ((x : Placed) × (k < length ts) × (slice_get ts k ≡ Some x) × (get_or ts k x ≡ x)) ⊎ ((length ts ≤ k) × (slice_get ts k ≡ None)) → k < length ts
-found_when ts k t e (inl w) = w.1
-found_when ts k t e (inr w) = let bad : Some t ≡ None = sym e ∙ w.1 in cc
-
-pub found_below : (ts : List Placed) (k : ℕ) (t : Placed) → slice_get ts k ≡ Some t → k < length ts
-found_below ts k t e = found_when ts k t e (slice_get_cases ts k).1
-
-pub found_item : (ts : List Placed) (k : ℕ) (item t : Placed) → item ≡ get_or ts k item → slice_get ts k ≡ Some t → item ≡ t
-found_item ts k item t is e = is ∙ get_or_from_slice_get ts k t item e
-
 pub item_found : (ts : List Placed) (k : ℕ) (item : Placed) → k < length ts → item ≡ get_or ts k item → slice_get ts k ≡ Some item
 item_found ts k item below is = slice_get-get_or ts k item below ∙ ap Some (sym is)
 

@@ -5,12 +5,11 @@ use Rattle.shade.specs.declared.sample.Sample.{Sample}
 use Rattle.shade.specs.declared.placed.Placed.{Placed}
 use Rattle.shade.specs.Placed.{Meets}
 use Rattle.shade.specs.Ending.{Ends}
+use Rattle.reach.specs.declared.marks.Reached.{Reached}
+use Rattle.reach.specs.Reach.{IsMarked, MeetsOnScreen, AreReached}
+use Rattle.reach.proofs.Bits.{both_set, no_bit}
 use Rattle.canvas.specs.declared.canvas.Canvas.{Canvas}
-use Rattle.canvas.specs.declared.chunk.Reached.{Reached}
 use Rattle.canvas.specs.Layout.{IsStoredIn, columns_of, rows_of}
-use Rattle.canvas.specs.Reach.{IsMarked, MeetsOnScreen, AreReached}
-use Rattle.canvas.proofs.Bits.{both_set}
-use Rattle.canvas.proofs.Masks.{no_bit}
 use Rattle.canvas.proofs.Ends.{AreMissed, column_of, row_of_tiles}
 
 pub ends_unmet : (ts : List Placed) (count : SampleCount) (i j s : ℕ) (x : Sample) → ((k : ℕ) (t : Placed) → slice_get ts k ≡ Some t → ¬ Meets t count i j s) → Ends ts count i j s x x

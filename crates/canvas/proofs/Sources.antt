@@ -1,6 +1,6 @@
 -- Triangles that are made one by one.
-use Rattle.std.proofs.Common.{◌≡◌, ◌∙◌, refl, sym, ap, zero, suc, add-zero, ℕ, ◌+◌, ◌<◌, List, [], ◌∷◌, ◌++◌, map, length, take, drop, get_or, slice_get, slice_set, Some, length-take, length-drop, arith}
-use Rattle.std.proofs.lemmas.List.{get_or-map, get_or-take, get_or-drop, length-map, take_more, take_more_set}
+use Rattle.std.proofs.Common.{◌≡◌, ◌∙◌, refl, sym, ap, zero, suc, add-zero, ℕ, ◌+◌, ◌<◌, List, [], ◌∷◌, ◌++◌, map, length, take, get_or, slice_get, slice_set, Some, arith}
+use Rattle.std.proofs.lemmas.List.{get_or-map, length-map, take_more, take_more_set}
 use Rattle.std.proofs.lemmas.Option.{get_or_from_slice_get, slice_get-get_or, slice_get_within}
 use Rattle.shade.specs.declared.placed.Placed.{Placed}
 use Rattle.canvas.specs.Ids.{with_id, with_ids}
@@ -17,22 +17,11 @@ with_ids_at (u ∷ ts) n (suc k) t less is =
     let sum : (n + 1) + k ≡ n + suc k = omega arith in
     later ∙ ap (λ m. Some (with_id t m)) sum
 
--- ---- a part of a list
-pub part_at : (ts : List Placed) (first count k : ℕ) (t : Placed) → k < count → slice_get ts (first + k) ≡ Some t → slice_get (take count (drop first ts)) k ≡ Some t
-part_at ts first count k t less found =
-    let within = slice_get_within ts (first + k) t found in
-    let inside : k < length (take count (drop first ts)) = omega (arith, less, within, length-take count (drop first ts), length-drop first ts) in
-    slice_get-get_or (take count (drop first ts)) k t inside
-    ∙ ap Some (get_or-take count (drop first ts) k t less ∙ get_or-drop first ts k t ∙ get_or_from_slice_get ts (first + k) t t found)
-
 -- ---- one more in an array
 pub one_taken : (ts chunk : List Placed) (k : ℕ) (t : Placed) → slice_get ts k ≡ Some t → k < length chunk → take k chunk ≡ take k ts → take (k + 1) (slice_set chunk k t) ≡ take (k + 1) ts
 one_taken ts chunk k t found room before =
     let within = slice_get_within ts k t found in
     take_more_set chunk k t room ∙ ap (λ us. us ++ (t ∷ [])) before ∙ ap (λ x. take k ts ++ (x ∷ [])) (sym (get_or_from_slice_get ts k t t found)) ∙ sym (take_more ts k t within)
-
-pub same_found : (ts : List Placed) (k : ℕ) (t u : Placed) → slice_get ts k ≡ Some t → slice_get ts k ≡ Some u → t ≡ u
-same_found ts k t u found again = sym (get_or_from_slice_get ts k t t found) ∙ get_or_from_slice_get ts k u t again
 
 pub mapped_or : {X : Type 0} (f : X → Placed) (xs : List X) (k : ℕ) (d : X) → k < length xs → slice_get (map f xs) k ≡ Some (f (get_or xs k d))
 mapped_or f xs k d less = slice_get-get_or (map f xs) k (f d) (omega (arith, less, length-map xs f)) ∙ ap Some (get_or-map f xs k d (f d) less)

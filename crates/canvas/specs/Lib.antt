@@ -43,17 +43,8 @@
 --   AreDepths: In these tile rows the entry of each pixel of the picture is the depth of its sample s.
 --   AreIds: In these tile rows the entry of each pixel of the picture is the id of its sample s.
 --
--- Reach.antt
---   IsInSpan: n is in the span, from its first number to before its end.
---   MeetsOnScreen: The triangle meets sample s of pixel (i, j) of the screen, which is 4096 by 4096 pixels.
---   HaveMet: The tiles of each sample that the triangle meets are in these columns and rows of tiles.
---   IsMarked: Column n of the tiles, or tile row n, bears the mark of triangle k.
---   AreReached: A column of tiles and a tile row bear the mark of triangle k if it meets a sample in them.
---   IsMaskOf: A triangle whose bit is not set meets no sample of the tile.
---
 -- Rows.antt
---   HasPlace: Span k, from its number in the first list to before its number in the second, has this place.
---   AreBounds: The columns and the tile rows of triangle k, for each of the first n triangles, have the tile of each sample that it meets.
+--   IsMaskOf: A triangle whose bit is not set meets no sample of the tile.
 --   numbered: The triangles of these numbers; `none` stands for a number past the last triangle.
 --   AreOfRow: The first numbers are those of triangles, each with the columns of tiles in which it can meet a sample of this tile row.
 --   MissesTile: The triangle covers no sample of this tile.
@@ -93,7 +84,6 @@ pub mod Drawing
 pub mod Pixels
 pub mod Entries
 pub mod Colours
-pub mod Reach
 pub mod Rows
 pub mod Loaded
 pub mod Ids

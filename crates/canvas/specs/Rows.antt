@@ -1,5 +1,5 @@
 -- The tiles that many triangles can meet, row by row.
-use Rattle.std.specs.Prelude.{◌≡◌, ℕ, ◌+◌, ◌*◌, ◌/◌, ◌<◌, ◌≤◌, List, map, take, length, slice_get, slice_index, slice_index_or, Some}
+use Rattle.std.specs.Prelude.{◌≡◌, ℕ, ◌+◌, ◌*◌, ◌/◌, ◌<◌, List, map, take, length, slice_get, slice_index, slice_index_or, Some, IsBitSet}
 use Rattle.grid.specs.Samples.{count_of, sample_position}
 use Rattle.grid.specs.Triangle.{Covers}
 use Rattle.grid.specs.declared.sample_count.SampleCount.{SampleCount}
@@ -10,22 +10,17 @@ use Rattle.shade.specs.Placed.{Meets}
 use Rattle.shade.specs.Ending.{Ends}
 use Rattle.raster.specs.declared.tile.Tile.{Tile}
 use Rattle.raster.specs.Samples.{IsSampleOf}
+use Rattle.reach.specs.declared.span.Span.{Span}
+use Rattle.reach.specs.Bounds.{HasPlace}
+use Rattle.reach.specs.Reach.{IsInSpan}
 use Rattle.canvas.specs.declared.canvas.Canvas.{Canvas}
-use Rattle.canvas.specs.declared.reach.Span.{Span}
 use Rattle.canvas.specs.Layout.{IsStoredIn}
-use Rattle.canvas.specs.Reach.{IsInSpan, MeetsOnScreen}
 
--- Span k, from its number in the first list to before its number in the second, has this place.
-pub record HasPlace (firsts ends : List ℕ) (k place : ℕ) : Type 0 where
-  pub from : slice_index firsts k ≤ place
-  pub below : place < slice_index ends k
-
--- The columns and the tile rows of triangle k, for each of the first n triangles, have the tile of each sample that it meets.
--- The span has its tile row.
-abbrev pub AreBounds : List Placed → ℕ → List ℕ → List ℕ → List ℕ → List ℕ → Span → Type 0
-AreBounds ts n column_firsts column_ends row_firsts row_ends span =
-    (k : ℕ) (t : Placed) → k < n → slice_get ts k ≡ Some t → (count : SampleCount) (i j s : ℕ) → MeetsOnScreen t count i j s
-    → HasPlace column_firsts column_ends k (i / 64) × HasPlace row_firsts row_ends k (j / 64) × IsInSpan span (j / 64)
+-- A triangle whose bit is not set meets no sample of the tile.
+abbrev pub IsMaskOf : List Placed → Tile → ℕ → Type 0
+IsMaskOf ts tile mask =
+    (k : ℕ) (t : Placed) → slice_get ts k ≡ Some t → ¬ IsBitSet mask k
+    → (row column s : ℕ) → IsSampleOf tile row column s → ¬ Meets t tile.count (8 * tile.bx + column) (8 * tile.by + row) s
 
 -- The triangles of these numbers; `none` stands for a number past the last triangle.
 abbrev pub numbered : List Placed → Placed → List ℕ → List Placed

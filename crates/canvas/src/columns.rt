@@ -4,15 +4,14 @@ ghost use Rattle.grid.specs.Samples.{count_of, sample_position};
 ghost use Rattle.grid.specs.Triangle.{Covers};
 ghost use Rattle.shade.specs.declared.placed.Placed.{Placed};
 ghost use Rattle.shade.specs.Placed.{Meets};
+ghost use Rattle.reach.specs.Reach.{IsInSpan};
 ghost use Rattle.canvas.specs.Layout.{IsStoredIn, rows_of};
-ghost use Rattle.canvas.specs.Reach.{IsInSpan};
 ghost use Rattle.canvas.specs.Rows.{MissesTile, HasReached};
 
 use crate::canvas::Canvas;
-use crate::reach::{NOWHERE, Span};
-use crate::source::Triangles;
 use cover::{Class, Setup};
 use grid::TileSide;
+use reach::{NOWHERE, Span, Triangles};
 
 impl Canvas {
     /// Whether the triangle is seen to cover no sample of a tile.

@@ -5,9 +5,9 @@ ghost use Rattle.canvas.specs.Drawing.{HaveEnds};
 ghost use Rattle.canvas.specs.Ids.{with_id as with_id_of, with_ids};
 
 use crate::misfit::Misfit;
-use crate::source::Triangles;
 use crate::tile_rows::TileRows;
 use lanes::BlockSamples;
+use reach::Triangles;
 use shade::{Merge, Placed, State};
 
 /// How many ids there are: one for each colour of 24 bits.

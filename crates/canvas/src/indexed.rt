@@ -6,11 +6,11 @@ ghost use Rattle.canvas.specs.Drawing.{HaveEnds};
 ghost use Rattle.canvas.specs.Indexed.{AreIndices, placed_by};
 
 use crate::misfit::Misfit;
-use crate::source::Triangles;
 use crate::tile_rows::TileRows;
 use crate::vertex::Vertex;
 use grid::Tri;
 use lanes::BlockSamples;
+use reach::Triangles;
 use shade::{Placed, State};
 
 /// Whether the indices of a triangle are vertices.

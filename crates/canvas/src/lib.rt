@@ -2,9 +2,7 @@
 //! depths and ids are read back. No call allocates. Threads share a canvas by its tile rows.
 #![tactic(auto)]
 
-mod bounds;
 mod canvas;
-mod chunk;
 mod cleared;
 mod colours;
 mod columns;
@@ -18,16 +16,12 @@ mod loaded;
 mod many;
 mod misfit;
 mod place;
-mod reach;
 mod row_list;
 mod sample;
-mod source;
-mod spans;
 mod tile_rows;
 mod triangles;
 mod vertex;
 mod window;
-mod words;
 
 pub use canvas::Canvas;
 pub use entries::Entry;
@@ -35,7 +29,7 @@ pub use format::Format;
 pub use ids::with_id;
 pub use laws::{joins_batches, moves_by_pixels, tells_last};
 pub use misfit::Misfit;
-pub use source::Triangles;
+pub use reach::Triangles;
 pub use tile_rows::TileRows;
 pub use vertex::Vertex;
 pub use window::{Origin, seen_point};

@@ -8,16 +8,12 @@ ghost use Rattle.canvas.specs.Layout.{columns_of, rows_of, planes_of_tile, plane
 ghost use Rattle.canvas.specs.Drawing.{HaveEnds, TileHasEnds};
 ghost use Rattle.canvas.specs.Rows.{AreOfRow, AreOfTile, numbered};
 
-use crate::bounds::Bounds;
 use crate::canvas::Canvas;
-use crate::reach::NOWHERE;
 use crate::row_list::RowList;
-use crate::source::Triangles;
-use crate::spans::Spans;
 use crate::tile_rows::TileRows;
-use crate::words::next_bit;
 use lanes::BlockSamples;
 use raster::{Tile, draw_triangle};
+use reach::{Bounds, NOWHERE, Spans, Triangles, next_bit};
 
 /// Draws those of sixteen triangles of a tile row, from place `from` of its list on, that can meet the tile, one after another.
 fn draw_some<T: Triangles, const N: usize>(

@@ -1,15 +1,12 @@
 //! The triangles of a tile row.
 ghost use Rattle.std.specs.Prelude.{◌≡◌, ◌≢◌, ℕ, ◌+◌, ◌%◌, ◌<◌, ◌≤◌, [], ◌∷◌, ◌++◌, length, take, slice_index};
+ghost use Rattle.reach.specs.Bounds.{AreBounds};
+ghost use Rattle.reach.specs.Reach.{IsInSpan};
 ghost use Rattle.canvas.specs.Layout.{rows_of};
-ghost use Rattle.canvas.specs.Reach.{IsInSpan};
-ghost use Rattle.canvas.specs.Rows.{AreBounds, AreOfRow};
+ghost use Rattle.canvas.specs.Rows.{AreOfRow};
 
-use crate::bounds::Bounds;
 use crate::canvas::Canvas;
-use crate::reach::{NOWHERE, Span};
-use crate::source::Triangles;
-use crate::spans::Spans;
-use crate::words::next_bit;
+use reach::{Bounds, NOWHERE, Span, Spans, Triangles, next_bit};
 
 /// The numbers of those of up to `N` triangles that can meet a sample of a tile row, in draw order, each with the columns of tiles
 /// in which it can.

@@ -1,9 +1,9 @@
 //! Pictures of many triangles compared with the definition, drawn sample by sample: batches, pieces, formats, strides, ids, and
 //! calls that do nothing.
-use crate::source::Stored;
 use crate::{Canvas, Format, Misfit, Origin, TileRows, Vertex};
 use grid::{Cull, PixelBox, Point, SampleCount, Tri, sample_at};
 use lanes::BlockSamples;
+use reach::Stored;
 use shade::{DepthTest, Merge, Placed, Sample, State, apply, mean_of_four};
 use std::alloc::Global;
 use std::process::Abort;

@@ -1,17 +1,17 @@
 //! Triangles, drawn at the samples of tile rows.
 ghost use Rattle.std.specs.Prelude.{◌≡◌, ◌↔◌, ◌+◌, ◌<◌, ◌≤◌, length, IsOk, OnOk, OnErr, IfErr};
 ghost use Rattle.raster.specs.Samples.{planes_of};
+ghost use Rattle.reach.specs.Reach.{AreReached};
 ghost use Rattle.canvas.specs.Layout.{rows_of, planes_of_row, planes_of_rows};
 ghost use Rattle.canvas.specs.Drawing.{HaveEnds, TileHasEnds};
-ghost use Rattle.canvas.specs.Reach.{AreReached, IsMaskOf};
+ghost use Rattle.canvas.specs.Rows.{IsMaskOf};
 
 use crate::canvas::Canvas;
-use crate::chunk::{CHUNK, Reached, reach_of};
 use crate::misfit::Misfit;
-use crate::source::{Chunk, Stored, Triangles};
 use crate::tile_rows::TileRows;
 use lanes::BlockSamples;
 use raster::{Tile, draw_triangle};
+use reach::{CHUNK, Chunk, Reached, Stored, Triangles, reach_of};
 use shade::Placed;
 
 /// How many triangles are drawn together at most.

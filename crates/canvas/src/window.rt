@@ -7,10 +7,10 @@ ghost use Rattle.canvas.specs.Drawing.{HaveEnds};
 ghost use Rattle.canvas.specs.Window.{moved_position, moved_box, saturated, moved, CanMove, HaveEndsOnScreen};
 
 use crate::misfit::Misfit;
-use crate::source::Triangles;
 use crate::tile_rows::TileRows;
 use grid::{PixelBox, Point, Tri};
 use lanes::BlockSamples;
+use reach::Triangles;
 use shade::{Placed, State};
 
 /// The pixel of the screen at which a canvas has its upper left pixel.

@@ -1,5 +1,0 @@
-use Rattle.canvas.specs.Rows.{AreBounds}
-use Rattle.canvas.proofs.bounds.Bounds.set.Given as goal
-
-abbrev pub invariant-loop-number : goal.invariant-loop-number
-invariant-loop-number g l = AreBounds (g.T.Triangles.listed l.triangles) l.number l.self.columns.firsts l.self.columns.ends l.self.rows.firsts l.self.rows.ends l.self.span

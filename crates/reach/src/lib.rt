@@ -1,0 +1,17 @@
+//! Which tiles triangles can meet: the columns and the rows of tiles of each triangle, from the box round it and its scissor. A tile is
+//! a square of 64 by 64 pixels, the screen is 64 by 64 tiles, and both are counted from 0 at the upper left. No call allocates.
+#![tactic(auto)]
+
+mod bounds;
+mod marks;
+mod source;
+mod span;
+mod spans;
+mod words;
+
+pub use bounds::Bounds;
+pub use marks::{CHUNK, Marks, Reached, reach_of};
+pub use source::{Chunk, Stored, Triangles};
+pub use span::{NOWHERE, Span};
+pub use spans::Spans;
+pub use words::next_bit;
