@@ -1,5 +1,6 @@
-//! Which tiles triangles can meet: the columns and the rows of tiles of each triangle, from the box round it and its scissor. A tile is
-//! a square of 64 by 64 pixels, the screen is 64 by 64 tiles, and both are counted from 0 at the upper left. No call allocates.
+//! Which tiles triangles can meet: the columns and the rows of tiles that meet the box round a triangle, cut by its scissor. A tile is a
+//! square of 64 by 64 pixels, and the screen is 64 by 64 tiles. Columns and rows of tiles are counted from 0, at the upper left. No call
+//! allocates.
 #![tactic(auto)]
 
 mod bounds;

@@ -1,4 +1,4 @@
-//! Triangles that are drawn together.
+//! The tiles of triangles that are drawn together, as marks.
 ghost use Rattle.std.specs.Prelude.{ℕ, ◌<◌, ◌≤◌, length};
 ghost use Rattle.reach.specs.Reach.{IsInSpan, IsMarked, AreReached};
 
@@ -47,7 +47,7 @@ pub struct Reached {
     pub rows: Marks,
 }
 
-/// Which columns of tiles and which tile rows the triangles can meet.
+/// Which columns of tiles and which tile rows each of up to 64 triangles can meet. The mark of triangle k is bit k of a word.
 pub fn reach_of(chunk: &[Placed]) -> Reached
     requires { length chunk.now ≤ 64 }
     ensures { AreReached chunk.now result }

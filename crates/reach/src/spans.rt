@@ -15,7 +15,7 @@ pub struct Spans<const N: usize> {
 }
 
 impl<const N: usize> Spans<N> {
-    /// Sets the span of this number.
+    /// Sets the span of this number. All other spans are unchanged.
     #[inline(always)]
     pub fn set(&mut self, number: usize, span: Span)
         requires number { number < N }
@@ -44,7 +44,7 @@ impl<const N: usize> Spans<N> {
         }
     }
 
-    /// A bit for each of the sixteen spans from number `from` on: it is set for those that have this place.
+    /// A bit for each of the sixteen spans from number `from` on, the lowest for the first: it is set for those that have this tile.
     #[inline(always)]
     pub fn having(&self, from: usize, place: u32) -> u64
         requires from { from + 16 ≤ N }

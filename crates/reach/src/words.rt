@@ -3,7 +3,7 @@ ghost use Rattle.std.specs.Prelude.{◌≡◌, ℕ, ◌<◌, ◌≤◌, None as 
 
 use std::simd::prelude::*;
 
-/// The first bit that is set, from bit `from` on.
+/// The first bit that is set, from bit `from` on, or `None` if there is none. Bits are counted from 0, the lowest.
 #[inline(always)]
 pub fn next_bit(word: u64, from: usize) -> Option<usize>
     ensures none { result ≡ Nothing → (bit : ℕ) → from ≤ bit → bit < 64 → ¬ IsBitSet word bit }
