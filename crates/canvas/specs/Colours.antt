@@ -1,5 +1,6 @@
 -- The colours, depths and ids of pixels.
 use Rattle.std.specs.Prelude.{◌≡◌, ℕ, ◌+◌, ◌*◌, ◌<◌, List, slice_index}
+use Rattle.grid.specs.declared.sample_count.SampleCount.{SampleCount}
 use Rattle.lanes.specs.declared.block_samples.BlockSamples.{BlockSamples}
 use Rattle.shade.specs.Resolve.{IsResolved}
 use Rattle.shade.specs.declared.sample.Sample.{Sample}
@@ -7,7 +8,7 @@ use Rattle.raster.specs.declared.tile.Tile.{Tile}
 use Rattle.raster.specs.Colours.{IsColourAt}
 use Rattle.canvas.specs.declared.canvas.Canvas.{Canvas}
 use Rattle.canvas.specs.declared.format.Format.{Format}
-use Rattle.canvas.specs.Layout.{stored}
+use Rattle.canvas.specs.Layout.{stored, stored_in_tile}
 use Rattle.canvas.specs.Pixels.{pixel_bytes, pixel_of, AreWritten}
 
 -- The colour of pixel (i, j): each channel resolved from the pixel's samples, in planes from tile row `first` on.
@@ -15,6 +16,12 @@ pub record IsColourOfPixel (c : Canvas) (first : ℕ) (samples : List BlockSampl
   pub red : IsResolved c.count (λ s. (stored c first samples i j s).r) r
   pub green : IsResolved c.count (λ s. (stored c first samples i j s).g) g
   pub blue : IsResolved c.count (λ s. (stored c first samples i j s).b) b
+
+-- The colour of pixel (i, j): each channel resolved from the pixel's samples, in the planes of its tile.
+pub record IsColourIn (count : SampleCount) (samples : List BlockSamples) (i j : ℕ) (r g b : ℕ) : Type 0 where
+  pub red : IsResolved count (λ s. (stored_in_tile count samples i j s).r) r
+  pub green : IsResolved count (λ s. (stored_in_tile count samples i j s).g) g
+  pub blue : IsResolved count (λ s. (stored_in_tile count samples i j s).b) b
 
 -- The bytes have this colour in the format.
 abbrev pub AreBytesOfColour : Format → ℕ → ℕ → ℕ → (ℕ → ℕ) → Type 0
@@ -26,6 +33,14 @@ pub record IsPixelOf (c : Canvas) (first : ℕ) (samples : List BlockSamples) (f
   pub g : ℕ
   pub b : ℕ
   pub colour : IsColourOfPixel c first samples i j r g b
+  pub order : AreBytesOfColour format r g b bytes
+
+-- The bytes of pixel (i, j) in the format, by the planes of its tile.
+pub record IsPixelIn (count : SampleCount) (samples : List BlockSamples) (format : Format) (i j : ℕ) (bytes : ℕ → ℕ) : Type 0 where
+  pub r : ℕ
+  pub g : ℕ
+  pub b : ℕ
+  pub colour : IsColourIn count samples i j r g b
   pub order : AreBytesOfColour format r g b bytes
 
 -- The bytes of the pixel in a row and a column of a tile, in the format.

@@ -7,7 +7,7 @@ use Rattle.shade.specs.Ending.{Ends}
 use Rattle.raster.specs.declared.tile.Tile.{Tile}
 use Rattle.raster.specs.Samples.{IsSampleOf, stored as in_tile}
 use Rattle.canvas.specs.declared.canvas.Canvas.{Canvas}
-use Rattle.canvas.specs.Layout.{IsStoredIn, stored}
+use Rattle.canvas.specs.Layout.{IsStoredIn, stored, stored_in_tile}
 
 -- Each sample of the tile rows from `first` to before `end` is this one.
 abbrev pub AreCleared : Canvas → ℕ → ℕ → Sample → List BlockSamples → Type 0
@@ -18,7 +18,13 @@ abbrev pub HaveEnds : List Placed → Canvas → ℕ → ℕ → List BlockSampl
 HaveEnds ts c first end old new =
     (i j s : ℕ) → IsStoredIn c first end i j s → Ends ts c.count i j s (stored c first old i j s) (stored c first new i j s)
 
--- Each sample of the tile ends as what the triangles make, one after another, of what was stored there.
+-- Each sample of the tile ends as what the triangles make, one after another, of what was stored in the tile's planes.
+abbrev pub TileEnds : List Placed → Tile → List BlockSamples → List BlockSamples → Type 0
+TileEnds ts tile old new =
+    (row column s : ℕ) → IsSampleOf tile row column s
+    → Ends ts tile.count (8 * tile.bx + column) (8 * tile.by + row) s (stored_in_tile tile.count old column row s) (stored_in_tile tile.count new column row s)
+
+-- Each sample of the tile ends as what the triangles make, one after another, of what was stored in the planes of its own blocks.
 abbrev pub TileHasEnds : List Placed → Tile → List BlockSamples → List BlockSamples → Type 0
 TileHasEnds ts tile old new =
     (row column s : ℕ) → IsSampleOf tile row column s

@@ -1,5 +1,5 @@
 -- Where the samples of a picture lie, in planes that the caller keeps.
-use Rattle.std.specs.Prelude.{ℕ, ◌+◌, ◌-◌, ◌*◌, ◌/◌, ◌%◌, ◌<◌, ◌≤◌, List, [], slice_index_or}
+use Rattle.std.specs.Prelude.{ℕ, ◌+◌, ◌-◌, ◌*◌, ◌/◌, ◌%◌, ◌<◌, ◌≤◌, ◌==◌, if◌then◌else◌, List, [], slice_index, slice_index_or}
 use Rattle.grid.specs.Samples.{count_of}
 use Rattle.grid.specs.declared.sample_count.SampleCount.{SampleCount}
 use Rattle.shade.specs.declared.sample.Sample.{Sample}
@@ -22,15 +22,16 @@ columns_of c = (c.width + 63) / 64
 abbrev pub rows_of : Canvas → ℕ
 rows_of c = (c.height + 63) / 64
 
--- How many planes of samples a tile has: for each of its 64 blocks of 8 by 8 pixels one for each sample of a pixel.
+-- How many planes a tile has: one that says whether the tile is as it was cleared, and for each of 65 blocks of 8 by 8 pixels one
+-- for each sample of a pixel. The first block has the samples to which the tile was cleared; the others are its own.
 abbrev pub planes_of_tile : SampleCount → ℕ
-planes_of_tile count = 64 * count_of count
+planes_of_tile count = 1 + 65 * count_of count
 
--- How many planes of samples a tile row has.
+-- How many planes a tile row has.
 abbrev pub planes_of_row : Canvas → ℕ
 planes_of_row c = columns_of c * planes_of_tile c.count
 
--- How many planes of samples the tile rows from `first` to before `end` have.
+-- How many planes the tile rows from `first` to before `end` have.
 abbrev pub planes_of_rows : Canvas → ℕ → ℕ → ℕ
 planes_of_rows c first end = (end - first) * planes_of_row c
 
@@ -49,20 +50,29 @@ pub record HasPixel (c : Canvas) (first end : ℕ) (i j : ℕ) : Type 0 where
   pub from : first ≤ j / 64
   pub below : j / 64 < end
 
--- The index of the plane of sample s of pixel (i, j) among those of its tile. Blocks lie row by row, in a row block by block, and
--- in a block sample by sample.
-abbrev pub place_in_tile : SampleCount → ℕ → ℕ → ℕ → ℕ
-place_in_tile count i j s = (j % 64 / 8 * 8 + i % 64 / 8) * count_of count + s
+-- The number of the block of pixel (i, j) in its tile, whose first plane this is. While its first red byte is 1, the tile is as it was
+-- cleared, and block 0 stands for all of its blocks. Else these are numbered from 1 on, row by row.
+abbrev pub block_of : BlockSamples → ℕ → ℕ → ℕ
+block_of state i j = if slice_index state.r 0 == 1 then 0 else (j % 64 / 8 * 8 + i % 64 / 8 + 1)
 
--- The index of the plane of sample s of pixel (i, j) among those of its tile row. Tiles lie from left to right.
-abbrev pub place_in_row : Canvas → ℕ → ℕ → ℕ → ℕ
-place_in_row c i j s = i / 64 * planes_of_tile c.count + place_in_tile c.count i j s
+-- The index of the plane of sample s of pixel (i, j) among those of its tile, whose first plane this is. The planes of a block lie
+-- together, sample by sample.
+abbrev pub place_in_tile : SampleCount → BlockSamples → ℕ → ℕ → ℕ → ℕ
+place_in_tile count state i j s = 1 + block_of state i j * count_of count + s
 
--- The index of the plane of sample s of pixel (i, j) among those of the tile rows from `first` on.
-abbrev pub place_of : Canvas → ℕ → ℕ → ℕ → ℕ → ℕ
-place_of c first i j s = (j / 64 - first) * planes_of_row c + place_in_row c i j s
+-- Sample s of pixel (i, j), by the planes of its tile. A plane has one sample of each pixel of the block, row by row.
+abbrev pub sample_in : SampleCount → (ℕ → BlockSamples) → ℕ → ℕ → ℕ → Sample
+sample_in count planes i j s = stored_at (planes (place_in_tile count (planes 0) i j s)) (8 * (j % 8) + i % 8)
 
--- Sample s of pixel (i, j), as it is stored. Its plane has one sample of each pixel of the block, row by row.
+-- Plane k of the tile of pixel (i, j), among those of the tile rows from `first` on. Tiles lie from left to right.
+abbrev pub plane_of : Canvas → ℕ → List BlockSamples → ℕ → ℕ → ℕ → BlockSamples
+plane_of c first samples i j k =
+    slice_index_or samples ((j / 64 - first) * planes_of_row c + i / 64 * planes_of_tile c.count + k) (record { z = []; r = []; g = []; b = [] })
+
+-- Sample s of pixel (i, j), as it is stored.
 abbrev pub stored : Canvas → ℕ → List BlockSamples → ℕ → ℕ → ℕ → Sample
-stored c first samples i j s =
-    stored_at (slice_index_or samples (place_of c first i j s) (record { z = []; r = []; g = []; b = [] })) (8 * (j % 8) + i % 8)
+stored c first samples i j s = sample_in c.count (plane_of c first samples i j) i j s
+
+-- Sample s of the pixel in a column and a row of a tile, as it is stored in the tile's planes.
+abbrev pub stored_in_tile : SampleCount → List BlockSamples → ℕ → ℕ → ℕ → Sample
+stored_in_tile count samples i j s = sample_in count (λ k. slice_index_or samples k (record { z = []; r = []; g = []; b = [] })) i j s

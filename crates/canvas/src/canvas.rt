@@ -58,18 +58,18 @@ impl Canvas {
         (self.height + 63) / 64
     }
 
-    /// How many planes of samples a tile has.
+    /// How many planes a tile has.
     pub(crate) fn planes_of_tile(&self) -> usize
         ensures value { result ≡ planes_of_tile self.now.count }
-        ensures few { result ≤ 256 }
+        ensures few { result ≤ 261 }
     {
-        64 * self.count.count() as usize
+        1 + 65 * self.count.count() as usize
     }
 
-    /// How many planes of samples a tile row has.
+    /// How many planes a tile row has.
     pub fn planes_of_row(&self) -> usize
         ensures value { result ≡ planes_of_row self.now }
-        ensures few { result ≤ 16384 }
+        ensures few { result ≤ 16704 }
     {
         self.column_count() as usize * self.planes_of_tile()
     }

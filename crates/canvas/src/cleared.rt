@@ -1,15 +1,23 @@
 //! Samples that are all the same.
-ghost use Rattle.std.specs.Prelude.{◌≡◌, ◌↔◌, length, IsOk, OnOk, OnErr, IfErr};
-ghost use Rattle.canvas.specs.Layout.{planes_of_rows};
+ghost use Rattle.std.specs.Prelude.{◌≡◌, ◌↔◌, ◌-◌, ◌*◌, ◌≤◌, length, IsOk, OnOk, OnErr, IfErr};
+ghost use Rattle.canvas.specs.Layout.{columns_of, planes_of_rows};
 ghost use Rattle.canvas.specs.Drawing.{AreCleared};
 
 use crate::misfit::Misfit;
+use crate::tile_planes::clear_tile;
 use crate::tile_rows::TileRows;
 use lanes::BlockSamples;
-use raster::clear;
 use shade::Sample;
 
 impl TileRows {
+    /// How many tiles these tile rows have.
+    fn tiles(&self) -> usize
+        ensures value { result ≡ (self.now.end - self.now.first) * columns_of self.now.canvas }
+        ensures few { result ≤ 4096 }
+    {
+        (self.end - self.first) as usize * self.canvas.column_count() as usize
+    }
+
     /// Makes each sample of these tile rows the given one.
     pub fn clear(&self, samples: &mut [BlockSamples], sample: Sample) -> Result<(), Misfit>
         ensures fits { IsOk result ↔ (length samples.old ≡ planes_of_rows self.now.canvas self.now.first self.now.end) }
@@ -20,7 +28,15 @@ impl TileRows {
         if samples.len() != self.planes() {
             return Err(Misfit::Planes);
         }
-        clear(samples, sample);
+        let each = self.canvas.planes_of_tile();
+        for number in 0..self.tiles() {
+            let from = number * each;
+            clear_tile(
+                self.canvas.count,
+                sample,
+                &mut samples[from..from + each],
+            );
+        }
         Ok(())
     }
 }

@@ -2,14 +2,16 @@
 ghost use Rattle.std.specs.Prelude.{◌≡◌, ◌≢◌, ◌↔◌, ◌⊎◌, ℕ, ◌+◌, ◌-◌, ◌*◌, ◌/◌, ◌<◌, ◌≤◌, length, take, slice_index, IsOk, IsTrue, OnOk, OnErr, IfErr};
 ghost use Rattle.grid.specs.Pixels.{side_of};
 ghost use Rattle.raster.specs.Samples.{planes_of};
-ghost use Rattle.canvas.specs.Layout.{planes_of_row, planes_of_rows};
+ghost use Rattle.canvas.specs.Layout.{columns_of, rows_of, planes_of_tile, planes_of_row, planes_of_rows};
 ghost use Rattle.canvas.specs.Pixels.{pixel_bytes, IsLargeEnough};
-ghost use Rattle.canvas.specs.Colours.{IsPixelOf, IsTilePixel, AreResolved};
+ghost use Rattle.canvas.specs.Colours.{IsPixelOf, IsPixelIn, IsTilePixel, AreResolved};
 
 use crate::canvas::Canvas;
 use crate::format::{Format, arranged};
 use crate::misfit::Misfit;
+use crate::tile_planes::is_cleared;
 use crate::tile_rows::TileRows;
+use grid::TileSide;
 use lanes::BlockSamples;
 use raster::{Tile, colours};
 use std::simd::prelude::*;
@@ -63,6 +65,39 @@ fn resolve_run(
 }
 
 impl Canvas {
+    /// Writes the first `count` of eight pixels of row `j`, from column 8 * `block` on, from the planes of their tile.
+    #[inline(always)]
+    fn resolve_eight(
+        &self,
+        block: u32,
+        j: u32,
+        samples: &[BlockSamples],
+        format: Format,
+        count: u32,
+        bytes: &mut [u8],
+    )
+        requires column { block / 8 < columns_of self.now }
+        requires row { j / 64 < rows_of self.now }
+        requires samples { length samples.now ≡ planes_of_tile self.now.count }
+        requires count { count ≤ 8 }
+        requires bytes { length bytes.old ≡ count * pixel_bytes format }
+        ensures { (i : ℕ) → i < count → IsPixelIn self.now.count samples.now format (8 * block + i) j (λ k. slice_index bytes.new (i * pixel_bytes format + k)) }
+    {
+        let own = 1 + self.count.count() as usize;
+        if is_cleared(&samples[0]) {
+            let cleared = Tile {
+                bx: 0,
+                by: 0,
+                side: TileSide::T8,
+                count: self.count,
+            };
+            resolve_run(&cleared, &samples[1..own], j % 8, 0, format, count, bytes);
+        } else {
+            let tile = self.tile(block / 8, j / 64);
+            resolve_run(&tile, &samples[own..], j % 64, block % 8, format, count, bytes);
+        }
+    }
+
     /// Writes row `j` of pixels, from the samples of its tile row.
     fn resolve_row(&self, j: u32, samples: &[BlockSamples], format: Format, bytes: &mut [u8])
         requires row { j < self.now.height }
@@ -74,14 +109,12 @@ impl Canvas {
         let unit = format.pixel_bytes();
         for block in 0..(self.width + 7) / 8 {
             let count = (self.width - 8 * block).min(8);
-            let tile = self.tile(block / 8, j / 64);
             let from = (block / 8) as usize * each;
             let at = 8 * block as usize * unit;
-            resolve_run(
-                &tile,
+            self.resolve_eight(
+                block,
+                j,
                 &samples[from..from + each],
-                j % 64,
-                block % 8,
                 format,
                 count,
                 &mut bytes[at..at + count as usize * unit],

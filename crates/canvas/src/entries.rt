@@ -59,7 +59,7 @@ impl Canvas {
         ensures { (i : ℕ) → i < self.now.width → slice_index (map E.number entries.new) i ≡ E.number_of (stored self.now (j / 64) samples.now i j s) }
     {
         for i in 0..self.width {
-            let plane = &samples[self.place_in_row(i, j, s)];
+            let plane = self.plane(samples, i, j, s);
             entries[i as usize] = E::of(plane, (8 * (j % 8) + i % 8) as usize);
         }
     }

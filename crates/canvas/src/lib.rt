@@ -18,6 +18,7 @@ mod misfit;
 mod place;
 mod row_list;
 mod sample;
+mod tile_planes;
 mod tile_rows;
 mod triangles;
 mod vertex;

@@ -1,13 +1,18 @@
 //! A picture in the caller's memory, loaded as the colours of samples.
-ghost use Rattle.std.specs.Prelude.{◌≡◌, ◌≢◌, ◌↔◌, ◌⊎◌, ℕ, ◌+◌, ◌*◌, ◌/◌, ◌<◌, ◌≤◌, length, slice_index, IsOk, OnOk, OnErr, IfErr};
+ghost use Rattle.std.specs.Prelude.{◌≡◌, ◌≢◌, ◌↔◌, ◌⊎◌, ℕ, ◌+◌, ◌*◌, ◌/◌, ◌%◌, ◌<◌, ◌≤◌, length, slice_index, IsOk, OnOk, OnErr, IfErr};
 ghost use Rattle.lanes.specs.Block.{stored_at};
-ghost use Rattle.canvas.specs.Layout.{HasPixel, planes_of_rows};
+ghost use Rattle.grid.specs.Samples.{count_of};
+ghost use Rattle.canvas.specs.Layout.{planes_of_tile, planes_of_row, planes_of_rows, stored_in_tile};
 ghost use Rattle.canvas.specs.Pixels.{pixel_bytes, IsLargeEnough};
 ghost use Rattle.canvas.specs.Loaded.{coloured, AreChanged, AreLoaded};
 
+use crate::canvas::Canvas;
 use crate::format::Format;
 use crate::misfit::Misfit;
+use crate::place::place_in_tile;
+use crate::tile_planes::fill_tile;
 use crate::tile_rows::TileRows;
+use grid::SampleCount;
 use lanes::BlockSamples;
 
 /// Stores a colour in place of that of pixel `k` of a block.
@@ -37,39 +42,55 @@ fn recolour(plane: &mut BlockSamples, k: usize, format: Format, pixel: &[u8])
     }
 }
 
-impl TileRows {
-    /// Stores the colour of these bytes in place of those of all samples of pixel (i, j).
-    fn load_pixel(&self, i: u32, j: u32, pixel: &[u8], format: Format, samples: &mut [BlockSamples])
-        requires pixel { HasPixel self.now.canvas self.now.first self.now.end i j }
-        requires bytes { length pixel.now ≡ pixel_bytes format }
-        requires samples { length samples.old ≡ planes_of_rows self.now.canvas self.now.first self.now.end }
-        ensures { AreChanged self.now.canvas self.now.first self.now.end (λ column row s. (column ≡ i) × (row ≡ j))
-            (λ column row sample. coloured format (λ k. slice_index pixel.now k) sample) samples.old samples.new }
-    {
-        let k = (8 * (j % 8) + i % 8) as usize;
-        for s in 0..self.canvas.count.count() {
-            let place = self.place(i, j, s);
-            recolour(&mut samples[place], k, format, pixel);
-        }
+/// Stores the colour of these bytes in place of those of all samples of pixel (i, j), in the planes of its tile.
+fn load_pixel(
+    count: SampleCount,
+    i: u32,
+    j: u32,
+    pixel: &[u8],
+    format: Format,
+    samples: &mut [BlockSamples],
+)
+    requires bytes { length pixel.now ≡ pixel_bytes format }
+    requires samples { length samples.old ≡ planes_of_tile count }
+    ensures pixel { (s : ℕ) → s < count_of count → stored_in_tile count samples.new i j s ≡ coloured format (λ k. slice_index pixel.now k) (stored_in_tile count samples.old i j s) }
+    ensures others { (column row s : ℕ) → s < count_of count → ((column % 64 ≡ i % 64) → (row % 64 ≡ j % 64) → ⊥) → stored_in_tile count samples.new column row s ≡ stored_in_tile count samples.old column row s }
+{
+    fill_tile(count, samples);
+    let k = (8 * (j % 8) + i % 8) as usize;
+    for s in 0..count.count() {
+        let place = place_in_tile(&samples[0], count, i, j, s);
+        recolour(&mut samples[place], k, format, pixel);
     }
+}
 
-    /// Stores the colours of these bytes in place of those of all samples of row `j` of pixels.
+impl Canvas {
+    /// Stores the colours of these bytes in place of those of all samples of row `j` of pixels, in the planes of its tile row.
     fn load_row(&self, j: u32, bytes: &[u8], format: Format, samples: &mut [BlockSamples])
-        requires row { j < self.now.canvas.height }
-        requires from { self.now.first ≤ j / 64 }
-        requires below { j / 64 < self.now.end }
-        requires bytes { length bytes.now ≡ self.now.canvas.width * pixel_bytes format }
-        requires samples { length samples.old ≡ planes_of_rows self.now.canvas self.now.first self.now.end }
-        ensures { AreChanged self.now.canvas self.now.first self.now.end (λ column row s. (column < self.now.canvas.width) × (row ≡ j))
+        requires row { j < self.now.height }
+        requires bytes { length bytes.now ≡ self.now.width * pixel_bytes format }
+        requires samples { length samples.old ≡ planes_of_row self.now }
+        ensures { AreChanged self.now (j / 64) (j / 64 + 1) (λ column row s. (column < self.now.width) × (row ≡ j))
             (λ column row sample. coloured format (λ k. slice_index bytes.now (column * pixel_bytes format + k)) sample) samples.old samples.new }
     {
+        let each = self.planes_of_tile();
         let unit = format.pixel_bytes();
-        for i in 0..self.canvas.width {
+        for i in 0..self.width {
+            let from = (i / 64) as usize * each;
             let at = i as usize * unit;
-            self.load_pixel(i, j, &bytes[at..at + unit], format, samples);
+            load_pixel(
+                self.count,
+                i,
+                j,
+                &bytes[at..at + unit],
+                format,
+                &mut samples[from..from + each],
+            );
         }
     }
+}
 
+impl TileRows {
     /// Stores a picture in place of the colours: all samples of each pixel of the picture in these tile rows have the colour of the
     /// pixel's bytes, which are laid out as `resolve` writes them. Depths are unchanged, and alpha is not read.
     pub fn load(
@@ -89,14 +110,16 @@ impl TileRows {
     {
         let unit = format.pixel_bytes();
         self.fits(samples.len(), unit, stride, bytes.len())?;
+        let each = self.canvas.planes_of_row();
         let width = self.canvas.width as usize * unit;
         for row in 0..self.shown_rows() {
+            let from = (row / 64) as usize * each;
             let at = row as usize * stride;
-            self.load_row(
+            self.canvas.load_row(
                 64 * self.first + row,
                 &bytes[at..at + width],
                 format,
-                samples,
+                &mut samples[from..from + each],
             );
         }
         Ok(())

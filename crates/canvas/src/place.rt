@@ -1,37 +1,58 @@
 //! Where a sample is stored.
-ghost use Rattle.std.specs.Prelude.{◌≡◌, ◌↔◌, ◌/◌, ◌<◌, IsTrue};
+ghost use Rattle.std.specs.Prelude.{◌≡◌, ◌↔◌, ◌+◌, ◌*◌, ◌/◌, ◌%◌, ◌<◌, length, IsTrue};
 ghost use Rattle.grid.specs.Samples.{count_of};
-ghost use Rattle.canvas.specs.Layout.{HasPixel, IsStoredIn, columns_of, planes_of_row, planes_of_rows, place_in_row, place_of};
+ghost use Rattle.lanes.specs.Block.{stored_at};
+ghost use Rattle.canvas.specs.Layout.{HasPixel, columns_of, planes_of_tile, planes_of_row, place_in_tile, stored};
 
 use crate::canvas::Canvas;
+use crate::tile_planes::is_cleared;
 use crate::tile_rows::TileRows;
+use grid::SampleCount;
+use lanes::BlockSamples;
+
+/// The index of the plane of sample `s` of pixel (i, j) among those of its tile, whose first plane this is.
+#[inline]
+pub(crate) fn place_in_tile(
+    state: &BlockSamples,
+    count: SampleCount,
+    i: u32,
+    j: u32,
+    s: u32,
+) -> usize
+    requires { s < count_of count }
+    ensures value { result ≡ place_in_tile count state.now i j s }
+    ensures within { result < planes_of_tile count }
+{
+    let block = if is_cleared(state) {
+        0
+    } else {
+        j % 64 / 8 * 8 + i % 64 / 8 + 1
+    };
+    (1 + block * count.count() + s) as usize
+}
 
 impl Canvas {
-    /// In which plane of a tile row sample `s` of pixel (i, j) is.
+    /// The plane of sample `s` of pixel (i, j), of those of its tile row.
     #[inline]
-    pub(crate) fn place_in_row(&self, i: u32, j: u32, s: u32) -> usize
+    pub(crate) fn plane<'a>(
+        &self,
+        samples: &'a [BlockSamples],
+        i: u32,
+        j: u32,
+        s: u32,
+    ) -> &'a BlockSamples
         requires column { i / 64 < columns_of self.now }
         requires sample { s < count_of self.now.count }
-        ensures value { result ≡ place_in_row self.now i j s }
-        ensures within { result < planes_of_row self.now }
+        requires samples { length samples.now ≡ planes_of_row self.now }
+        ensures { stored_at result.now (8 * (j % 8) + i % 8) ≡ stored self.now (j / 64) samples.now i j s }
     {
-        let before = (i / 64) as usize * self.planes_of_tile();
-        let block = j % 64 / 8 * 8 + i % 64 / 8;
-        before + (block * self.count.count() + s) as usize
+        let first = (i / 64) as usize * self.planes_of_tile();
+        let place = place_in_tile(&samples[first], self.count, i, j, s);
+        &samples[first + place]
     }
 }
 
 impl TileRows {
-    /// In which plane sample `s` of pixel (i, j) is.
-    pub(crate) fn place(&self, i: u32, j: u32, s: u32) -> usize
-        requires { IsStoredIn self.now.canvas self.now.first self.now.end i j s }
-        ensures value { result ≡ place_of self.now.canvas self.now.first i j s }
-        ensures within { result < planes_of_rows self.now.canvas self.now.first self.now.end }
-    {
-        let above = (j / 64 - self.first) as usize * self.canvas.planes_of_row();
-        above + self.canvas.place_in_row(i, j, s)
-    }
-
     /// Whether pixel (i, j) is in the picture, and its tile in these tile rows.
     pub(crate) fn has_pixel(&self, i: u32, j: u32) -> bool
         ensures { IsTrue result ↔ HasPixel self.now.canvas self.now.first self.now.end i j }

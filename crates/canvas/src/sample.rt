@@ -21,7 +21,9 @@ impl TileRows {
         {
             return None;
         }
-        let plane = &samples[self.place(i, j, s)];
+        let each = self.canvas.planes_of_row();
+        let from = (j / 64 - self.first) as usize * each;
+        let plane = self.canvas.plane(&samples[from..from + each], i, j, s);
         Some(plane.sample((8 * (j % 8) + i % 8) as usize))
     }
 }

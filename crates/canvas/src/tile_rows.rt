@@ -3,7 +3,7 @@ ghost use Rattle.std.specs.Prelude.{◌≡◌, ◌↔◌, ℕ, ◌+◌, ◌/◌,
 
 use crate::canvas::Canvas;
 
-/// Tile rows of a picture, one below the other, whose planes of samples lie together. Threads share a picture by its tile rows.
+/// Tile rows of a picture, one below the other, whose planes lie together. Threads share a picture by its tile rows.
 #[derive(Clone, Copy, Debug)]
 pub struct TileRows {
     /// The picture.
@@ -20,10 +20,10 @@ impl TileRows {
     ghost use Rattle.lanes.specs.declared.block_samples.BlockSamples.{BlockSamples as Planes};
     ghost use Rattle.canvas.specs.Layout.{IsStoredIn, planes_of_rows, stored};
 
-    /// How many planes of samples these tile rows have.
+    /// How many planes these tile rows have.
     pub fn planes(&self) -> usize
         ensures value { result ≡ planes_of_rows self.now.canvas self.now.first self.now.end }
-        ensures few { result ≤ 1048576 }
+        ensures few { result ≤ 1069056 }
     {
         (self.end - self.first) as usize * self.canvas.planes_of_row()
     }

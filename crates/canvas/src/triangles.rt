@@ -2,12 +2,14 @@
 ghost use Rattle.std.specs.Prelude.{◌≡◌, ◌↔◌, ◌+◌, ◌<◌, ◌≤◌, length, IsOk, OnOk, OnErr, IfErr};
 ghost use Rattle.raster.specs.Samples.{planes_of};
 ghost use Rattle.reach.specs.Reach.{AreReached};
-ghost use Rattle.canvas.specs.Layout.{rows_of, planes_of_row, planes_of_rows};
-ghost use Rattle.canvas.specs.Drawing.{HaveEnds, TileHasEnds};
+ghost use Rattle.grid.specs.declared.pixels.TileSide.TheVariants.{T64};
+ghost use Rattle.canvas.specs.Layout.{rows_of, planes_of_tile, planes_of_row, planes_of_rows};
+ghost use Rattle.canvas.specs.Drawing.{HaveEnds, TileEnds, TileHasEnds};
 ghost use Rattle.canvas.specs.Rows.{IsMaskOf};
 
 use crate::canvas::Canvas;
 use crate::misfit::Misfit;
+use crate::tile_planes::fill_tile;
 use crate::tile_rows::TileRows;
 use lanes::BlockSamples;
 use raster::{Tile, draw_triangle};
@@ -20,8 +22,8 @@ const LARGEST: usize = 16_384;
 /// How many are drawn together with little memory of the stack.
 const LARGE: usize = 1024;
 
-/// Draws the triangles at the samples of a tile, one after another, but those whose bit is not set.
-fn draw_tile(chunk: &[Placed], mask: u64, tile: &Tile, samples: &mut [BlockSamples])
+/// Draws the triangles at the samples of a tile's own blocks, one after another, but those whose bit is not set.
+fn draw_blocks(chunk: &[Placed], mask: u64, tile: &Tile, samples: &mut [BlockSamples])
     requires few { length chunk.now ≤ 64 }
     requires mask { IsMaskOf chunk.now tile.now mask }
     requires samples { length samples.old ≡ planes_of tile.now.side tile.now.count }
@@ -40,6 +42,19 @@ fn draw_tile(chunk: &[Placed], mask: u64, tile: &Tile, samples: &mut [BlockSampl
         draw_triangle(&chunk[k], tile, samples);
         done = k + 1;
     }
+}
+
+/// Draws the triangles at the samples of a tile, one after another, but those whose bit is not set.
+fn draw_tile(chunk: &[Placed], mask: u64, tile: &Tile, samples: &mut [BlockSamples])
+    requires few { length chunk.now ≤ 64 }
+    requires mask { IsMaskOf chunk.now tile.now mask }
+    requires side { tile.now.side ≡ T64 }
+    requires samples { length samples.old ≡ planes_of_tile tile.now.count }
+    ensures { TileEnds chunk.now tile.now samples.old samples.new }
+{
+    fill_tile(tile.count, samples);
+    let own = 1 + tile.count.count() as usize;
+    draw_blocks(chunk, mask, tile, &mut samples[own..]);
 }
 
 impl Canvas {

@@ -1,6 +1,6 @@
 use Rattle.std.proofs.Common.{◌-◌, ◌≤◌, take, length}
 use Rattle.canvas.specs.Drawing.{TileHasEnds}
-use Rattle.canvas.proofs.triangles.draw_tile.Given as goal
+use Rattle.canvas.proofs.triangles.draw_blocks.Given as goal
 
 abbrev pub invariant-loop-done : goal.invariant-loop-done
 invariant-loop-done l = (l.done ≤ length l.chunk) × TileHasEnds (take l.done l.chunk) l.tile l.fn.samples l.samples

@@ -1,6 +1,6 @@
 use Rattle.std.proofs.Common.{◌<◌, rules, arith}
 use Rattle.canvas.proofs.Listed.{columns_of_tile, tile_of_row}
-use Rattle.canvas.proofs.canvas.Canvas.draw_listed_tile.Goals as goal
+use Rattle.canvas.proofs.canvas.Canvas.draw_listed_blocks.Goals as goal
 
 pub draw_some-requires : goal.draw_some-requires
 draw_some-requires g c =

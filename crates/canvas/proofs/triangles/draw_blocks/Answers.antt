@@ -4,7 +4,7 @@ use Rattle.std.proofs.lemmas.Nat.{shr_le}
 use Rattle.std.proofs.lemmas.Nat.Bits.{bit_at-trailing_zeros}
 use Rattle.canvas.proofs.Ends.{tile_more, tile_ends}
 use Rattle.canvas.proofs.Masks.{run_skipped, rest_skipped, last_skipped, item_found}
-use Rattle.canvas.proofs.triangles.draw_tile.Goals as goal
+use Rattle.canvas.proofs.triangles.draw_blocks.Goals as goal
 
 -- the bits before the next one are not set
 none_before : (mask n : ℕ) → mask < 2 ^ 64 → ¬ (mask / 2 ^ n ≡ 0) → (i : ℕ) → i < trailing_zeros w64 (mask / 2 ^ n) → bit_at (mask / 2 ^ n) i ≡ 0

@@ -2,7 +2,7 @@ use Rattle.std.proofs.Common.{◌≡◌, ◌-◌, ◌%◌, take}
 use Rattle.canvas.specs.Drawing.{TileHasEnds}
 use Rattle.canvas.specs.Rows.{numbered}
 use Rattle.canvas.proofs.Listed.{nothing}
-use Rattle.canvas.proofs.canvas.Canvas.draw_listed_tile.Given as goal
+use Rattle.canvas.proofs.canvas.Canvas.draw_listed_blocks.Given as goal
 
 abbrev pub invariant-loop-from : goal.invariant-loop-from
 invariant-loop-from g l = record {

@@ -1,0 +1,45 @@
+//! The planes of one tile: the first says whether the tile is as it was cleared, then come those of a block with the samples to which it
+//! was cleared, and then those of its own 64 blocks. So clearing a tile touches few of its planes.
+ghost use Rattle.std.specs.Prelude.{◌≡◌, ◌≢◌, ◌↔◌, ℕ, ◌<◌, length, slice_index, slice_index_or, [], IsTrue};
+ghost use Rattle.grid.specs.Samples.{count_of};
+ghost use Rattle.canvas.specs.Layout.{planes_of_tile, stored_in_tile};
+
+use grid::SampleCount;
+use lanes::BlockSamples;
+use shade::Sample;
+
+/// Whether the tile with this first plane is as it was cleared.
+#[inline]
+pub(crate) fn is_cleared(state: &BlockSamples) -> bool
+    ensures { IsTrue result ↔ (slice_index state.now.r 0 ≡ 1) }
+{
+    state.r[0] == 1
+}
+
+/// Makes all samples of a tile the given one.
+pub(crate) fn clear_tile(count: SampleCount, sample: Sample, samples: &mut [BlockSamples])
+    requires { length samples.old ≡ planes_of_tile count }
+    ensures { (i j s : ℕ) → s < count_of count → stored_in_tile count samples.new i j s ≡ sample }
+{
+    let plane = BlockSamples::filled(sample);
+    for s in 0..count.count() as usize {
+        samples[1 + s] = plane;
+    }
+    samples[0].r[0] = 1;
+}
+
+/// Gives the blocks of a tile that is as it was cleared their samples, so that these can be changed.
+pub(crate) fn fill_tile(count: SampleCount, samples: &mut [BlockSamples])
+    requires { length samples.old ≡ planes_of_tile count }
+    ensures filled { slice_index (slice_index_or samples.new 0 (record { z = []; r = []; g = []; b = [] })).r 0 ≢ 1 }
+    ensures kept { (i j s : ℕ) → s < count_of count → stored_in_tile count samples.new i j s ≡ stored_in_tile count samples.old i j s }
+{
+    if !is_cleared(&samples[0]) {
+        return;
+    }
+    let many = count.count() as usize;
+    for place in 1 + many..samples.len() {
+        samples[place] = samples[place - many];
+    }
+    samples[0].r[0] = 0;
+}
