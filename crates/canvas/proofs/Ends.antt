@@ -15,12 +15,12 @@ use Rattle.raster.specs.Samples.{IsSampleOf, AreAll, stored as in_tile}
 use Rattle.raster.specs.Drawing.{DrawsTile}
 use Rattle.canvas.proofs.Cut.{put}
 use Rattle.canvas.specs.declared.canvas.Canvas.{Canvas}
-use Rattle.canvas.specs.Layout.{IsStoredIn, planes_of_tile, planes_of_row, planes_of_rows, place_of, stored}
-use Rattle.canvas.specs.Drawing.{AreCleared, HaveEnds, TileHasEnds}
-use Rattle.canvas.proofs.Places.{within_rows, row_of, tile_of, row_put, row_kept, tile_put, tile_kept}
+use Rattle.canvas.specs.Layout.{IsStoredIn, columns_of, planes_of_tile, planes_of_row, planes_of_rows, stored, stored_in_tile}
+use Rattle.canvas.specs.Drawing.{AreCleared, HaveEnds, TileEnds, TileHasEnds}
+use Rattle.canvas.proofs.Places.{none, same_in, row_of, tile_of, row_put, row_kept, tile_put, tile_kept}
 
 -- the same at equal arguments
-ends_at : (ts : List Placed) (n n' : SampleCount) (i i' j j' s : ℕ) (x x' y y' : Sample) → n ≡ n' → i ≡ i' → j ≡ j' → x ≡ x' → y ≡ y' → Ends ts n i j s x y → Ends ts n' i' j' s x' y'
+pub ends_at : (ts : List Placed) (n n' : SampleCount) (i i' j j' s : ℕ) (x x' y y' : Sample) → n ≡ n' → i ≡ i' → j ≡ j' → x ≡ x' → y ≡ y' → Ends ts n i j s x y → Ends ts n' i' j' s x' y'
 ends_at ts n n' i i' j j' s x x' y y' count across down old new h = rw (← count, ← across, ← down, ← old, ← new) h
 
 -- ---- triangles at one tile
@@ -78,6 +78,15 @@ module _ (ts : List Placed) (c : Canvas) (first end : ℕ) (part_of_pixel : ℕ 
   }
 
 -- ---- the tiles of a row
+-- a sample is found by its pixel's place in the tile
+within : (n m : SampleCount) (xs : List BlockSamples) (i j s : ℕ) → n ≡ m → stored_in_tile n xs (i % 64) (j % 64) s ≡ stored_in_tile m xs i j s
+within n m xs i j s same =
+    let across : i % 64 % 64 ≡ i % 64 = omega arith in
+    let down : j % 64 % 64 ≡ j % 64 = omega arith in
+    let column : i % 64 % 8 ≡ i % 8 = omega arith in
+    let line : j % 64 % 8 ≡ j % 8 = omega arith in
+    rw (across, down, column, line, same) refl
+
 abbrev pub column_of : ℕ → ℕ → ℕ
 column_of i j = i / 64
 
@@ -86,7 +95,7 @@ module _ (ts : List Placed) (c : Canvas) (row : ℕ) where
   AreTilesDrawn column old new = AreDrawn ts c row (row + 1) column_of column old new
 
   module _ (column : ℕ) (old middle part : List BlockSamples) (n a : ℕ) (room : a + n ≤ length middle) (long : length part ≡ n) (many : n ≡ planes_of_tile c.count) (at : a ≡ column * planes_of_tile c.count)
-      (tile : Tile) (is : (tile.bx ≡ 8 * column) × (tile.by ≡ 8 * row) × (tile.side ≡ T64) × (tile.count ≡ c.count)) (before : AreTilesDrawn column old middle) (draws : TileHasEnds ts tile (take n (drop a middle)) part) where
+      (tile : Tile) (is : (tile.bx ≡ 8 * column) × (tile.by ≡ 8 * row) × (tile.side ≡ T64) × (tile.count ≡ c.count)) (before : AreTilesDrawn column old middle) (draws : TileEnds ts tile (take n (drop a middle)) part) where
     module _ (i j s : ℕ) (h : IsStoredIn c row (row + 1) i j s) where
       in_row : j / 64 ≡ row
       in_row = omega (arith, h.from, h.below)
@@ -99,8 +108,10 @@ module _ (ts : List Placed) (c : Canvas) (row : ℕ) where
           let in_tile_here : IsSampleOf tile (j % 64) (i % 64) s = record { high = rw is.2 (omega arith); wide = rw is.2 (omega arith); is_sample = rw is.3 h.is_sample } in
           let across : 8 * tile.bx + i % 64 ≡ i = omega (arith, is.0, same) in
           let down : 8 * tile.by + j % 64 ≡ j = omega (arith, is.1, in_row) in
-          let old_is : in_tile tile (take n (drop a middle)) (j % 64) (i % 64) s ≡ stored c row middle i j s = (tile_of c i j s tile is.2 is.3 row middle n a in_row many (at ∙ ap (λ k. k * planes_of_tile c.count) (sym same)) h.is_sample) in
-          let new_is : in_tile tile part (j % 64) (i % 64) s ≡ stored c row (put middle part a n) i j s = sym (tile_put c i j s middle part n a room long row in_row column many at h.is_sample tile is.2 is.3 same) in
+          let old_is : stored_in_tile tile.count (take n (drop a middle)) (i % 64) (j % 64) s ≡ stored c row middle i j s =
+          within tile.count c.count (take n (drop a middle)) i j s is.3 ∙ tile_of c i j s row middle n a in_row many (at ∙ ap (λ k. k * planes_of_tile c.count) (sym same)) h.is_sample in
+          let new_is : stored_in_tile tile.count part (i % 64) (j % 64) s ≡ stored c row (put middle part a n) i j s =
+          within tile.count c.count part i j s is.3 ∙ sym (tile_put c i j s middle part n a room long row in_row column many at h.is_sample same) in
           ends_at ts _ _ _ _ _ _ s _ _ _ _ is.3 across down old_is new_is (draws (j % 64) (i % 64) s in_tile_here)
 
     pub one_tile_drawn : AreTilesDrawn (column + 1) old (put middle part a n)
@@ -150,7 +161,3 @@ one_chunk_more ts c first end n many old middle new a b =
 pub all_chunks : (ts : List Placed) (c : Canvas) (first end n : ℕ) (old new : List BlockSamples) → length ts ≤ n → HaveEnds (take n ts) c first end old new → HaveEnds ts c first end old new
 all_chunks ts c first end n old new past h = rw (take_all n ts past) at h
 
--- ---- cleared
-pub all_cleared : (c : Canvas) (first end : ℕ) (sample : Sample) (xs : List BlockSamples) → length xs ≡ planes_of_rows c first end → AreAll xs sample → AreCleared c first end sample xs
-all_cleared c first end sample xs long all i j s h =
-    all (place_of c first i j s) (8 * (j % 8) + i % 8) (omega (arith, long, within_rows c first end i j s h.column h.from h.below h.is_sample)) (omega arith)

@@ -1,7 +1,10 @@
 pub mod Cut
 pub mod Flat
 pub mod Places
+pub mod TilePlanes
 pub mod Ends
+pub mod DrawnTiles
+pub mod ClearedTiles
 pub mod Units
 pub mod Arranged
 pub mod PixelColours

@@ -8,6 +8,14 @@ use grid::SampleCount;
 use lanes::BlockSamples;
 use shade::Sample;
 
+/// The samples of the first plane of a tile that is as it was cleared.
+const CLEARED: Sample = Sample {
+    r: 1,
+    g: 0,
+    b: 0,
+    z: 0,
+};
+
 /// Whether the tile with this first plane is as it was cleared.
 #[inline]
 pub(crate) fn is_cleared(state: &BlockSamples) -> bool
@@ -25,7 +33,8 @@ pub(crate) fn clear_tile(count: SampleCount, sample: Sample, samples: &mut [Bloc
     for s in 0..count.count() as usize {
         samples[1 + s] = plane;
     }
-    samples[0].r[0] = 1;
+    let state = BlockSamples::filled(CLEARED);
+    samples[0] = state;
 }
 
 /// Gives the blocks of a tile that is as it was cleared their samples, so that these can be changed.

@@ -1,4 +1,4 @@
-use Rattle.std.proofs.Common.{◌≡◌, ◌+◌, ◌-◌, ◌*◌, ◌<◌, ◌≤◌, ℕ, min, arith}
+use Rattle.std.proofs.Common.{◌≡◌, ◌+◌, ◌-◌, ◌*◌, ◌<◌, ◌≤◌, ℕ, length, min, rules, arith}
 use Rattle.canvas.specs.Layout.{planes_of_row}
 use Rattle.canvas.proofs.Places.{part_within}
 use Rattle.canvas.proofs.Ends.{none_drawn, all_drawn, one_row_drawn, row_of_tiles}
@@ -13,6 +13,17 @@ loop-row-init g c =
     none_drawn ts self.canvas self.first self.end row_of_tiles c.max-row.result c.args.samples.now
     (λ i j s h above x. outside_bounds ts self.canvas self.first self.end self.within bounds.columns.firsts bounds.columns.ends bounds.rows.firsts bounds.rows.ends bounds.span c.set.ensures i j s h
     (λ inside. let from = inside.from in let first = h.from in omega (arith, from, first, above, c.max-row.ensures)) x)
+
+pub slice_bounds-draw_listed_row-end : goal.slice_bounds-draw_listed_row-end
+slice_bounds-draw_listed_row-end g c =
+    let self = c.args.self.now in
+    let row : ℕ = c.loop-row.row in
+    let each : ℕ = c.planes_of_row-each.result in
+    let from : self.first ≤ row = omega (arith, c.loop-row.auto.row, c.max-row.ensures) in
+    let below : row < self.end = omega (arith, c.loop-row-test.true, c.min-row-end.ensures) in
+    let room = part_within (row - self.first) (self.end - self.first) (planes_of_row self.canvas) (omega (arith, from, below)) in
+    let fits : (row - self.first) * each + each ≤ length c.loop-row.samples = rw c.planes_of_row-each.ensures.value (omega (arith, room, c.requires.samples, c.loop-row.auto.samples)) in
+    search rules
 
 pub loop-row-preserved : goal.loop-row-preserved
 loop-row-preserved g c =

@@ -1,0 +1,70 @@
+-- What triangles make of a tile whose blocks have their samples.
+use Rattle.std.proofs.Common.{◌≡◌, ◌≢◌, ◌∙◌, refl, ap, sym, ℕ, ◌+◌, ◌-◌, ◌*◌, ◌/◌, ◌%◌, ◌<◌, ◌≤◌, List, length, take, drop, slice_index, arith}
+use Rattle.std.specs.Prelude.{slice_index_or}
+use Rattle.grid.specs.Samples.{count_of}
+use Rattle.grid.specs.declared.pixels.TileSide.TheVariants.{T64}
+use Rattle.lanes.specs.declared.block_samples.BlockSamples.{BlockSamples}
+use Rattle.lanes.specs.Block.{stored_at}
+use Rattle.shade.specs.declared.placed.Placed.{Placed}
+use Rattle.raster.specs.declared.tile.Tile.{Tile}
+use Rattle.raster.specs.Samples.{IsSampleOf, place_of as place_in, stored as in_tile}
+use Rattle.canvas.proofs.Cut.{put, put_here, put_elsewhere, part_of}
+use Rattle.canvas.proofs.Ends.{ends_at}
+use Rattle.canvas.proofs.Places.{none}
+use Rattle.canvas.proofs.TilePlanes.{at_changed, own_place, within_own}
+use Rattle.canvas.specs.Layout.{planes_of_tile, stored_in_tile}
+use Rattle.canvas.specs.Drawing.{TileEnds, TileHasEnds}
+
+module _ (ts : List Placed) (tile : Tile) (side : tile.side ≡ T64) (old filled part : List BlockSamples) (n a : ℕ) (room : a + n ≤ length filled) (long : length part ≡ n)
+    (many : a + n ≡ planes_of_tile tile.count) (at : a ≡ 1 + count_of tile.count) (changed : slice_index (slice_index_or filled 0 none).r 0 ≢ 1)
+    (kept : (i j s : ℕ) → s < count_of tile.count → stored_in_tile tile.count filled i j s ≡ stored_in_tile tile.count old i j s)
+    (draws : TileHasEnds ts tile (take n (drop a filled)) part) where
+  still_changed : slice_index (slice_index_or (put filled part a n) 0 none).r 0 ≢ 1
+  still_changed e =
+      changed (ap (λ p. slice_index p.r 0) (sym (put_elsewhere filled part a n none room long 0 (λ m l d. omega (arith, d, at)))) ∙ e)
+
+  module _ (row column s : ℕ) (h : IsSampleOf tile row column s) where
+    abbrev block : ℕ
+    block = row % 64 / 8 * 8 + column % 64 / 8
+
+    abbrev own : ℕ
+    own = block * count_of tile.count + s
+
+    abbrev pixel : ℕ
+    pixel = 8 * (row % 8) + column % 8
+
+    high : row < 64
+    high = let below = h.high in rw side at below
+
+    wide : column < 64
+    wide = let below = h.wide in rw side at below
+
+    same_block : row / 8 * 8 + column / 8 ≡ block
+    same_block = let down = high in let across = wide in omega (arith, down, across)
+
+    place_is : place_in tile (row / 8) (column / 8) s ≡ own
+    place_is = rw side (ap (λ b. b * count_of tile.count + s) same_block)
+
+    inside : own < n
+    inside = within_own tile.count block s n a (omega arith) h.is_sample many at
+
+    in_all : a + own ≡ 1 + (block + 1) * count_of tile.count + s
+    in_all = ap (λ b. b + own) at ∙ own_place tile.count block s
+
+    old_is : in_tile tile (take n (drop a filled)) row column s ≡ stored_in_tile tile.count old column row s
+    old_is =
+        ap (λ k. stored_at (slice_index_or (take n (drop a filled)) k none) pixel) place_is
+        ∙ ap (λ p. stored_at p pixel) (part_of filled a n none own inside)
+        ∙ ap (λ k. stored_at (slice_index_or filled k none) pixel) in_all
+        ∙ sym (at_changed tile.count filled column row s changed)
+        ∙ kept column row s h.is_sample
+
+    new_is : in_tile tile part row column s ≡ stored_in_tile tile.count (put filled part a n) column row s
+    new_is =
+        ap (λ k. stored_at (slice_index_or part k none) pixel) place_is
+        ∙ sym (ap (λ p. stored_at p pixel) (put_here filled part a n none room long own inside))
+        ∙ ap (λ k. stored_at (slice_index_or (put filled part a n) k none) pixel) in_all
+        ∙ sym (at_changed tile.count (put filled part a n) column row s still_changed)
+
+  pub tile_drawn : TileEnds ts tile old (put filled part a n)
+  tile_drawn row column s h = ends_at ts _ _ _ _ _ _ s _ _ _ _ refl refl refl (old_is row column s h) (new_is row column s h) (draws row column s h)
