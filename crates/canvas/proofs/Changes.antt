@@ -1,20 +1,22 @@
 -- Samples that are changed one after another.
-use Rattle.std.proofs.Common.{◌≡◌, ◌≢◌, ◌⊎◌, ◌∙◌, inl, inr, refl, sym, ap, subst, ℕ, ◌+◌, ◌-◌, ◌*◌, ◌/◌, ◌%◌, ◌<◌, ◌≤◌, List, length, slice_set, arith}
-use Rattle.std.specs.Prelude.{slice_index_or}
-use Rattle.std.proofs.lemmas.Bool.{cases_lt}
+use Rattle.std.proofs.Common.{◌≡◌, ◌≢◌, ◌⊎◌, ◌∙◌, inl, inr, refl, sym, ap, subst, ℕ, ◌+◌, ◌-◌, ◌*◌, ◌/◌, ◌%◌, ◌<◌, ◌≤◌, Bool, true, false, List, length, take, drop, slice_index, slice_set, arith}
+use Rattle.std.specs.Prelude.{◌==◌, if◌then◌else◌, slice_index_or}
+use Rattle.std.proofs.lemmas.Bool.{cases_lt, eqb-true}
 use Rattle.std.proofs.lemmas.List.{get_or-set_same, get_or-set_other}
 use Rattle.std.proofs.lemmas.Nat.{same_from_place}
 use Rattle.grid.specs.Samples.{count_of}
+use Rattle.grid.specs.declared.sample_count.SampleCount.{SampleCount}
 use Rattle.shade.specs.declared.sample.Sample.{Sample}
 use Rattle.lanes.specs.declared.block_samples.BlockSamples.{BlockSamples}
 use Rattle.lanes.specs.Block.{stored_at}
 use Rattle.canvas.specs.declared.canvas.Canvas.{Canvas}
 use Rattle.canvas.specs.declared.format.Format.{Format}
 use Rattle.canvas.specs.declared.format.Format.TheVariants.{Rgb8, Rgba8, Bgra8}
-use Rattle.canvas.specs.Layout.{IsStoredIn, columns_of, planes_of_tile, planes_of_row, place_in_tile, place_in_row, place_of, stored}
+use Rattle.canvas.specs.Layout.{IsStoredIn, columns_of, planes_of_tile, planes_of_row, block_of, place_in_tile, stored, stored_in_tile}
 use Rattle.canvas.specs.Pixels.{pixel_bytes}
 use Rattle.canvas.specs.Loaded.{coloured, AreChanged}
-use Rattle.canvas.proofs.Places.{none, within_tile, within_row}
+use Rattle.canvas.proofs.Cut.{put}
+use Rattle.canvas.proofs.Places.{none, tile_of, tile_put, tile_kept, row_of, row_put, row_kept}
 
 cases_eq : (a b : ℕ) → (a ≡ b) ⊎ (a ≢ b)
 cases_eq a b =
@@ -32,75 +34,148 @@ coloured_same Rgb8 f g sample same = let a : f 0 ≡ g 0 = same 0 (omega arith) 
 coloured_same Rgba8 f g sample same = let a : f 0 ≡ g 0 = same 0 (omega arith) in let b : f 1 ≡ g 1 = same 1 (omega arith) in let c : f 2 ≡ g 2 = same 2 (omega arith) in rw (a, b, c) refl
 coloured_same Bgra8 f g sample same = let a : f 0 ≡ g 0 = same 0 (omega arith) in let b : f 1 ≡ g 1 = same 1 (omega arith) in let c : f 2 ≡ g 2 = same 2 (omega arith) in rw (a, b, c) refl
 
--- ---- each sample has a place of its own
-module _ (c : Canvas) (first : ℕ) where
-  pub same_sample : (i j s i' j' s' : ℕ) → i / 64 < columns_of c → i' / 64 < columns_of c → s < count_of c.count → s' < count_of c.count → first ≤ j / 64 → first ≤ j' / 64
-      → place_of c first i j s ≡ place_of c first i' j' s' → pixel_in_block i j ≡ pixel_in_block i' j' → (i ≡ i') × (j ≡ j') × (s ≡ s')
-  same_sample i j s i' j' s' wide wide' h h' from from' e k =
-      let row = same_from_place (j / 64 - first) (place_in_row c i j s) (j' / 64 - first) (place_in_row c i' j' s') (planes_of_row c) (within_row c i j s wide h) (within_row c i' j' s' wide' h') e in
-      let tile = same_from_place (i / 64) (place_in_tile c.count i j s) (i' / 64) (place_in_tile c.count i' j' s') (planes_of_tile c.count) (within_tile c.count i j s h) (within_tile c.count i' j' s' h') row.1 in
-      let block = same_from_place (j % 64 / 8 * 8 + i % 64 / 8) s (j' % 64 / 8 * 8 + i' % 64 / 8) s' (count_of c.count) h h' tile.1 in
-      let rows : j / 64 - first ≡ j' / 64 - first = row.0 in
-      let columns : i / 64 ≡ i' / 64 = tile.0 in
-      let blocks : j % 64 / 8 * 8 + i % 64 / 8 ≡ j' % 64 / 8 * 8 + i' % 64 / 8 = block.0 in
-      (omega (arith, columns, blocks, k), omega (arith, rows, blocks, k, from, from'), block.1)
+-- ---- the samples of one pixel, in the planes of its tile
+-- the block of a pixel of a tile that is not as it was cleared
+own_block : (b : Bool) (n : ℕ) → (b ≡ true → ⊥) → (if b then 0 else n) ≡ n
+own_block true n other = absurd (other refl)
+own_block false n other = refl
 
-  -- ---- one sample
-  module _ (end i j s : ℕ) (here : IsStoredIn c first end i j s) (middle : List BlockSamples) (plane : BlockSamples) (room : place_of c first i j s < length middle) where
+block_changed : (state : BlockSamples) (i j : ℕ) → slice_index state.r 0 ≢ 1 → block_of state i j ≡ j % 64 / 8 * 8 + i % 64 / 8 + 1
+block_changed state i j filled = own_block (slice_index state.r 0 == 1) (j % 64 / 8 * 8 + i % 64 / 8 + 1) (λ e. filled (eqb-true (slice_index state.r 0) 1 e))
+
+-- its planes are not the tile's first
+behind_first : (count : SampleCount) (state : BlockSamples) (i j s : ℕ) → place_in_tile count state i j s ≢ 0
+behind_first count state i j s e = omega (arith, e)
+
+-- each sample of such a tile has a place of its own
+same_sample : (count : SampleCount) (state : BlockSamples) → slice_index state.r 0 ≢ 1 → (i j s i' j' s' : ℕ) → s < count_of count → s' < count_of count
+    → place_in_tile count state i j s ≡ place_in_tile count state i' j' s' → pixel_in_block i j ≡ pixel_in_block i' j' → (i % 64 ≡ i' % 64) × (j % 64 ≡ j' % 64) × (s ≡ s')
+same_sample count state filled i j s i' j' s' h h' e k =
+    let block = same_from_place (block_of state i j) s (block_of state i' j') s' (count_of count) h h' (omega (arith, e)) in
+    let blocks : j % 64 / 8 * 8 + i % 64 / 8 ≡ j' % 64 / 8 * 8 + i' % 64 / 8 = omega (arith, block.0, block_changed state i j filled, block_changed state i' j' filled) in
+    (omega (arith, blocks, k), omega (arith, blocks, k), block.1)
+
+-- the first samples of pixel (i, j) end as f makes them, and all others are unchanged
+pub record IsPixelChanged (count : SampleCount) (i j m : ℕ) (f : Sample → Sample) (old new : List BlockSamples) : Type 0 where
+  pub filled : slice_index (slice_index_or new 0 none).r 0 ≢ 1
+  pub pixel : (s : ℕ) → s < count_of count → s < m → stored_in_tile count new i j s ≡ f (stored_in_tile count old i j s)
+  pub others : (column row s : ℕ) → s < count_of count → ((column % 64 ≡ i % 64) → (row % 64 ≡ j % 64) → s < m → ⊥) → stored_in_tile count new column row s ≡ stored_in_tile count old column row s
+
+module _ (count : SampleCount) (i j s : ℕ) (h : s < count_of count) (f : Sample → Sample) (old middle : List BlockSamples) (plane : BlockSamples) where
+  module _ (room : place_in_tile count (slice_index_or middle 0 none) i j s < length middle)
+      (kept : (n : ℕ) → n < 64 → n ≢ pixel_in_block i j → stored_at plane n ≡ stored_at (slice_index_or middle (place_in_tile count (slice_index_or middle 0 none) i j s) none) n)
+      (is : stored_at plane (pixel_in_block i j) ≡ f (stored_at (slice_index_or middle (place_in_tile count (slice_index_or middle 0 none) i j s) none) (pixel_in_block i j)))
+      (before : IsPixelChanged count i j s f old middle) where
+    abbrev state : BlockSamples
+    state = slice_index_or middle 0 none
+
+    abbrev at : ℕ
+    at = place_in_tile count state i j s
+
     abbrev after : List BlockSamples
-    after = slice_set middle (place_of c first i j s) plane
+    after = slice_set middle at plane
 
-    at_sample : stored c first after i j s ≡ stored_at plane (pixel_in_block i j)
-    at_sample = ap (λ p. stored_at p (pixel_in_block i j)) (get_or-set_same middle (place_of c first i j s) plane none room)
+    first_kept : slice_index_or after 0 none ≡ state
+    first_kept = get_or-set_other middle at 0 plane none (λ e. behind_first count state i j s (sym e))
 
-    module _ (kept : (n : ℕ) → n < 64 → n ≢ pixel_in_block i j → stored_at plane n ≡ stored_at (slice_index_or middle (place_of c first i j s) none) n) where
-      at_other : (i' j' s' : ℕ) → IsStoredIn c first end i' j' s' → ((i' ≡ i) × (j' ≡ j) × (s' ≡ s) → ⊥) → stored c first after i' j' s' ≡ stored c first middle i' j' s'
-      at_other i' j' s' h other =
-          elim (cases_eq (place_of c first i' j' s') (place_of c first i j s)) [
-            | inr apart ↦ ap (λ p. stored_at p (pixel_in_block i' j')) (get_or-set_other middle (place_of c first i j s) (place_of c first i' j' s') plane none apart)
-            | inl same ↦
-                let pixel : pixel_in_block i' j' ≢ pixel_in_block i j = λ k. other (same_sample i' j' s' i j s h.column here.column h.is_sample here.is_sample h.from here.from same k) in
-                ap (λ n. stored_at (slice_index_or after n none) (pixel_in_block i' j')) same
-                ∙ ap (λ p. stored_at p (pixel_in_block i' j')) (get_or-set_same middle (place_of c first i j s) plane none room)
-                ∙ kept (pixel_in_block i' j') (omega arith) pixel
-                ∙ sym (ap (λ n. stored_at (slice_index_or middle n none) (pixel_in_block i' j')) same)
-          ]
+    by_first : (column row t : ℕ) → stored_in_tile count after column row t ≡ stored_at (slice_index_or after (place_in_tile count state column row t) none) (pixel_in_block column row)
+    by_first column row t = ap (λ first. stored_at (slice_index_or after (place_in_tile count first column row t) none) (pixel_in_block column row)) first_kept
 
-      -- one sample of a pixel more
-      pub one_sample_changed : (end_of : ℕ → ℕ → Sample → Sample) (old : List BlockSamples)
-          → stored_at plane (pixel_in_block i j) ≡ end_of i j (stored_at (slice_index_or middle (place_of c first i j s) none) (pixel_in_block i j))
-          → AreChanged c first end (λ column row n. ((column ≡ i) × (row ≡ j)) × (n < s)) end_of old middle
-          → AreChanged c first end (λ column row n. ((column ≡ i) × (row ≡ j)) × (n < s + 1)) end_of old after
-      one_sample_changed end_of old is before =
-          let this : stored c first after i j s ≡ end_of i j (stored c first old i j s) =
-          at_sample ∙ is ∙ ap (end_of i j) (before.kept i j s here (λ p. omega (arith, p.1))) in
-          record {
-            changed = λ i' j' s' h p.
-                elim (cases_lt s' s) [
-                  | inl less ↦ at_other i' j' s' h (λ e. omega (arith, e.2, less)) ∙ before.changed i' j' s' h (p.0, less)
-                  | inr more ↦
-                      let index : s' ≡ s = omega (arith, p.1, more) in
-                      rw (p.0.0, p.0.1, index) this
-                ];
-            kept = λ i' j' s' h p.
-                at_other i' j' s' h (λ e. p ((e.0, e.1), omega (arith, e.2))) ∙ before.kept i' j' s' h (λ q. p (q.0, omega (arith, q.1)));
-          }
+    at_sample : stored_in_tile count after i j s ≡ f (stored_in_tile count old i j s)
+    at_sample =
+        by_first i j s ∙ ap (λ p. stored_at p (pixel_in_block i j)) (get_or-set_same middle at plane none room) ∙ is ∙ ap f (before.others i j s h (λ _ _ less. omega (arith, less)))
+
+    at_other : (column row t : ℕ) → t < count_of count → ((column % 64 ≡ i % 64) → (row % 64 ≡ j % 64) → t ≡ s → ⊥) → stored_in_tile count after column row t ≡ stored_in_tile count middle column row t
+    at_other column row t l other =
+        by_first column row t
+        ∙ elim (cases_eq (place_in_tile count state column row t) at) [
+          | inr apart ↦ ap (λ p. stored_at p (pixel_in_block column row)) (get_or-set_other middle at (place_in_tile count state column row t) plane none apart)
+          | inl same ↦
+              let pixel : pixel_in_block column row ≢ pixel_in_block i j = λ k. (let one = same_sample count state before.filled column row t i j s l h same k in other one.0 one.1 one.2) in
+              ap (λ n. stored_at (slice_index_or after n none) (pixel_in_block column row)) same
+              ∙ ap (λ p. stored_at p (pixel_in_block column row)) (get_or-set_same middle at plane none room)
+              ∙ kept (pixel_in_block column row) (omega arith) pixel
+              ∙ sym (ap (λ n. stored_at (slice_index_or middle n none) (pixel_in_block column row)) same)
+        ]
+
+    pub one_sample_changed : IsPixelChanged count i j (s + 1) f old after
+    one_sample_changed = record {
+      filled = λ e. before.filled (sym (ap (λ first. slice_index first.r 0) first_kept) ∙ e);
+      pixel = λ t l less.
+          elim (cases_lt t s) [
+            | inl earlier ↦ at_other i j t l (λ _ _ e. omega (arith, e, earlier)) ∙ before.pixel t l earlier
+            | inr more ↦
+                let index : s ≡ t = omega (arith, less, more) in
+                subst (λ u. stored_in_tile count after i j u ≡ f (stored_in_tile count old i j u)) index at_sample
+          ];
+      others = λ column row t l other.
+          at_other column row t l (λ a b e. other a b (omega (arith, e))) ∙ before.others column row t l (λ a b less. other a b (omega (arith, less)));
+    }
 
 -- the same, by a number that is the sample's place
-pub one_sample_more : (c : Canvas) (first end i j s : ℕ) → IsStoredIn c first end i j s → (middle old : List BlockSamples) (plane : BlockSamples) (end_of : ℕ → ℕ → Sample → Sample) (place : ℕ) → place ≡ place_of c first i j s → place < length middle
+pub one_sample_more : (count : SampleCount) (i j s : ℕ) → s < count_of count → (f : Sample → Sample) (old middle : List BlockSamples) (plane : BlockSamples) (place : ℕ) → place ≡ place_in_tile count (slice_index_or middle 0 none) i j s → place < length middle
     → ((n : ℕ) → n < 64 → n ≢ pixel_in_block i j → stored_at plane n ≡ stored_at (slice_index_or middle place none) n)
-    → stored_at plane (pixel_in_block i j) ≡ end_of i j (stored_at (slice_index_or middle place none) (pixel_in_block i j))
-    → AreChanged c first end (λ column row n. ((column ≡ i) × (row ≡ j)) × (n < s)) end_of old middle
-    → AreChanged c first end (λ column row n. ((column ≡ i) × (row ≡ j)) × (n < s + 1)) end_of old (slice_set middle place plane)
-one_sample_more c first end i j s here middle old plane end_of place at =
+    → stored_at plane (pixel_in_block i j) ≡ f (stored_at (slice_index_or middle place none) (pixel_in_block i j))
+    → IsPixelChanged count i j s f old middle → IsPixelChanged count i j (s + 1) f old (slice_set middle place plane)
+one_sample_more count i j s h f old middle plane place at =
     subst
     (λ p. p < length middle
     → ((n : ℕ) → n < 64 → n ≢ pixel_in_block i j → stored_at plane n ≡ stored_at (slice_index_or middle p none) n)
-    → stored_at plane (pixel_in_block i j) ≡ end_of i j (stored_at (slice_index_or middle p none) (pixel_in_block i j))
-    → AreChanged c first end (λ column row n. ((column ≡ i) × (row ≡ j)) × (n < s)) end_of old middle
-    → AreChanged c first end (λ column row n. ((column ≡ i) × (row ≡ j)) × (n < s + 1)) end_of old (slice_set middle p plane))
+    → stored_at plane (pixel_in_block i j) ≡ f (stored_at (slice_index_or middle p none) (pixel_in_block i j))
+    → IsPixelChanged count i j s f old middle → IsPixelChanged count i j (s + 1) f old (slice_set middle p plane))
     (sym at)
-    (λ room kept is before. one_sample_changed c first end i j s here middle plane room kept end_of old is before)
+    (λ room kept is before. one_sample_changed count i j s h f old middle plane room kept is before)
+
+pub no_sample_changed : (count : SampleCount) (i j : ℕ) (f : Sample → Sample) (old new : List BlockSamples) → slice_index (slice_index_or new 0 none).r 0 ≢ 1
+    → ((column row s : ℕ) → s < count_of count → stored_in_tile count new column row s ≡ stored_in_tile count old column row s) → IsPixelChanged count i j 0 f old new
+no_sample_changed count i j f old new filled same = record { filled = filled; pixel = λ s h less. absurd (omega (arith, less)); others = λ column row s h _. same column row s h }
+
+-- ---- a part that is put back changed
+module _ (c : Canvas) (xs part : List BlockSamples) (n a : ℕ) (room : a + n ≤ length xs) (long : length part ≡ n) where
+  -- one pixel of a tile
+  pub one_pixel_changed : (i j : ℕ) (f : Sample → Sample) → n ≡ planes_of_tile c.count → a ≡ i / 64 * planes_of_tile c.count
+      → ((s : ℕ) → s < count_of c.count → stored_in_tile c.count part i j s ≡ f (stored_in_tile c.count (take n (drop a xs)) i j s))
+      → ((column row s : ℕ) → s < count_of c.count → ((column % 64 ≡ i % 64) → (row % 64 ≡ j % 64) → ⊥) → stored_in_tile c.count part column row s ≡ stored_in_tile c.count (take n (drop a xs)) column row s)
+      → AreChanged c (j / 64) (j / 64 + 1) (λ column row s. (column ≡ i) × (row ≡ j)) (λ _ _ sample. f sample) xs (put xs part a n)
+  one_pixel_changed i j f many at pixel others =
+      let here : (s : ℕ) → s < count_of c.count → stored c (j / 64) (put xs part a n) i j s ≡ f (stored c (j / 64) xs i j s) =
+      λ s h. tile_put c i j s xs part n a room long (j / 64) refl (i / 64) many at h refl ∙ pixel s h ∙ ap f (tile_of c i j s (j / 64) xs n a refl many at h) in
+      record {
+        changed = λ i' j' s h p.
+            subst (λ column. stored c (j / 64) (put xs part a n) column j' s ≡ f (stored c (j / 64) xs column j' s)) (sym p.0)
+            (subst (λ row. stored c (j / 64) (put xs part a n) i row s ≡ f (stored c (j / 64) xs i row s)) (sym p.1) (here s h.is_sample));
+        kept = λ i' j' s h other.
+            let from = h.from in
+            let below = h.below in
+            let row : j' / 64 ≡ j / 64 = omega (arith, from, below) in
+            elim (cases_eq (i' / 64) (i / 64)) [
+              | inl same ↦
+                  let start : a ≡ i' / 64 * planes_of_tile c.count = at ∙ ap (λ m. m * planes_of_tile c.count) (sym same) in
+                  tile_put c i' j' s xs part n a room long (j / 64) row (i / 64) many at h.is_sample same
+                  ∙ others i' j' s h.is_sample (λ e d. other (omega (arith, e, same), omega (arith, d, row)))
+                  ∙ tile_of c i' j' s (j / 64) xs n a row many start h.is_sample
+              | inr apart ↦ tile_kept c i' j' s xs part n a room long (j / 64) row (i / 64) many at h.is_sample apart
+            ];
+      }
+
+  -- some samples of a tile row
+  pub one_row_changed : (first end row : ℕ) (V : ℕ → ℕ → ℕ → Type 0) (end_of : ℕ → ℕ → Sample → Sample) → first ≤ row → n ≡ planes_of_row c → a ≡ (row - first) * planes_of_row c
+      → ((i j s : ℕ) → V i j s → j / 64 ≡ row) → AreChanged c row (row + 1) V end_of (take n (drop a xs)) part → AreChanged c first end V end_of xs (put xs part a n)
+  one_row_changed first end row V end_of from many at in_row b =
+      let here : (i j s : ℕ) → IsStoredIn c first end i j s → j / 64 ≡ row → IsStoredIn c row (row + 1) i j s =
+      λ i j s h e. record { column = h.column; from = omega (arith, e); below = omega (arith, e); is_sample = h.is_sample } in
+      let before : (i j s : ℕ) → IsStoredIn c first end i j s → j / 64 ≡ row → stored c row (take n (drop a xs)) i j s ≡ stored c first xs i j s =
+      λ i j s h e. row_of c i j s row first xs n a e many (at ∙ ap (λ m. (m - first) * planes_of_row c) (sym e)) h.column h.is_sample in
+      record {
+        changed = λ i j s h v.
+            let e : j / 64 ≡ row = in_row i j s v in
+            row_put c i j s xs part n a room long first row many at from h.from h.column h.is_sample e ∙ b.changed i j s (here i j s h e) v ∙ ap (end_of i j) (before i j s h e);
+        kept = λ i j s h other.
+            elim (cases_eq (j / 64) row) [
+              | inl e ↦ row_put c i j s xs part n a room long first row many at from h.from h.column h.is_sample e ∙ b.kept i j s (here i j s h e) other ∙ before i j s h e
+              | inr apart ↦ row_kept c i j s xs part n a room long first row many at from h.from h.column h.is_sample apart
+            ];
+      }
 
 -- ---- some samples and then others
 module _ (c : Canvas) (first end : ℕ) (V W R : ℕ → ℕ → ℕ → Type 0) (before_of after_of end_of : ℕ → ℕ → Sample → Sample) (old middle new : List BlockSamples) where
