@@ -1,6 +1,7 @@
 pub mod Cut
 pub mod Flat
 pub mod Places
+pub mod Blocks
 pub mod Ends
 pub mod Units
 pub mod Arranged
