@@ -2,6 +2,7 @@ pub mod Cut
 pub mod Flat
 pub mod Places
 pub mod TilePlanes
+pub mod Blocks
 pub mod Ends
 pub mod DrawnTiles
 pub mod ClearedTiles

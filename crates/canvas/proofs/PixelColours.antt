@@ -1,5 +1,5 @@
 -- The bytes of pixels.
-use Rattle.std.proofs.Common.{◌≡◌, ◌∙◌, ap, subst, ℕ, ◌+◌, ◌*◌, ◌/◌, ◌%◌, ◌<◌, ◌≤◌, List, take, slice_index, get_or-take, arith}
+use Rattle.std.proofs.Common.{◌≡◌, ◌∙◌, ap, subst, ℕ, ◌+◌, ◌*◌, ◌/◌, ◌<◌, ◌≤◌, List, take, slice_index, get_or-take, arith}
 use Rattle.std.proofs.Math.Nat.{mul_comm}
 use Rattle.std.proofs.lemmas.Nat.{mul-add-lt}
 use Rattle.grid.specs.Samples.{count_of}
@@ -13,9 +13,9 @@ use Rattle.raster.specs.Samples.{stored as in_tile}
 use Rattle.raster.specs.Colours.{IsColourAt, AreColoursAt}
 use Rattle.canvas.specs.declared.canvas.Canvas.{Canvas}
 use Rattle.canvas.specs.declared.format.Format.{Format}
-use Rattle.canvas.specs.Layout.{stored}
+use Rattle.canvas.specs.Layout.{stored, stored_in_tile}
 use Rattle.canvas.specs.Pixels.{pixel_bytes}
-use Rattle.canvas.specs.Colours.{IsColourOfPixel, IsPixelOf, IsTilePixel, AreBytesOfColour, AreArranged}
+use Rattle.canvas.specs.Colours.{IsColourOfPixel, IsColourIn, IsPixelOf, IsPixelIn, IsTilePixel, AreBytesOfColour, AreArranged}
 
 -- ---- colours of the same samples
 resolved_same : (count : SampleCount) (f g : ℕ → ℕ) (q : ℕ) → ((s : ℕ) → s < count_of count → f s ≡ g s) → IsResolved count f q → IsResolved count g q
@@ -29,20 +29,30 @@ resolved_same Four f g q same h =
     let high = h.high in
     record { low = omega arith; high = omega arith }
 
+-- from raster's tile to the planes of a tile
+pub colour_in_tile : (count : SampleCount) (i j r g b : ℕ) (tile : Tile) (xs part : List BlockSamples) (row column : ℕ) → tile.count ≡ count
+    → ((s : ℕ) → s < count_of count → in_tile tile part row column s ≡ stored_in_tile count xs i j s)
+    → IsColourAt tile part row column r g b → IsColourIn count xs i j r g b
+colour_in_tile count i j r g b tile xs part row column is same h =
+    let at : (s : ℕ) → Sample = λ s. in_tile tile part row column s in
+    let red : IsResolved count (λ s. (at s).r) r = subst (λ n. IsResolved n (λ s. (at s).r) r) is h.red in
+    let green : IsResolved count (λ s. (at s).g) g = subst (λ n. IsResolved n (λ s. (at s).g) g) is h.green in
+    let blue : IsResolved count (λ s. (at s).b) b = subst (λ n. IsResolved n (λ s. (at s).b) b) is h.blue in
+    record {
+      red = resolved_same count _ (λ s. (stored_in_tile count xs i j s).r) r (λ s l. ap (λ (x : Sample). x.r) (same s l)) red;
+      green = resolved_same count _ (λ s. (stored_in_tile count xs i j s).g) g (λ s l. ap (λ (x : Sample). x.g) (same s l)) green;
+      blue = resolved_same count _ (λ s. (stored_in_tile count xs i j s).b) b (λ s l. ap (λ (x : Sample). x.b) (same s l)) blue;
+    }
+
 module _ (c : Canvas) (i j r g b : ℕ) where
-  -- from a tile to its tile row
-  pub colour_in_row : (tile : Tile) (xs part : List BlockSamples) → tile.count ≡ c.count → ((s : ℕ) → s < count_of c.count → in_tile tile part (j % 64) (i % 64) s ≡ stored c (j / 64) xs i j s)
-      → IsColourAt tile part (j % 64) (i % 64) r g b → IsColourOfPixel c (j / 64) xs i j r g b
-  colour_in_row tile xs part count same h =
-      let at : (s : ℕ) → Sample = λ s. in_tile tile part (j % 64) (i % 64) s in
-      let red : IsResolved c.count (λ s. (at s).r) r = subst (λ n. IsResolved n (λ s. (at s).r) r) count h.red in
-      let green : IsResolved c.count (λ s. (at s).g) g = subst (λ n. IsResolved n (λ s. (at s).g) g) count h.green in
-      let blue : IsResolved c.count (λ s. (at s).b) b = subst (λ n. IsResolved n (λ s. (at s).b) b) count h.blue in
-      record {
-        red = resolved_same c.count _ (λ s. (stored c (j / 64) xs i j s).r) r (λ s l. ap (λ (x : Sample). x.r) (same s l)) red;
-        green = resolved_same c.count _ (λ s. (stored c (j / 64) xs i j s).g) g (λ s l. ap (λ (x : Sample). x.g) (same s l)) green;
-        blue = resolved_same c.count _ (λ s. (stored c (j / 64) xs i j s).b) b (λ s l. ap (λ (x : Sample). x.b) (same s l)) blue;
-      }
+  -- from there to its tile row
+  pub colour_in_row : (xs part : List BlockSamples) → ((s : ℕ) → s < count_of c.count → stored_in_tile c.count part i j s ≡ stored c (j / 64) xs i j s)
+      → IsColourIn c.count part i j r g b → IsColourOfPixel c (j / 64) xs i j r g b
+  colour_in_row xs part same h = record {
+    red = resolved_same c.count _ (λ s. (stored c (j / 64) xs i j s).r) r (λ s l. ap (λ (x : Sample). x.r) (same s l)) h.red;
+    green = resolved_same c.count _ (λ s. (stored c (j / 64) xs i j s).g) g (λ s l. ap (λ (x : Sample). x.g) (same s l)) h.green;
+    blue = resolved_same c.count _ (λ s. (stored c (j / 64) xs i j s).b) b (λ s l. ap (λ (x : Sample). x.b) (same s l)) h.blue;
+  }
 
   -- and from there to tile rows
   pub colour_in_rows : (first : ℕ) (xs part : List BlockSamples) → ((s : ℕ) → s < count_of c.count → stored c (j / 64) part i j s ≡ stored c first xs i j s)
@@ -66,12 +76,19 @@ pub tile_pixel_same : (tile : Tile) (samples : List BlockSamples) (format : Form
     → IsTilePixel tile samples format row column f → IsTilePixel tile samples format row column h
 tile_pixel_same tile samples format row column f h same p = record { r = p.r; g = p.g; b = p.b; colour = p.colour; order = bytes_same format p.r p.g p.b f h same p.order }
 
--- from a tile to its tile row
-pub pixel_in_row : (c : Canvas) (i j : ℕ) (tile : Tile) (xs part : List BlockSamples) (format : Format) (bytes : ℕ → ℕ) → tile.count ≡ c.count
-    → ((s : ℕ) → s < count_of c.count → in_tile tile part (j % 64) (i % 64) s ≡ stored c (j / 64) xs i j s)
-    → IsTilePixel tile part format (j % 64) (i % 64) bytes → IsPixelOf c (j / 64) xs format i j bytes
-pixel_in_row c i j tile xs part format bytes count same p =
-    record { r = p.r; g = p.g; b = p.b; colour = colour_in_row c i j p.r p.g p.b tile xs part count same p.colour; order = p.order }
+-- from raster's tile to the planes of a tile
+pub pixel_in_tile : (count : SampleCount) (i j : ℕ) (tile : Tile) (xs part : List BlockSamples) (row column : ℕ) (format : Format) (bytes : ℕ → ℕ) → tile.count ≡ count
+    → ((s : ℕ) → s < count_of count → in_tile tile part row column s ≡ stored_in_tile count xs i j s)
+    → IsTilePixel tile part format row column bytes → IsPixelIn count xs format i j bytes
+pixel_in_tile count i j tile xs part row column format bytes is same p =
+    record { r = p.r; g = p.g; b = p.b; colour = colour_in_tile count i j p.r p.g p.b tile xs part row column is same p.colour; order = p.order }
+
+-- from there to its tile row
+pub pixel_in_row : (c : Canvas) (i j : ℕ) (xs part : List BlockSamples) (format : Format) (bytes : ℕ → ℕ)
+    → ((s : ℕ) → s < count_of c.count → stored_in_tile c.count part i j s ≡ stored c (j / 64) xs i j s)
+    → IsPixelIn c.count part format i j bytes → IsPixelOf c (j / 64) xs format i j bytes
+pixel_in_row c i j xs part format bytes same p =
+    record { r = p.r; g = p.g; b = p.b; colour = colour_in_row c i j p.r p.g p.b xs part same p.colour; order = p.order }
 
 -- and from there to tile rows
 pub pixel_in_rows : (c : Canvas) (i j first : ℕ) (xs part : List BlockSamples) (format : Format) (bytes : ℕ → ℕ)

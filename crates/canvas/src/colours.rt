@@ -94,7 +94,15 @@ impl Canvas {
             resolve_run(&cleared, &samples[1..own], j % 8, 0, format, count, bytes);
         } else {
             let tile = self.tile(block / 8, j / 64);
-            resolve_run(&tile, &samples[own..], j % 64, block % 8, format, count, bytes);
+            resolve_run(
+                &tile,
+                &samples[own..],
+                j % 64,
+                block % 8,
+                format,
+                count,
+                bytes,
+            );
         }
     }
 

@@ -1,7 +1,6 @@
 use Rattle.std.proofs.Common.{◌∙◌, ◌/◌, ℕ, ap, map, slice_index, arith}
 use Rattle.std.proofs.lemmas.List.{length-map, map-set}
 use Rattle.canvas.specs.Layout.{stored}
-use Rattle.canvas.proofs.Places.{found_in_row}
 use Rattle.canvas.proofs.Units.{one_set}
 use Rattle.canvas.proofs.canvas.Canvas.entry_row.Goals as goal
 
@@ -13,6 +12,5 @@ loop-i-preserved g c =
     let i : ℕ = c.loop-i.i in
     let number = g.E.Entry.number in
     let number_of = g.E.Entry.number_of in
-    let found = found_in_row self i j s c.args.samples.now c.place_in_row.result c.place_in_row.ensures.value in
     λ k l. ap (λ xs. slice_index xs k) (map-set number c.loop-i.entries i _)
-    ∙ one_set (map number c.loop-i.entries) i _ (λ i. number_of (stored self (j / 64) c.args.samples.now i j s)) (omega (arith, length-map c.loop-i.entries number, c.loop-i.auto.entries, c.requires.entries, c.loop-i-test.true)) c.loop-i.invariant (c.of.ensures ∙ ap number_of found) k l
+    ∙ one_set (map number c.loop-i.entries) i _ (λ i. number_of (stored self (j / 64) c.args.samples.now i j s)) (omega (arith, length-map c.loop-i.entries number, c.loop-i.auto.entries, c.requires.entries, c.loop-i-test.true)) c.loop-i.invariant (c.of.ensures ∙ ap number_of c.plane-plane.ensures) k l

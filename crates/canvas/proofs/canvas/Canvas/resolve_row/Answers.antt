@@ -1,10 +1,8 @@
-use Rattle.std.proofs.Common.{◌≡◌, ◌∙◌, ap, ◌+◌, ◌-◌, ◌*◌, ◌/◌, ◌%◌, ◌<◌, ◌≤◌, ℕ, min, subst, refl, take, drop, length, slice_index, arith}
+use Rattle.std.proofs.Common.{◌≡◌, ◌∙◌, ap, ◌+◌, ◌-◌, ◌*◌, ◌/◌, ◌<◌, ◌≤◌, ℕ, min, subst, refl, take, drop, length, slice_index, arith}
 use Rattle.std.proofs.Math.Nat.{add-mul, mul-le-mul_right}
-use Rattle.grid.specs.Samples.{count_of}
-use Rattle.raster.specs.Samples.{stored as in_tile}
-use Rattle.canvas.specs.Layout.{planes_of_tile, stored}
+use Rattle.canvas.specs.Layout.{planes_of_tile}
 use Rattle.canvas.specs.Pixels.{pixel_bytes}
-use Rattle.canvas.specs.Colours.{IsPixelOf, IsTilePixel}
+use Rattle.canvas.specs.Colours.{IsPixelOf}
 use Rattle.canvas.proofs.Places.{tile_of}
 use Rattle.canvas.proofs.PixelColours.{pixel_same, pixel_in_row}
 use Rattle.canvas.proofs.Units.{AreUnits, no_units, more_units, all_units}
@@ -23,7 +21,7 @@ loop-block-preserved c =
     let format = c.args.format in
     let block : ℕ = c.loop-block.block in
     let many : ℕ = c.min-count.result in
-    let run = c.resolve_run.new.bytes in
+    let run = c.resolve_eight.new.bytes in
     let unit : ℕ = c.pixel_bytes-unit.result in
     let w : ℕ = pixel_bytes format in
     let is_unit : unit ≡ w = c.pixel_bytes-unit.ensures in
@@ -40,19 +38,14 @@ loop-block-preserved c =
     let length_is : at + many * unit - at ≡ many * w = whole ∙ ap (λ u. many * u) is_unit in
     let few : (8 * block + many) * w ≤ self.width * w = mul-le-mul_right w (let within : 8 * block + many ≤ self.width = omega (arith, is, some) in within) in
     let room : at + (at + many * unit - at) ≤ length c.loop-block.bytes = omega (arith, few, long, begin, length_is, add-mul (8 * block) many w) in
-    let same : (i s : ℕ) → i / 8 ≡ block → s < count_of self.count → in_tile c.tile-tile.result (take n (drop a xs)) (j % 64) (i % 64) s ≡ stored self (j / 64) xs i j s =
-    λ i s e h.
-    let column : block / 8 ≡ i / 64 = omega (arith, e) in
-    let from : a ≡ i / 64 * planes_of_tile self.count = rw (column, c.planes_of_tile-each.ensures.value) (omega arith) in
-    tile_of self i j s c.tile-tile.result c.tile-tile.ensures.2 c.tile-tile.ensures.3 (j / 64) xs n a refl size from h in
     let here : (i : ℕ) → i < many → IsPixelOf self (j / 64) xs format (8 * block + i) j (λ k. slice_index run (i * w + k)) =
     λ i l.
-    let across : 8 * (block % 8) + i ≡ (8 * block + i) % 64 = omega (arith, l, is) in
-    pixel_in_row self (8 * block + i) j c.tile-tile.result xs (take n (drop a xs)) format _ c.tile-tile.ensures.3 (λ s h. same (8 * block + i) s (omega (arith, l, is)) h)
-    (subst (λ x. IsTilePixel c.tile-tile.result (take n (drop a xs)) format (j % 64) x (λ k. slice_index run (i * w + k))) across (c.resolve_run.ensures i l)) in
+    let column : block / 8 ≡ (8 * block + i) / 64 = omega (arith, l, is) in
+    let from : a ≡ (8 * block + i) / 64 * planes_of_tile self.count = rw (column, c.planes_of_tile-each.ensures.value) (omega arith) in
+    pixel_in_row self (8 * block + i) j xs (take n (drop a xs)) format _ (λ s h. tile_of self (8 * block + i) j s (j / 64) xs n a refl size from h) (c.resolve_eight.ensures i l) in
     let before : min (8 * block) self.width ≡ 8 * block = omega (arith, some) in
     more_units w (λ i. IsPixelOf self (j / 64) xs format i j) (λ i f h. pixel_same self (j / 64) xs format i j f h) (8 * block) many at (at + many * unit - at) c.loop-block.bytes run begin length_is room
-    (omega (arith, c.resolve_run.auto.bytes, room)) (subst (λ m. AreUnits w (λ i. IsPixelOf self (j / 64) xs format i j) m c.loop-block.bytes) before c.loop-block.invariant) here (min (8 * (block + 1)) self.width) (omega (arith, is, some))
+    (omega (arith, c.resolve_eight.auto.bytes, room)) (subst (λ m. AreUnits w (λ i. IsPixelOf self (j / 64) xs format i j) m c.loop-block.bytes) before c.loop-block.invariant) here (min (8 * (block + 1)) self.width) (omega (arith, is, some))
 
 pub returns : goal.returns
 returns c =

@@ -1,4 +1,4 @@
-use Rattle.std.proofs.Common.{◌≡◌, ◌∙◌, ap, ◌+◌, ◌-◌, ◌*◌, ◌/◌, ◌<◌, ◌≤◌, ℕ, refl, sym, subst, map, take, drop, length, arith}
+use Rattle.std.proofs.Common.{◌≡◌, ◌∙◌, ap, ◌+◌, ◌-◌, ◌*◌, ◌/◌, ◌<◌, ◌≤◌, ℕ, refl, sym, subst, map, take, drop, length, rules, arith}
 use Rattle.std.proofs.lemmas.List.{length-map}
 use Rattle.std.proofs.Math.Nat.{add-mul, mul-le-mul_right}
 use Rattle.grid.specs.Samples.{count_of}
@@ -8,6 +8,18 @@ use Rattle.canvas.proofs.Places.{row_of}
 use Rattle.canvas.proofs.Cut.{map-put}
 use Rattle.canvas.proofs.Units.{AreRowsWritten, one_row_written, all_rows_written, one_entry, as_units}
 use Rattle.canvas.proofs.tile_rows.TileRows.entries.Goals as goal
+
+pub offset_bounds-entries-at : goal.offset_bounds-entries-at
+offset_bounds-entries-at g c =
+    let self = c.args.self.now in
+    let stride : ℕ = c.args.stride in
+    let row : ℕ = c.loop-row.row in
+    let fits : IsLargeEnough self.canvas self.first self.end 1 stride (length c.args.entries.now) = c.in_ok-fits_entries.ensures.size in
+    let high = fits.high in
+    let more : row + 1 ≤ shown_rows self.canvas self.first self.end = omega (arith, c.loop-row-test.true, c.shown_rows-row-end.ensures.value) in
+    let next : (row + 1) * stride ≤ shown_rows self.canvas self.first self.end * stride = mul-le-mul_right stride more in
+    let less : row * stride < length c.loop-row.entries = omega (arith, high, next, add-mul row 1 stride, c.loop-row.auto.entries, self.canvas.wide) in
+    search rules
 
 pub slice_bounds-entry_row-end : goal.slice_bounds-entry_row-end
 slice_bounds-entry_row-end g c =
