@@ -12,7 +12,7 @@ use Rattle.lanes.specs.Block.{stored_at}
 use Rattle.canvas.specs.declared.canvas.Canvas.{Canvas}
 use Rattle.canvas.specs.declared.format.Format.{Format}
 use Rattle.canvas.specs.declared.format.Format.TheVariants.{Rgb8, Rgba8, Bgra8}
-use Rattle.canvas.specs.Layout.{IsStoredIn, columns_of, planes_of_tile, planes_of_row, block_of, place_in_tile, stored, stored_in_tile}
+use Rattle.canvas.specs.Layout.{IsStoredIn, planes_of_tile, planes_of_row, block_of, place_in_tile, stored, stored_in_tile}
 use Rattle.canvas.specs.Pixels.{pixel_bytes}
 use Rattle.canvas.specs.Loaded.{coloured, AreChanged}
 use Rattle.canvas.proofs.Cut.{put}

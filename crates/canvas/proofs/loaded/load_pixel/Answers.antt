@@ -1,4 +1,4 @@
-use Rattle.std.proofs.Common.{◌≡◌, ◌<◌, ℕ, slice_index, arith}
+use Rattle.std.proofs.Common.{◌<◌, ℕ, slice_index, arith}
 use Rattle.grid.specs.Samples.{count_of}
 use Rattle.canvas.specs.Loaded.{coloured}
 use Rattle.canvas.proofs.Changes.{no_sample_changed, one_sample_more}

@@ -1,6 +1,6 @@
 use Rattle.std.proofs.Common.{◌≡◌, ◌∙◌, inl, inr, refl, ap, ◌+◌, ◌-◌, ◌*◌, ◌/◌, ◌<◌, ◌≤◌, ℕ, List, length, take, drop, slice_index, rules, arith}
 use Rattle.std.proofs.lemmas.Bool.{cases_lt}
-use Rattle.canvas.specs.Layout.{columns_of, planes_of_tile, planes_of_row}
+use Rattle.canvas.specs.Layout.{columns_of, planes_of_tile}
 use Rattle.canvas.specs.Pixels.{pixel_bytes}
 use Rattle.canvas.specs.Loaded.{coloured, AreChanged}
 use Rattle.canvas.proofs.Cut.{put, part_of}

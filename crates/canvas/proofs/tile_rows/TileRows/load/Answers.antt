@@ -1,4 +1,4 @@
-use Rattle.std.proofs.Common.{◌≡◌, ◌∙◌, inl, inr, refl, ap, ◌+◌, ◌-◌, ◌*◌, ◌/◌, ◌<◌, ◌≤◌, ℕ, List, length, take, drop, slice_index, rules, arith}
+use Rattle.std.proofs.Common.{◌≡◌, ◌∙◌, inl, inr, refl, ap, ◌+◌, ◌-◌, ◌*◌, ◌/◌, ◌<◌, ℕ, List, take, drop, slice_index, arith}
 use Rattle.std.proofs.lemmas.Bool.{cases_lt}
 use Rattle.canvas.specs.Layout.{HasPixel, planes_of_row}
 use Rattle.canvas.specs.Pixels.{pixel_bytes, entry_of, shown_rows}
