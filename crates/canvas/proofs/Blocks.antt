@@ -1,7 +1,6 @@
 -- Where a pixel's block lies among the planes of its tile.
 use Rattle.std.proofs.Common.{◌≡◌, ◌≢◌, ◌∙◌, ap, sym, ℕ, ◌+◌, ◌*◌, ◌/◌, ◌%◌, ◌<◌, false, List, take, drop, slice_index, arith}
 use Rattle.std.specs.Prelude.{◌==◌, if◌then◌else◌, slice_index_or}
-use Rattle.std.proofs.lemmas.Bool.{false_from_ne_true, eqb-true}
 use Rattle.std.proofs.Math.Nat.{add-mul}
 use Rattle.grid.specs.Samples.{count_of}
 use Rattle.grid.specs.declared.sample_count.SampleCount.{SampleCount}
@@ -12,16 +11,8 @@ use Rattle.raster.specs.declared.tile.Tile.{Tile}
 use Rattle.raster.specs.Samples.{place_of as place_in, stored as in_tile}
 use Rattle.canvas.proofs.Cut.{part_of}
 use Rattle.canvas.proofs.Places.{none}
+use Rattle.canvas.proofs.TilePlanes.{block_cleared, block_changed}
 use Rattle.canvas.specs.Layout.{block_of, place_in_tile, stored_in_tile}
-
--- while the tile is as it was cleared, and after
-cleared_block : (state : BlockSamples) (i j : ℕ) → slice_index state.r 0 ≡ 1 → block_of state i j ≡ 0
-cleared_block state i j h = ap (λ n. if n == 1 then 0 else (j % 64 / 8 * 8 + i % 64 / 8 + 1)) h
-
-own_block : (state : BlockSamples) (i j : ℕ) → slice_index state.r 0 ≢ 1 → block_of state i j ≡ j % 64 / 8 * 8 + i % 64 / 8 + 1
-own_block state i j h =
-    let no : (slice_index state.r 0 == 1) ≡ false = false_from_ne_true (slice_index state.r 0 == 1) (λ e. h (eqb-true (slice_index state.r 0) 1 e)) in
-    ap (λ b. if b then 0 else (j % 64 / 8 * 8 + i % 64 / 8 + 1)) no
 
 module _ (count : SampleCount) (xs : List BlockSamples) (tile : Tile) (same : tile.count ≡ count) (i j s : ℕ) where
   abbrev state : BlockSamples
@@ -38,7 +29,7 @@ module _ (count : SampleCount) (xs : List BlockSamples) (tile : Tile) (same : ti
       let column : i % 8 / 8 ≡ 0 = omega arith in
       let place : place_in tile (j % 8 / 8) (i % 8 / 8) s ≡ s = rw (row, column) (omega arith) in
       let same_pixel : 8 * (j % 8 % 8) + i % 8 % 8 ≡ pixel = omega arith in
-      let found : place_in_tile count state i j s ≡ 1 + s = ap (λ b. 1 + b * count_of count + s) (cleared_block state i j clear) ∙ omega arith in
+      let found : place_in_tile count state i j s ≡ 1 + s = ap (λ b. 1 + b * count_of count + s) (block_cleared state i j clear) ∙ omega arith in
       ap (λ k. stored_at (slice_index_or (take n (drop 1 xs)) k none) (8 * (j % 8 % 8) + i % 8 % 8)) place
       ∙ ap (stored_at (slice_index_or (take n (drop 1 xs)) s none)) same_pixel
       ∙ ap (λ plane. stored_at plane pixel) (part_of xs 1 n none s (omega (arith, many, h)))
@@ -52,7 +43,7 @@ module _ (count : SampleCount) (xs : List BlockSamples) (tile : Tile) (same : ti
       let place : place_in tile (j % 64 / 8) (i % 64 / 8) s ≡ block * count_of count + s = rw (side, same) (omega arith) in
       let same_pixel : 8 * (j % 64 % 8) + i % 64 % 8 ≡ pixel = omega arith in
       let next : (block + 1) * count_of count ≡ block * count_of count + 1 * count_of count = add-mul block 1 (count_of count) in
-      let found : place_in_tile count state i j s ≡ 1 + count_of count + (block * count_of count + s) = ap (λ b. 1 + b * count_of count + s) (own_block state i j changed) ∙ omega (arith, next) in
+      let found : place_in_tile count state i j s ≡ 1 + count_of count + (block * count_of count + s) = ap (λ b. 1 + b * count_of count + s) (block_changed state i j changed) ∙ omega (arith, next) in
       ap (λ k. stored_at (slice_index_or part k none) (8 * (j % 64 % 8) + i % 64 % 8)) place
       ∙ ap (stored_at (slice_index_or part (block * count_of count + s) none)) same_pixel
       ∙ ap (λ plane. stored_at plane pixel) (behind (block * count_of count + s))

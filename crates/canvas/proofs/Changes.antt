@@ -1,7 +1,7 @@
 -- Samples that are changed one after another.
 use Rattle.std.proofs.Common.{◌≡◌, ◌≢◌, ◌⊎◌, ◌∙◌, inl, inr, refl, sym, ap, subst, ℕ, ◌+◌, ◌-◌, ◌*◌, ◌/◌, ◌%◌, ◌<◌, ◌≤◌, Bool, true, false, List, length, take, drop, slice_index, slice_set, arith}
 use Rattle.std.specs.Prelude.{◌==◌, if◌then◌else◌, slice_index_or}
-use Rattle.std.proofs.lemmas.Bool.{cases_lt, eqb-true}
+use Rattle.std.proofs.lemmas.Bool.{cases_lt}
 use Rattle.std.proofs.lemmas.List.{get_or-set_same, get_or-set_other}
 use Rattle.std.proofs.lemmas.Nat.{same_from_place}
 use Rattle.grid.specs.Samples.{count_of}
@@ -17,6 +17,7 @@ use Rattle.canvas.specs.Pixels.{pixel_bytes}
 use Rattle.canvas.specs.Loaded.{coloured, AreChanged}
 use Rattle.canvas.proofs.Cut.{put}
 use Rattle.canvas.proofs.Places.{none, tile_of, tile_put, tile_kept, row_of, row_put, row_kept}
+use Rattle.canvas.proofs.TilePlanes.{block_changed}
 
 cases_eq : (a b : ℕ) → (a ≡ b) ⊎ (a ≢ b)
 cases_eq a b =
@@ -35,14 +36,6 @@ coloured_same Rgba8 f g sample same = let a : f 0 ≡ g 0 = same 0 (omega arith)
 coloured_same Bgra8 f g sample same = let a : f 0 ≡ g 0 = same 0 (omega arith) in let b : f 1 ≡ g 1 = same 1 (omega arith) in let c : f 2 ≡ g 2 = same 2 (omega arith) in rw (a, b, c) refl
 
 -- ---- the samples of one pixel, in the planes of its tile
--- the block of a pixel of a tile that is not as it was cleared
-own_block : (b : Bool) (n : ℕ) → (b ≡ true → ⊥) → (if b then 0 else n) ≡ n
-own_block true n other = absurd (other refl)
-own_block false n other = refl
-
-block_changed : (state : BlockSamples) (i j : ℕ) → slice_index state.r 0 ≢ 1 → block_of state i j ≡ j % 64 / 8 * 8 + i % 64 / 8 + 1
-block_changed state i j filled = own_block (slice_index state.r 0 == 1) (j % 64 / 8 * 8 + i % 64 / 8 + 1) (λ e. filled (eqb-true (slice_index state.r 0) 1 e))
-
 -- its planes are not the tile's first
 behind_first : (count : SampleCount) (state : BlockSamples) (i j s : ℕ) → place_in_tile count state i j s ≢ 0
 behind_first count state i j s e = omega (arith, e)

@@ -160,4 +160,3 @@ one_chunk_more ts c first end n many old middle new a b =
 
 pub all_chunks : (ts : List Placed) (c : Canvas) (first end n : ℕ) (old new : List BlockSamples) → length ts ≤ n → HaveEnds (take n ts) c first end old new → HaveEnds ts c first end old new
 all_chunks ts c first end n old new past h = rw (take_all n ts past) at h
-

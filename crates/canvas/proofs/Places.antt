@@ -65,16 +65,6 @@ module _ (c : Canvas) (i j s : ℕ) where
       let same : j / 64 - row ≡ 0 = omega (arith, e) in
       rw same (omega arith)
 
-  -- found by its tile's place in its tile row, and its own in the tile
-  pub found_in_row : (xs : List BlockSamples) (start place : ℕ) → start ≡ i / 64 * planes_of_tile c.count → place ≡ start + place_in_tile c.count (slice_index_or xs start none) i j s
-      → stored_at (slice_index_or xs place none) (8 * (j % 8) + i % 8) ≡ stored c (j / 64) xs i j s
-  found_in_row xs start place from at =
-      let first : start ≡ (j / 64 - j / 64) * planes_of_row c + i / 64 * planes_of_tile c.count + 0 = omega (arith, from, in_first (j / 64) 0 refl) in
-      let state : slice_index_or xs start none ≡ plane_of c (j / 64) xs i j 0 = ap (λ k. slice_index_or xs k none) first in
-      let same : place ≡ (j / 64 - j / 64) * planes_of_row c + i / 64 * planes_of_tile c.count + place_in_tile c.count (plane_of c (j / 64) xs i j 0) i j s =
-      at ∙ ap (λ state. start + place_in_tile c.count state i j s) state ∙ (omega (arith, from, in_first (j / 64) (place_in_tile c.count (plane_of c (j / 64) xs i j 0) i j s) refl)) in
-      ap (λ k. stored_at (slice_index_or xs k none) (8 * (j % 8) + i % 8)) same
-
   -- in the part of the planes that are those of its tile row
   pub row_of : (row first : ℕ) (xs : List BlockSamples) (n a : ℕ) → j / 64 ≡ row → n ≡ planes_of_row c → a ≡ (j / 64 - first) * planes_of_row c → i / 64 < columns_of c → s < count_of c.count
       → stored c row (take n (drop a xs)) i j s ≡ stored c first xs i j s

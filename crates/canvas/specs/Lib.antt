@@ -4,20 +4,23 @@
 --   IsCanvasSize: A picture is at most 4096 by 4096 pixels, and not empty (this project's limits).
 --   columns_of: How many columns of tiles the picture has: its width by the 64 pixels of a tile, rounded up.
 --   rows_of: How many rows of tiles the picture has: its height by the 64 pixels of a tile, rounded up.
---   planes_of_tile: How many planes of samples a tile has: for each of its 64 blocks of 8 by 8 pixels one for each sample of a pixel.
---   planes_of_row: How many planes of samples a tile row has.
---   planes_of_rows: How many planes of samples the tile rows from `first` to before `end` have.
+--   planes_of_tile: How many planes a tile has: one that says whether the tile is as it was cleared, and for each of 65 blocks of 8 by 8 pixels one for each sample of a pixel.
+--   planes_of_row: How many planes a tile row has.
+--   planes_of_rows: How many planes the tile rows from `first` to before `end` have.
 --   IsStoredIn: Sample s of pixel (i, j) is in a tile of the tile rows from `first` to before `end`.
 --   HasPixel: Pixel (i, j) is in the picture, and in a tile of the tile rows from `first` to before `end`.
---   place_in_tile: The index of the plane of sample s of pixel (i, j) among those of its tile.
---   place_in_row: The index of the plane of sample s of pixel (i, j) among those of its tile row.
---   place_of: The index of the plane of sample s of pixel (i, j) among those of the tile rows from `first` on.
+--   block_of: The number of the block of pixel (i, j) in its tile, whose first plane this is.
+--   place_in_tile: The index of the plane of sample s of pixel (i, j) among those of its tile, whose first plane this is.
+--   sample_in: Sample s of pixel (i, j), by the planes of its tile.
+--   plane_of: Plane k of the tile of pixel (i, j), among those of the tile rows from `first` on.
 --   stored: Sample s of pixel (i, j), as it is stored.
+--   stored_in_tile: Sample s of the pixel in a column and a row of a tile, as it is stored in the tile's planes.
 --
 -- Drawing.antt
 --   AreCleared: Each sample of the tile rows from `first` to before `end` is this one.
 --   HaveEnds: Each sample of these tile rows ends as what the triangles make, one after another, of what was stored there.
---   TileHasEnds: Each sample of the tile ends as what the triangles make, one after another, of what was stored there.
+--   TileEnds: Each sample of the tile ends as what the triangles make, one after another, of what was stored in the tile's planes.
+--   TileHasEnds: Each sample of the tile ends as what the triangles make, one after another, of what was stored in the planes of its own blocks.
 --
 -- Pixels.antt
 --   pixel_bytes: How many bytes a pixel has in a format.
@@ -33,8 +36,10 @@
 --
 -- Colours.antt
 --   IsColourOfPixel: The colour of pixel (i, j): each channel resolved from the pixel's samples, in planes from tile row `first` on.
+--   IsColourIn: The colour of pixel (i, j): each channel resolved from the pixel's samples, in the planes of its tile.
 --   AreBytesOfColour: The bytes have this colour in the format.
 --   IsPixelOf: The bytes of pixel (i, j) in the format.
+--   IsPixelIn: The bytes of pixel (i, j) in the format, by the planes of its tile.
 --   IsTilePixel: The bytes of the pixel in a row and a column of a tile, in the format.
 --   AreArranged: The bytes of eight pixels in the format, by those of the same pixels as red, green and blue.
 --   AreResolved: The bytes of each pixel of the picture in these tile rows are its colour in the format, and all other bytes are unchanged.

@@ -31,11 +31,7 @@ impl TileRows {
         let each = self.canvas.planes_of_tile();
         for number in 0..self.tiles() {
             let from = number * each;
-            clear_tile(
-                self.canvas.count,
-                sample,
-                &mut samples[from..from + each],
-            );
+            clear_tile(self.canvas.count, sample, &mut samples[from..from + each]);
         }
         Ok(())
     }
