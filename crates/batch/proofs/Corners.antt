@@ -1,14 +1,15 @@
 -- The vertices of a draw in the caller's array.
-use Rattle.std.proofs.Common.{◌≡◌, refl, ℕ, zero, suc, pos, List, [], ◌∷◌, map}
+use Rattle.std.proofs.Common.{◌≡◌, refl, ℕ, zero, suc, ℤ, pos, List, [], ◌∷◌, map, take}
 use Rattle.std.specs.Prelude.{slice_index, slice_index_or}
+use Rattle.shade.specs.declared.placed.Placed.{Placed}
+use Rattle.model.specs.declared.draw.Vertex.{Vertex}
 use Rattle.model.specs.Primitives.{position_of}
+use Rattle.model.specs.Listing.{placed, triangle_of}
+use Rattle.scene.specs.declared.draw.SceneDraw.{SceneDraw}
 use Rattle.scene.specs.declared.vertex.SceneVertex.{SceneVertex}
-use Rattle.scene.specs.Listed.{vertex_listed}
-use Rattle.model.specs.Listing.{triangle_of}
+use Rattle.scene.specs.Listed.{vertex_listed, state_listed, draw_listed}
 use Rattle.canvas.specs.Window.{moved}
-use Rattle.batch.specs.declared.part.Part.{Part}
-use Rattle.batch.specs.Parts.{seen_in}
-use Rattle.batch.specs.Seen.{vertex_at}
+use Rattle.batch.specs.Seen.{vertex_at, vertex_seen, state_seen}
 
 pub position_at : (vs : List SceneVertex) (k : ℕ) → position_of (map vertex_listed vs) k ≡ (vertex_listed (vertex_at vs k)).at
 position_at [] k = refl
@@ -21,11 +22,24 @@ listed_at [] k = refl
 listed_at (v ∷ vs) zero = refl
 listed_at (v ∷ vs) (suc k) = listed_at vs k
 
--- a triangle of a draw, made of three vertices
-pub seen_is : (p : Part) (indices : List ℕ)
-    → moved p.origin.x p.origin.y (triangle_of p.state (vertex_listed (vertex_at p.vertices.now (slice_index indices 0))) (vertex_listed (vertex_at p.vertices.now (slice_index indices 1))) (vertex_listed (vertex_at p.vertices.now (slice_index indices 2)))) ≡ seen_in p indices
-seen_is p indices =
-    let a = listed_at p.vertices.now (slice_index indices 0) in
-    let b = listed_at p.vertices.now (slice_index indices 1) in
-    let c = listed_at p.vertices.now (slice_index indices 2) in
-    rw (a, b, c) refl
+-- a triangle of a draw, made of three vertices as they are seen
+module _ (x y : ℤ) (d : SceneDraw) (vs : List SceneVertex) (is : List ℕ) where
+  abbrev own : List SceneVertex
+  own = take d.vertices vs
+
+  abbrev seen_at : List ℕ → ℕ → Vertex
+  seen_at triangle i = vertex_seen x y (vertex_at own (slice_index triangle i))
+
+  abbrev seen : List ℕ → Placed
+  seen triangle = triangle_of (state_seen x y (state_listed d)) (seen_at triangle 0) (seen_at triangle 1) (seen_at triangle 2)
+
+  seen_is : (triangle : List ℕ) → seen triangle ≡ moved x y (placed (draw_listed d vs is) triangle)
+  seen_is triangle =
+      let a = listed_at own (slice_index triangle 0) in
+      let b = listed_at own (slice_index triangle 1) in
+      let c = listed_at own (slice_index triangle 2) in
+      rw (a, b, c) refl
+
+  pub seen_all : (triangles : List (List ℕ)) → map seen triangles ≡ map (moved x y) (map (placed (draw_listed d vs is)) triangles)
+  seen_all [] = refl
+  seen_all (triangle ∷ triangles) = rw (seen_is triangle, seen_all triangles) refl

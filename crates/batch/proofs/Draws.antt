@@ -1,7 +1,6 @@
 -- The draws of a batch, one at a time.
 use Rattle.std.proofs.Common.{◌≡◌, ◌∙◌, refl, sym, ap, subst, inl, inr, ℕ, ℤ, ◌+◌, ◌<◌, ◌≤◌, Option, None, Some, List, [], ◌∷◌, ◌++◌, length, map, take, drop, get_or, drop-cons, add-one, arith}
 use Rattle.std.proofs.lemmas.List.{map-append, drop_all, length-map}
-use Rattle.std.proofs.lemmas.Simd.{map-map}
 use Rattle.shade.specs.declared.placed.Placed.{Placed}
 use Rattle.lanes.specs.declared.block_samples.BlockSamples.{BlockSamples}
 use Rattle.model.specs.declared.fault.ReadFault.{ReadFault}
@@ -64,11 +63,6 @@ module _ (x y : ℤ) (ds : List SceneDraw) (i : ℕ) (none : SceneDraw) (lt : i 
       let later : List Placed = triangles_seen x y (drop (i + 1) ds) (drop d.vertices vs) (drop d.indices is) in
       let e : drawn_as ids (triangles_seen x y (drop i ds) vs is) ≡ drawn_as ids here ++ drawn_as (ids_after ids (triangles_listed d is)) later = ap (drawn_as ids) seen_here ∙ drawn-append ids here later (triangles_listed d is) many_here in
       subst (λ us. HaveEnds us c first end old new) (sym e) (ends_joined (drawn_as ids here) (drawn_as (ids_after ids (triangles_listed d is)) later) c first end old middle new a b)
-
--- the triangles of a draw, each made by itself
-pub made_here : (x y : ℤ) (d : SceneDraw) (vs : List SceneVertex) (is : List ℕ)
-    → map (λ t. moved x y (placed (draw_listed d vs is) t)) (triangles_of (primitives_listed d.primitives (take d.indices is))) ≡ map (moved x y) (placed_all (draw_listed d vs is))
-made_here x y d vs is = sym (map-map (moved x y) (placed (draw_listed d vs is)) (triangles_of (primitives_listed d.primitives (take d.indices is))))
 
 -- ---- past the last draw
 module _ (x y : ℤ) (ds : List SceneDraw) (i : ℕ) (past : length ds ≤ i) (ids : Option ℕ) (vs : List SceneVertex) (is : List ℕ) where

@@ -4,6 +4,9 @@
 --   vertex_at: The vertex of this index; past the end one of zeros, which no triangle of a batch names.
 --   CanBeSeen: The numbers of the vertex are in their ranges, and it is in the guard band as it is seen.
 --   AreSeen: The same of each vertex that an index names.
+--   NameSeenVertices: Each of these indices names a vertex, which can be seen.
+--   vertex_seen: The vertex as it is seen.
+--   state_seen: The state of triangles as they are seen: their scissor is moved.
 --   triangles_seen: The triangles of a batch in draw order, as the same arrays list them in a scene, seen from the corner of pixel (x, y).
 --
 -- Ids.antt
@@ -22,10 +25,9 @@
 --   IsFirstFault: The first check of a batch that fails reports this fault.
 --
 -- Parts.antt
---   listing_of: The draw as a draw list has it: its state, its vertices, and its primitives.
 --   triangles_in: The triangles of the part in draw order, each by the indices of its vertices.
 --   seen_in: The triangle of these vertices, as it is seen from the origin.
---   IsReady: There are such primitives, and their vertices can be seen.
+--   IsReady: There are such primitives, and their indices name vertices that can be seen.
 --
 -- Arrays.antt
 --   HasSizes: The struct and the elements of its arrays have the sizes, in bytes, that this library knows.

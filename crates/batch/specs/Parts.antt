@@ -1,16 +1,12 @@
 -- The triangles of one draw.
-use Rattle.std.specs.Prelude.{ℕ, ◌≤◌, List, map}
+use Rattle.std.specs.Prelude.{ℕ, ◌≤◌, List, slice_index}
 use Rattle.shade.specs.declared.placed.Placed.{Placed}
 use Rattle.model.specs.Primitives.{triangles_of}
-use Rattle.model.specs.Listing.{DrawListing, placed}
-use Rattle.scene.specs.Listed.{vertex_listed, primitives_listed}
-use Rattle.canvas.specs.Window.{moved}
+use Rattle.model.specs.declared.draw.Vertex.{Vertex}
+use Rattle.model.specs.Listing.{triangle_of}
+use Rattle.scene.specs.Listed.{primitives_listed}
 use Rattle.batch.specs.declared.part.Part.{Part}
-use Rattle.batch.specs.Seen.{AreSeen}
-
--- The draw as a draw list has it: its state, its vertices, and its primitives.
-abbrev pub listing_of : Part → DrawListing
-listing_of p = record { state = p.state; vertices = map vertex_listed p.vertices.now; primitives = primitives_listed p.kind p.indices.now }
+use Rattle.batch.specs.Seen.{vertex_at, vertex_seen, NameSeenVertices}
 
 -- The triangles of the part in draw order, each by the indices of its vertices.
 abbrev pub triangles_in : Part → List (List ℕ)
@@ -18,9 +14,11 @@ triangles_in p = triangles_of (primitives_listed p.kind p.indices.now)
 
 -- The triangle of these vertices, as it is seen from the origin.
 abbrev pub seen_in : Part → List ℕ → Placed
-seen_in p indices = moved p.origin.x p.origin.y (placed (listing_of p) indices)
+seen_in p indices =
+    let corner : ℕ → Vertex = λ i. vertex_seen p.origin.x p.origin.y (vertex_at p.vertices.now (slice_index indices i)) in
+    triangle_of p.state (corner 0) (corner 1) (corner 2)
 
--- There are such primitives, and their vertices can be seen.
+-- There are such primitives, and their indices name vertices that can be seen.
 pub record IsReady (p : Part) : Type 0 where
   pub kind : p.kind ≤ 2
-  pub seen : AreSeen p.origin.x p.origin.y p.vertices.now p.indices.now
+  pub vertices : NameSeenVertices p.origin.x p.origin.y p.vertices.now p.indices.now

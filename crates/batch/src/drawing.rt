@@ -13,6 +13,7 @@ ghost use Rattle.batch.specs.Checks.{draw_checks, BatchPasses, IsFirstFault};
 use crate::checking::check_batch;
 use crate::ids::after;
 use crate::part::Part;
+use crate::state::seen_state;
 use canvas::{Origin, TileRows};
 use lanes::BlockSamples;
 use model::ReadFault;
@@ -33,7 +34,7 @@ fn draw_one(
     ensures { HaveEnds (drawn_as ids (map (moved origin.now.x origin.now.y) (placed_all (draw_listed draw.now vertices.now indices.now)))) rows.now.canvas rows.now.first rows.now.end samples.old samples.new }
 {
     let part = Part {
-        state: draw.state(),
+        state: seen_state(&draw.state(), origin),
         kind: draw.primitives,
         vertices: &vertices[..draw.vertices as usize],
         indices: &indices[..draw.indices as usize],

@@ -10,6 +10,7 @@ mod error;
 mod ids;
 mod part;
 mod primitives;
+mod state;
 mod vertices;
 
 pub use arrays::Batch;

@@ -9,7 +9,7 @@ ghost use Rattle.batch.specs.Parts.{triangles_in, seen_in, IsReady};
 
 use crate::drawn::Drawn;
 use crate::primitives::triangle;
-use crate::vertices::triangle_seen;
+use crate::vertices::seen_triangle;
 use canvas::{Origin, TileRows};
 use lanes::BlockSamples;
 use scene::SceneVertex;
@@ -18,6 +18,7 @@ use shade::{Placed, State};
 /// The primitives of a draw, with the vertices and indices that are the draw's own.
 #[derive(Clone, Copy)]
 pub(crate) struct Part<'a> {
+    /// The state of its triangles, with the scissor as seen from the origin.
     pub(crate) state: State,
     pub(crate) kind: u32,
     pub(crate) vertices: &'a [SceneVertex],
@@ -34,7 +35,7 @@ impl Part<'_> {
         ensures { result ≡ seen_in self.now (slice_index_or (triangles_in self.now) number []) }
     {
         let indices = triangle(self.kind, self.indices, number);
-        triangle_seen(self.vertices, &self.state, indices, &self.origin).unwrap()
+        seen_triangle(self.vertices, &self.state, indices, &self.origin)
     }
 
     /// Draws all triangles, one after another.

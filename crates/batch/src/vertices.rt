@@ -1,12 +1,12 @@
 //! Vertices by their indices in the caller's array.
-ghost use Rattle.std.specs.Prelude.{◌≡◌, ◌↔◌, ℕ, map, IsSome, IfSome, IsTrue, slice_index};
+ghost use Rattle.std.specs.Prelude.{◌≡◌, ◌↔◌, ℕ, ℤ, pos, ◌<◌, ◌-ℤ◌, ◌*ℤ◌, length, map, IsSome, IfSome, IsTrue, slice_index};
 ghost use Rattle.std.specs.List.{All};
+ghost use Rattle.grid.specs.Position.{IsInBand};
 ghost use Rattle.model.specs.Listing.{triangle_of};
 ghost use Rattle.model.specs.Primitives.{position_of, IsConvexOver};
 ghost use Rattle.model.specs.declared.draw.Vertex.{Vertex as VertexOf};
 ghost use Rattle.scene.specs.Listed.{vertex_listed};
-ghost use Rattle.canvas.specs.Window.{moved};
-ghost use Rattle.batch.specs.Seen.{vertex_at, CanBeSeen, AreSeen};
+ghost use Rattle.batch.specs.Seen.{vertex_at, vertex_seen, CanBeSeen, AreSeen, NameSeenVertices};
 ghost use Rattle.batch.specs.Checks.{IsQuadSeen};
 
 use canvas::{Origin, seen_point};
@@ -92,25 +92,57 @@ pub(crate) fn are_quads_seen(vertices: &[SceneVertex], quads: &[[u32; 4]], origi
         .all(|quad| is_quad_seen(vertices, *quad, origin))
 }
 
-/// The triangle of the vertices with these indices in this state, as it is seen. `None` if one of them cannot be seen.
-pub(crate) fn triangle_seen(
+/// A coordinate as seen from a pixel, where it is in the guard band.
+#[inline]
+fn seen_coordinate(coordinate: i32, pixel: i32) -> i32
+    requires { IsInBand (coordinate -ℤ pos 256 *ℤ pixel) }
+    ensures { result ≡ coordinate -ℤ pos 256 *ℤ pixel }
+{
+    (i64::from(coordinate) - 256 * i64::from(pixel)) as i32
+}
+
+/// The vertex of this index as it is seen. The checks of a batch have found that it can be, so none is made again.
+#[inline]
+fn seen_vertex(vertices: &[SceneVertex], index: u32, origin: &Origin) -> Vertex
+    requires named { index < length vertices.now }
+    requires seen { CanBeSeen origin.now.x origin.now.y (vertex_at vertices.now index) }
+    ensures { result ≡ vertex_seen origin.now.x origin.now.y (vertex_at vertices.now index) }
+{
+    let vertex = vertices[index as usize];
+    let across = seen_coordinate(vertex.x, origin.x);
+    let down = seen_coordinate(vertex.y, origin.y);
+    Vertex {
+        at: Point::new(across, down).unwrap(),
+        z: vertex.z as u16,
+        rgba: [
+            vertex.r as u8,
+            vertex.g as u8,
+            vertex.b as u8,
+            vertex.a as u8,
+        ],
+    }
+}
+
+/// The triangle of the vertices with these indices as they are seen, in this state.
+#[inline]
+pub(crate) fn seen_triangle(
     vertices: &[SceneVertex],
     state: &State,
     indices: [u32; 3],
     origin: &Origin,
-) -> Option<Placed>
-    ensures some { AreSeen origin.now.x origin.now.y vertices.now indices → IsSome result }
-    ensures value { let corner : ℕ → VertexOf = λ i. vertex_listed (vertex_at vertices.now (slice_index indices i)) in
-        IfSome result (λ t. t ≡ moved origin.now.x origin.now.y (triangle_of state.now (corner 0) (corner 1) (corner 2))) }
+) -> Placed
+    requires { NameSeenVertices origin.now.x origin.now.y vertices.now indices }
+    ensures { let corner : ℕ → VertexOf = λ i. vertex_seen origin.now.x origin.now.y (vertex_at vertices.now (slice_index indices i)) in
+        result ≡ triangle_of state.now (corner 0) (corner 1) (corner 2) }
 {
-    let a = vertex(vertices, indices[0], origin)?;
-    let b = vertex(vertices, indices[1], origin)?;
-    let c = vertex(vertices, indices[2], origin)?;
+    let a = seen_vertex(vertices, indices[0], origin);
+    let b = seen_vertex(vertices, indices[1], origin);
+    let c = seen_vertex(vertices, indices[2], origin);
     let (of_a, of_b, of_c) = (a.rgba, b.rgba, c.rgba);
-    origin.seen(&Placed {
+    Placed {
         tri: Tri::new(a.at, b.at, c.at),
         z: [a.z, b.z, c.z],
         rgba: [of_a, of_b, of_c],
         state: *state,
-    })
+    }
 }
