@@ -1,6 +1,6 @@
 -- Where a pixel's block lies among the planes of its tile.
-use Rattle.std.proofs.Common.{◌≡◌, ◌≢◌, ◌∙◌, ap, sym, ℕ, ◌+◌, ◌*◌, ◌/◌, ◌%◌, ◌<◌, false, List, take, drop, slice_index, arith}
-use Rattle.std.specs.Prelude.{◌==◌, if◌then◌else◌, slice_index_or}
+use Rattle.std.proofs.Common.{◌≡◌, ◌≢◌, ◌∙◌, ap, sym, ℕ, ◌+◌, ◌*◌, ◌/◌, ◌%◌, ◌<◌, List, take, drop, slice_index, arith}
+use Rattle.std.specs.Prelude.{slice_index_or}
 use Rattle.std.proofs.Math.Nat.{add-mul}
 use Rattle.grid.specs.Samples.{count_of}
 use Rattle.grid.specs.declared.sample_count.SampleCount.{SampleCount}
@@ -12,7 +12,7 @@ use Rattle.raster.specs.Samples.{place_of as place_in, stored as in_tile}
 use Rattle.canvas.proofs.Cut.{part_of}
 use Rattle.canvas.proofs.Places.{none}
 use Rattle.canvas.proofs.TilePlanes.{block_cleared, block_changed}
-use Rattle.canvas.specs.Layout.{block_of, place_in_tile, stored_in_tile}
+use Rattle.canvas.specs.Layout.{place_in_tile, stored_in_tile}
 
 module _ (count : SampleCount) (xs : List BlockSamples) (tile : Tile) (same : tile.count ≡ count) (i j s : ℕ) where
   abbrev state : BlockSamples

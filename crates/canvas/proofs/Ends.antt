@@ -11,13 +11,13 @@ use Rattle.shade.specs.declared.placed.Placed.{Placed}
 use Rattle.shade.specs.Ending.{Ends}
 use Rattle.shade.proofs.Endings.{ends_more, ends-append, ends-unique}
 use Rattle.raster.specs.declared.tile.Tile.{Tile}
-use Rattle.raster.specs.Samples.{IsSampleOf, AreAll, stored as in_tile}
+use Rattle.raster.specs.Samples.{IsSampleOf}
 use Rattle.raster.specs.Drawing.{DrawsTile}
 use Rattle.canvas.proofs.Cut.{put}
 use Rattle.canvas.specs.declared.canvas.Canvas.{Canvas}
-use Rattle.canvas.specs.Layout.{IsStoredIn, columns_of, planes_of_tile, planes_of_row, planes_of_rows, stored, stored_in_tile}
-use Rattle.canvas.specs.Drawing.{AreCleared, HaveEnds, TileEnds, TileHasEnds}
-use Rattle.canvas.proofs.Places.{none, same_in, row_of, tile_of, row_put, row_kept, tile_put, tile_kept}
+use Rattle.canvas.specs.Layout.{IsStoredIn, planes_of_tile, planes_of_row, stored, stored_in_tile}
+use Rattle.canvas.specs.Drawing.{HaveEnds, TileEnds, TileHasEnds}
+use Rattle.canvas.proofs.Places.{row_of, tile_of, row_put, row_kept, tile_put, tile_kept}
 
 -- the same at equal arguments
 pub ends_at : (ts : List Placed) (n n' : SampleCount) (i i' j j' s : ℕ) (x x' y y' : Sample) → n ≡ n' → i ≡ i' → j ≡ j' → x ≡ x' → y ≡ y' → Ends ts n i j s x y → Ends ts n' i' j' s x' y'

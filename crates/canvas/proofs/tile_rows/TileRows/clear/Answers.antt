@@ -1,4 +1,4 @@
-use Rattle.std.proofs.Common.{◌≡◌, ◌∙◌, ◌+◌, ◌-◌, ◌*◌, ◌<◌, ◌≤◌, ℕ, length, rules, arith}
+use Rattle.std.proofs.Common.{◌≡◌, ◌+◌, ◌-◌, ◌*◌, ◌≤◌, ℕ, length, rules, arith}
 use Rattle.canvas.specs.Layout.{columns_of, planes_of_tile}
 use Rattle.canvas.proofs.Places.{part_within}
 use Rattle.canvas.proofs.ClearedTiles.{all_tiles, one_cleared, all_cleared}
