@@ -24,7 +24,7 @@ TileEnds ts tile old new =
     (row column s : ℕ) → IsSampleOf tile row column s
     → Ends ts tile.count (8 * tile.bx + column) (8 * tile.by + row) s (stored_in_tile tile.count old column row s) (stored_in_tile tile.count new column row s)
 
--- Each sample of the tile ends as what the triangles make, one after another, of what was stored in the planes of its own blocks.
+-- Each sample of the tile's own blocks ends as what the triangles make, one after another, of what was stored there.
 abbrev pub TileHasEnds : List Placed → Tile → List BlockSamples → List BlockSamples → Type 0
 TileHasEnds ts tile old new =
     (row column s : ℕ) → IsSampleOf tile row column s

@@ -22,8 +22,8 @@ columns_of c = (c.width + 63) / 64
 abbrev pub rows_of : Canvas → ℕ
 rows_of c = (c.height + 63) / 64
 
--- How many planes a tile has: one that says whether the tile is as it was cleared, and for each of 65 blocks of 8 by 8 pixels one
--- for each sample of a pixel. The first block has the samples to which the tile was cleared; the others are its own.
+-- How many planes a tile has. One says whether the tile is as it was cleared. Each of 65 blocks of 8 by 8 pixels has one for each
+-- sample of a pixel: the first block has the samples to which the tile was cleared, and the others are its own.
 abbrev pub planes_of_tile : SampleCount → ℕ
 planes_of_tile count = 1 + 65 * count_of count
 

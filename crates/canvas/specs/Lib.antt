@@ -4,7 +4,7 @@
 --   IsCanvasSize: A picture is at most 4096 by 4096 pixels, and not empty (this project's limits).
 --   columns_of: How many columns of tiles the picture has: its width by the 64 pixels of a tile, rounded up.
 --   rows_of: How many rows of tiles the picture has: its height by the 64 pixels of a tile, rounded up.
---   planes_of_tile: How many planes a tile has: one that says whether the tile is as it was cleared, and for each of 65 blocks of 8 by 8 pixels one for each sample of a pixel.
+--   planes_of_tile: How many planes a tile has.
 --   planes_of_row: How many planes a tile row has.
 --   planes_of_rows: How many planes the tile rows from `first` to before `end` have.
 --   IsStoredIn: Sample s of pixel (i, j) is in a tile of the tile rows from `first` to before `end`.
@@ -20,7 +20,7 @@
 --   AreCleared: Each sample of the tile rows from `first` to before `end` is this one.
 --   HaveEnds: Each sample of these tile rows ends as what the triangles make, one after another, of what was stored there.
 --   TileEnds: Each sample of the tile ends as what the triangles make, one after another, of what was stored in the tile's planes.
---   TileHasEnds: Each sample of the tile ends as what the triangles make, one after another, of what was stored in the planes of its own blocks.
+--   TileHasEnds: Each sample of the tile's own blocks ends as what the triangles make, one after another, of what was stored there.
 --
 -- Pixels.antt
 --   pixel_bytes: How many bytes a pixel has in a format.

@@ -13,7 +13,7 @@
 -- Pieces.antt
 --   IsCanvas: There is a canvas of this size.
 --   HasRows: A canvas of this height has the tile rows from `first` to before `end`.
---   planes_of: How many planes of samples these tile rows have.
+--   planes_of: How many planes these tile rows have.
 --   AreRowsOf: The tile rows are those that the caller names.
 --   OnRows: `Holds` is true of the tile rows that the caller names.
 --   HasRoom: The rows of pixels, of `unit` entries a pixel, fit into `size` entries.
