@@ -1,4 +1,4 @@
--- What a program writes if its arguments do not say what to do.
+-- What a program writes if its arguments do not say what to do, or its run fails.
 use Rattle.std.specs.Prelude.{ℕ, List, Option, codes, take}
 use Rattle.std.specs.Io.KnownBytes.{Appends}
 

@@ -3,8 +3,10 @@
 
 mod fault;
 mod input;
+mod process;
 mod refusal;
 
 pub use fault::Fault;
 pub use input::read_input;
-pub use refusal::{refuse_with, write_line};
+pub use process::run_program;
+pub use refusal::{fail_with, refuse_with};

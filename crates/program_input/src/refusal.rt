@@ -1,5 +1,5 @@
-//! What a program writes if its arguments do not say what to do.
-ghost use Rattle.std.specs.Prelude.{◌≡◌, ◌<◌};
+//! What a program writes if its arguments do not say what to do, or its run fails.
+ghost use Rattle.std.specs.Prelude.{◌≡◌, ◌<◌, ℕ, List};
 ghost use Rattle.command_line.specs.Args.{status_of};
 ghost use Rattle.program_input.specs.Refusal.{WritesLine, refusal_line};
 
@@ -38,16 +38,23 @@ pub fn refuse_with<W: Write, E: Write>(
             write_line(REFUSAL, errors);
             2
         }
-        LineFault::OutOfMemory => {
-            write_line(fault_line(&Fault::OutOfMemory).as_str().as_bytes(), errors);
-            1
-        }
+        LineFault::OutOfMemory => fail_with(&Fault::OutOfMemory, errors),
     }
+}
+
+/// Reports that the run failed: writes the line of the error to `errors`. Returns the program's status, 1.
+pub fn fail_with<E: Write>(fault: &Fault, errors: &mut Counted<E>) -> u8
+    requires { errors.old.failures < u64.MAX }
+    ensures status { result ≡ 1 }
+    ensures line { (line : List ℕ) × WritesLine line (E.contents errors.old.inner) (E.contents errors.new.inner) }
+{
+    write_line(fault_line(fault).as_str().as_bytes(), errors);
+    1
 }
 
 /// Writes a line, or what of it can be written.
 #[tactic(auto, using(crate::proofs::Lines::writes_line))]
-pub fn write_line<W: Write>(line: &[u8], out: &mut Counted<W>)
+fn write_line<W: Write>(line: &[u8], out: &mut Counted<W>)
     requires { out.old.failures < u64.MAX }
     ensures { WritesLine line.now (W.contents out.old.inner) (W.contents out.new.inner) }
 {

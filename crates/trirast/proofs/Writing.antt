@@ -1,9 +1,7 @@
 -- Tile rows that are written one after another, and what a fault among them explains.
-use Rattle.std.proofs.Common.{◌≡◌, ◌⊎◌, inl, inr, sym, ap, subst, ◌∙◌, ℕ, ◌+◌, ◌-◌, ◌*◌, ◌<◌, ◌≤◌, min, List, [], ◌++◌, length, take, Option, IfSome, Err, IsErrOf, append-nil, length-append, arith}
+use Rattle.std.proofs.Common.{◌≡◌, ◌⊎◌, inl, inr, sym, ap, subst, ◌∙◌, ℕ, ◌+◌, ◌-◌, ◌*◌, ◌<◌, ◌≤◌, min, List, [], ◌++◌, length, take, Option, IfSome, Result, Ok, Err, IfOk, IfErr, append-nil, length-append, arith}
 use Rattle.std.proofs.lemmas.Bool.{cases_lt}
 use Rattle.std.proofs.lemmas.List.{nil_from_length}
-use Rattle.std.proofs.lemmas.Option.{same_Some}
-use Rattle.std.specs.Result.{result_err}
 use Rattle.std.proofs.Math.Nat.{mul-le-mul, mul-le-mul_left}
 use Rattle.std.proofs.KnownBytes.{Appends-nil, Appends-trans}
 use Rattle.std.specs.Io.KnownBytes.{Appends}
@@ -19,7 +17,7 @@ use Rattle.bins.specs.Bin.{TileBins, AreBins}
 use Rattle.bins.specs.Grid.{TileGrid, tiles_over}
 use Rattle.tile_row.specs.TileRow.{AddsTileRows, AreTileRows}
 use Rattle.trirast.specs.Runs.{WritesAll}
-use Rattle.trirast.specs.Picture.{CutsRows, ExplainsPicture, ExplainsRows, WritesRows}
+use Rattle.trirast.specs.Picture.{CutsRows, EndsRows, ExplainsPicture, ExplainsRows, WritesRows}
 use Rattle.trirast.specs.declared.picture.PictureFault.{PictureFault}
 use Rattle.trirast.specs.declared.picture.PictureFault.TheVariants.{NotBegun, OutOfMemory, WriteFailed}
 use Rattle.picture_file.proofs.Beginnings.{Appends-front}
@@ -144,10 +142,6 @@ module _ (l : Scene) (side : TileSide) where
     explains_behind end (OutOfMemory row) held'' k = (omega (arith, k.0), k.1, (k.2.0, then_written row k.2.0 held'' k.0 k.2.1))
     explains_behind end (WriteFailed count') held'' k = more_cut k.end count' k.rows held'' k.ordered k.are k.within k.written
 
--- the error of a result of another type
-pub err_of : {T T' E : Type 0} (e x : E) → IsErrOf {T = T} {E = E} (Err e) x → IsErrOf {T = T'} {E = E} (Err e) x
-err_of e x h = ap Err (same_Some e x (ap result_err h))
-
 -- what a fault explains by what the parts are called
 pub explains_of : (l l' : Scene) (g g' : TileGrid) (first first' end end' before : ℕ) (e : PictureFault) (held held' : Option (List ℕ)) → l' ≡ l → g' ≡ g → first' ≡ first → end' ≤ end
     → ExplainsRows l' g'.side first' end' before e held held' → ExplainsRows l g.side first end before e held held'
@@ -169,10 +163,16 @@ module _ (l : Scene) (side : TileSide) (rows header : ℕ) (wide : 1 ≤ l.width
   behind : (row count : ℕ) (held'' : Option (List ℕ)) → WritesRows l side 0 row header count held' held'' → HasWritten l side row count held held''
   behind row count held'' k = tile_rows_written l side 0 header held held' wide some h row (omega arith) k.rows k.are count held'' k.many k.written
 
-  pub file_written : (count : ℕ) (held'' : Option (List ℕ)) → WritesRows l side 0 rows header count held' held'' → WritesAll l count held held''
+  file_written : (count : ℕ) (held'' : Option (List ℕ)) → WritesRows l side 0 rows header count held' held'' → WritesAll l count held held''
   file_written count held'' k = all_written l side rows count held held'' (omega arith) (behind rows count held'' k)
 
-  pub file_explained : (e : PictureFault) (held'' : Option (List ℕ)) → ExplainsRows l side 0 rows header e held' held'' → ExplainsPicture l side e held held''
+  file_explained : (e : PictureFault) (held'' : Option (List ℕ)) → ExplainsRows l side 0 rows header e held' held'' → ExplainsPicture l side e held held''
   file_explained NotBegun held'' k = elim k [ ]
   file_explained (OutOfMemory row) held'' k = whole_tile_rows l side row k.2.0 held held'' wide (omega (arith, k.1)) (behind row k.2.0 held'' k.2.1)
   file_explained (WriteFailed count) held'' k = tile_rows_cut l side 0 header held held' wide some h k.end (omega arith) k.rows k.are count held'' k.within k.written
+
+  -- so the file is written whole, or the error explains what was of it
+  pub file_ended : (result : Result ℕ PictureFault) (held'' : Option (List ℕ)) (failed failed' : ℕ) → EndsRows l side 0 rows header result held' held'' failed failed'
+      → IfOk result (λ count. WritesAll l count held held'') × IfErr result (λ e. ExplainsPicture l side e held held'')
+  file_ended (Ok count) held'' failed failed' ends = (file_written count held'' ends.rows, tt)
+  file_ended (Err e) held'' failed failed' ends = (tt, file_explained e held'' ends.fault)

@@ -17,6 +17,7 @@
 --   WritesRows: What was written is the bytes of the tile rows from `first` to before `end`.
 --   CutsRows: What was written is a beginning of the bytes of the tile rows from `first` on.
 --   ExplainsRows: What was written of the tile rows from `first` to before `end` before this error.
+--   EndsRows: How the writing of the tile rows from `first` to before `end` ends: they were written, or the error explains what was.
 --   ExplainsPicture: What was written of the file of a list's picture before this error.
 --   fault_of: The error of a run for an error of its picture.
 --

@@ -1,5 +1,5 @@
 -- How a picture's file is written, tile row after tile row.
-use Rattle.std.specs.Prelude.{◌≡◌, ℕ, ◌+◌, ◌-◌, ◌<◌, ◌≤◌, List, length, take, Option}
+use Rattle.std.specs.Prelude.{◌≡◌, ◌↔◌, ℕ, ◌+◌, ◌-◌, ◌<◌, ◌≤◌, List, length, take, Option, Result, OnOk, IfOk, IfErr, IsErrOf}
 use Rattle.std.specs.Io.KnownBytes.{Keeps, Appends}
 use Rattle.grid.specs.declared.pixels.TileSide.{TileSide}
 use Rattle.model.specs.Scene.{Scene}
@@ -33,6 +33,14 @@ abbrev pub ExplainsRows : Scene → TileSide → ℕ → ℕ → ℕ → Picture
 ExplainsRows l side first end before NotBegun held held_after = ⊥
 ExplainsRows l side first end before (OutOfMemory row) held held_after = (first ≤ row) × (row < end) × ((count : ℕ) × WritesRows l side first row before count held held_after)
 ExplainsRows l side first end before (WriteFailed count) held held_after = CutsRows l side first before count held held_after
+
+-- How the writing of the tile rows from `first` to before `end` ends: they were written, or the error explains what was. It is a
+-- failed write if and only if a write failed in the call.
+pub record EndsRows (l : Scene) (side : TileSide) (first end before : ℕ) (result : Result ℕ PictureFault) (held held_after : Option (List ℕ)) (failed failed_after : ℕ) : Type 0 where
+  pub rows : IfOk result (λ count. WritesRows l side first end before count held held_after)
+  pub fault : IfErr result (λ e. ExplainsRows l side first end before e held held_after)
+  pub write_failed : ((count : ℕ) × IsErrOf result (WriteFailed count)) ↔ (failed < failed_after)
+  pub same_failures : OnOk result (failed_after ≡ failed)
 
 -- What was written of the file of a list's picture before this error. If memory ran out for a tile row, it is exactly the header
 -- and the tile rows before it.

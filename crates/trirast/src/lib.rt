@@ -15,5 +15,5 @@ pub use picture_bytes::{draw, draw_rows};
 pub use picture_file::{
     Counted, HEADER_BYTES, WriteFault, file_header, pgm_header, ppm_header, ppm_rows, write_ppm,
 };
-pub use program::{USAGE, command, refuse};
-pub use program_input::{Fault, read_input};
+pub use program::{USAGE, command};
+pub use program_input::{Fault, read_input, refuse_with, run_program};

@@ -1,7 +1,7 @@
 //! The file of a list's picture: the header, and then tile row after tile row, from the top.
 ghost use Rattle.std.specs.Prelude.{◌≡◌, ◌↔◌, ◌<◌, ◌≤◌, ℕ, OnOk, IfOk, IfErr, IsErrOf};
 ghost use Rattle.grid.specs.Pixels.{side_of};
-ghost use Rattle.trirast.specs.Picture.{ExplainsPicture, ExplainsRows, WritesRows, fault_of};
+ghost use Rattle.trirast.specs.Picture.{EndsRows, ExplainsPicture, fault_of};
 ghost use Rattle.trirast.specs.Runs.{WritesAll, WritesFile};
 ghost use Rattle.trirast.specs.declared.picture.PictureFault.TheVariants as picture;
 
@@ -49,22 +49,19 @@ impl From<PictureFault> for Fault {
 }
 
 /// Draws tile rows on the calling thread, in one store, and writes each of them before the next one is drawn. `before` bytes of the
-/// file were written earlier; returns how many are written after the call. The bytes that are given are used for each row.
+/// file were written earlier; returns how many are written after the call. Each row's bytes take the place of those in `bytes`.
 fn write_alone<W: Write, G: Gate>(
     alloc: Global,
     rows: TileRows,
     gate: &G,
-    mut bytes: Vec<u8>,
+    bytes: &mut Vec<u8>,
     before: u64,
     output: &mut Counted<W>,
-) -> Result<(u64, Vec<u8>), PictureFault>
+) -> Result<u64, PictureFault>
     requires before { before ≤ 50331667 }
     requires some { rows.first < rows.end }
     requires failures { output.old.failures < u64.MAX }
-    ensures rows { IfOk result (λ done. WritesRows rows.entry.list.now rows.entry.tiling.now.side rows.entry.first rows.entry.end before done.0 (W.contents output.old.inner) (W.contents output.new.inner)) }
-    ensures fault { IfErr result (λ e. ExplainsRows rows.entry.list.now rows.entry.tiling.now.side rows.entry.first rows.entry.end before e (W.contents output.old.inner) (W.contents output.new.inner)) }
-    ensures write_failed { ((count : ℕ) × IsErrOf result (PictureFault.WriteFailed count)) ↔ (output.old.failures < output.new.failures) }
-    ensures same_failures { OnOk result (output.new.failures ≡ output.old.failures) }
+    ensures { EndsRows rows.entry.list.now rows.entry.tiling.now.side rows.entry.first rows.entry.end before result (W.contents output.old.inner) (W.contents output.new.inner) output.old.failures output.new.failures }
 {
     let Ok(mut store) = rows.store(alloc) else {
         return Err(PictureFault::OutOfMemory(rows.first()));
@@ -74,13 +71,13 @@ fn write_alone<W: Write, G: Gate>(
         bytes.clear();
         let Ok(()) = rows
             .others(row, row + 1)
-            .push_alone(alloc, &mut store, gate, &mut bytes)
+            .push_alone(alloc, &mut store, gate, bytes)
         else {
             return Err(PictureFault::OutOfMemory(row));
         };
-        written = ppm_rows(&bytes, written, output)?;
+        written = ppm_rows(bytes, written, output)?;
     }
-    Ok((written, bytes))
+    Ok(written)
 }
 
 /// Draws tile rows by several workers, a batch of them at a time, and writes them. While a batch is drawn, the calling thread puts
@@ -101,10 +98,7 @@ fn write_together<R: Threads + Wait + Sync, W: Write, G: Gate>(
     requires together { (1 ≤ together) × (together ≤ 512) }
     requires before { before ≤ 19 }
     requires failures { output.old.failures < u64.MAX }
-    ensures rows { IfOk result (λ count. WritesRows rows.entry.list.now rows.entry.tiling.now.side rows.entry.first rows.entry.end before count (W.contents output.old.inner) (W.contents output.new.inner)) }
-    ensures fault { IfErr result (λ e. ExplainsRows rows.entry.list.now rows.entry.tiling.now.side rows.entry.first rows.entry.end before e (W.contents output.old.inner) (W.contents output.new.inner)) }
-    ensures write_failed { ((count : ℕ) × IsErrOf result (PictureFault.WriteFailed count)) ↔ (output.old.failures < output.new.failures) }
-    ensures same_failures { OnOk result (output.new.failures ≡ output.old.failures) }
+    ensures { EndsRows rows.entry.list.now rows.entry.tiling.now.side rows.entry.first rows.entry.end before result (W.contents output.old.inner) (W.contents output.new.inner) output.old.failures output.new.failures }
 {
     // The tile rows before `above` are written, and those from there to before `first` are drawn.
     let mut above = rows.first();
@@ -136,7 +130,7 @@ fn write_together<R: Threads + Wait + Sync, W: Write, G: Gate>(
             tiles = drawn;
             above = first;
         } else {
-            (written, bytes) = write_alone(alloc, batch, gate, bytes, written, output)?;
+            written = write_alone(alloc, batch, gate, &mut bytes, written, output)?;
             tiles = Vec::new(alloc);
             above = batch.end();
         }
@@ -173,15 +167,14 @@ fn write_rows<R: Threads + Wait + Sync, W: Write, G: Gate>(
     };
     let most_rows = (together * options.tile.pixels()).min(list.height());
     let most_bytes = list.output().pixel_bytes() * list.width() * most_rows;
-    let Ok(bytes) = Vec::with_capacity(alloc, most_bytes as usize) else {
+    let Ok(mut bytes) = Vec::with_capacity(alloc, most_bytes as usize) else {
         return Err(PictureFault::NotBegun);
     };
     let header = write_header(list.output(), list.width(), list.height(), output)?;
     let rows = TileRows::new(list, &tiling, 0, tiling.rows());
     // With one worker, or with a batch of one tile, nothing would be drawn concurrently.
     if options.workers == 1 || tiling.columns() * together == 1 {
-        let (written, _bytes) = write_alone(alloc, rows, gate, bytes, header, output)?;
-        Ok(written)
+        write_alone(alloc, rows, gate, &mut bytes, header, output)
     } else {
         write_together(
             rt,

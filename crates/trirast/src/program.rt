@@ -1,14 +1,14 @@
 //! The command line program, over arguments and streams.
 ghost use Rattle.std.specs.Prelude.{◌≡◌, ◌<◌, ◌⊎◌, map};
-ghost use Rattle.command_line.specs.Args.{AsksForHelp, status_of};
+ghost use Rattle.command_line.specs.Args.{AsksForHelp};
 ghost use Rattle.program_input.specs.Refusal.{WritesLine, refusal_line};
 ghost use Rattle.trirast.specs.Program.{EndsByFault, usage_line};
 ghost use Rattle.trirast.specs.Runs.{WritesPicture};
 
 use crate::engine::run;
-use command_line::{LineFault, fault_line, options};
+use command_line::options;
 use picture_file::Counted;
-use program_input::{refuse_with, write_line};
+use program_input::{fail_with, refuse_with};
 use std::alloc::Global;
 use std::io::{Read, Write};
 use std::sync::Wait;
@@ -46,31 +46,8 @@ pub fn command<'a, Rt: Threads + Wait + Sync, R: Read, W: Write, E: Write>(
     match options(alloc, arguments) {
         Ok(options) => match run(rt, alloc, input, output, options) {
             Ok(()) => 0,
-            Err(fault) => {
-                write_line(fault_line(&fault).as_str().as_bytes(), errors);
-                1
-            }
+            Err(fault) => fail_with(&fault, errors),
         },
-        Err(fault) => refuse(fault, output, errors),
+        Err(fault) => refuse_with(USAGE, fault, output, errors),
     }
-}
-
-/// Reports that the arguments give no options: writes the usage line to the output if it was asked for, else the line of the error to
-/// `errors`. Returns the program's status.
-pub fn refuse<W: Write, E: Write>(
-    fault: LineFault,
-    output: &mut Counted<W>,
-    errors: &mut Counted<E>,
-) -> u8
-    requires output { output.old.failures < u64.MAX }
-    requires errors { errors.old.failures < u64.MAX }
-    ensures help { result ≡ 0 → fault ≡ LineFault.Help }
-    ensures usage { result ≡ 0 → WritesLine usage_line (W.contents output.old.inner) (W.contents output.new.inner) }
-    ensures quiet { result ≡ 0 → errors.new ≡ errors.old }
-    ensures failed { result ≡ 1 → output.new ≡ output.old }
-    ensures refused { result ≡ 2 → output.new ≡ output.old }
-    ensures refusal { result ≡ 2 → WritesLine refusal_line (E.contents errors.old.inner) (E.contents errors.new.inner) }
-    ensures status { result ≡ status_of fault }
-{
-    refuse_with(USAGE, fault, output, errors)
 }

@@ -2,27 +2,11 @@
 #![tactic(auto)]
 
 use std::process::ExitCode;
-use trirast::{Counted, LineFault, as_slices, command, own_arguments, refuse};
+use trirast::{USAGE, command, run_program};
 
 fn main(rt: HostRuntime) -> ExitCode {
-    let mut output = Counted::new(rt.stdout());
-    let mut errors = Counted::new(rt.stderr());
-    let arguments = match own_arguments(&rt) {
-        Ok(arguments) => arguments,
-        Err(fault) => return ExitCode::from(refuse(fault, &mut output, &mut errors)),
-    };
-    let Ok(arguments) = as_slices(rt.alloc(), &arguments) else {
-        let status = refuse(LineFault::OutOfMemory, &mut output, &mut errors);
-        return ExitCode::from(status);
-    };
-    let mut input = Counted::new(rt.stdin());
-    let status = command(
-        &rt,
-        rt.alloc(),
-        &arguments,
-        &mut input,
-        &mut output,
-        &mut errors,
-    );
-    ExitCode::from(status)
+    let alloc = rt.alloc();
+    run_program(&rt, USAGE, |arguments, input, output, errors| {
+        command(&rt, alloc, arguments, input, output, errors)
+    })
 }

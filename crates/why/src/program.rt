@@ -6,11 +6,11 @@ ghost use Rattle.why.specs.declared.program.Failure.TheVariants.{Run};
 use crate::arguments::{Question, read_arguments};
 use crate::counts::report_triangle;
 use crate::text::{ReportFault, report};
-use command_line::{LineFault, fault_line};
+use command_line::LineFault;
 use list::read;
 use model::{DrawList, ReadFault};
 use picture_file::Counted;
-use program_input::{Fault, read_input, refuse_with, write_line};
+use program_input::{Fault, fail_with, read_input, refuse_with};
 use std::alloc::Global;
 use std::io::{Read, Write};
 
@@ -119,9 +119,6 @@ pub fn command<'a, R: Read, W: Write, E: Write>(
     match answer(alloc, input, output, &question) {
         Ok(()) => 0,
         Err(Failure::NotThere) => refuse_with(USAGE, LineFault::Refused, output, errors),
-        Err(Failure::Run(fault)) => {
-            write_line(fault_line(&fault).as_str().as_bytes(), errors);
-            1
-        }
+        Err(Failure::Run(fault)) => fail_with(&fault, errors),
     }
 }
