@@ -1,6 +1,7 @@
 use batch::LibraryError;
+use model::TrianglePlace;
 use sample_events::{
-    Fragment, HistoryRequest, SampleEvent, SampleInfo, StoredSample, TriangleSamples,
+    Fragment, HistoryRequest, SampleEvent, SampleInfo, StoredSample, TriangleSamples, report,
     write_history, write_triangle_samples,
 };
 use std::alloc::Global;
@@ -110,14 +111,8 @@ fn request(x: u32, y: u32, sample: u32, all: u32) -> HistoryRequest {
 /// Whether the call is refused with this status, and writes nothing but the error.
 fn refuses(alloc: Global, json: &str, request: &HistoryRequest, status: u32) -> bool {
     let (mut events, mut info, mut error) = ([UNSET; 2], UNSET_INFO, UNSET_ERROR);
-    let found = write_history(
-        alloc,
-        json.as_bytes(),
-        request,
-        &mut events,
-        &mut info,
-        &mut error,
-    );
+    let ended = write_history(alloc, json.as_bytes(), request, &mut events, &mut info);
+    let found = report(ended, &mut error);
     found == status && error.status == status && events == [UNSET; 2] && info == UNSET_INFO
 }
 
@@ -126,7 +121,10 @@ fn writes_the_event_of_a_triangle_that_misses(rt: HostRuntime) {
     let (mut events, mut info, mut error) = ([UNSET; 2], UNSET_INFO, UNSET_ERROR);
     let list = TRIANGLE.as_bytes();
     let asked = request(1, 1, 0, 1);
-    let status = write_history(rt.alloc(), list, &asked, &mut events, &mut info, &mut error);
+    let status = report(
+        write_history(rt.alloc(), list, &asked, &mut events, &mut info),
+        &mut error,
+    );
     assert_eq!(rt; (status, error), (0, LibraryError::alone(0)));
     assert_eq!(rt; events, [MISSED, UNSET]);
     assert_eq!(rt; (info.event_count, info.samples, info.output), (1, 1, 0));
@@ -139,11 +137,17 @@ fn writes_the_event_of_a_triangle_that_is_drawn(rt: HostRuntime) {
     let (mut events, mut info, mut error) = ([UNSET; 1], UNSET_INFO, UNSET_ERROR);
     let list = TRIANGLE.as_bytes();
     let asked = request(1, 0, 0, 0);
-    let status = write_history(rt.alloc(), list, &asked, &mut events, &mut info, &mut error);
+    let status = report(
+        write_history(rt.alloc(), list, &asked, &mut events, &mut info),
+        &mut error,
+    );
     assert_eq!(rt; (status, events), (0, [DRAWN]));
     assert_eq!(rt; (info.event_count, info.begin, info.end), (1, CLEAR, WHITE));
     let mut none: [SampleEvent; 0] = [];
-    let status = write_history(rt.alloc(), list, &asked, &mut none, &mut info, &mut error);
+    let status = report(
+        write_history(rt.alloc(), list, &asked, &mut none, &mut info),
+        &mut error,
+    );
     assert_eq!(rt; (status, info.event_count), (0, 1));
 }
 
@@ -152,7 +156,10 @@ fn leaves_out_triangles_that_do_not_cover_the_sample(rt: HostRuntime) {
     let (mut events, mut info, mut error) = ([UNSET; 1], UNSET_INFO, UNSET_ERROR);
     let list = TRIANGLE.as_bytes();
     let asked = request(1, 1, 0, 0);
-    let status = write_history(rt.alloc(), list, &asked, &mut events, &mut info, &mut error);
+    let status = report(
+        write_history(rt.alloc(), list, &asked, &mut events, &mut info),
+        &mut error,
+    );
     assert_eq!(rt; (status, events, info.event_count), (0, [UNSET], 0));
 }
 
@@ -169,6 +176,18 @@ fn reports_the_first_error(rt: HostRuntime) {
     assert!(rt; refuses(rt.alloc(), TRIANGLE, &request(2, 2, 1, 0), 11));
 }
 
+/// The status after the samples of this triangle of the first draw are counted.
+fn count_into(
+    alloc: Global,
+    json: &[u8],
+    triangle: usize,
+    samples: &mut TriangleSamples,
+    error: &mut LibraryError,
+) -> u32 {
+    let place = TrianglePlace { draw: 0, triangle };
+    report(write_triangle_samples(alloc, json, place, samples), error)
+}
+
 #[test]
 fn counts_the_samples_of_a_triangle(rt: HostRuntime) {
     let mut samples = TriangleSamples {
@@ -178,14 +197,14 @@ fn counts_the_samples_of_a_triangle(rt: HostRuntime) {
     };
     let (unset, mut error) = (samples, UNSET_ERROR);
     let list = TRIANGLE.as_bytes();
-    let status = write_triangle_samples(rt.alloc(), list, 0, 1, &mut samples, &mut error);
+    let status = count_into(rt.alloc(), list, 1, &mut samples, &mut error);
     assert_eq!(rt;
         (status, error, samples),
         (14, LibraryError::alone(14), unset)
     );
-    let status = write_triangle_samples(rt.alloc(), b"{}", 0, 0, &mut samples, &mut error);
+    let status = count_into(rt.alloc(), b"{}", 0, &mut samples, &mut error);
     assert_eq!(rt; (status, samples), (1, unset));
-    let status = write_triangle_samples(rt.alloc(), list, 0, 0, &mut samples, &mut error);
+    let status = count_into(rt.alloc(), list, 0, &mut samples, &mut error);
     assert_eq!(rt; (status, error), (0, LibraryError::alone(0)));
     assert_eq!(rt;
         (samples.covered, samples.changed, samples.shown),

@@ -52,8 +52,8 @@ impl From<AllocError> for HistoryError {
     }
 }
 
-/// Writes how a call ended into the caller's error. Returns the status.
-pub(crate) fn report(ended: Result<(), HistoryError>, error: &mut LibraryError) -> u32
+/// Writes how a call ended into the caller's error, as C has it. Returns the status, 0 if the call succeeded.
+pub fn report(ended: Result<(), HistoryError>, error: &mut LibraryError) -> u32
     ensures { IsReported ended result error.new }
 {
     *error = match ended {

@@ -13,7 +13,7 @@ mod text;
 mod triangle;
 mod walk;
 
-pub use error::HistoryError;
+pub use error::{HistoryError, report};
 pub use event::SampleEvent;
 pub use request::HistoryRequest;
 pub use sample_history::write_history;

@@ -7,8 +7,10 @@ ghost use Rattle.sample_events.specs.Triangles.{HoldsSamples, ExplainsSamples};
 ghost use Rattle.sample_events.specs.declared.error.HistoryError.{HistoryError};
 
 use batch::LibraryError;
+use model::TrianglePlace;
 use sample_events::{
-    HistoryRequest, SampleEvent, SampleInfo, TriangleSamples, write_history, write_triangle_samples,
+    HistoryRequest, SampleEvent, SampleInfo, TriangleSamples, report, write_history,
+    write_triangle_samples,
 };
 use std::alloc::Global;
 
@@ -31,7 +33,7 @@ pub extern "C" fn trirast_history(
     ensures error { result ≢ 0 → (e : HistoryError) × (result ≡ number_of e) × (error.new ≡ reported e) × ExplainsHistory json.now request.now e }
     ensures sizes { (result ≡ 7) ↔ ¬ HasSizes request.now }
 {
-    write_history(alloc, json, request, events, info, error)
+    report(write_history(alloc, json, request, events, info), error)
 }
 
 /// Writes into `samples` how many samples of the picture triangle `triangle` of draw `draw` covers, how many it changes, and how many
@@ -50,5 +52,6 @@ pub extern "C" fn trirast_triangle_samples(
     ensures kept { result ≢ 0 → samples.new ≡ samples.old }
     ensures error { result ≢ 0 → (e : HistoryError) × (result ≡ number_of e) × (error.new ≡ reported e) × ExplainsSamples json.now (record { draw = draw; triangle = triangle }) e }
 {
-    write_triangle_samples(alloc, json, draw, triangle, samples, error)
+    let place = TrianglePlace { draw, triangle };
+    report(write_triangle_samples(alloc, json, place, samples), error)
 }
