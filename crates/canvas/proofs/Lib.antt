@@ -10,6 +10,7 @@ pub mod Units
 pub mod Arranged
 pub mod PixelColours
 pub mod Masks
+pub mod Shown
 pub mod Missed
 pub mod DrawnIds
 pub mod Changes

@@ -56,6 +56,13 @@
 --   HasReached: Those of some columns of tiles in which the triangle covers a sample of this tile row are among the others.
 --   AreOfTile: Those of the triangles of these numbers that meet a sample of the tile have its column among theirs.
 --
+-- Hidden.antt
+--   ReplacesColours: A triangle in this state gives its colour to each sample that it covers in its scissor.
+--   Hides: The triangle hides the colours that are stored in the tile: what it makes of a sample, it makes of each other of the same depth.
+--   KeepsDepths: The triangle changes no depth in the tile.
+--   FirstKeepDepths: The first n triangles change no depth in the tile.
+--   CanBegin: The tile can begin with triangle k: it hides the colours that are stored there, and those before it change no depth.
+--
 -- Loaded.antt
 --   coloured: The sample in the colour of these bytes of a pixel.
 --   AreChanged: The samples of some pixels in these tile rows end as `end_of` makes them, and all other samples are unchanged.
@@ -90,6 +97,7 @@ pub mod Pixels
 pub mod Entries
 pub mod Colours
 pub mod Rows
+pub mod Hidden
 pub mod Loaded
 pub mod Ids
 pub mod Indexed

@@ -8,6 +8,7 @@ mod colours;
 mod columns;
 mod entries;
 mod format;
+mod hidden;
 mod ids;
 mod image;
 mod indexed;

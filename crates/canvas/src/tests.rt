@@ -214,6 +214,67 @@ fn draws_batches_over_samples_that_stay(rt: HostRuntime) -> Result<(), Fail> {
     Ok(())
 }
 
+/// A triangle that covers all tiles of the picture but the last, in one colour and without blending.
+fn covering(rt: &impl Abort) -> Placed {
+    let near = Point::new(-30_000, -30_000).expect(rt, "inside of the guard band");
+    let right = Point::new(90_000, -30_000).expect(rt, "inside of the guard band");
+    let below = Point::new(-30_000, 90_000).expect(rt, "inside of the guard band");
+    Placed {
+        tri: Tri::new(near, right, below),
+        z: [500, 40_000, 20_000],
+        rgba: [[200, 150, 100, 50]; 3],
+        state: State {
+            merge: Merge {
+                test: DepthTest::Always,
+                depth_write: false,
+                write: [true; 3],
+                over: false,
+            },
+            cull: Cull::None,
+            sample_mask: 15,
+            scissor: PixelBox {
+                x0: 0,
+                y0: 0,
+                x1: 4096,
+                y1: 4096,
+            },
+        },
+    }
+}
+
+/// Whether a batch in which one triangle hides those before it ends as its triangles are defined. With `depths` one of these writes depths.
+fn draws_hidden(
+    rt: &impl Abort,
+    alloc: Global,
+    count: SampleCount,
+    depths: bool,
+) -> Result<bool, Fail> {
+    let rows = canvas(rt, count).all();
+    let mut numbers = Numbers { state: 31 };
+    let mut triangles = Vec::new(alloc);
+    for k in 0..20 {
+        let mut triangle = numbers.triangle(rt);
+        triangle.state.merge.depth_write = depths && k == 7;
+        triangles.push(triangle)?;
+    }
+    triangles.push(covering(rt))?;
+    for _ in 0..10 {
+        triangles.push(numbers.triangle(rt))?;
+    }
+    let mut samples = cleared(alloc, &rows)?;
+    let drawn = rows.draw(&triangles, &mut samples);
+    Ok(drawn.is_ok() && are_ends(&rows, &samples, &triangles))
+}
+
+#[test]
+fn leaves_out_what_a_later_triangle_hides(rt: HostRuntime) -> Result<(), Fail> {
+    for count in [SampleCount::One, SampleCount::Four] {
+        assert!(rt; draws_hidden(&rt, rt.alloc(), count, false)?);
+        assert!(rt; draws_hidden(&rt, rt.alloc(), count, true)?);
+    }
+    Ok(())
+}
+
 /// Whether a source of enough triangles for the largest chunk ends as they are defined.
 fn draws_many(rt: &impl Abort, alloc: Global) -> Result<bool, Fail> {
     let rows = canvas(rt, SampleCount::One).all();

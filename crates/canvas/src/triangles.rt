@@ -1,5 +1,5 @@
 //! Triangles, drawn at the samples of tile rows.
-ghost use Rattle.std.specs.Prelude.{◌≡◌, ◌↔◌, ◌+◌, ◌<◌, ◌≤◌, length, IsOk, OnOk, OnErr, IfErr};
+ghost use Rattle.std.specs.Prelude.{◌≡◌, ◌↔◌, ◌+◌, ◌<◌, ◌≤◌, length, take, IsOk, OnOk, OnErr, IfErr};
 ghost use Rattle.raster.specs.Samples.{planes_of};
 ghost use Rattle.reach.specs.Reach.{AreReached};
 ghost use Rattle.grid.specs.declared.pixels.TileSide.TheVariants.{T64};
@@ -8,6 +8,7 @@ ghost use Rattle.canvas.specs.Drawing.{HaveEnds, TileEnds, TileHasEnds};
 ghost use Rattle.canvas.specs.Rows.{IsMaskOf};
 
 use crate::canvas::Canvas;
+use crate::hidden::first_shown;
 use crate::misfit::Misfit;
 use crate::tile_planes::fill_tile;
 use crate::tile_rows::TileRows;
@@ -22,14 +23,33 @@ const LARGEST: usize = 16_384;
 /// How many are drawn together with little memory of the stack.
 const LARGE: usize = 1024;
 
-/// Draws the triangles at the samples of a tile's own blocks, one after another, but those whose bit is not set.
+/// Draws the first triangle that has to be drawn at the samples of a tile's own blocks, if it hides those before it. Returns how many
+/// triangles of the chunk are done with.
+fn draw_first(chunk: &[Placed], mask: u64, tile: &Tile, samples: &mut [BlockSamples]) -> usize
+    requires few { length chunk.now ≤ 64 }
+    requires mask { IsMaskOf chunk.now tile.now mask }
+    requires samples { length samples.old ≡ planes_of tile.now.side tile.now.count }
+    ensures within { result ≤ length chunk.now }
+    ensures drawn { TileHasEnds (take result chunk.now) tile.now samples.old samples.new }
+{
+    match first_shown(chunk, mask, tile) {
+        None => 0,
+        Some(k) => {
+            draw_triangle(&chunk[k], tile, samples);
+            k + 1
+        }
+    }
+}
+
+/// Draws the triangles at the samples of a tile's own blocks, one after another, but those whose bit is not set, and those that a later
+/// one is seen to hide.
 fn draw_blocks(chunk: &[Placed], mask: u64, tile: &Tile, samples: &mut [BlockSamples])
     requires few { length chunk.now ≤ 64 }
     requires mask { IsMaskOf chunk.now tile.now mask }
     requires samples { length samples.old ≡ planes_of tile.now.side tile.now.count }
     ensures { TileHasEnds chunk.now tile.now samples.old samples.new }
 {
-    let mut done = 0;
+    let mut done = draw_first(chunk, mask, tile, samples);
     while done < chunk.len() {
         let rest = mask >> done;
         if rest == 0 {

@@ -1,0 +1,124 @@
+-- Tiles that begin with a later triangle, which hides those before it.
+use Rattle.std.proofs.Common.{zero, suc, ◌≡◌, ◌∙◌, inl, inr, refl, ap, subst, ℕ, ◌+◌, ◌*◌, ◌/◌, ◌%◌, ◌^◌, ◌<◌, ◌≤◌, Bool, false, List, [], ◌∷◌, length, take, get_or, slice_get, Some, IsTrue, IsBitSet, arith}
+use Rattle.std.proofs.lemmas.Bool.{cases_lt}
+use Rattle.std.proofs.lemmas.Option.{get_or_from_slice_get}
+use Rattle.grid.specs.Samples.{count_of}
+use Rattle.grid.specs.declared.sample_count.SampleCount.{SampleCount}
+use Rattle.grid.specs.declared.sample_count.SampleCount.TheVariants.{One, Four}
+use Rattle.cover.specs.Rasterized.{IsRasterized}
+use Rattle.cover.specs.Square.{CoversAll}
+use Rattle.shade.specs.declared.depth.DepthTest.{DepthTest}
+use Rattle.shade.specs.declared.depth.DepthTest.TheVariants.{Always}
+use Rattle.shade.specs.declared.sample.Sample.{Sample}
+use Rattle.shade.specs.declared.sample.Shaded.{Shaded}
+use Rattle.shade.specs.declared.sample.Merge.{Merge}
+use Rattle.shade.specs.declared.state.State.{State}
+use Rattle.shade.specs.declared.placed.Placed.{Placed}
+use Rattle.shade.specs.Blend.{IsBlended}
+use Rattle.shade.specs.Depth.{Passes}
+use Rattle.shade.specs.Merging.{IsMerged}
+use Rattle.shade.specs.Placed.{Meets, Draws}
+use Rattle.shade.specs.Ending.{Ends}
+use Rattle.shade.proofs.Decided.{IsDecided, meets, passes}
+use Rattle.shade.proofs.Endings.{ends, ends_more}
+use Rattle.lanes.specs.declared.block_samples.BlockSamples.{BlockSamples}
+use Rattle.raster.specs.declared.tile.Tile.{Tile}
+use Rattle.raster.specs.Samples.{stored}
+use Rattle.raster.specs.Region.{HoldsTile}
+use Rattle.raster.specs.Drawing.{DrawsTile, square_of}
+use Rattle.canvas.specs.Drawing.{TileHasEnds}
+use Rattle.canvas.specs.Rows.{IsMaskOf}
+use Rattle.canvas.specs.Hidden.{ReplacesColours, Hides, KeepsDepths, FirstKeepDepths, CanBegin}
+
+-- ---- a triangle that hides the tile
+in_mask : (count : SampleCount) (mask s : ℕ) → mask % 16 ≡ 15 → s < count_of count → mask / 2 ^ s % 2 ≡ 1
+in_mask One mask zero all below = omega (arith, all)
+in_mask One mask (suc s) all below = absurd (omega (arith, below))
+in_mask Four mask zero all below = omega (arith, all)
+in_mask Four mask (suc zero) all below = omega (arith, all)
+in_mask Four mask (suc (suc zero)) all below = omega (arith, all)
+in_mask Four mask (suc (suc (suc zero))) all below = omega (arith, all)
+in_mask Four mask (suc (suc (suc (suc s)))) all below = absurd (omega (arith, below))
+
+always : (test : DepthTest) (new old : ℕ) → test ≡ Always → Passes test new old
+always test new old is = rw is tt
+
+replaced : (written over : Bool) (source alpha x y new : ℕ) → IsTrue written → over ≡ false → IsBlended written over source alpha x new → IsBlended written over source alpha y new
+replaced written over source alpha x y new is plain h = rw (is, plain) (rw (is, plain) at h)
+
+merged_alike : (state : State) (f : Shaded) (x y new : Sample) → ReplacesColours state → y.z ≡ x.z → IsMerged state.merge f x new → IsMerged state.merge f y new
+merged_alike state f x y new r same h = record {
+  red = replaced _ state.merge.over f.r f.a x.r y.r new.r r.red r.plain h.red;
+  green = replaced _ state.merge.over f.g f.a x.g y.g new.g r.green r.plain h.green;
+  blue = replaced _ state.merge.over f.b f.a x.b y.b new.b r.blue r.plain h.blue;
+  depth = rw same h.depth;
+}
+
+pub hides_tile : (t : Placed) (tile : Tile) → ReplacesColours t.state → HoldsTile t.state.scissor tile → IsRasterized t.tri t.state.cull → CoversAll (square_of t.tri tile) → Hides t tile
+hides_tile t tile replaces holds drawn covers row column s h x y new same draws =
+    let meets_sample : Meets t tile.count (8 * tile.bx + column) (8 * tile.by + row) s =
+    record { kept = drawn.kept; covered = covers s row column h.is_sample h.high h.wide; in_scissor = holds row column h.high h.wide; in_mask = in_mask tile.count t.state.sample_mask s replaces.all_samples h.is_sample } in
+    let made = draws.met meets_sample in
+    let old = made.2.passed (always t.state.merge.test made.0.z x.z replaces.passes) in
+    record {
+      met = λ _. (made.0, made.1, record { passed = λ _. merged_alike t.state made.0 x y new replaces same old; failed = λ fails. absurd (fails (always t.state.merge.test made.0.z y.z replaces.passes)) });
+      missed = λ missed. absurd (missed meets_sample);
+    }
+
+-- ---- triangles that keep depths
+depth_kept : (m : Merge) (f : Shaded) (x y : Sample) → m.depth_write ≡ false → IsMerged m f x y → y.z ≡ x.z
+depth_kept m f x y off h = rw off at h.depth
+
+module _ (t : Placed) (count : SampleCount) (i j s : ℕ) (x y : Sample) (off : t.state.merge.depth_write ≡ false) (draws : Draws t count i j s x y) where
+  kept_when_tested : (m : Meets t count i j s) → IsDecided (Passes t.state.merge.test (draws.met m).0.z x.z) → y.z ≡ x.z
+  kept_when_tested m (inl passed) = depth_kept t.state.merge (draws.met m).0 x y off ((draws.met m).2.passed passed)
+  kept_when_tested m (inr failed) = ap (λ (a : Sample). a.z) ((draws.met m).2.failed failed)
+
+  kept_when : IsDecided (Meets t count i j s) → y.z ≡ x.z
+  kept_when (inl m) = kept_when_tested m (passes t.state.merge.test (draws.met m).0.z x.z)
+  kept_when (inr n) = ap (λ (a : Sample). a.z) (draws.missed n)
+
+pub keeps_depths : (t : Placed) (tile : Tile) → t.state.merge.depth_write ≡ false → KeepsDepths t tile
+keeps_depths t tile off row column s h x y draws =
+    kept_when t tile.count (8 * tile.bx + column) (8 * tile.by + row) s x y off draws (meets t tile.count (8 * tile.bx + column) (8 * tile.by + row) s)
+
+-- those from number n on whose bits are not set meet nothing of the tile
+pub keep_past : (ts : List Placed) (tile : Tile) (mask n m : ℕ) → IsMaskOf ts tile mask → ((k : ℕ) → n ≤ k → k < m → ¬ IsBitSet mask k) → FirstKeepDepths ts tile n → FirstKeepDepths ts tile m
+keep_past ts tile mask n m is unset before k t below found =
+    elim (cases_lt k n) [
+      | inl less ↦ before k t less found
+      | inr more ↦ λ row column s h x y draws. ap (λ (a : Sample). a.z) (draws.missed (is k t found (unset k more below) row column s h))
+    ]
+
+-- one more
+pub keep_one : (ts : List Placed) (tile : Tile) (n : ℕ) (item : Placed) → (get_or ts n item).state.merge.depth_write ≡ false → FirstKeepDepths ts tile n → FirstKeepDepths ts tile (n + 1)
+keep_one ts tile n item off before k t below found =
+    elim (cases_lt k n) [
+      | inl less ↦ before k t less found
+      | inr more ↦
+          let here : k ≡ n = omega (arith, below, more) in
+          let same : get_or ts n item ≡ t = get_or_from_slice_get ts n t item (rw here at found) in
+          keeps_depths t tile (rw same at off)
+    ]
+
+-- ---- a tile that begins with a triangle
+pub can_begin : (ts : List Placed) (tile : Tile) (n m : ℕ) (item : Placed) → item ≡ get_or ts n item → Hides item tile → n ≤ m → FirstKeepDepths ts tile m → CanBegin ts tile n
+can_begin ts tile n m item is hides few keep = record {
+  hides = λ t found. let same : item ≡ t = is ∙ get_or_from_slice_get ts n t item found in subst (λ u. Hides u tile) same hides;
+  keep = λ k t below found. keep k t (omega (arith, below, few)) found;
+}
+
+depth_after : (ts : List Placed) (n : ℕ) (count : SampleCount) (i j s : ℕ) → ((k : ℕ) (t : Placed) → k < n → slice_get ts k ≡ Some t → (x y : Sample) → Draws t count i j s x y → y.z ≡ x.z)
+    → (x y : Sample) → Ends (take n ts) count i j s x y → y.z ≡ x.z
+depth_after ts zero count i j s keep x y h = ap (λ (a : Sample). a.z) h
+depth_after [] (suc n) count i j s keep x y h = ap (λ (a : Sample). a.z) h
+depth_after (t ∷ ts) (suc n) count i j s keep x y h =
+    depth_after ts n count i j s (λ k u below found. keep (suc k) u (omega (arith, below)) found) h.0 y h.2 ∙ keep zero t (omega arith) refl x h.0 h.1
+
+pub begins : (ts : List Placed) (tile : Tile) (n : ℕ) (t : Placed) (old new : List BlockSamples) → n < length ts → slice_get ts n ≡ Some t → CanBegin ts tile n → DrawsTile t tile old new → TileHasEnds (take (n + 1) ts) tile old new
+begins ts tile n t old new below found can draws row column s h =
+    let x : Sample = stored tile old row column s in
+    let before = ends tile.count (8 * tile.bx + column) (8 * tile.by + row) s (take n ts) x in
+    let same : before.0.z ≡ x.z = depth_after ts n tile.count (8 * tile.bx + column) (8 * tile.by + row) s (λ k u less at_k a b made. can.keep k u less at_k row column s h a b made) x before.0 before.1 in
+    ends_more tile.count (8 * tile.bx + column) (8 * tile.by + row) s ts n t x before.0 (stored tile new row column s) below found before.1
+    (can.hides t found row column s h x before.0 (stored tile new row column s) same (draws row column s h))
