@@ -9,8 +9,8 @@ use Rattle.shade.specs.Placed.{Draws}
 use Rattle.raster.specs.declared.tile.Tile.{Tile}
 use Rattle.raster.specs.Samples.{IsSampleOf}
 
--- A triangle in this state gives its colour to each sample of a pixel that it covers in its scissor: the depth test always passes, red,
--- green and blue are written without blending, and all of up to four samples are in the mask.
+-- A triangle in this state gives its colour to each sample that it covers in its scissor. The depth test always passes, red, green and
+-- blue are written without blending, and all of up to four samples are in the mask.
 pub record ReplacesColours (s : State) : Type 0 where
   pub passes : s.merge.test ≡ Always
   pub red : Writes s.merge 0

@@ -57,7 +57,7 @@
 --   AreOfTile: Those of the triangles of these numbers that meet a sample of the tile have its column among theirs.
 --
 -- Hidden.antt
---   ReplacesColours: A triangle in this state gives its colour to each sample of a pixel that it covers in its scissor: the depth test always passes, red, green and blue are written without blending, and all of up to four samples are in the mask.
+--   ReplacesColours: A triangle in this state gives its colour to each sample that it covers in its scissor.
 --   Hides: The triangle hides the colours that are stored in the tile: what it makes of a sample, it makes of each other of the same depth.
 --   KeepsDepths: The triangle changes no depth in the tile.
 --   FirstKeepDepths: The first n triangles change no depth in the tile.
