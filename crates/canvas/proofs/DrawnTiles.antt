@@ -1,27 +1,43 @@
 -- What triangles make of a tile whose blocks have their samples.
-use Rattle.std.proofs.Common.{◌≡◌, ◌≢◌, ◌∙◌, refl, ap, sym, ℕ, ◌+◌, ◌*◌, ◌/◌, ◌%◌, ◌<◌, ◌≤◌, List, length, take, drop, slice_index, arith}
+use Rattle.std.proofs.Common.{◌≡◌, ◌≢◌, ◌∙◌, refl, ap, sym, ℕ, ◌+◌, ◌*◌, ◌/◌, ◌%◌, ◌<◌, ◌≤◌, List, ◌++◌, length, take, drop, slice_index, arith}
 use Rattle.std.specs.Prelude.{slice_index_or}
+use Rattle.std.proofs.Math.Seq.{drop-append_seam, take-append_seam}
+use Rattle.std.proofs.lemmas.List.{length-take}
 use Rattle.grid.specs.Samples.{count_of}
+use Rattle.grid.specs.declared.sample_count.SampleCount.{SampleCount}
 use Rattle.grid.specs.declared.pixels.TileSide.TheVariants.{T64}
 use Rattle.lanes.specs.declared.block_samples.BlockSamples.{BlockSamples}
 use Rattle.lanes.specs.Block.{stored_at}
 use Rattle.shade.specs.declared.placed.Placed.{Placed}
 use Rattle.raster.specs.declared.tile.Tile.{Tile}
 use Rattle.raster.specs.Samples.{IsSampleOf, place_of as place_in, stored as in_tile}
-use Rattle.canvas.proofs.Cut.{put, put_here, put_elsewhere, part_of}
+use Rattle.canvas.proofs.Cut.{put, put_elsewhere, part_of}
 use Rattle.canvas.proofs.Ends.{ends_at}
 use Rattle.canvas.proofs.Places.{none}
 use Rattle.canvas.proofs.TilePlanes.{at_changed, own_place, within_own}
 use Rattle.canvas.specs.Layout.{planes_of_tile, stored_in_tile}
 use Rattle.canvas.specs.Drawing.{TileEnds, TileHasEnds}
 
-module _ (ts : List Placed) (tile : Tile) (side : tile.side ≡ T64) (old filled part : List BlockSamples) (n a : ℕ) (room : a + n ≤ length filled) (long : length part ≡ n)
+-- the planes of its own blocks, put back changed
+pub own_put : (xs part : List BlockSamples) (n a : ℕ) → a + n ≤ length xs → length part ≡ n → take n (drop a (put xs part a n)) ≡ part
+own_put xs part n a room long =
+    let short : length (take a xs) ≡ a = omega (arith, length-take a xs, room) in
+    ap (λ k. take n (drop k (put xs part a n))) (sym short)
+    ∙ ap (take n) (drop-append_seam (take a xs) (part ++ drop n (drop a xs)))
+    ∙ ap (λ k. take k (part ++ drop n (drop a xs))) (sym long)
+    ∙ take-append_seam part (drop n (drop a xs))
+
+pub mark_put : (xs part : List BlockSamples) (n a : ℕ) → a + n ≤ length xs → length part ≡ n → 0 < a → slice_index_or (put xs part a n) 0 none ≡ slice_index_or xs 0 none
+mark_put xs part n a room long some = put_elsewhere xs part a n none room long 0 (λ m l d. omega (arith, d, some))
+
+-- what its own blocks have, the tile has
+module _ (ts : List Placed) (tile : Tile) (side : tile.side ≡ T64) (old filled new : List BlockSamples) (n a : ℕ)
     (many : a + n ≡ planes_of_tile tile.count) (at : a ≡ 1 + count_of tile.count) (changed : slice_index (slice_index_or filled 0 none).r 0 ≢ 1)
+    (mark : slice_index_or new 0 none ≡ slice_index_or filled 0 none)
     (kept : (i j s : ℕ) → s < count_of tile.count → stored_in_tile tile.count filled i j s ≡ stored_in_tile tile.count old i j s)
-    (draws : TileHasEnds ts tile (take n (drop a filled)) part) where
-  still_changed : slice_index (slice_index_or (put filled part a n) 0 none).r 0 ≢ 1
-  still_changed e =
-      changed (ap (λ p. slice_index p.r 0) (sym (put_elsewhere filled part a n none room long 0 (λ m l d. omega (arith, d, at)))) ∙ e)
+    (draws : TileHasEnds ts tile (take n (drop a filled)) (take n (drop a new))) where
+  still_changed : slice_index (slice_index_or new 0 none).r 0 ≢ 1
+  still_changed e = changed (ap (λ (p : BlockSamples). slice_index p.r 0) (sym mark) ∙ e)
 
   module _ (row column s : ℕ) (h : IsSampleOf tile row column s) where
     abbrev block : ℕ
@@ -51,20 +67,26 @@ module _ (ts : List Placed) (tile : Tile) (side : tile.side ≡ T64) (old filled
     in_all : a + own ≡ 1 + (block + 1) * count_of tile.count + s
     in_all = ap (λ b. b + own) at ∙ own_place tile.count block s
 
+    in_own : (xs : List BlockSamples) → slice_index (slice_index_or xs 0 none).r 0 ≢ 1 → in_tile tile (take n (drop a xs)) row column s ≡ stored_in_tile tile.count xs column row s
+    in_own xs is =
+        ap (λ k. stored_at (slice_index_or (take n (drop a xs)) k none) pixel) place_is
+        ∙ ap (λ p. stored_at p pixel) (part_of xs a n none own inside)
+        ∙ ap (λ k. stored_at (slice_index_or xs k none) pixel) in_all
+        ∙ sym (at_changed tile.count xs column row s is)
+
     old_is : in_tile tile (take n (drop a filled)) row column s ≡ stored_in_tile tile.count old column row s
-    old_is =
-        ap (λ k. stored_at (slice_index_or (take n (drop a filled)) k none) pixel) place_is
-        ∙ ap (λ p. stored_at p pixel) (part_of filled a n none own inside)
-        ∙ ap (λ k. stored_at (slice_index_or filled k none) pixel) in_all
-        ∙ sym (at_changed tile.count filled column row s changed)
-        ∙ kept column row s h.is_sample
+    old_is = in_own filled changed ∙ kept column row s h.is_sample
 
-    new_is : in_tile tile part row column s ≡ stored_in_tile tile.count (put filled part a n) column row s
-    new_is =
-        ap (λ k. stored_at (slice_index_or part k none) pixel) place_is
-        ∙ sym (ap (λ p. stored_at p pixel) (put_here filled part a n none room long own inside))
-        ∙ ap (λ k. stored_at (slice_index_or (put filled part a n) k none) pixel) in_all
-        ∙ sym (at_changed tile.count (put filled part a n) column row s still_changed)
+    new_is : in_tile tile (take n (drop a new)) row column s ≡ stored_in_tile tile.count new column row s
+    new_is = in_own new still_changed
 
-  pub tile_drawn : TileEnds ts tile old (put filled part a n)
+  pub tile_drawn : TileEnds ts tile old new
   tile_drawn row column s h = ends_at ts _ _ _ _ _ _ s _ _ _ _ refl refl refl (old_is row column s h) (new_is row column s h) (draws row column s h)
+
+-- the tile was filled, and its own blocks, which begin at plane `a`, end as what the triangles make of them
+pub record AreDrawnOn (ts : List Placed) (tile : Tile) (count : SampleCount) (a : ℕ) (old new : List BlockSamples) : Type 0 where
+  pub filled : List BlockSamples
+  pub changed : slice_index (slice_index_or filled 0 none).r 0 ≢ 1
+  pub mark : slice_index_or new 0 none ≡ slice_index_or filled 0 none
+  pub kept : (i j s : ℕ) → s < count_of count → stored_in_tile count filled i j s ≡ stored_in_tile count old i j s
+  pub draws : TileHasEnds ts tile (take (64 * count_of count) (drop a filled)) (take (64 * count_of count) (drop a new))

@@ -51,33 +51,6 @@ fn draw_some<T: Triangles, const N: usize>(
 }
 
 impl Canvas {
-    /// Draws the triangles of a tile row at the samples of the own blocks of the tile in this column, one after another.
-    fn draw_listed_blocks<T: Triangles, const N: usize>(
-        &self,
-        column: u32,
-        row: u32,
-        triangles: &T,
-        list: &RowList<N>,
-        tile: &Tile,
-        samples: &mut [BlockSamples],
-    )
-        requires column { column < columns_of self.now }
-        requires row { row < rows_of self.now }
-        requires fits { list.now.count ≤ N }
-        requires whole { N % 16 ≡ 0 }
-        requires few { N ≤ 65536 }
-        requires list { AreOfRow (T.listed triangles.now) self.now row (length (T.listed triangles.now)) list.now.numbers list.now.columns.firsts list.now.columns.ends list.now.count list.now.span }
-        requires tile { (tile.now.bx ≡ 8 * column) × (tile.now.by ≡ 8 * row) × (tile.now.side ≡ T64) × (tile.now.count ≡ self.now.count) }
-        requires samples { length samples.old ≡ planes_of T64 self.now.count }
-        ensures { TileHasEnds (T.listed triangles.now) tile.now samples.old samples.new }
-    {
-        let mut from = 0;
-        while from < list.count {
-            draw_some(triangles, list, from, column, tile, samples);
-            from += 16;
-        }
-    }
-
     /// Draws the triangles of a tile row at the samples of the tile in this column, one after another.
     fn draw_listed_tile<T: Triangles, const N: usize>(
         &self,
@@ -100,7 +73,11 @@ impl Canvas {
     {
         fill_tile(self.count, samples);
         let own = 1 + self.count.count() as usize;
-        self.draw_listed_blocks(column, row, triangles, list, tile, &mut samples[own..]);
+        let mut from = 0;
+        while from < list.count {
+            draw_some(triangles, list, from, column, tile, &mut samples[own..]);
+            from += 16;
+        }
     }
 
     /// Draws the triangles of a tile row at its samples, tile by tile.
