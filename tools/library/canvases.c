@@ -250,8 +250,8 @@ static void compare_weights(void) {
 }
 
 static void compare_sizes(void) {
-    expect(trirast_canvas_bytes(4096, 4096, 4, 0, 64) == (size_t)4096 * 4096 * 4 * 5, "the largest canvas");
-    expect(trirast_canvas_bytes(1, 1, 1, 0, 1) == 64 * 64 * 5 && trirast_canvas_bytes(65, 1, 1, 0, 1) == 2 * 64 * 64 * 5, "one tile");
+    expect(trirast_canvas_bytes(4096, 4096, 4, 0, 64) == (size_t)4096 * 261 * 320, "the largest canvas");
+    expect(trirast_canvas_bytes(1, 1, 1, 0, 1) == 66 * 320 && trirast_canvas_bytes(65, 1, 1, 0, 1) == 2 * 66 * 320, "one tile");
     expect(!trirast_canvas_bytes(0, 1, 1, 0, 1) && !trirast_canvas_bytes(4097, 1, 1, 0, 1) && !trirast_canvas_bytes(1, 4097, 1, 0, 1) &&
                !trirast_canvas_bytes(1, 1, 2, 0, 1) && !trirast_canvas_bytes(1, 1, 1, 0, 2) && !trirast_canvas_bytes(1, 1, 1, 1, 0),
            "none");
