@@ -82,7 +82,8 @@ class Pictures(unittest.TestCase):
         memory = bytearray(trirast.Canvas.size(3, 3))
         canvas = trirast.Canvas(3, 3, memory=memory)
         canvas.clear((7, 7, 7), 0x0101)
-        self.assertEqual(set(memory[:192]), {1, 7})
+        # Behind the plane of marks lie the samples to which the tile was cleared.
+        self.assertEqual(set(memory[320:640]), {1, 7})
         del canvas
         with self.assertRaises(ValueError):
             trirast.Canvas(3, 3, memory=bytearray(9))
