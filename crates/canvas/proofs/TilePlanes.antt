@@ -31,7 +31,7 @@ module _ (count : SampleCount) (xs : List BlockSamples) (i j s : ℕ) where
   abbrev pixel : ℕ
   pixel = 8 * (j % 8) + i % 8
 
-  -- one of its samples, while it is as it was cleared and after
+  -- one of its samples, while the tile is unchanged since it was cleared, and later
   pub at_cleared : slice_index (slice_index_or xs 0 none).r 0 ≡ 1 → stored_in_tile count xs i j s ≡ stored_at (slice_index_or xs (1 + s) none) pixel
   at_cleared e =
       ap (λ b. stored_at (slice_index_or xs (1 + b * count_of count + s) none) pixel) (block_cleared (slice_index_or xs 0 none) i j e)

@@ -22,8 +22,8 @@ columns_of c = (c.width + 63) / 64
 abbrev pub rows_of : Canvas → ℕ
 rows_of c = (c.height + 63) / 64
 
--- How many planes a tile has. One says whether the tile is as it was cleared. Each of 65 blocks of 8 by 8 pixels has one for each
--- sample of a pixel: the first block has the samples to which the tile was cleared, and the others are its own.
+-- How many planes a tile has. One says whether the tile is unchanged since it was cleared. Each of 65 blocks of 8 by 8 pixels has one
+-- for each sample of a pixel: the first block has the samples to which the tile was cleared, and the others are its own.
 abbrev pub planes_of_tile : SampleCount → ℕ
 planes_of_tile count = 1 + 65 * count_of count
 
@@ -50,8 +50,8 @@ pub record HasPixel (c : Canvas) (first end : ℕ) (i j : ℕ) : Type 0 where
   pub from : first ≤ j / 64
   pub below : j / 64 < end
 
--- The number of the block of pixel (i, j) in its tile, whose first plane this is. While its first red byte is 1, the tile is as it was
--- cleared, and block 0 stands for all of its blocks. Else these are numbered from 1 on, row by row.
+-- The number of the block of pixel (i, j) in its tile, whose first plane this is. While its first red byte is 1, the tile is
+-- unchanged since it was cleared, and block 0 stands for all of its blocks. Else these are numbered from 1 on, row by row.
 abbrev pub block_of : BlockSamples → ℕ → ℕ → ℕ
 block_of state i j = if slice_index state.r 0 == 1 then 0 else (j % 64 / 8 * 8 + i % 64 / 8 + 1)
 

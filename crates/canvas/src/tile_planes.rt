@@ -1,5 +1,5 @@
-//! The planes of one tile: the first says whether the tile is as it was cleared, then come those of a block with the samples to which it
-//! was cleared, and then those of its own 64 blocks. So clearing a tile touches few of its planes.
+//! The planes of one tile. The first says whether the tile is unchanged since it was cleared. Behind it lie those of a block with the
+//! samples to which it was cleared, and then those of its own 64 blocks. So clearing a tile touches few of its planes.
 ghost use Rattle.std.specs.Prelude.{◌≡◌, ◌≢◌, ◌↔◌, ℕ, ◌<◌, length, slice_index, slice_index_or, [], IsTrue};
 ghost use Rattle.grid.specs.Samples.{count_of};
 ghost use Rattle.canvas.specs.Layout.{planes_of_tile, stored_in_tile};
@@ -8,7 +8,7 @@ use grid::SampleCount;
 use lanes::BlockSamples;
 use shade::Sample;
 
-/// The samples of the first plane of a tile that is as it was cleared.
+/// The samples of the first plane of a tile that is unchanged since it was cleared.
 const CLEARED: Sample = Sample {
     r: 1,
     g: 0,
@@ -16,7 +16,7 @@ const CLEARED: Sample = Sample {
     z: 0,
 };
 
-/// Whether the tile with this first plane is as it was cleared.
+/// Whether the tile with this first plane is unchanged since it was cleared.
 #[inline]
 pub(crate) fn is_cleared(state: &BlockSamples) -> bool
     ensures { IsTrue result ↔ (slice_index state.now.r 0 ≡ 1) }
@@ -37,7 +37,7 @@ pub(crate) fn clear_tile(count: SampleCount, sample: Sample, samples: &mut [Bloc
     samples[0] = state;
 }
 
-/// Gives the blocks of a tile that is as it was cleared their samples, so that these can be changed.
+/// Gives the blocks of a tile that is unchanged since it was cleared their samples, so that these can be changed.
 pub(crate) fn fill_tile(count: SampleCount, samples: &mut [BlockSamples])
     requires { length samples.old ≡ planes_of_tile count }
     ensures filled { slice_index (slice_index_or samples.new 0 (record { z = []; r = []; g = []; b = [] })).r 0 ≢ 1 }

@@ -20,8 +20,8 @@ pub record HasRows (height first end : ℕ) : Type 0 where
   pub rising : first ≤ end
   pub within : end ≤ (height + 63) / 64
 
--- How many planes these tile rows have. Of each tile one says whether it is as it was cleared; the others are those of the samples to
--- which it was cleared, and of its own 64 blocks.
+-- How many planes these tile rows have. Of each tile one says whether it is unchanged since it was cleared; the others are those of the
+-- samples to which it was cleared, and of its own 64 blocks.
 abbrev pub planes_of : ℕ → ℕ → ℕ → ℕ → ℕ
 planes_of width samples first end = (end - first) * ((width + 63) / 64 * (1 + 65 * samples))
 
