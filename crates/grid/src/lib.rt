@@ -22,4 +22,4 @@ pub use point::{Point, side};
 pub use quad::Quad;
 pub use sample::sample_at;
 pub use sample_count::SampleCount;
-pub use triangle::{Tri, covers_at_seam, passes_edge};
+pub use triangle::{Tri, are_on_opposite_sides, covers_at_seam, passes_edge};

@@ -101,6 +101,21 @@ pub fn passes_edge(a: Point, b: Point, third: Point, p: Point) -> bool
     }
 }
 
+/// Whether c and d lie strictly on opposite sides of the line ab.
+pub fn are_on_opposite_sides(a: Point, b: Point, c: Point, d: Point) -> bool
+    ensures { IsTrue result ↔ IsSeam a b c d }
+{
+    let at_c = side(a, b, c);
+    let at_d = side(a, b, d);
+    if at_c > 0 {
+        at_d < 0
+    } else if at_c < 0 {
+        at_d > 0
+    } else {
+        false
+    }
+}
+
 /// Which of the triangles abc and abd cover `p`. If they lie on opposite sides of their shared edge ab, at most one does,
 /// and exactly one if `p` lies on the edge between its ends. So a shared edge is never drawn twice and has no crack, which is
 /// the purpose of the top-left rule.
