@@ -61,27 +61,6 @@ impl AttributePlane {
         }
     }
 
-    /// The same if the attribute is read, and else a plane that nobody reads.
-    #[inline(always)]
-    pub(crate) fn new_if(
-        read: bool,
-        slope: &Slope,
-        reciprocal: Reciprocal,
-        fraction: u32,
-        search: bool,
-    ) -> AttributePlane
-        requires fraction { (fraction ≡ 16) ⊎ (fraction ≡ 24) }
-        requires level { IsLevel (32 + fraction) reciprocal.area slope.now }
-        ensures { (a b c : Position) (values : List ℕ) → IsTrue read → reciprocal.area ≡ unsigned_abs (doubled_area a b c) → IsNarrow fraction values
-            → IsSlope a b c (slice_index values 0) (slice_index values 1) (slice_index values 2) slope.now → IsAttributePlane fraction a b c values result }
-    {
-        if read {
-            AttributePlane::new(slope, reciprocal, fraction, search)
-        } else {
-            AttributePlane::none()
-        }
-    }
-
     /// A plane that nobody reads.
     #[inline(always)]
     pub(crate) fn none() -> AttributePlane {

@@ -133,7 +133,11 @@ impl ColourPlanes {
             red: AttributePlane::new(&slopes.red, reciprocal, 24, search),
             green: AttributePlane::new(&slopes.green, reciprocal, 24, search),
             blue: AttributePlane::new(&slopes.blue, reciprocal, 24, search),
-            alpha: AttributePlane::new_if(slopes.has_alpha, &slopes.alpha, reciprocal, 24, search),
+            alpha: if slopes.has_alpha {
+                AttributePlane::new(&slopes.alpha, reciprocal, 24, search)
+            } else {
+                AttributePlane::none()
+            },
         }
     }
 
