@@ -18,7 +18,7 @@ import json
 import os
 import subprocess
 import sys
-from typing import Sequence
+from typing import Callable, Sequence
 
 from bench import llvmpipe, run, scenes
 from tools import places
@@ -30,8 +30,9 @@ SIDES = (1024, 4096)
 PROGRAM = os.path.join(BENCH_OUT, "canvas")
 FRAMES_EXAMPLE = os.path.join(BENCH_OUT, "canvas_frames")
 TABLES = ("parts", "batches", "frames", "scattered")
-# What a frame takes is what this number of frames more takes, so that reading the list does not count.
+# What a frame takes is what some frames more take, so that reading the list does not count: so many, or so many seconds of them.
 FRAMES = 6
+ENOUGH_SECONDS = 0.5
 # A frame of fewer seconds is lost in what a process takes.
 LEAST = 0.0005
 SCATTERED = ("small", "slivers")
@@ -83,29 +84,38 @@ def print_batches(rounds: int) -> None:
 
 # ---- Frames beside crates/frames
 
-# The arguments for one frame, and for FRAMES more.
-Way = tuple[list[str], list[str]]
+# The arguments for one frame, and for a number of frames more.
+Way = Callable[[int], tuple[list[str], list[str]]]
 
 
 def way_of_frames(threads: int) -> Way:
     """By crates/frames, which draws one frame for its checksum, and then those that are timed."""
     command = [FRAMES_PROGRAM, "--workers", str(threads)]
-    return command, [*command, "--time", "--frames", str(FRAMES)]
+    return lambda frames: (command, [*command, "--time", "--frames", str(frames)])
 
 
 def way_of_canvas(threads: int, *more: str) -> Way:
     command = [FRAMES_EXAMPLE, "--workers", str(threads), *more]
-    return command, [*command, "--frames", str(1 + FRAMES)]
+    return lambda frames: (command, [*command, "--frames", str(1 + frames)])
+
+
+def frames_of(source: str) -> int:
+    """How many frames of a list are timed: enough of short ones, so that what a process takes does not tell."""
+    with open(source, "rb") as list_file:
+        done = subprocess.run([FRAMES_EXAMPLE, "--frames", "3"], check=True, stdin=list_file, capture_output=True)
+    least = float(done.stderr.split()[1]) / 1000
+    return max(FRAMES, round(ENOUGH_SECONDS / max(least, LEAST)))
 
 
 def processor_times(source: str, ways: Sequence[Way], rounds: int) -> list[float]:
     """The processor time of a frame of a list in seconds, each way. They take turns, and the least times count."""
     least = [[float("inf")] * 2 for _ in ways]
+    frames = frames_of(source)
     for _ in range(rounds):
         for way, times in zip(ways, least):
-            for k, command in enumerate(way):
+            for k, command in enumerate(way(frames)):
                 times[k] = min(times[k], run.Run(command, source, os.devnull, is_quiet=True).processor)
-    return [(many - one) / FRAMES for one, many in least]
+    return [(many - one) / frames for one, many in least]
 
 
 def source_of(name: str) -> str:
