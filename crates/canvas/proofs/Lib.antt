@@ -7,6 +7,7 @@ pub mod Ends
 pub mod DrawnTiles
 pub mod ClearedTiles
 pub mod Units
+pub mod PixelRows
 pub mod Arranged
 pub mod PixelColours
 pub mod Masks

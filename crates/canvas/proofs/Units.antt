@@ -7,8 +7,9 @@ use Rattle.std.proofs.lemmas.Nat.{mul-add-lt}
 use Rattle.canvas.specs.declared.canvas.Canvas.{Canvas}
 use Rattle.canvas.specs.declared.format.Format.{Format}
 use Rattle.canvas.specs.declared.format.Format.TheVariants.{Rgb8, Rgba8, Bgra8}
+use Rattle.canvas.specs.declared.pixel_rows.PixelRow.{PixelRow}
 use Rattle.canvas.specs.Layout.{HasPixel}
-use Rattle.canvas.specs.Pixels.{pixel_bytes, shown_rows, entry_of, AreWritten}
+use Rattle.canvas.specs.Pixels.{pixel_bytes, shown_rows, entry_of, IsPixelRow, AreWritten}
 use Rattle.canvas.proofs.Cut.{put, put_here, put_elsewhere}
 
 pub below_unit : (w i k n : ℕ) → i < n → k < w → i * w + k < n * w
@@ -103,17 +104,36 @@ module _ (c : Canvas) (first end w stride : ℕ) (P : ℕ → ℕ → (ℕ → �
         others = λ n apart. d.others n (λ i j k h l small. apart i j k h small);
       }
 
-  module _ (same : (i j : ℕ) (f g : ℕ → ℕ) → ((k : ℕ) → k < w → g k ≡ f k) → P i j f → P i j g) (row n a : ℕ) (old middle out : List ℕ) (wide : c.width * w ≤ stride) (many : n ≡ c.width * w) (at : a ≡ row * stride) (room : a + n ≤ length middle) (long : length out ≡ n)
-      (before : AreRowsWritten row old middle) (high : 64 * first + row < c.height) (below : (64 * first + row) / 64 < end)
-      (entry : (s : ℕ) → s < c.width * w → IsEntryOf w c.width s)
-      (written : (i : ℕ) → i < c.width → P i (64 * first + row) (λ k. slice_index out (i * w + k))) where
+  -- and one row more
+  module _ (same : (i j : ℕ) (f g : ℕ → ℕ) → ((k : ℕ) → k < w → g k ≡ f k) → P i j f → P i j g) (index : ℕ) (r : PixelRow) (old middle out : List ℕ) (is_row : IsPixelRow c first end w stride (length middle) index r) (wide : c.width * w ≤ stride)
+      (long : length out ≡ r.entries.end - r.entries.start) (before : AreRowsWritten index old middle) (entry : (s : ℕ) → s < c.width * w → IsEntryOf w c.width s)
+      (written : (i : ℕ) → i < c.width → P i r.j (λ k. slice_index out (i * w + k))) where
+    -- its entries: where they begin, and how many there are
+    abbrev a : ℕ
+    a = r.entries.start
+
+    abbrev n : ℕ
+    n = r.entries.end - r.entries.start
+
+    many : n ≡ c.width * w
+    many = omega (arith, is_row.entries)
+
+    room : a + n ≤ length middle
+    room = omega (arith, is_row.entries, is_row.entries_fit)
+
+    at : a ≡ index * stride
+    at =
+        let distance : r.j - 64 * first ≡ index = omega (arith, is_row.line) in
+        let start : (r.j - 64 * first) * stride ≡ index * stride = ap (λ m. m * stride) distance in
+        omega (arith, is_row.first_entry, start)
+
     -- a row above ends before this one begins
-    above : (i j k : ℕ) → i < c.width → j < 64 * first + row → first ≤ j / 64 → k < w → entry_of first w stride i j + k < a
+    above : (i j k : ℕ) → i < c.width → j < 64 * first + index → first ≤ j / 64 → k < w → entry_of first w stride i j + k < a
     above i j k l earlier from small =
-        let least : (j - 64 * first + 1) * stride ≤ row * stride = mul-le-mul_right stride (let next : j - 64 * first + 1 ≤ row = omega arith in next) in
+        let least : (j - 64 * first + 1) * stride ≤ index * stride = mul-le-mul_right stride (let next : j - 64 * first + 1 ≤ index = omega arith in next) in
         omega (arith, least, at, wide, below_unit w i k c.width l small, add-mul (j - 64 * first) 1 stride)
 
-    row_above : (i j : ℕ) → HasPixel c first end i j → j < 64 * first + row → P i j (λ k. slice_index (put middle out a n) (entry_of first w stride i j + k))
+    row_above : (i j : ℕ) → HasPixel c first end i j → j < 64 * first + index → P i j (λ k. slice_index (put middle out a n) (entry_of first w stride i j + k))
     row_above i j h earlier =
         same i j _ _
         (λ k small.
@@ -121,19 +141,19 @@ module _ (c : Canvas) (first end w stride : ℕ) (P : ℕ → ℕ → (ℕ → �
         put_elsewhere middle out a n 0 room long (entry_of first w stride i j + k) (λ s l e. omega (arith, less, e)))
         (before.pixels i j h earlier)
 
-    this_row : (i j : ℕ) → i < c.width → 64 * first + row ≡ j → P i j (λ k. slice_index (put middle out a n) (entry_of first w stride i j + k))
-    this_row i j l line =
-        let distance : j - 64 * first ≡ row = omega arith in
+    this_row : (i j : ℕ) → i < c.width → 64 * first + index ≡ j → P i j (λ k. slice_index (put middle out a n) (entry_of first w stride i j + k))
+    this_row i j l here =
+        let distance : j - 64 * first ≡ index = omega arith in
         let start : (j - 64 * first) * stride ≡ a = rw distance (sym at) in
         same i j _ _
         (λ k small.
         let place : entry_of first w stride i j + k ≡ a + (i * w + k) = omega (arith, start) in
         ap (λ x. slice_index (put middle out a n) x) place ∙ put_here middle out a n 0 room long (i * w + k) (omega (arith, many, below_unit w i k c.width l small)))
-        (subst (λ y. P i y (λ k. slice_index out (i * w + k))) line (written i l))
+        (subst (λ y. P i y (λ k. slice_index out (i * w + k))) (is_row.line ∙ here) (written i l))
 
-    pub one_row_written : AreRowsWritten (row + 1) old (put middle out a n)
+    pub one_row_written : AreRowsWritten (index + 1) old (put middle out a n)
     one_row_written = record {
-      pixels = λ i j h l. elim (cases_lt j (64 * first + row)) [
+      pixels = λ i j h l. elim (cases_lt j (64 * first + index)) [
         | inl less ↦ row_above i j h less
         | inr more ↦ this_row i j h.column (omega (arith, l, more))
       ];
@@ -141,9 +161,9 @@ module _ (c : Canvas) (first end w stride : ℕ) (P : ℕ → ℕ → (ℕ → �
           let apart : (s : ℕ) → s < n → m ≢ a + s =
           λ s l e.
           let is = entry s (omega (arith, many, l)) in
-          let pixel : HasPixel c first end is.i (64 * first + row) = record { column = is.inside; row = high; from = omega arith; below = below } in
-          let distance : 64 * first + row - 64 * first ≡ row = omega arith in
-          let start : (64 * first + row - 64 * first) * stride ≡ a = rw distance (sym at) in
-          other is.i (64 * first + row) is.k pixel (omega arith) is.small (omega (arith, start, e, is.is)) in
+          let pixel : HasPixel c first end is.i (64 * first + index) = record { column = is.inside; row = omega (arith, is_row.line, is_row.shown); from = omega arith; below = omega (arith, is_row.line, is_row.below) } in
+          let distance : 64 * first + index - 64 * first ≡ index = omega arith in
+          let start : (64 * first + index - 64 * first) * stride ≡ a = rw distance (sym at) in
+          other is.i (64 * first + index) is.k pixel (omega arith) is.small (omega (arith, start, e, is.is)) in
           put_elsewhere middle out a n 0 room long m apart ∙ before.others m (λ i j k h l small. other i j k h (omega arith) small);
     }

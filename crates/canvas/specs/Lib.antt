@@ -27,7 +27,10 @@
 --   pixel_of: The bytes of a pixel of this red, green and blue, which is opaque if the format has alpha.
 --   shown_rows: How many rows of pixels of the picture stand in the tile rows from `first` to before `end`.
 --   IsLargeEnough: A row of pixels, of `unit` entries each, fits between the starts of two rows, and the last row ends within the slice.
+--   FitPixels: Planes of samples and a slice fit the tile rows from `first` to before `end`.
+--   IsPixelsMisfit: What does not fit, if one of the two does not.
 --   entry_of: The index of the first entry of pixel (i, j), of which there are `unit`.
+--   IsPixelRow: The row of this index among the rows of pixels in these tile rows.
 --   AreWritten: The entries of each pixel of the picture in these tile rows are as `IsPixel` says, and all other entries are unchanged.
 --
 -- Entries.antt

@@ -1,9 +1,12 @@
 -- Pixels in the caller's memory.
-use Rattle.std.specs.Prelude.{◌≡◌, ◌≢◌, ℕ, ◌+◌, ◌-◌, ◌*◌, ◌<◌, ◌≤◌, min, List, [], ◌∷◌, slice_index}
+use Rattle.std.specs.Prelude.{◌≡◌, ◌≢◌, ◌⊎◌, ℕ, ◌+◌, ◌-◌, ◌*◌, ◌/◌, ◌<◌, ◌≤◌, min, List, [], ◌∷◌, slice_index}
 use Rattle.canvas.specs.declared.canvas.Canvas.{Canvas}
 use Rattle.canvas.specs.declared.format.Format.{Format}
 use Rattle.canvas.specs.declared.format.Format.TheVariants.{Rgb8, Rgba8, Bgra8}
-use Rattle.canvas.specs.Layout.{HasPixel}
+use Rattle.canvas.specs.declared.misfit.Misfit.{Misfit}
+use Rattle.canvas.specs.declared.misfit.Misfit.TheVariants.{Planes, Pixels}
+use Rattle.canvas.specs.declared.pixel_rows.PixelRow.{PixelRow}
+use Rattle.canvas.specs.Layout.{HasPixel, planes_of_row, planes_of_rows}
 
 -- How many bytes a pixel has in a format.
 abbrev pub pixel_bytes : Format → ℕ
@@ -26,10 +29,35 @@ pub record IsLargeEnough (c : Canvas) (first end : ℕ) (unit stride size : ℕ)
   pub wide : c.width * unit ≤ stride
   pub high : shown_rows c first end * stride + c.width * unit ≤ size + stride
 
+-- Planes of samples and a slice fit the tile rows from `first` to before `end`. There are as many planes as they have, and `size`
+-- entries hold their rows of pixels, `unit` of them a pixel.
+abbrev pub FitPixels : Canvas → ℕ → ℕ → ℕ → ℕ → ℕ → ℕ → Type 0
+FitPixels c first end planes unit stride size =
+    (planes ≡ planes_of_rows c first end) × IsLargeEnough c first end unit stride size
+
+-- What does not fit, if one of the two does not.
+abbrev pub IsPixelsMisfit : Canvas → ℕ → ℕ → ℕ → ℕ → ℕ → ℕ → Misfit → Type 0
+IsPixelsMisfit c first end planes unit stride size misfit =
+    ((misfit ≡ Planes) × (planes ≢ planes_of_rows c first end))
+    ⊎ ((misfit ≡ Pixels) × ¬ IsLargeEnough c first end unit stride size)
+
 -- The index of the first entry of pixel (i, j), of which there are `unit`. The first pixel of the first tile row has index 0, and
 -- rows begin `stride` entries apart.
 abbrev pub entry_of : ℕ → ℕ → ℕ → ℕ → ℕ → ℕ
 entry_of first unit stride i j = (j - 64 * first) * stride + i * unit
+
+-- The row of this index among the rows of pixels in these tile rows. Its planes are those of its tile row, its entries are those of
+-- its pixels, and both end within their slices, of which that of the entries has `size`.
+pub record IsPixelRow (c : Canvas) (first end : ℕ) (unit stride size : ℕ) (index : ℕ) (row : PixelRow) : Type 0 where
+  pub line : row.j ≡ 64 * first + index
+  pub shown : row.j < c.height
+  pub below : row.j / 64 < end
+  pub first_plane : row.planes.start ≡ (row.j / 64 - first) * planes_of_row c
+  pub planes : row.planes.end ≡ row.planes.start + planes_of_row c
+  pub planes_fit : row.planes.end ≤ planes_of_rows c first end
+  pub first_entry : row.entries.start ≡ entry_of first unit stride 0 row.j
+  pub entries : row.entries.end ≡ row.entries.start + c.width * unit
+  pub entries_fit : row.entries.end ≤ size
 
 -- The entries of each pixel of the picture in these tile rows are as `IsPixel` says, and all other entries are unchanged.
 pub record AreWritten (c : Canvas) (first end : ℕ) (unit stride : ℕ) (IsPixel : ℕ → ℕ → (ℕ → ℕ) → Type 0) (old new : List ℕ) : Type 0 where

@@ -3,7 +3,7 @@ ghost use Rattle.std.specs.Prelude.{◌≡◌, ◌≢◌, ◌↔◌, ◌⊎◌, 
 ghost use Rattle.grid.specs.Pixels.{side_of};
 ghost use Rattle.raster.specs.Samples.{planes_of};
 ghost use Rattle.canvas.specs.Layout.{columns_of, rows_of, planes_of_tile, planes_of_row, planes_of_rows};
-ghost use Rattle.canvas.specs.Pixels.{pixel_bytes, IsLargeEnough};
+ghost use Rattle.canvas.specs.Pixels.{pixel_bytes, FitPixels, IsPixelsMisfit};
 ghost use Rattle.canvas.specs.Colours.{IsPixelOf, IsPixelIn, IsTilePixel, AreResolved};
 
 use crate::canvas::Canvas;
@@ -142,27 +142,15 @@ impl TileRows {
         format: Format,
         stride: usize,
     ) -> Result<(), Misfit>
-        ensures fits { IsOk result ↔ ((length samples.now ≡ planes_of_rows self.now.canvas self.now.first self.now.end)
-            × IsLargeEnough self.now.canvas self.now.first self.now.end (pixel_bytes format) stride (length bytes.old)) }
+        ensures fits { IsOk result ↔ FitPixels self.now.canvas self.now.first self.now.end (length samples.now) (pixel_bytes format) stride (length bytes.old) }
         ensures resolved { OnOk result (AreResolved self.now.canvas self.now.first self.now.end samples.now format stride bytes.old bytes.new) }
         ensures unfit { OnErr result (bytes.new ≡ bytes.old) }
-        ensures reason { IfErr result (λ misfit.
-            ((misfit ≡ Misfit.Planes) × (length samples.now ≢ planes_of_rows self.now.canvas self.now.first self.now.end))
-            ⊎ ((misfit ≡ Misfit.Pixels) × ¬ IsLargeEnough self.now.canvas self.now.first self.now.end (pixel_bytes format) stride (length bytes.old))) }
+        ensures reason { IfErr result (IsPixelsMisfit self.now.canvas self.now.first self.now.end (length samples.now) (pixel_bytes format) stride (length bytes.old)) }
     {
-        let unit = format.pixel_bytes();
-        self.fits(samples.len(), unit, stride, bytes.len())?;
-        let each = self.canvas.planes_of_row();
-        let width = self.canvas.width as usize * unit;
-        for row in 0..self.shown_rows() {
-            let from = (row / 64) as usize * each;
-            let at = row as usize * stride;
-            self.canvas.resolve_row(
-                64 * self.first + row,
-                &samples[from..from + each],
-                format,
-                &mut bytes[at..at + width],
-            );
+        let rows = self.pixel_rows(samples.len(), format.pixel_bytes(), stride, bytes.len())?;
+        for index in 0..rows.count() {
+            let row = rows.row(index);
+            self.canvas.resolve_row(row.j, &samples[row.planes], format, &mut bytes[row.entries]);
         }
         Ok(())
     }

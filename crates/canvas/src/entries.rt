@@ -81,18 +81,11 @@ impl TileRows {
         ensures unfit { OnErr result (entries.new ≡ entries.old) }
         ensures reason { IfErr result (IsEntriesMisfit self.now.canvas self.now.first self.now.end (length samples.now) s stride (length entries.old)) }
     {
-        self.fits_entries(samples.len(), s, stride, entries.len())?;
-        let each = self.canvas.planes_of_row();
-        let width = self.canvas.width as usize;
-        for row in 0..self.shown_rows() {
-            let from = (row / 64) as usize * each;
-            let at = row as usize * stride;
-            self.canvas.entry_row(
-                64 * self.first + row,
-                s,
-                &samples[from..from + each],
-                &mut entries[at..at + width],
-            );
+        let rows = self.entry_rows(samples.len(), s, stride, entries.len())?;
+        for index in 0..rows.count() {
+            let row = rows.row(index);
+            self.canvas
+                .entry_row(row.j, s, &samples[row.planes], &mut entries[row.entries]);
         }
         Ok(())
     }

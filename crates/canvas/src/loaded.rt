@@ -3,7 +3,7 @@ ghost use Rattle.std.specs.Prelude.{◌≡◌, ◌≢◌, ◌↔◌, ◌⊎◌, 
 ghost use Rattle.lanes.specs.Block.{stored_at};
 ghost use Rattle.grid.specs.Samples.{count_of};
 ghost use Rattle.canvas.specs.Layout.{planes_of_tile, planes_of_row, planes_of_rows, stored_in_tile};
-ghost use Rattle.canvas.specs.Pixels.{pixel_bytes, IsLargeEnough};
+ghost use Rattle.canvas.specs.Pixels.{pixel_bytes, FitPixels, IsPixelsMisfit};
 ghost use Rattle.canvas.specs.Loaded.{coloured, AreChanged, AreLoaded};
 
 use crate::canvas::Canvas;
@@ -100,27 +100,15 @@ impl TileRows {
         format: Format,
         stride: usize,
     ) -> Result<(), Misfit>
-        ensures fits { IsOk result ↔ ((length samples.old ≡ planes_of_rows self.now.canvas self.now.first self.now.end)
-            × IsLargeEnough self.now.canvas self.now.first self.now.end (pixel_bytes format) stride (length bytes.now)) }
+        ensures fits { IsOk result ↔ FitPixels self.now.canvas self.now.first self.now.end (length samples.old) (pixel_bytes format) stride (length bytes.now) }
         ensures loaded { OnOk result (AreLoaded self.now.canvas self.now.first self.now.end bytes.now format stride samples.old samples.new) }
         ensures unfit { OnErr result (samples.new ≡ samples.old) }
-        ensures reason { IfErr result (λ misfit.
-            ((misfit ≡ Misfit.Planes) × (length samples.old ≢ planes_of_rows self.now.canvas self.now.first self.now.end))
-            ⊎ ((misfit ≡ Misfit.Pixels) × ¬ IsLargeEnough self.now.canvas self.now.first self.now.end (pixel_bytes format) stride (length bytes.now))) }
+        ensures reason { IfErr result (IsPixelsMisfit self.now.canvas self.now.first self.now.end (length samples.old) (pixel_bytes format) stride (length bytes.now)) }
     {
-        let unit = format.pixel_bytes();
-        self.fits(samples.len(), unit, stride, bytes.len())?;
-        let each = self.canvas.planes_of_row();
-        let width = self.canvas.width as usize * unit;
-        for row in 0..self.shown_rows() {
-            let from = (row / 64) as usize * each;
-            let at = row as usize * stride;
-            self.canvas.load_row(
-                64 * self.first + row,
-                &bytes[at..at + width],
-                format,
-                &mut samples[from..from + each],
-            );
+        let rows = self.pixel_rows(samples.len(), format.pixel_bytes(), stride, bytes.len())?;
+        for index in 0..rows.count() {
+            let row = rows.row(index);
+            self.canvas.load_row(row.j, &bytes[row.entries], format, &mut samples[row.planes]);
         }
         Ok(())
     }

@@ -1,0 +1,133 @@
+//! Rows of pixels in the caller's memory: in a slice of entries, each of which is a byte of a colour, a depth or an id.
+ghost use Rattle.std.specs.Prelude.{◌≡◌, ◌↔◌, ◌+◌, ◌*◌, ◌<◌, ◌≤◌, IsOk, IsTrue, IfOk, IfErr};
+ghost use Rattle.canvas.specs.Pixels.{IsLargeEnough};
+
+use crate::misfit::Misfit;
+use crate::tile_rows::TileRows;
+use std::ops::Range;
+
+/// The rows of pixels of the picture that stand in some tile rows, in a slice that holds them all.
+#[derive(Clone, Copy, Debug)]
+pub(crate) struct PixelRows {
+    /// The tile rows.
+    tile_rows: TileRows,
+    /// How many entries a pixel has.
+    unit: usize,
+    /// By how many entries each row begins behind the one above.
+    stride: usize,
+    /// How many entries the slice has.
+    size: usize,
+    ghost fit: { IsLargeEnough tile_rows.canvas tile_rows.first tile_rows.end unit stride size },
+}
+
+/// Where the samples and the entries of a row of pixels lie.
+#[derive(Debug, Drop)]
+pub(crate) struct PixelRow {
+    /// The row of the picture.
+    pub j: u32,
+    /// The indices of the planes of its tile row.
+    pub planes: Range<usize>,
+    /// The indices of its entries.
+    pub entries: Range<usize>,
+}
+
+impl PixelRows {
+    ghost use Rattle.canvas.specs.Pixels.{IsPixelRow, shown_rows};
+
+    /// How many rows there are.
+    #[inline]
+    pub(crate) fn count(&self) -> u32
+        ensures { result ≡ shown_rows self.now.tile_rows.canvas self.now.tile_rows.first self.now.tile_rows.end }
+    {
+        self.tile_rows.shown_rows()
+    }
+
+    /// The row of this index, counted from the top one.
+    #[inline]
+    pub(crate) fn row(&self, index: u32) -> PixelRow
+        requires { index < shown_rows self.now.tile_rows.canvas self.now.tile_rows.first self.now.tile_rows.end }
+        ensures { IsPixelRow self.now.tile_rows.canvas self.now.tile_rows.first self.now.tile_rows.end self.now.unit self.now.stride self.now.size index result }
+    {
+        let canvas = &self.tile_rows.canvas;
+        let each = canvas.planes_of_row();
+        let plane = (index / 64) as usize * each;
+        let entry = index as usize * self.stride;
+        PixelRow {
+            j: 64 * self.tile_rows.first + index,
+            planes: plane..plane + each,
+            entries: entry..entry + canvas.width as usize * self.unit,
+        }
+    }
+}
+
+impl TileRows {
+    ghost use Rattle.canvas.specs.Pixels.{FitPixels, IsPixelsMisfit, shown_rows};
+    ghost use Rattle.canvas.specs.Entries.{FitEntries, IsEntriesMisfit};
+
+    /// How many rows of pixels of the picture stand in these tile rows.
+    #[inline]
+    pub(crate) fn shown_rows(&self) -> u32
+        ensures value { result ≡ shown_rows self.now.canvas self.now.first self.now.end }
+        ensures few { result ≤ 4096 }
+    {
+        (64 * self.end)
+            .min(self.canvas.height)
+            .saturating_sub(64 * self.first)
+    }
+
+    /// Whether a slice of this size holds the rows of pixels, of `unit` entries a pixel, which begin `stride` entries behind each other.
+    pub(crate) fn is_large_enough(&self, unit: usize, stride: usize, size: usize) -> bool
+        requires { unit ≤ 4 }
+        ensures { IsTrue result ↔ IsLargeEnough self.now.canvas self.now.first self.now.end unit stride size }
+    {
+        let width = self.canvas.width as usize * unit;
+        let rows = u128::from(self.shown_rows()) * stride as u128;
+        width <= stride && rows + width as u128 <= size as u128 + stride as u128
+    }
+
+    /// The rows of pixels in a slice of `size` entries, `unit` of them a pixel, in which each row begins `stride` entries behind the one
+    /// above. Returns `Planes` if these tile rows do not have this many planes of samples, or `Pixels` if the slice does not hold the rows.
+    pub(crate) fn pixel_rows(
+        &self,
+        planes: usize,
+        unit: usize,
+        stride: usize,
+        size: usize,
+    ) -> Result<PixelRows, Misfit>
+        requires { unit ≤ 4 }
+        ensures fits { IsOk result ↔ FitPixels self.now.canvas self.now.first self.now.end planes unit stride size }
+        ensures rows { IfOk result (λ found. (found.tile_rows ≡ self.now) × (found.unit ≡ unit) × (found.stride ≡ stride) × (found.size ≡ size)) }
+        ensures reason { IfErr result (IsPixelsMisfit self.now.canvas self.now.first self.now.end planes unit stride size) }
+    {
+        if planes != self.planes() {
+            return Err(Misfit::Planes);
+        }
+        if !self.is_large_enough(unit, stride, size) {
+            return Err(Misfit::Pixels);
+        }
+        Ok(PixelRows {
+            tile_rows: *self,
+            unit,
+            stride,
+            size,
+        })
+    }
+
+    /// The same of entries of the samples of index `s`, one for each pixel. Also returns `Sample` if a pixel has no such sample.
+    pub(crate) fn entry_rows(
+        &self,
+        planes: usize,
+        s: u32,
+        stride: usize,
+        size: usize,
+    ) -> Result<PixelRows, Misfit>
+        ensures fits { IsOk result ↔ FitEntries self.now.canvas self.now.first self.now.end planes s stride size }
+        ensures rows { IfOk result (λ found. (found.tile_rows ≡ self.now) × (found.unit ≡ 1) × (found.stride ≡ stride) × (found.size ≡ size)) }
+        ensures reason { IfErr result (IsEntriesMisfit self.now.canvas self.now.first self.now.end planes s stride size) }
+    {
+        if self.canvas.count.count() <= s {
+            return Err(Misfit::Sample);
+        }
+        self.pixel_rows(planes, 1, stride, size)
+    }
+}
