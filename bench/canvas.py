@@ -1,6 +1,6 @@
 """Times canvases on the scenes of bench/scenes.py, and prints four tables.
 
-    python3 -m bench.canvas [--runs 5] [--scenes tiny mesh ..] [--tables parts batches frames scattered] [--threads 1 4]
+    python3 -m bench.canvas [--runs 5] [--scenes tiny mesh ..] [--tables parts batches frames scattered] [--threads 1 4] [--small-pages]
 
 Needs `make library` and gcc.
 
@@ -9,11 +9,14 @@ by processor time on one thread; the ways take turns. Every pixel is compared.
 batches: the processor time of a batch of two triangles of 8 pixels, of 10,000.
 frames: the processor time of a frame by examples/cpp/frames.cpp, one batch, beside one by crates/frames. Needs `make frames` and g++.
 scattered: the same of scenes of scattered triangles, cut into batches of fewer triangles, on one thread.
+
+With --small-pages Linux gives no program large pages, for which trirast.hpp asks.
 """
 
 from __future__ import annotations
 
 import argparse
+import ctypes
 import json
 import os
 import subprocess
@@ -147,6 +150,12 @@ def print_scattered(rounds: int) -> None:
         print(f"| {name} | {' | '.join(f'{time / frame:.2f}' for time in times)} |", flush=True)
 
 
+def refuse_large_pages() -> None:
+    """Has Linux give no large pages to this process, and to those that it starts (PR_SET_THP_DISABLE of prctl(2))."""
+    if ctypes.CDLL(None).prctl(41, 1, 0, 0, 0) != 0:
+        raise OSError("prctl(PR_SET_THP_DISABLE)")
+
+
 def print_tables(options: argparse.Namespace) -> bool:
     """Prints the tables that are asked for. Returns whether their programs could be built."""
     if "parts" in options.tables or "batches" in options.tables:
@@ -173,7 +182,10 @@ def main() -> int:
     parser.add_argument("--scenes", nargs="+", choices=SCENES, default=SCENES, metavar="NAME", help=", ".join(SCENES))
     parser.add_argument("--tables", nargs="+", choices=TABLES, default=TABLES, metavar="TABLE", help=f"{', '.join(TABLES)} (default all)")
     parser.add_argument("--threads", type=int, nargs="+", default=(1, 4), help="of a frame (default 1 4)")
+    parser.add_argument("--small-pages", action="store_true", help="without large pages")
     options = parser.parse_args()
+    if options.small_pages:
+        refuse_large_pages()
     os.makedirs(BENCH_OUT, exist_ok=True)
     if not os.path.isfile(STATIC_LIBRARY):
         print(f"there is no library at {STATIC_LIBRARY}; run make library first", file=sys.stderr)

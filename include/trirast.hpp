@@ -17,6 +17,10 @@
 #include <utility>
 #include <vector>
 
+#if defined(__linux__)
+#include <sys/mman.h>
+#endif
+
 #include "trirast.h"
 
 namespace trirast {
@@ -88,9 +92,23 @@ inline void check(trirast_status status, const trirast_error &error) {
 }
 
 struct Freed {
-    std::size_t alignment;
+    std::size_t alignment = 0;
     void operator()(void *memory) const noexcept { ::operator delete(memory, std::align_val_t{alignment}); }
 };
+
+using Memory = std::unique_ptr<void, Freed>;
+
+/* Memory for samples. Each frame brings them from memory and back, so Linux is asked for large pages if they fill one. */
+inline Memory memory_for_samples(std::size_t bytes) {
+    constexpr std::size_t cache_line = 64, large_page = std::size_t{1} << 21;
+    const std::size_t alignment = bytes < large_page ? cache_line : large_page;
+    Memory memory{::operator new(bytes, std::align_val_t{alignment}), Freed{alignment}};
+#if defined(MADV_HUGEPAGE)
+    /* If it has none, pages are of the usual size. */
+    if (alignment == large_page) static_cast<void>(madvise(memory.get(), bytes, MADV_HUGEPAGE));
+#endif
+    return memory;
+}
 
 }  // namespace detail
 
@@ -267,7 +285,7 @@ public:
         const std::uint32_t end = trirast_canvas_rows(height);
         const std::size_t bytes = trirast_canvas_bytes(width, height, samples, 0, end);
         if (bytes == 0) throw Error(TRIRAST_STATUS_BAD_CANVAS);
-        memory_.reset(::operator new(bytes, std::align_val_t{ALIGNMENT}));
+        memory_ = detail::memory_for_samples(bytes);
         rows_.width = width, rows_.height = height, rows_.samples = samples;
         rows_.origin_x = origin.x, rows_.origin_y = origin.y, rows_.end = end;
         rows_.memory = memory_.get(), rows_.plane_count = bytes / TRIRAST_PLANE_BYTES;
@@ -280,14 +298,12 @@ public:
     }
 
 private:
-    static constexpr std::size_t ALIGNMENT = 64;
-
     void swap(Canvas &other) noexcept {
         std::swap(rows_, other.rows_);
         memory_.swap(other.memory_);
     }
 
-    std::unique_ptr<void, detail::Freed> memory_{nullptr, detail::Freed{ALIGNMENT}};
+    detail::Memory memory_;
 };
 
 }  // namespace trirast

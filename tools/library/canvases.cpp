@@ -56,6 +56,14 @@ static void compare_pictures() {
     report(whole.pixels(TRIRAST_FORMAT_RGB8) == pixels, "a picture is loaded");
 }
 
+static void compare_large_canvas() {
+    Canvas canvas(1024, 1024, 4);
+    canvas.clear({5, 5, 5});
+    const std::vector<std::uint8_t> pixels = canvas.pixels(TRIRAST_FORMAT_RGB8);
+    report(pixels.size() == 3 * 1024 * 1024 && std::count(pixels.begin(), pixels.end(), 5) == 3 * 1024 * 1024,
+           "a canvas that fills large pages is cleared to its last pixel");
+}
+
 static void compare_entries() {
     Canvas canvas = cleared();
     canvas.draw_ids(CORNERS, TRIANGLE, 70000);
@@ -113,6 +121,7 @@ static void compare_moves() {
 
 int main() {
     compare_pictures();
+    compare_large_canvas();
     compare_entries();
     compare_errors();
     compare_moves();
