@@ -33,7 +33,8 @@ SIDES = (1024, 4096)
 PROGRAM = os.path.join(BENCH_OUT, "canvas")
 FRAMES_EXAMPLE = os.path.join(BENCH_OUT, "canvas_frames")
 TABLES = ("parts", "batches", "frames", "scattered")
-# What a frame takes is what some frames more take, so that reading the list does not count: so many, or so many seconds of them.
+# The time of a frame is that of further frames by their number, so that reading the list does not count. The least number of these,
+# and the seconds that they take at least.
 FRAMES = 6
 ENOUGH_SECONDS = 0.5
 # A frame of fewer seconds is lost in what a process takes.
@@ -103,7 +104,7 @@ def way_of_canvas(threads: int, *more: str) -> Way:
 
 
 def frames_of(source: str) -> int:
-    """How many frames of a list are timed: enough of short ones, so that what a process takes does not tell."""
+    """The number of further frames of a list: the time of short ones is lost in that of a process, so there are more of them."""
     with open(source, "rb") as list_file:
         done = subprocess.run([FRAMES_EXAMPLE, "--frames", "3"], check=True, stdin=list_file, capture_output=True)
     least = float(done.stderr.split()[1]) / 1000
