@@ -4,13 +4,15 @@ use Rattle.std.proofs.Math.Nat.{mul_comm}
 use Rattle.std.proofs.lemmas.Nat.{mul-add-lt}
 use Rattle.grid.specs.Samples.{count_of}
 use Rattle.grid.specs.declared.sample_count.SampleCount.{SampleCount}
-use Rattle.grid.specs.declared.sample_count.SampleCount.TheVariants.{One, Four}
+use Rattle.grid.specs.declared.sample_count.SampleCount.TheVariants.{One, Two, Four, Eight, Sixteen}
 use Rattle.shade.specs.declared.sample.Sample.{Sample}
 use Rattle.lanes.specs.declared.block_samples.BlockSamples.{BlockSamples}
+use Rattle.shade.specs.Quotient.{IsQuotient}
 use Rattle.shade.specs.Resolve.{IsResolved}
 use Rattle.raster.specs.declared.tile.Tile.{Tile}
 use Rattle.raster.specs.Samples.{stored as in_tile}
 use Rattle.raster.specs.Colours.{IsColourAt, AreColoursAt}
+use Rattle.raster.proofs.PixelRow.{total_same}
 use Rattle.canvas.specs.declared.canvas.Canvas.{Canvas}
 use Rattle.canvas.specs.declared.format.Format.{Format}
 use Rattle.canvas.specs.Layout.{stored, stored_in_tile}
@@ -20,6 +22,14 @@ use Rattle.canvas.specs.Colours.{IsColourOfPixel, IsColourIn, IsPixelOf, IsPixel
 -- ---- colours of the same samples
 resolved_same : (count : SampleCount) (f g : ℕ → ℕ) (q : ℕ) → ((s : ℕ) → s < count_of count → f s ≡ g s) → IsResolved count f q → IsResolved count g q
 resolved_same One f g q same h = h ∙ same 0 (omega arith)
+resolved_same Two f g q same h =
+    let first : f 0 ≡ g 0 = same 0 (omega arith) in
+    let second : f 1 ≡ g 1 = same 1 (omega arith) in
+    let low = h.low in
+    let high = h.high in
+    record { low = omega arith; high = omega arith }
+resolved_same Eight f g q same h = subst (λ n. IsQuotient (n + 4) 8 q) (total_same 8 f g same) h
+resolved_same Sixteen f g q same h = subst (λ n. IsQuotient (n + 8) 16 q) (total_same 16 f g same) h
 resolved_same Four f g q same h =
     let first : f 0 ≡ g 0 = same 0 (omega arith) in
     let second : f 1 ≡ g 1 = same 1 (omega arith) in

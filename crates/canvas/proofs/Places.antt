@@ -6,7 +6,7 @@ use Rattle.std.proofs.lemmas.List.{get_or_append_left}
 use Rattle.std.proofs.lemmas.Nat.{mul-add-lt, same_from_place}
 use Rattle.grid.specs.Samples.{count_of}
 use Rattle.grid.specs.declared.sample_count.SampleCount.{SampleCount}
-use Rattle.grid.specs.declared.sample_count.SampleCount.TheVariants.{One, Four}
+use Rattle.grid.specs.declared.sample_count.SampleCount.TheVariants.{One, Two, Four, Eight, Sixteen}
 use Rattle.lanes.specs.declared.block_samples.BlockSamples.{BlockSamples}
 use Rattle.lanes.specs.Block.{stored_at}
 use Rattle.canvas.proofs.Cut.{put, put_here, put_elsewhere, part_of}
@@ -26,7 +26,10 @@ few_blocks state i j = one_of (slice_index state.r 0 == 1) (j % 64 / 8 * 8 + i %
 
 within_planes : (count : SampleCount) (q s : ℕ) → q ≤ 64 → s < count_of count → 1 + q * count_of count + s < planes_of_tile count
 within_planes One q s h k = omega arith
+within_planes Two q s h k = omega arith
 within_planes Four q s h k = omega arith
+within_planes Eight q s h k = omega arith
+within_planes Sixteen q s h k = omega arith
 
 pub within_tile : (count : SampleCount) (state : BlockSamples) (i j s : ℕ) → s < count_of count → place_in_tile count state i j s < planes_of_tile count
 within_tile count state i j s h = within_planes count (block_of state i j) s (few_blocks state i j) h

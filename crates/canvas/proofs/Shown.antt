@@ -1,10 +1,10 @@
 -- Tiles that begin with a later triangle, which hides those before it.
-use Rattle.std.proofs.Common.{zero, suc, ◌≡◌, ◌∙◌, inl, inr, refl, ap, subst, ℕ, ◌+◌, ◌*◌, ◌/◌, ◌%◌, ◌^◌, ◌<◌, ◌≤◌, Bool, false, List, [], ◌∷◌, length, take, get_or, slice_get, Some, IsTrue, IsBitSet, arith}
+use Rattle.std.proofs.Common.{zero, suc, ◌≡◌, ◌∙◌, inl, inr, refl, ap, subst, ℕ, ◌+◌, ◌-◌, ◌*◌, ◌/◌, ◌%◌, ◌^◌, ◌<◌, ◌≤◌, Bool, false, List, [], ◌∷◌, length, take, get_or, slice_get, Some, IsTrue, IsBitSet, arith}
 use Rattle.std.proofs.lemmas.Bool.{cases_lt}
 use Rattle.std.proofs.lemmas.Option.{get_or_from_slice_get}
 use Rattle.grid.specs.Samples.{count_of}
 use Rattle.grid.specs.declared.sample_count.SampleCount.{SampleCount}
-use Rattle.grid.specs.declared.sample_count.SampleCount.TheVariants.{One, Four}
+use Rattle.grid.specs.declared.sample_count.SampleCount.TheVariants.{One, Two, Four, Eight, Sixteen}
 use Rattle.cover.specs.Rasterized.{IsRasterized}
 use Rattle.cover.specs.Square.{CoversAll}
 use Rattle.shade.specs.declared.depth.DepthTest.{DepthTest}
@@ -31,14 +31,43 @@ use Rattle.canvas.specs.Rows.{IsMaskOf}
 use Rattle.canvas.specs.Hidden.{ReplacesColours, Hides, KeepsDepths, FirstKeepDepths, CanBegin}
 
 -- ---- a triangle that hides the tile
-in_mask : (count : SampleCount) (mask s : ℕ) → mask % 16 ≡ 15 → s < count_of count → mask / 2 ^ s % 2 ≡ 1
+in_mask : (count : SampleCount) (mask s : ℕ) → mask % 2 ^ count_of count ≡ 2 ^ count_of count - 1 → s < count_of count → mask / 2 ^ s % 2 ≡ 1
 in_mask One mask zero all below = omega (arith, all)
 in_mask One mask (suc s) all below = absurd (omega (arith, below))
+in_mask Two mask zero all below = omega (arith, all)
+in_mask Two mask (suc zero) all below = omega (arith, all)
+in_mask Two mask (suc (suc s)) all below = absurd (omega (arith, below))
 in_mask Four mask zero all below = omega (arith, all)
 in_mask Four mask (suc zero) all below = omega (arith, all)
 in_mask Four mask (suc (suc zero)) all below = omega (arith, all)
 in_mask Four mask (suc (suc (suc zero))) all below = omega (arith, all)
 in_mask Four mask (suc (suc (suc (suc s)))) all below = absurd (omega (arith, below))
+in_mask Eight mask zero all below = omega (arith, all)
+in_mask Eight mask (suc zero) all below = omega (arith, all)
+in_mask Eight mask (suc (suc zero)) all below = omega (arith, all)
+in_mask Eight mask (suc (suc (suc zero))) all below = omega (arith, all)
+in_mask Eight mask (suc (suc (suc (suc zero)))) all below = omega (arith, all)
+in_mask Eight mask (suc (suc (suc (suc (suc zero))))) all below = omega (arith, all)
+in_mask Eight mask (suc (suc (suc (suc (suc (suc zero)))))) all below = omega (arith, all)
+in_mask Eight mask (suc (suc (suc (suc (suc (suc (suc zero))))))) all below = omega (arith, all)
+in_mask Eight mask (suc (suc (suc (suc (suc (suc (suc (suc s)))))))) all below = absurd (omega (arith, below))
+in_mask Sixteen mask zero all below = omega (arith, all)
+in_mask Sixteen mask (suc zero) all below = omega (arith, all)
+in_mask Sixteen mask (suc (suc zero)) all below = omega (arith, all)
+in_mask Sixteen mask (suc (suc (suc zero))) all below = omega (arith, all)
+in_mask Sixteen mask (suc (suc (suc (suc zero)))) all below = omega (arith, all)
+in_mask Sixteen mask (suc (suc (suc (suc (suc zero))))) all below = omega (arith, all)
+in_mask Sixteen mask (suc (suc (suc (suc (suc (suc zero)))))) all below = omega (arith, all)
+in_mask Sixteen mask (suc (suc (suc (suc (suc (suc (suc zero))))))) all below = omega (arith, all)
+in_mask Sixteen mask (suc (suc (suc (suc (suc (suc (suc (suc zero)))))))) all below = omega (arith, all)
+in_mask Sixteen mask (suc (suc (suc (suc (suc (suc (suc (suc (suc zero))))))))) all below = omega (arith, all)
+in_mask Sixteen mask (suc (suc (suc (suc (suc (suc (suc (suc (suc (suc zero)))))))))) all below = omega (arith, all)
+in_mask Sixteen mask (suc (suc (suc (suc (suc (suc (suc (suc (suc (suc (suc zero))))))))))) all below = omega (arith, all)
+in_mask Sixteen mask (suc (suc (suc (suc (suc (suc (suc (suc (suc (suc (suc (suc zero)))))))))))) all below = omega (arith, all)
+in_mask Sixteen mask (suc (suc (suc (suc (suc (suc (suc (suc (suc (suc (suc (suc (suc zero))))))))))))) all below = omega (arith, all)
+in_mask Sixteen mask (suc (suc (suc (suc (suc (suc (suc (suc (suc (suc (suc (suc (suc (suc zero)))))))))))))) all below = omega (arith, all)
+in_mask Sixteen mask (suc (suc (suc (suc (suc (suc (suc (suc (suc (suc (suc (suc (suc (suc (suc zero))))))))))))))) all below = omega (arith, all)
+in_mask Sixteen mask (suc (suc (suc (suc (suc (suc (suc (suc (suc (suc (suc (suc (suc (suc (suc (suc s)))))))))))))))) all below = absurd (omega (arith, below))
 
 always : (test : DepthTest) (new old : ℕ) → test ≡ Always → Passes test new old
 always test new old is = rw is tt
@@ -46,22 +75,22 @@ always test new old is = rw is tt
 replaced : (written over : Bool) (source alpha x y new : ℕ) → IsTrue written → over ≡ false → IsBlended written over source alpha x new → IsBlended written over source alpha y new
 replaced written over source alpha x y new is plain h = rw (is, plain) (rw (is, plain) at h)
 
-merged_alike : (state : State) (f : Shaded) (x y new : Sample) → ReplacesColours state → y.z ≡ x.z → IsMerged state.merge f x new → IsMerged state.merge f y new
-merged_alike state f x y new r same h = record {
+merged_alike : (state : State) (count : SampleCount) (f : Shaded) (x y new : Sample) → ReplacesColours state count → y.z ≡ x.z → IsMerged state.merge f x new → IsMerged state.merge f y new
+merged_alike state count f x y new r same h = record {
   red = replaced _ state.merge.over f.r f.a x.r y.r new.r r.red r.plain h.red;
   green = replaced _ state.merge.over f.g f.a x.g y.g new.g r.green r.plain h.green;
   blue = replaced _ state.merge.over f.b f.a x.b y.b new.b r.blue r.plain h.blue;
   depth = rw same h.depth;
 }
 
-pub hides_tile : (t : Placed) (tile : Tile) → ReplacesColours t.state → HoldsTile t.state.scissor tile → IsRasterized t.tri t.state.cull → CoversAll (square_of t.tri tile) → Hides t tile
+pub hides_tile : (t : Placed) (tile : Tile) → ReplacesColours t.state tile.count → HoldsTile t.state.scissor tile → IsRasterized t.tri t.state.cull → CoversAll (square_of t.tri tile) → Hides t tile
 hides_tile t tile replaces holds drawn covers row column s h x y new same draws =
     let meets_sample : Meets t tile.count (8 * tile.bx + column) (8 * tile.by + row) s =
     record { kept = drawn.kept; covered = covers s row column h.is_sample h.high h.wide; in_scissor = holds row column h.high h.wide; in_mask = in_mask tile.count t.state.sample_mask s replaces.all_samples h.is_sample } in
     let made = draws.met meets_sample in
     let old = made.2.passed (always t.state.merge.test made.0.z x.z replaces.passes) in
     record {
-      met = λ _. (made.0, made.1, record { passed = λ _. merged_alike t.state made.0 x y new replaces same old; failed = λ fails. absurd (fails (always t.state.merge.test made.0.z y.z replaces.passes)) });
+      met = λ _. (made.0, made.1, record { passed = λ _. merged_alike t.state tile.count made.0 x y new replaces same old; failed = λ fails. absurd (fails (always t.state.merge.test made.0.z y.z replaces.passes)) });
       missed = λ missed. absurd (missed meets_sample);
     }
 

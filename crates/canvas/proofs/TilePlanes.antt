@@ -6,7 +6,7 @@ use Rattle.std.proofs.lemmas.Bool.Decides.{eqb_tells}
 use Rattle.std.proofs.lemmas.List.{get_or-set_same, get_or-set_other}
 use Rattle.grid.specs.Samples.{count_of}
 use Rattle.grid.specs.declared.sample_count.SampleCount.{SampleCount}
-use Rattle.grid.specs.declared.sample_count.SampleCount.TheVariants.{One, Four}
+use Rattle.grid.specs.declared.sample_count.SampleCount.TheVariants.{One, Two, Four, Eight, Sixteen}
 use Rattle.shade.specs.declared.sample.Sample.{Sample}
 use Rattle.lanes.specs.declared.block_samples.BlockSamples.{BlockSamples}
 use Rattle.lanes.specs.Block.{stored_at}
@@ -51,19 +51,31 @@ tile_cleared count xs plane sample e planes all i j s h =
 -- ---- filled
 within_block : (count : SampleCount) (b s : ℕ) → s < count_of count → (1 + b * count_of count + s - 1) % count_of count ≡ s
 within_block One b s h = omega (arith, h)
+within_block Two b s h = omega (arith, h)
 within_block Four b s h = omega (arith, h)
+within_block Eight b s h = omega (arith, h)
+within_block Sixteen b s h = omega (arith, h)
 
 last_place : (count : SampleCount) (q s : ℕ) → q < 64 → s < count_of count → 1 + (q + 1) * count_of count + s < planes_of_tile count
 last_place One q s h k = omega (arith, h, k)
+last_place Two q s h k = omega (arith, h, k)
 last_place Four q s h k = omega (arith, h, k)
+last_place Eight q s h k = omega (arith, h, k)
+last_place Sixteen q s h k = omega (arith, h, k)
 
 pub one_before : (count : SampleCount) (place : ℕ) → 1 + count_of count ≤ place → (place - count_of count - 1) % count_of count ≡ (place - 1) % count_of count
 one_before One place h = omega (arith, h)
+one_before Two place h = omega (arith, h)
 one_before Four place h = omega (arith, h)
+one_before Eight place h = omega (arith, h)
+one_before Sixteen place h = omega (arith, h)
 
 pub in_first_block : (count : SampleCount) (k : ℕ) → 1 ≤ k → k < 1 + count_of count → 1 + (k - 1) % count_of count ≡ k
 in_first_block One k h l = omega (arith, h, l)
+in_first_block Two k h l = omega (arith, h, l)
 in_first_block Four k h l = omega (arith, h, l)
+in_first_block Eight k h l = omega (arith, h, l)
+in_first_block Sixteen k h l = omega (arith, h, l)
 
 -- the planes before this place are those of the cleared block, again and again
 abbrev pub AreFilled : SampleCount → List BlockSamples → ℕ → List BlockSamples → Type 0
@@ -89,7 +101,10 @@ one_filled count old xs place plane from room is before k h l =
   where
     some_samples : (count : SampleCount) → 1 ≤ count_of count
     some_samples One = omega arith
+    some_samples Two = omega arith
     some_samples Four = omega arith
+    some_samples Eight = omega arith
+    some_samples Sixteen = omega arith
 
 pub tile_filled : (count : SampleCount) (old new : List BlockSamples) → slice_index (slice_index_or old 0 none).r 0 ≡ 1 → slice_index (slice_index_or new 0 none).r 0 ≢ 1
     → AreFilled count old (planes_of_tile count) new → (i j s : ℕ) → s < count_of count → stored_in_tile count new i j s ≡ stored_in_tile count old i j s
@@ -113,8 +128,14 @@ not_marked xs state r is some e =
 -- ---- the own blocks of a tile, behind its first planes
 pub own_place : (count : SampleCount) (q s : ℕ) → 1 + count_of count + (q * count_of count + s) ≡ 1 + (q + 1) * count_of count + s
 own_place One q s = omega arith
+own_place Two q s = omega arith
 own_place Four q s = omega arith
+own_place Eight q s = omega arith
+own_place Sixteen q s = omega arith
 
 pub within_own : (count : SampleCount) (q s n a : ℕ) → q < 64 → s < count_of count → a + n ≡ planes_of_tile count → a ≡ 1 + count_of count → q * count_of count + s < n
 within_own One q s n a h k many at = omega (arith, h, k, many, at)
+within_own Two q s n a h k many at = omega (arith, h, k, many, at)
 within_own Four q s n a h k many at = omega (arith, h, k, many, at)
+within_own Eight q s n a h k many at = omega (arith, h, k, many, at)
+within_own Sixteen q s n a h k many at = omega (arith, h, k, many, at)

@@ -1,5 +1,7 @@
 -- What a later triangle hides in a tile.
-use Rattle.std.specs.Prelude.{◌≡◌, ℕ, ◌+◌, ◌*◌, ◌%◌, ◌<◌, List, slice_get, Some, false}
+use Rattle.std.specs.Prelude.{◌≡◌, ℕ, ◌+◌, ◌-◌, ◌*◌, ◌%◌, ◌^◌, ◌<◌, List, slice_get, Some, false}
+use Rattle.grid.specs.Samples.{count_of}
+use Rattle.grid.specs.declared.sample_count.SampleCount.{SampleCount}
 use Rattle.shade.specs.declared.depth.DepthTest.TheVariants.{Always}
 use Rattle.shade.specs.declared.sample.Sample.{Sample}
 use Rattle.shade.specs.declared.state.State.{State}
@@ -10,14 +12,14 @@ use Rattle.raster.specs.declared.tile.Tile.{Tile}
 use Rattle.raster.specs.Samples.{IsSampleOf}
 
 -- A triangle in this state gives its colour to each sample that it covers in its scissor. The depth test always passes, red, green and
--- blue are written without blending, and all of up to four samples are in the mask.
-pub record ReplacesColours (s : State) : Type 0 where
+-- blue are written without blending, and all samples of a pixel are in the mask.
+pub record ReplacesColours (s : State) (count : SampleCount) : Type 0 where
   pub passes : s.merge.test ≡ Always
   pub red : Writes s.merge 0
   pub green : Writes s.merge 1
   pub blue : Writes s.merge 2
   pub plain : s.merge.over ≡ false
-  pub all_samples : s.sample_mask % 16 ≡ 15
+  pub all_samples : s.sample_mask % 2 ^ count_of count ≡ 2 ^ count_of count - 1
 
 -- The triangle hides the colours that are stored in the tile: what it makes of a sample, it makes of each other of the same depth.
 abbrev pub Hides : Placed → Tile → Type 0

@@ -61,7 +61,7 @@ impl Canvas {
     /// How many planes a tile has.
     pub(crate) fn planes_of_tile(&self) -> usize
         ensures value { result ≡ planes_of_tile self.now.count }
-        ensures few { result ≤ 261 }
+        ensures few { result ≤ 1041 }
     {
         1 + 65 * self.count.count() as usize
     }
@@ -69,7 +69,7 @@ impl Canvas {
     /// How many planes a tile row has.
     pub fn planes_of_row(&self) -> usize
         ensures value { result ≡ planes_of_row self.now }
-        ensures few { result ≤ 16704 }
+        ensures few { result ≤ 66624 }
     {
         self.column_count() as usize * self.planes_of_tile()
     }

@@ -1,5 +1,6 @@
 //! What a later triangle hides in a tile: the triangles before it are seen by nobody, and need not be drawn there.
-ghost use Rattle.std.specs.Prelude.{◌<◌, ◌≤◌, length, IsTrue, IfSome};
+ghost use Rattle.std.specs.Prelude.{◌≡◌, ◌-◌, ◌%◌, ◌^◌, ◌<◌, ◌≤◌, length, IsTrue, IfSome};
+ghost use Rattle.grid.specs.Samples.{count_of};
 ghost use Rattle.cover.specs.Rasterized.{IsRasterized};
 ghost use Rattle.cover.specs.Square.{CoversAll};
 ghost use Rattle.raster.specs.Drawing.{square_of};
@@ -8,18 +9,31 @@ ghost use Rattle.canvas.specs.Rows.{IsMaskOf};
 ghost use Rattle.canvas.specs.Hidden.{ReplacesColours, Hides, FirstKeepDepths, CanBegin};
 
 use cover::{Class, Setup};
-use grid::{PixelBox, Tri};
+use grid::{PixelBox, SampleCount, Tri};
 use raster::Tile;
 use reach::next_bit;
 use shade::{DepthTest, Placed, State};
 
+/// Whether all samples of a pixel are in the mask.
+fn has_all_samples(mask: u16, count: SampleCount) -> bool
+    ensures { IsTrue result → mask % 2 ^ count_of count ≡ 2 ^ count_of count - 1 }
+{
+    match count {
+        SampleCount::One => mask % 2 == 1,
+        SampleCount::Two => mask % 4 == 3,
+        SampleCount::Four => mask % 16 == 15,
+        SampleCount::Eight => mask % 256 == 255,
+        SampleCount::Sixteen => mask == 65535,
+    }
+}
+
 /// Whether a triangle in this state gives its colour to each sample of a pixel that it covers in its scissor, whatever is stored there.
-fn replaces_colours(state: &State) -> bool
-    ensures { IsTrue result → ReplacesColours state.now }
+fn replaces_colours(state: &State, count: SampleCount) -> bool
+    ensures { IsTrue result → ReplacesColours state.now count }
 {
     let merge = state.merge;
     let [red, green, blue] = merge.write;
-    let plain = red && green && blue && !merge.over && state.sample_mask % 16 == 15;
+    let plain = red && green && blue && !merge.over && has_all_samples(state.sample_mask, count);
     match merge.test {
         DepthTest::Always => plain,
         DepthTest::Never
@@ -77,7 +91,7 @@ fn covers_tile(triangle: &Placed, tile: &Tile) -> bool
 fn hides(triangle: &Placed, tile: &Tile) -> bool
     ensures { IsTrue result → Hides triangle.now tile.now }
 {
-    if !replaces_colours(&triangle.state) {
+    if !replaces_colours(&triangle.state, tile.count) {
         return false;
     }
     holds_tile(&triangle.state.scissor, tile) && covers_tile(triangle, tile)

@@ -4,7 +4,7 @@ use crate::{Canvas, Format, Misfit, Origin, TileRows, Vertex};
 use grid::{Cull, PixelBox, Point, SampleCount, Tri, sample_at};
 use lanes::BlockSamples;
 use reach::Stored;
-use shade::{DepthTest, Merge, Placed, Sample, State, apply, mean_of_four};
+use shade::{DepthTest, Merge, Placed, Sample, State, apply};
 use std::alloc::Global;
 use std::process::Abort;
 use std::test::Fail;
@@ -75,7 +75,11 @@ impl Numbers {
             } else {
                 Cull::None
             },
-            sample_mask: if self.next() % 4 == 0 { 5 } else { 15 },
+            sample_mask: if self.next() % 4 == 0 {
+                0xA5C5
+            } else {
+                u16::MAX
+            },
             scissor: PixelBox {
                 x0: (self.next() % 30) as i32,
                 y0: (self.next() % 30) as i32,
@@ -122,7 +126,7 @@ fn drawn(triangle: &Placed, count: SampleCount, i: u32, j: u32, s: u32, stored: 
     }
     let covered = triangle.tri.covers(sample_at(i, j, s, count));
     let kept = !state.cull.drops(triangle.tri.area2()) && state.scissor.has(i, j);
-    if !covered || !kept || s > 3 || (state.sample_mask >> s) % 2 == 0 {
+    if !covered || !kept || s > 15 || (state.sample_mask >> s) % 2 == 0 {
         return stored;
     }
     let fragment = triangle.fragment(sample_at(i, j, s, count));
@@ -210,7 +214,10 @@ fn draws_batches(rt: &impl Abort, alloc: Global, count: SampleCount) -> Result<b
 #[test]
 fn draws_batches_over_samples_that_stay(rt: HostRuntime) -> Result<(), Fail> {
     assert!(rt; draws_batches(&rt, rt.alloc(), SampleCount::One)?);
+    assert!(rt; draws_batches(&rt, rt.alloc(), SampleCount::Two)?);
     assert!(rt; draws_batches(&rt, rt.alloc(), SampleCount::Four)?);
+    assert!(rt; draws_batches(&rt, rt.alloc(), SampleCount::Eight)?);
+    assert!(rt; draws_batches(&rt, rt.alloc(), SampleCount::Sixteen)?);
     Ok(())
 }
 
@@ -231,7 +238,7 @@ fn covering(rt: &impl Abort) -> Placed {
                 over: false,
             },
             cull: Cull::None,
-            sample_mask: 15,
+            sample_mask: u16::MAX,
             scissor: PixelBox {
                 x0: 0,
                 y0: 0,
@@ -268,7 +275,7 @@ fn draws_hidden(
 
 #[test]
 fn leaves_out_what_a_later_triangle_hides(rt: HostRuntime) -> Result<(), Fail> {
-    for count in [SampleCount::One, SampleCount::Four] {
+    for count in [SampleCount::One, SampleCount::Four, SampleCount::Eight] {
         assert!(rt; draws_hidden(&rt, rt.alloc(), count, false)?);
         assert!(rt; draws_hidden(&rt, rt.alloc(), count, true)?);
     }
@@ -327,23 +334,17 @@ fn refuses_a_batch_that_leaves_the_guard_band(rt: HostRuntime) -> Result<(), Fai
     Ok(())
 }
 
-/// The mean of a pixel's samples of one channel.
-fn mean(count: SampleCount, channel: [u8; 4]) -> u8 {
-    match count {
-        SampleCount::One => channel[0],
-        SampleCount::Four => mean_of_four(channel[0], channel[1], channel[2], channel[3]),
-    }
-}
-
-/// Red, green and blue of pixel (i, j) after the triangles.
+/// Red, green and blue of pixel (i, j) after the triangles: the means of its samples, rounded to nearest with halves up.
 fn colour_at(triangles: &[Placed], count: SampleCount, i: u32, j: u32) -> [u8; 3] {
-    let a = end_at(triangles, count, i, j, 0);
-    let b = end_at(triangles, count, i, j, 1);
-    let c = end_at(triangles, count, i, j, 2);
-    let d = end_at(triangles, count, i, j, 3);
-    let r = mean(count, [a.r, b.r, c.r, d.r]);
-    let g = mean(count, [a.g, b.g, c.g, d.g]);
-    [r, g, mean(count, [a.b, b.b, c.b, d.b])]
+    let many = count.count();
+    let (mut r, mut g, mut b) = (many / 2, many / 2, many / 2);
+    for s in 0..many {
+        let sample = end_at(triangles, count, i, j, s);
+        r += u32::from(sample.r);
+        g += u32::from(sample.g);
+        b += u32::from(sample.b);
+    }
+    [(r / many) as u8, (g / many) as u8, (b / many) as u8]
 }
 
 /// The byte of a channel of pixel (i, j), or the unchanged one after the end of a row.
@@ -422,6 +423,9 @@ fn resolves_and_loads_each_format_with_a_stride(rt: HostRuntime) -> Result<(), F
     assert!(rt; resolves(&rt, rt.alloc(), SampleCount::One, Format::Rgb8)?);
     assert!(rt; resolves(&rt, rt.alloc(), SampleCount::Four, Format::Rgba8)?);
     assert!(rt; resolves(&rt, rt.alloc(), SampleCount::Four, Format::Bgra8)?);
+    assert!(rt; resolves(&rt, rt.alloc(), SampleCount::Two, Format::Rgb8)?);
+    assert!(rt; resolves(&rt, rt.alloc(), SampleCount::Eight, Format::Rgb8)?);
+    assert!(rt; resolves(&rt, rt.alloc(), SampleCount::Sixteen, Format::Rgba8)?);
     Ok(())
 }
 
@@ -588,6 +592,8 @@ fn has_a_canvas_of_1_to_4096_pixels_a_side(rt: HostRuntime) {
     assert!(rt; Canvas::new(1, 4097, SampleCount::Four).is_none());
     let largest = Canvas::new(4096, 4096, SampleCount::Four).expect(&rt, "the largest canvas");
     assert_eq!(rt; largest.all().planes(), 1_069_056);
+    let sixteen = Canvas::new(4096, 4096, SampleCount::Sixteen).expect(&rt, "sixteen samples");
+    assert_eq!(rt; sixteen.all().planes(), 4_263_936);
     assert_eq!(rt; largest.column_count(), 64);
     assert_eq!(rt; largest.row_count(), 64);
     assert_eq!(rt; largest.planes_of_row(), 16_704);

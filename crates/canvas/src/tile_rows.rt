@@ -23,7 +23,7 @@ impl TileRows {
     /// How many planes these tile rows have.
     pub fn planes(&self) -> usize
         ensures value { result ≡ planes_of_rows self.now.canvas self.now.first self.now.end }
-        ensures few { result ≤ 1069056 }
+        ensures few { result ≤ 4263936 }
     {
         (self.end - self.first) as usize * self.canvas.planes_of_row()
     }

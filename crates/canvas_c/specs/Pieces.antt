@@ -13,7 +13,7 @@ use Rattle.canvas_c.specs.Statuses.{Checks, done, check, followed_by}
 -- There is a canvas of this size.
 pub record IsCanvas (width height samples : ℕ) : Type 0 where
   pub size : IsCanvasSize width height
-  pub pattern : (samples ≡ 1) ⊎ (samples ≡ 4)
+  pub pattern : (samples ≡ 1) ⊎ (samples ≡ 2) ⊎ (samples ≡ 4) ⊎ (samples ≡ 8) ⊎ (samples ≡ 16)
 
 -- A canvas of this height has the tile rows from `first` to before `end`.
 pub record HasRows (height first end : ℕ) : Type 0 where

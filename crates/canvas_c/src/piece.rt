@@ -29,7 +29,7 @@ pub struct CanvasHead {
     pub width: u32,
     /// Its rows of pixels: 1 to 4096.
     pub height: u32,
-    /// The samples of a pixel: 1 or 4.
+    /// The samples of a pixel: 1, 2, 4, 8 or 16.
     pub samples: u32,
     /// The column of the screen at which its upper left pixel lies.
     pub origin_x: i32,
@@ -53,12 +53,15 @@ pub struct CanvasPiece<'a> {
 
 /// This number of samples of a pixel.
 fn count_of(samples: u32) -> Option<SampleCount>
-    ensures some { IsSome result ↔ ((samples ≡ 1) ⊎ (samples ≡ 4)) }
+    ensures some { IsSome result ↔ ((samples ≡ 1) ⊎ (samples ≡ 2) ⊎ (samples ≡ 4) ⊎ (samples ≡ 8) ⊎ (samples ≡ 16)) }
     ensures value { IfSome result (λ count. count ≡ samples_listed samples) }
 {
     match samples {
         1 => Some(SampleCount::One),
+        2 => Some(SampleCount::Two),
         4 => Some(SampleCount::Four),
+        8 => Some(SampleCount::Eight),
+        16 => Some(SampleCount::Sixteen),
         _ => None,
     }
 }

@@ -52,14 +52,14 @@ fn write_mask(value: Option<&Value>) -> Result<[bool; 3], ReadKind>
 
 /// Which samples a draw writes, bit s for sample s; the default if the key is absent. The number stays as it is read,
 /// also with one sample, of which only bit 0 counts.
-fn sample_mask(value: Option<&Value>) -> Result<u8, ReadKind>
+fn sample_mask(value: Option<&Value>) -> Result<u16, ReadKind>
     ensures { let seen = option_map (λ v. view v.now) value.entry in
         Answers (where_there sample_mask_checks seen) (OrDefault 15 IsSampleMask seen) result }
 {
     if value.is_none() {
         return Ok(DEFAULT_STATE.sample_mask);
     }
-    Ok(whole_number(value, 0, i64::from(ALL_SAMPLES), ReadKind::OutOfRange)? as u8)
+    Ok(whole_number(value, 0, i64::from(ALL_SAMPLES), ReadKind::OutOfRange)? as u16)
 }
 
 /// A side of a scissor, in pixels.

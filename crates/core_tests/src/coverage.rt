@@ -73,11 +73,11 @@ fn covers_half_a_block(rt: HostRuntime) {
     ] {
         let half = setup(&rt, corners);
         assert_eq!(rt;
-            half.masks(0, 0, SampleCount::One),
+            half.masks(0, 0, 0, SampleCount::One),
             one(0x0001_0307_0F1F_3F7F)
         );
         assert_eq!(rt;
-            half.masks(0, 0, SampleCount::Four),
+            half.masks(0, 0, 0, SampleCount::Four),
             Masks {
                 plane: [
                     0x0103_070F_1F3F_7FFF,
@@ -87,7 +87,7 @@ fn covers_half_a_block(rt: HostRuntime) {
                 ]
             }
         );
-        assert_eq!(rt; half.masks(1, 0, SampleCount::One), one(0));
+        assert_eq!(rt; half.masks(1, 0, 0, SampleCount::One), one(0));
     }
 }
 
@@ -96,14 +96,14 @@ fn covers_half_a_block(rt: HostRuntime) {
 fn gives_an_edge_to_its_right_side(rt: HostRuntime) {
     let left = setup(&rt, [(2016, -100_000), (2016, 100_000), (-100_000, 0)]);
     assert_eq!(rt;
-        left.masks(0, 0, SampleCount::Four),
+        left.masks(0, 0, 0, SampleCount::Four),
         Masks {
             plane: [u64::MAX, 0x7F7F_7F7F_7F7F_7F7F, u64::MAX, u64::MAX]
         }
     );
     let right = setup(&rt, [(2016, -100_000), (2016, 100_000), (100_000, 0)]);
     assert_eq!(rt;
-        right.masks(0, 0, SampleCount::Four),
+        right.masks(0, 0, 0, SampleCount::Four),
         Masks {
             plane: [0, 0x8080_8080_8080_8080, 0, 0]
         }
@@ -120,7 +120,7 @@ fn splits_a_square(rt: HostRuntime) {
     )
     .expect(&rt, "opposite sides");
     assert_eq!(rt;
-        pair_masks(&pair, 0, 0, SampleCount::One),
+        pair_masks(&pair, 0, 0, 0, SampleCount::One),
         (one(0x103), one(0x200))
     );
     let wide = Pair::new(
@@ -131,7 +131,7 @@ fn splits_a_square(rt: HostRuntime) {
     )
     .expect(&rt, "opposite sides");
     assert_eq!(rt;
-        pair_masks(&wide, 0, 0, SampleCount::One),
+        pair_masks(&wide, 0, 0, 0, SampleCount::One),
         (one(0x0001_0307_0F1F_3F7F), one(0xFFFE_FCF8_F0E0_C080))
     );
     let widest = Pair::new(
@@ -142,7 +142,7 @@ fn splits_a_square(rt: HostRuntime) {
     )
     .expect(&rt, "opposite sides");
     assert_eq!(rt;
-        pair_masks(&widest, 0, 0, SampleCount::One),
+        pair_masks(&widest, 0, 0, 0, SampleCount::One),
         (one(u64::MAX), one(0))
     );
 }
@@ -230,20 +230,21 @@ fn compare(rt: &impl Abort, t: &Tri, setup: &Setup, bx: u32, by: u32)
 {
     for count in [SampleCount::One, SampleCount::Four] {
         let plain = plain_masks(t, bx, by, count);
-        assert_eq!(rt; setup.masks(bx, by, count), plain, "block {bx}, {by}");
+        assert_eq!(rt; setup.masks(bx, by, 0, count), plain, "block {bx}, {by}");
         let block = setup.square(bx, by, TileSide::T8, count);
-        assert_eq!(rt; block.masks(), plain, "square {bx}, {by}");
+        assert_eq!(rt; block.masks(0), plain, "square {bx}, {by}");
         let class = setup.classify(bx, by, TileSide::T8, count);
         let (bx16, by16) = (bx / 2 * 2, by / 2 * 2);
         let around = setup.square(bx16, by16, TileSide::T16, count);
         let quarter = around.quarter(bx % 2 + by % 2 * 2);
         assert_eq!(rt; (quarter.bx(), quarter.by()), (bx, by));
         assert_eq!(rt; quarter.class(), class, "quarter {bx}, {by}");
-        assert_eq!(rt; quarter.masks(), plain, "quarter {bx}, {by}");
+        assert_eq!(rt; quarter.masks(0), plain, "quarter {bx}, {by}");
         let full = Masks {
             plane: match count {
                 SampleCount::One => [u64::MAX, 0, 0, 0],
-                SampleCount::Four => [u64::MAX; 4],
+                SampleCount::Two => [u64::MAX, u64::MAX, 0, 0],
+                SampleCount::Four | SampleCount::Eight | SampleCount::Sixteen => [u64::MAX; 4],
             },
         };
         match class {
@@ -336,16 +337,16 @@ fn quad(rt: &impl Abort, corners: [(i32, i32); 4]) -> Quad {
 #[test]
 fn covers_a_quad_on_samples(rt: HostRuntime) {
     let whole = quad(&rt, [(128, 128), (640, 128), (640, 640), (128, 640)]);
-    assert_eq!(rt; quad_masks(&whole, 0, 0, SampleCount::One), one(0x303));
+    assert_eq!(rt; quad_masks(&whole, 0, 0, 0, SampleCount::One), one(0x303));
     assert_eq!(rt;
-        quad_masks(&whole.turned(), 0, 0, SampleCount::One),
+        quad_masks(&whole.turned(), 0, 0, 0, SampleCount::One),
         one(0x303)
     );
     assert_eq!(rt;
-        quad_masks(&whole.reversed(), 0, 0, SampleCount::One),
+        quad_masks(&whole.reversed(), 0, 0, 0, SampleCount::One),
         one(0x303)
     );
-    assert_eq!(rt; quad_masks(&whole, 1, 0, SampleCount::One), one(0));
+    assert_eq!(rt; quad_masks(&whole, 1, 0, 0, SampleCount::One), one(0));
 }
 
 #[test]
@@ -353,7 +354,7 @@ fn covers_the_guard_band(rt: HostRuntime) {
     let everything = quad(&rt, [(LOW, LOW), (HIGH, LOW), (HIGH, HIGH), (LOW, HIGH)]);
     for (bx, by) in [(0, 0), (511, 0), (0, 511), (511, 511)] {
         assert_eq!(rt;
-            quad_masks(&everything, bx, by, SampleCount::Four),
+            quad_masks(&everything, bx, by, 0, SampleCount::Four),
             Masks {
                 plane: [u64::MAX; 4]
             }
@@ -386,7 +387,7 @@ fn compare_quad(rt: &impl Abort, quad: &Quad, bx: u32, by: u32)
 {
     let (a, b, c, d) = (quad.a(), quad.b(), quad.c(), quad.d());
     for count in [SampleCount::One, SampleCount::Four] {
-        let masks = quad_masks(quad, bx, by, count);
+        let masks = quad_masks(quad, bx, by, 0, count);
         assert_eq!(rt;
             masks,
             plain_quad_masks(quad, bx, by, count),
@@ -398,8 +399,8 @@ fn compare_quad(rt: &impl Abort, quad: &Quad, bx: u32, by: u32)
         ] {
             let first = Setup::new(&first, Cull::None).expect(rt, "an area");
             let second = Setup::new(&second, Cull::None).expect(rt, "an area");
-            let [e, f, g, h] = first.masks(bx, by, count).plane;
-            let [i, j, k, l] = second.masks(bx, by, count).plane;
+            let [e, f, g, h] = first.masks(bx, by, 0, count).plane;
+            let [i, j, k, l] = second.masks(bx, by, 0, count).plane;
             assert_eq!(rt; [e & i, f & j, g & k, h & l], [0; 4], "block {bx}, {by}");
             assert_eq!(rt;
                 [e | i, f | j, g | k, h | l],

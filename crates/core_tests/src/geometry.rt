@@ -37,6 +37,10 @@ fn places_samples(rt: HostRuntime) {
         (7, 7, 1, SampleCount::Four, (2016, 1888)),
         (0, 0, 2, SampleCount::Four, (32, 160)),
         (4095, 4095, 3, SampleCount::Four, (1_048_480, 1_048_544)),
+        (0, 0, 1, SampleCount::Two, (64, 64)),
+        (3, 5, 7, SampleCount::Eight, (1008, 1296)),
+        (3, 5, 12, SampleCount::Sixteen, (768, 1408)),
+        (4095, 4095, 15, SampleCount::Sixteen, (1_048_336, 1_048_320)),
     ] {
         assert_eq!(rt; sample_at(px, py, s, count), point(&rt, position));
     }

@@ -1,12 +1,12 @@
 -- The samples of a block in the box round them, and masks of them.
-use Rattle.std.proofs.Common.{◌≡◌, ◌↔◌, refl, sym, ap, ap₂, ◌∙◌, subst, [], ◌∷◌, arith, ℕ, zero, suc, ◌+◌, ◌-◌, ◌*◌, ◌^◌, ◌<◌, ◌≤◌, bit_and, ℤ, pos, ◌+ℤ◌, ◌*ℤ◌, ◌<ℤ◌, ◌≤ℤ◌, w64, to_z, of_z, slice_index}
+use Rattle.std.proofs.Common.{◌≡◌, ◌↔◌, refl, sym, ap, ap₂, ◌∙◌, subst, [], ◌∷◌, arith, ℕ, zero, suc, ◌+◌, ◌-◌, ◌*◌, ◌^◌, ◌<◌, ◌≤◌, bit_and, IsBitSet, ℤ, pos, ◌+ℤ◌, ◌*ℤ◌, ◌<ℤ◌, ◌≤ℤ◌, w64, to_z, of_z, slice_index}
 use Rattle.std.proofs.lemmas.Int.{ints, to_z-of_z}
 use Rattle.grid.specs.Bounds.{IsWithin}
-use Rattle.grid.specs.Samples.{count_of, offsets_x, offsets_y}
+use Rattle.grid.specs.Samples.{count_of, part_size, IsPart, offsets_x, offsets_y}
 use Rattle.grid.specs.declared.pixels.TileSide.{TileSide}
 use Rattle.grid.specs.declared.pixels.TileSide.TheVariants.{T8}
 use Rattle.grid.specs.declared.sample_count.SampleCount.{SampleCount}
-use Rattle.grid.specs.declared.sample_count.SampleCount.TheVariants.{One, Four}
+use Rattle.grid.specs.declared.sample_count.SampleCount.TheVariants.{One, Two, Four, Eight, Sixteen}
 use Rattle.grid.specs.declared.triangle.Tri.{Tri}
 use Rattle.grid.proofs.Bounds.{IsWithin-mul}
 use Rattle.grid.proofs.Ring.{var, plus, times, ring}
@@ -18,43 +18,17 @@ use Rattle.cover.specs.Edge.{grown}
 use Rattle.cover.specs.Block.{IsScreenBounded}
 use Rattle.cover.specs.Edges.{AreScreenBounded, IsInsideAfter}
 use Rattle.cover.specs.Inside.{IsSquareOf}
-use Rattle.cover.specs.Masks.{AreMasksWhere, AreMasksOf, to_column, to_row}
+use Rattle.cover.specs.Masks.{AreMasksWhere, AreWordsWhere, AreMasksOf, to_column, to_row}
 use Rattle.cover.specs.Square.{box_start, box_reach}
-use Rattle.cover.proofs.Corners.{sample_test}
+use Rattle.cover.proofs.Corners.{sample_test, room_x, room_y, reach_is, ends_lt}
 use Rattle.cover.proofs.Words.{set_in_both, full, empty_word, no_bits}
 
 -- ---- where a sample lies in the box
-pub record IsInRoom (start offset : ℕ) : Type 0 where
-  pub low : start ≤ offset
-  pub high : offset ≤ start + 192
-
-pub room_x : (count : SampleCount) (s : ℕ) → s < count_of count → IsInRoom (box_start count) (slice_index (offsets_x count) s)
-room_x One zero lt = record { low = omega arith; high = omega arith }
-room_x One (suc s) lt = absurd (omega (arith, lt))
-room_x Four zero lt = record { low = omega arith; high = omega arith }
-room_x Four (suc zero) lt = record { low = omega arith; high = omega arith }
-room_x Four (suc (suc zero)) lt = record { low = omega arith; high = omega arith }
-room_x Four (suc (suc (suc zero))) lt = record { low = omega arith; high = omega arith }
-room_x Four (suc (suc (suc (suc s)))) lt = absurd (omega (arith, lt))
-
-pub room_y : (count : SampleCount) (s : ℕ) → s < count_of count → IsInRoom (box_start count) (slice_index (offsets_y count) s)
-room_y One zero lt = record { low = omega arith; high = omega arith }
-room_y One (suc s) lt = absurd (omega (arith, lt))
-room_y Four zero lt = record { low = omega arith; high = omega arith }
-room_y Four (suc zero) lt = record { low = omega arith; high = omega arith }
-room_y Four (suc (suc zero)) lt = record { low = omega arith; high = omega arith }
-room_y Four (suc (suc (suc zero))) lt = record { low = omega arith; high = omega arith }
-room_y Four (suc (suc (suc (suc s)))) lt = absurd (omega (arith, lt))
-
 pub column_in_reach : (count : SampleCount) (s column : ℕ) → s < count_of count → column < 8 → to_column count s column ≤ box_reach T8 count
-column_in_reach One zero column lt within = omega arith
-column_in_reach One (suc s) column lt within = absurd (omega (arith, lt))
-column_in_reach Four s column lt within = let room = room_x Four s lt in omega (arith, room.low, room.high)
+column_in_reach count s column lt within = let room = room_x count s lt in omega (arith, room.low, room.high, reach_is T8 count)
 
 pub row_in_reach : (count : SampleCount) (s row : ℕ) → s < count_of count → row < 8 → to_row count s row ≤ box_reach T8 count
-row_in_reach One zero row lt within = omega arith
-row_in_reach One (suc s) row lt within = absurd (omega (arith, lt))
-row_in_reach Four s row lt within = let room = room_y Four s lt in omega (arith, room.low, room.high)
+row_in_reach count s row lt within = let room = room_y count s lt in omega (arith, room.low, room.high, reach_is T8 count)
 
 pub place_x : (count : SampleCount) (s n column : ℕ) → s < count_of count → 2048 * n + box_start count + to_column count s column ≡ 256 * (8 * n + column) + slice_index (offsets_x count) s
 place_x count s n column lt = let room = room_x count s lt in place (box_start count) (slice_index (offsets_x count) s) n column room.low
@@ -69,8 +43,7 @@ place_y count s n row lt = let room = room_y count s lt in place (box_start coun
     place start offset n row low = omega arith
 
 pub reach_of_block : (count : SampleCount) → box_reach T8 count < 2 ^ 11
-reach_of_block One = omega arith
-reach_of_block Four = omega arith
+reach_of_block count = omega (arith, reach_is T8 count, ends_lt count)
 
 -- ---- an edge that meets the box is not far
 pub is_near : (e : Edge) (at : ℤ) (m n m' n' : ℕ) → grown e at m n <ℤ pos 0 → pos 0 ≤ℤ grown e at m' n' → m < 2 ^ 11 → n < 2 ^ 11 → m' < 2 ^ 11 → n' < 2 ^ 11 → IsWithin (2 ^ 37) at
@@ -94,37 +67,37 @@ kept z h = to_z-of_z w64 z (omega (arith, ints, h))
 abbrev pub Passes : Edge → ℤ → SampleCount → ℕ → ℕ → ℕ → Type 0
 Passes e at count s row column = pos 0 ≤ℤ grown e at (to_column count s column) (to_row count s row)
 
-pub all_pass : (e : Edge) (at : ℤ) (count : SampleCount) (m : Masks) → ((k l : ℕ) → k ≤ box_reach T8 count → l ≤ box_reach T8 count → pos 0 ≤ℤ grown e at k l)
-    → ((s : ℕ) → s < count_of count → slice_index m.plane s ≡ 2 ^ 64 - 1) → ((s : ℕ) → count_of count ≤ s → slice_index m.plane s ≡ 0) → AreMasksWhere (Passes e at count) count m
-all_pass e at count m pass each empty = record {
+pub all_pass : (e : Edge) (at : ℤ) (count : SampleCount) (from : ℕ) (m : Masks) → IsPart count from → ((k l : ℕ) → k ≤ box_reach T8 count → l ≤ box_reach T8 count → pos 0 ≤ℤ grown e at k l)
+    → ((s : ℕ) → s < part_size count → slice_index m.plane s ≡ 2 ^ 64 - 1) → ((s : ℕ) → part_size count ≤ s → slice_index m.plane s ≡ 0) → AreMasksWhere (Passes e at count) count from m
+all_pass e at count from m part pass each empty = record {
   exact = λ s row column lt below within.
-      (λ set. pass (to_column count s column) (to_row count s row) (column_in_reach count s column lt within) (row_in_reach count s row lt below), λ h. full _ (8 * row + column) (each s lt) (omega arith));
+      (λ set. pass (to_column count (from + s) column) (to_row count (from + s) row) (column_in_reach count (from + s) column (omega (arith, lt, part)) within) (row_in_reach count (from + s) row (omega (arith, lt, part)) below), λ h. full _ (8 * row + column) (each s lt) (omega arith));
   empty = empty;
 }
 
 -- with the number as a call was given it
-pub all_pass_kept : (e : Edge) (at least : ℤ) (reach : ℕ) (count : SampleCount) (m : Masks) → IsScreenBounded at → reach ≡ box_reach T8 count → pos 0 ≤ℤ least → ((k l : ℕ) → k ≤ reach → l ≤ reach → least ≤ℤ grown e (bits64 at) k l)
-    → ((s : ℕ) → s < count_of count → slice_index m.plane s ≡ 2 ^ 64 - 1) → ((s : ℕ) → count_of count ≤ s → slice_index m.plane s ≡ 0) → AreMasksWhere (Passes e at count) count m
-all_pass_kept e at least reach count m small is over bound each empty =
-    all_pass e at count m (λ k l hk hl. subst (λ (z : ℤ). pos 0 ≤ℤ grown e z k l) (kept at small) (trans _ (bound k l (omega (arith, is, hk)) (omega (arith, is, hl))))) each empty
+pub all_pass_kept : (e : Edge) (at least : ℤ) (reach : ℕ) (count : SampleCount) (from : ℕ) (m : Masks) → IsPart count from → IsScreenBounded at → reach ≡ box_reach T8 count → pos 0 ≤ℤ least → ((k l : ℕ) → k ≤ reach → l ≤ reach → least ≤ℤ grown e (bits64 at) k l)
+    → ((s : ℕ) → s < part_size count → slice_index m.plane s ≡ 2 ^ 64 - 1) → ((s : ℕ) → part_size count ≤ s → slice_index m.plane s ≡ 0) → AreMasksWhere (Passes e at count) count from m
+all_pass_kept e at least reach count from m part small is over bound each empty =
+    all_pass e at count from m part (λ k l hk hl. subst (λ (z : ℤ). pos 0 ≤ℤ grown e z k l) (kept at small) (trans _ (bound k l (omega (arith, is, hk)) (omega (arith, is, hl))))) each empty
   where
     trans : (z : ℤ) → least ≤ℤ z → pos 0 ≤ℤ z
     trans z h = omega (arith, ints)
 
-pub none_pass : (e : Edge) (at : ℤ) (count : SampleCount) (m : Masks) → ((k l : ℕ) → k ≤ box_reach T8 count → l ≤ box_reach T8 count → grown e at k l <ℤ pos 0)
-    → ((s : ℕ) → s < count_of count → slice_index m.plane s ≡ 0) → ((s : ℕ) → count_of count ≤ s → slice_index m.plane s ≡ 0) → AreMasksWhere (Passes e at count) count m
-none_pass e at count m fail each empty = record {
+pub none_pass : (e : Edge) (at : ℤ) (count : SampleCount) (from : ℕ) (m : Masks) → IsPart count from → ((k l : ℕ) → k ≤ box_reach T8 count → l ≤ box_reach T8 count → grown e at k l <ℤ pos 0)
+    → ((s : ℕ) → s < part_size count → slice_index m.plane s ≡ 0) → ((s : ℕ) → part_size count ≤ s → slice_index m.plane s ≡ 0) → AreMasksWhere (Passes e at count) count from m
+none_pass e at count from m part fail each empty = record {
   exact = λ s row column lt below within. (
     λ set. absurd (empty_word _ _ (each s lt) set),
-    λ h. absurd (let under = fail (to_column count s column) (to_row count s row) (column_in_reach count s column lt within) (row_in_reach count s row lt below) in omega (arith, ints)),
+    λ h. absurd (let under = fail (to_column count (from + s) column) (to_row count (from + s) row) (column_in_reach count (from + s) column (omega (arith, lt, part)) within) (row_in_reach count (from + s) row (omega (arith, lt, part)) below) in omega (arith, ints)),
   );
   empty = empty;
 }
 
-pub none_pass_kept : (e : Edge) (at greatest : ℤ) (reach : ℕ) (count : SampleCount) (m : Masks) → IsScreenBounded at → reach ≡ box_reach T8 count → greatest <ℤ pos 0 → ((k l : ℕ) → k ≤ reach → l ≤ reach → grown e (bits64 at) k l ≤ℤ greatest)
-    → ((s : ℕ) → s < count_of count → slice_index m.plane s ≡ 0) → ((s : ℕ) → count_of count ≤ s → slice_index m.plane s ≡ 0) → AreMasksWhere (Passes e at count) count m
-none_pass_kept e at greatest reach count m small is under bound each empty =
-    none_pass e at count m (λ k l hk hl. subst (λ (z : ℤ). grown e z k l <ℤ pos 0) (kept at small) (trans _ (bound k l (omega (arith, is, hk)) (omega (arith, is, hl))))) each empty
+pub none_pass_kept : (e : Edge) (at greatest : ℤ) (reach : ℕ) (count : SampleCount) (from : ℕ) (m : Masks) → IsPart count from → IsScreenBounded at → reach ≡ box_reach T8 count → greatest <ℤ pos 0 → ((k l : ℕ) → k ≤ reach → l ≤ reach → grown e (bits64 at) k l ≤ℤ greatest)
+    → ((s : ℕ) → s < part_size count → slice_index m.plane s ≡ 0) → ((s : ℕ) → part_size count ≤ s → slice_index m.plane s ≡ 0) → AreMasksWhere (Passes e at count) count from m
+none_pass_kept e at greatest reach count from m part small is under bound each empty =
+    none_pass e at count from m part (λ k l hk hl. subst (λ (z : ℤ). grown e z k l <ℤ pos 0) (kept at small) (trans _ (bound k l (omega (arith, is, hk)) (omega (arith, is, hl))))) each empty
   where
     trans : (z : ℤ) → z ≤ℤ greatest → z <ℤ pos 0
     trans z h = omega (arith, ints)
@@ -172,10 +145,47 @@ plane_bit {B} e at w count s row column m n is x y bit =
     ap (λ z. grown e z (256 * column) (256 * row)) is ∙ further_on e at m n (256 * column) (256 * row) ∙ (λ i. grown e at (256 * column + x i) (256 * row + y i)) in
     subst (λ (z : ℤ). B ↔ (pos 0 ≤ℤ z)) value bit
 
+-- ---- the words of a part
+pub record IsWord (P : ℕ → ℕ → ℕ → Type 0) (count : SampleCount) (from s word : ℕ) : Type 0 where
+  pub some : s < part_size count → (row column : ℕ) → row < 8 → column < 8 → (IsBitSet word (8 * row + column) ↔ P (from + s) row column)
+  pub none : part_size count ≤ s → word ≡ 0
+
+part_at_most : (count : SampleCount) → part_size count ≤ 4
+part_at_most One = omega arith
+part_at_most Two = omega arith
+part_at_most Four = omega arith
+part_at_most Eight = omega arith
+part_at_most Sixteen = omega arith
+
+module _ (P : ℕ → ℕ → ℕ → Type 0) (count : SampleCount) (from a b c d : ℕ) (first : IsWord P count from 0 a) (second : IsWord P count from 1 b) (third : IsWord P count from 2 c) (fourth : IsWord P count from 3 d) where
+  word_at : (s : ℕ) → IsWord P count from s (slice_index (a ∷ b ∷ c ∷ d ∷ []) s)
+  word_at zero = first
+  word_at (suc zero) = second
+  word_at (suc (suc zero)) = third
+  word_at (suc (suc (suc zero))) = fourth
+  word_at (suc (suc (suc (suc s)))) = record { some = λ lt. absurd (omega (arith, lt, part_at_most count)); none = λ le. refl }
+
+  pub four_words : AreWordsWhere P count from (a ∷ b ∷ c ∷ d ∷ [])
+  four_words = record { exact = λ s row column lt. (word_at s).some lt row column; empty = λ s. (word_at s).none }
+
+-- all samples of four are in one part
+pub words_of_four : (P : ℕ → ℕ → ℕ → Type 0) (count : SampleCount) (from a b c d : ℕ) → count ≡ Four → IsPart count from
+    → ((row column : ℕ) → row < 8 → column < 8 → (IsBitSet a (8 * row + column) ↔ P 0 row column)) → ((row column : ℕ) → row < 8 → column < 8 → (IsBitSet b (8 * row + column) ↔ P 1 row column))
+    → ((row column : ℕ) → row < 8 → column < 8 → (IsBitSet c (8 * row + column) ↔ P 2 row column)) → ((row column : ℕ) → row < 8 → column < 8 → (IsBitSet d (8 * row + column) ↔ P 3 row column))
+    → AreWordsWhere P count from (a ∷ b ∷ c ∷ d ∷ [])
+words_of_four P count from a b c d is part first second third fourth =
+    let all : count_of count ≡ 4 = ap count_of is in
+    let size : part_size count ≡ 4 = ap part_size is in
+    let zero_from : from ≡ 0 = omega (arith, part, all, size) in
+    let no : (s : ℕ) (w : ℕ) → s < 4 → part_size count ≤ s → w ≡ 0 = λ s w l le. absurd (omega (arith, size, l, le)) in
+    subst (λ f. AreWordsWhere P count f (a ∷ b ∷ c ∷ d ∷ [])) (sym zero_from)
+    (four_words P count 0 a b c d (record { some = λ _. first; none = no 0 a (omega arith) }) (record { some = λ _. second; none = no 1 b (omega arith) })
+    (record { some = λ _. third; none = no 2 c (omega arith) }) (record { some = λ _. fourth; none = no 3 d (omega arith) }))
+
 -- ---- edges joined
-pub both_exact : {P Q : ℕ → ℕ → ℕ → Type 0} (count : SampleCount) (m n r : Masks) → AreMasksWhere P count m → AreMasksWhere Q count n
-    → ((s : ℕ) → slice_index r.plane s ≡ bit_and (slice_index m.plane s) (slice_index n.plane s)) → AreMasksWhere (λ s row column. P s row column × Q s row column) count r
-both_exact {P} {Q} count m n r h k is = record {
+pub both_exact : {P Q : ℕ → ℕ → ℕ → Type 0} (count : SampleCount) (from : ℕ) (m n r : Masks) → AreMasksWhere P count from m → AreMasksWhere Q count from n
+    → ((s : ℕ) → slice_index r.plane s ≡ bit_and (slice_index m.plane s) (slice_index n.plane s)) → AreMasksWhere (λ s row column. P s row column × Q s row column) count from r
+both_exact {P} {Q} count from m n r h k is = record {
   exact = λ s row column lt below within.
       let both = set_in_both (slice_index m.plane s) (slice_index n.plane s) (8 * row + column) in
       let first = h.exact s row column lt below within in
@@ -186,10 +196,10 @@ both_exact {P} {Q} count m n r h k is = record {
   empty = λ s le. is s ∙ ap₂ bit_and (h.empty s le) (k.empty s le) ∙ no_bits;
 }
 
-pub means : {P Q : ℕ → ℕ → ℕ → Type 0} (count : SampleCount) (m : Masks) → ((s row column : ℕ) → P s row column ↔ Q s row column) → AreMasksWhere P count m → AreMasksWhere Q count m
-means {P} {Q} count m same h = record {
+pub means : {P Q : ℕ → ℕ → ℕ → Type 0} (count : SampleCount) (from : ℕ) (m : Masks) → ((s row column : ℕ) → P s row column ↔ Q s row column) → AreMasksWhere P count from m → AreMasksWhere Q count from m
+means {P} {Q} count from m same h = record {
   exact = λ s row column lt below within.
-      let bit = h.exact s row column lt below within in let to = same s row column in (λ set. to.0 (bit.0 set), λ q. bit.1 (to.1 q));
+      let bit = h.exact s row column lt below within in let to = same (from + s) row column in (λ set. to.0 (bit.0 set), λ q. bit.1 (to.1 q));
   empty = h.empty;
 }
 
@@ -204,12 +214,12 @@ inside_is e at m n h =
       λ k. ((subst (λ (z : ℤ). pos 0 ≤ℤ grown e.ab z m n) (sym ab) k.ab, subst (λ (z : ℤ). pos 0 ≤ℤ grown e.bc z m n) (sym bc) k.bc), subst (λ (z : ℤ). pos 0 ≤ℤ grown e.ca z m n) (sym ca) k.ca),
     )
 
-pub masks_of_square : (t : Tri) (e : Edges) (at : Values) (bx by : ℕ) (side : TileSide) (count : SampleCount) (m : Masks) → IsSquareOf t e at bx by side count
-    → AreMasksWhere (λ s row column. IsInsideAfter e at (to_column count s column) (to_row count s row)) count m → AreMasksOf t bx by count m
-masks_of_square t e at bx by side count m h k = record {
+pub masks_of_square : (t : Tri) (e : Edges) (at : Values) (bx by : ℕ) (side : TileSide) (count : SampleCount) (from : ℕ) (m : Masks) → IsPart count from → IsSquareOf t e at bx by side count
+    → AreMasksWhere (λ s row column. IsInsideAfter e at (to_column count s column) (to_row count s row)) count from m → AreMasksOf t bx by count from m
+masks_of_square t e at bx by side count from m part h k = record {
   covered = λ s lt row column below within.
       let bit = k.exact s row column lt below within in
-      let test = sample_test t e at bx by side count h s row column (to_column count s column) (to_row count s row) (place_x count s bx column lt) (place_y count s by row lt) in
+      let test = sample_test t e at bx by side count h (from + s) row column (to_column count (from + s) column) (to_row count (from + s) row) (place_x count (from + s) bx column (omega (arith, lt, part))) (place_y count (from + s) by row (omega (arith, lt, part))) in
       (λ set. test.0 (bit.0 set), λ c. bit.1 (test.1 c));
   empty = k.empty;
 }

@@ -1,5 +1,6 @@
 //! The edges of a triangle and of a quad.
 ghost use Rattle.std.specs.Prelude.{◌≡◌, ◌≢◌, ◌↔◌, ℕ, ◌^◌, ◌<◌, pos, ◌≤◌, IsTrue};
+ghost use Rattle.grid.specs.Samples.{IsPart};
 ghost use Rattle.grid.specs.Triangle.{doubled_area};
 
 use crate::edge::Edge;
@@ -98,16 +99,17 @@ impl Edges {
             || self.ca.passes_none(at.ca, reach)
     }
 
-    /// The samples of a block at which none of the functions is negative. They are `at` at the first position of the box round the
+    /// The samples of a block, from sample `from` of a pixel on, at which none of the functions is negative. They are `at` at the first position of the box round the
     /// block's samples.
     #[inline(always)]
-    pub(crate) fn masks(&self, at: &Values, count: SampleCount) -> Masks
-        requires { AreScreenBounded at.now }
-        ensures { AreMasksWhere (λ s row column. IsInsideAfter self.now at.now (to_column count s column) (to_row count s row)) count result }
+    pub(crate) fn masks(&self, at: &Values, from: u32, count: SampleCount) -> Masks
+        requires at { AreScreenBounded at.now }
+        requires part { IsPart count from }
+        ensures { AreMasksWhere (λ s row column. IsInsideAfter self.now at.now (to_column count s column) (to_row count s row)) count from result }
     {
         self.ab
-            .masks(at.ab, count)
-            .both(self.bc.masks(at.bc, count))
-            .both(self.ca.masks(at.ca, count))
+            .masks(at.ab, from, count)
+            .both(self.bc.masks(at.bc, from, count))
+            .both(self.ca.masks(at.ca, from, count))
     }
 }

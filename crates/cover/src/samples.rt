@@ -12,7 +12,10 @@ pub(crate) fn start(count: SampleCount) -> u32
 {
     match count {
         SampleCount::One => 128,
+        SampleCount::Two => 64,
         SampleCount::Four => 32,
+        SampleCount::Eight => 16,
+        SampleCount::Sixteen => 0,
     }
 }
 
@@ -24,7 +27,10 @@ pub(crate) fn reach(side: TileSide, count: SampleCount) -> u32
     let to_last_pixel = 256 * (side.pixels() - 1);
     match count {
         SampleCount::One => to_last_pixel,
+        SampleCount::Two => to_last_pixel + 128,
         SampleCount::Four => to_last_pixel + 192,
+        SampleCount::Eight => to_last_pixel + 224,
+        SampleCount::Sixteen => to_last_pixel + 240,
     }
 }
 

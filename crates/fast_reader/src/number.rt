@@ -114,10 +114,10 @@ pub(super) fn take_size(reader: &mut Reader<'_>) -> Option<u16>
 }
 
 /// Takes which samples a draw writes, bit s for sample s.
-pub(super) fn take_sample_mask(reader: &mut Reader<'_>) -> Option<u8>
+pub(super) fn take_sample_mask(reader: &mut Reader<'_>) -> Option<u16>
     ensures { IfSome result (λ n. Took 0 (λ d n. IsSampleMask (Some d) n) reader.old n reader.new) }
 {
-    Some(take_between(reader, 0, i64::from(ALL_SAMPLES))? as u8)
+    Some(take_between(reader, 0, i64::from(ALL_SAMPLES))? as u16)
 }
 
 /// Takes the number of samples of a pixel.

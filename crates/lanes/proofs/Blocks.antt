@@ -9,7 +9,7 @@ use Rattle.shade.specs.declared.placed.Placed.{Placed}
 use Rattle.shade.specs.Placed.{IsDrawnAt}
 use Rattle.grid.specs.Triangle.{Covers}
 use Rattle.lanes.specs.Lanes.{IsMask}
-use Rattle.planes.specs.Multiple.{IsEighth}
+use Rattle.planes.specs.Multiple.{IsSixteenth}
 use Rattle.planes.specs.Group.{position_in, IsGroupOnScreen}
 use Rattle.planes.proofs.WholeValues.{multiple_sum}
 use Rattle.lanes.specs.Block.{IsOnScreen, stored_at, CoversMask, AreDrawn}
@@ -86,14 +86,14 @@ group_at p g = record { x = p.x; y = p.y +ℤ pos (512 * g) }
 
 pub group_on_screen : (p : Position) (g : ℕ) → g < 4 → IsOnScreen p → IsGroupOnScreen (group_at p g)
 group_on_screen p g less h =
-    let rows : IsEighth (pos (512 * g)) = record { times = pos (16 * g); is = omega (arith, ints) } in
+    let rows : IsSixteenth (pos (512 * g)) = record { times = pos (32 * g); is = omega (arith, ints) } in
     record {
       left = h.left;
       top = omega (arith, ints, h.top);
       right = h.right;
       bottom = omega (arith, ints, h.bottom, less);
-      eighth_x = h.eighth_x;
-      eighth_y = multiple_sum 32 p.y (pos (512 * g)) h.eighth_y rows;
+      sixteenth_x = h.sixteenth_x;
+      sixteenth_y = multiple_sum 16 p.y (pos (512 * g)) h.sixteenth_y rows;
     }
 
 pub in_rows : (p : Position) (g i : ℕ) → i < 16 → position_in (group_at p g) i ≡ position_in p (16 * g + i)

@@ -5,3 +5,4 @@ pub mod Lanes
 pub mod Blending
 pub mod Flat
 pub mod Groups
+pub mod Rows

@@ -1,7 +1,7 @@
 -- The samples of a block of 8 by 8 pixels.
 use Rattle.std.specs.Prelude.{◌≡◌, ℕ, ◌+◌, ◌<◌, ◌≤◌, IsBitSet, ◌^◌, pos, ◌+ℤ◌, ◌≤ℤ◌, ◌<ℤ◌, slice_index}
 use Rattle.grid.specs.Position.{Position}
-use Rattle.planes.specs.Multiple.{IsEighth}
+use Rattle.planes.specs.Multiple.{IsSixteenth}
 use Rattle.grid.specs.Triangle.{Covers}
 use Rattle.shade.specs.declared.sample.Sample.{Sample}
 use Rattle.shade.specs.declared.placed.Placed.{Placed}
@@ -19,8 +19,8 @@ pub record IsOnScreen (p : Position) : Type 0 where
   pub top : pos 0 ≤ℤ p.y
   pub right : (p.x +ℤ pos 1792) <ℤ pos (2 ^ 20)
   pub bottom : (p.y +ℤ pos 1792) <ℤ pos (2 ^ 20)
-  pub eighth_x : IsEighth p.x
-  pub eighth_y : IsEighth p.y
+  pub sixteenth_x : IsSixteenth p.x
+  pub sixteenth_y : IsSixteenth p.y
 
 -- The triangle covers the samples in the mask, of a block whose first sample is at p.
 abbrev pub CoversMask : Placed → Position → ℕ → Type 0

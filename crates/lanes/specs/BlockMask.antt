@@ -1,25 +1,25 @@
--- The samples of a block of 8 by 8 pixels, of all sample indices.
-use Rattle.std.specs.Prelude.{ℕ, ◌*◌, ◌<◌, List, [], slice_index, slice_index_or}
+-- The samples of a block of 8 by 8 pixels, of a part of the sample indices.
+use Rattle.std.specs.Prelude.{ℕ, ◌+◌, ◌*◌, ◌<◌, List, [], slice_index, slice_index_or}
 use Rattle.grid.specs.Position.{Position}
-use Rattle.grid.specs.Samples.{count_of, sample_position}
+use Rattle.grid.specs.Samples.{part_size, sample_position}
 use Rattle.lanes.specs.declared.block_samples.BlockSamples.{BlockSamples}
 use Rattle.lanes.specs.declared.block_mask.BlockMask.{BlockMask}
 use Rattle.shade.specs.declared.placed.Placed.{Placed}
 use Rattle.lanes.specs.Block.{CoversMask, AreDrawn}
 
--- Where sample s of the first pixel of the block lies.
+-- Where sample s of the part, of the first pixel of the block, lies.
 abbrev pub first_of : BlockMask → ℕ → Position
-first_of m s = sample_position (8 * m.bx) (8 * m.by) s m.count
+first_of m s = sample_position (8 * m.bx) (8 * m.by) (m.from + s) m.count
 
--- The samples s of a block, as they are stored.
+-- The samples s of a part of a block, as they are stored.
 abbrev pub plane_of : List BlockSamples → ℕ → BlockSamples
 plane_of samples s = slice_index_or samples s (record { z = []; r = []; g = []; b = [] })
 
--- The triangle covers the samples in the masks of a block, of all sample indices.
+-- The triangle covers the samples in the masks of a block.
 abbrev pub CoversBlock : Placed → BlockMask → Type 0
-CoversBlock t m = (s : ℕ) → s < count_of m.count → CoversMask t (first_of m s) (slice_index m.plane s)
+CoversBlock t m = (s : ℕ) → s < part_size m.count → CoversMask t (first_of m s) (slice_index m.plane s)
 
 -- The samples in the masks of a block are drawn, and the others are unchanged.
 abbrev pub IsBlockDrawn : Placed → BlockMask → List BlockSamples → List BlockSamples → Type 0
 IsBlockDrawn t m old new =
-    (s : ℕ) → s < count_of m.count → AreDrawn t (first_of m s) (slice_index m.plane s) (plane_of old s) (plane_of new s) 0 64
+    (s : ℕ) → s < part_size m.count → AreDrawn t (first_of m s) (slice_index m.plane s) (plane_of old s) (plane_of new s) 0 64

@@ -43,3 +43,4 @@ pub mod Lanes
 pub mod Sources
 pub mod Mode
 pub mod Merging
+pub mod Sums

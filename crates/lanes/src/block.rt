@@ -1,6 +1,6 @@
 //! How a triangle is drawn at the samples of a block.
 ghost use Rattle.std.specs.Prelude.{◌≡◌, ℕ, ◌+◌, ◌*◌, ◌<◌, IsBitSet, IsTrue, false, length};
-ghost use Rattle.grid.specs.Samples.{count_of};
+ghost use Rattle.grid.specs.Samples.{part_size};
 ghost use Rattle.shade.specs.declared.placed.Placed.{Placed as Triangle};
 ghost use Rattle.planes.specs.Group.{position_in};
 ghost use Rattle.lanes.specs.Block.{IsOnScreen, CoversMask, AreDrawn};
@@ -150,11 +150,11 @@ fn draw_planes(
     samples: &mut [BlockSamples],
     corrections: &mut Corrections,
 )
-    requires { length samples.old ≡ count_of mask.now.count }
+    requires { length samples.old ≡ part_size mask.now.count }
     ensures drawn { (t : Triangle) → AreSourcesOf t merge.now depth.now colour.now → CoversBlock t mask.now → IsBlockDrawn t mask.now samples.old samples.new }
     ensures samples { length samples.new ≡ length samples.old }
 {
-    for s in 0..mask.count.count() {
+    for s in 0..mask.count.part_size() {
         let plane = mask.plane[s as usize];
         draw_by_mask(
             merge,
@@ -205,7 +205,7 @@ fn draw_by_sources<const OVER: bool>(
 )
     requires over { merge.now.over ≡ OVER }
     requires all { WritesAllChannels merge.now }
-    requires samples { length samples.old ≡ count_of mask.now.count }
+    requires samples { length samples.old ≡ part_size mask.now.count }
     ensures drawn { (t : Triangle) → AreSourcesOf t merge.now depth.now colour.now → CoversBlock t mask.now → IsBlockDrawn t mask.now samples.old samples.new }
     ensures samples { length samples.new ≡ length samples.old }
 {
@@ -281,7 +281,7 @@ fn draw_by_merge(
     samples: &mut [BlockSamples],
     corrections: &mut Corrections,
 )
-    requires { length samples.old ≡ count_of mask.now.count }
+    requires { length samples.old ≡ part_size mask.now.count }
     ensures drawn { (t : Triangle) → AreSourcesOf t merge.now depth.now colour.now → CoversBlock t mask.now → IsBlockDrawn t mask.now samples.old samples.new }
     ensures samples { length samples.new ≡ length samples.old }
 {
@@ -303,7 +303,7 @@ impl Interpolants {
         samples: &mut [BlockSamples],
         corrections: &mut Corrections,
     )
-        requires samples { length samples.old ≡ count_of mask.now.count }
+        requires samples { length samples.old ≡ part_size mask.now.count }
         requires covered { CoversBlock self.now mask.now }
         ensures drawn { IsBlockDrawn self.now mask.now samples.old samples.new }
         ensures samples { length samples.new ≡ length samples.old }

@@ -1,6 +1,6 @@
 //! A triangle drawn at the samples of a block, one after another by the definition.
 ghost use Rattle.std.specs.Prelude.{◌≡◌, ◌+◌, ◌*◌, ◌<◌, length};
-ghost use Rattle.grid.specs.Samples.{count_of};
+ghost use Rattle.grid.specs.Samples.{part_size};
 ghost use Rattle.planes.specs.Group.{position_in};
 ghost use Rattle.lanes.specs.Block.{IsOnScreen, CoversMask, AreDrawn};
 ghost use Rattle.lanes.specs.BlockMask.{CoversBlock, IsBlockDrawn};
@@ -58,12 +58,12 @@ fn draw_plane_each(triangle: &Placed, p: Point, mask: u64, samples: &mut BlockSa
 
 /// Draws the triangle at the samples of a block that are in the mask, one after another.
 pub(crate) fn draw_each(triangle: &Placed, mask: &BlockMask, samples: &mut [BlockSamples])
-    requires samples { length samples.old ≡ count_of mask.now.count }
+    requires samples { length samples.old ≡ part_size mask.now.count }
     requires covered { CoversBlock triangle.now mask.now }
     ensures drawn { IsBlockDrawn triangle.now mask.now samples.old samples.new }
     ensures samples { length samples.new ≡ length samples.old }
 {
-    for s in 0..mask.count.count() {
+    for s in 0..mask.count.part_size() {
         let plane = mask.plane[s as usize];
         draw_plane_each(triangle, mask.first(s), plane, &mut samples[s as usize]);
     }

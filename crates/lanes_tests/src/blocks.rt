@@ -57,6 +57,7 @@ fn mask_of(t: &Tri, count: SampleCount, wanted: u64) -> BlockMask {
         bx: 10,
         by: 15,
         count,
+        from: 0,
         plane: [0; 4],
     };
     let mut plane = [0; 4];
@@ -67,6 +68,7 @@ fn mask_of(t: &Tri, count: SampleCount, wanted: u64) -> BlockMask {
         bx: 10,
         by: 15,
         count,
+        from: 0,
         plane,
     }
 }

@@ -1,7 +1,7 @@
 //! Values at sixteen samples at the ends of what planes can be, compared with `floor_at`.
 ghost use Rattle.std.specs.Prelude.{IsTrue, pos, ◌≤ℤ◌, ◌<ℤ◌};
 ghost use Rattle.planes.specs.Group.{IsGroupOnScreen};
-ghost use Rattle.planes.specs.Multiple.{IsEighth};
+ghost use Rattle.planes.specs.Multiple.{IsSixteenth};
 
 use crate::fixtures::{GREATEST, GREATEST_TURNED, everywhere, triangle};
 use grid::Point;
@@ -24,17 +24,17 @@ fn is_row(y: i32) -> bool
     0 <= y && y < 1_048_320
 }
 
-fn is_eighth(z: i32) -> bool
-    ensures { IsTrue result → IsEighth z }
+fn is_sixteenth(z: i32) -> bool
+    ensures { IsTrue result → IsSixteenth z }
 {
-    z.rem_euclid(32) == 0
+    z.rem_euclid(16) == 0
 }
 
 /// Whether a group whose first sample is at (x, y) is on the screen.
 fn is_on_screen(x: i32, y: i32) -> bool
     ensures { IsTrue result → IsGroupOnScreen (record { x = x; y = y }) }
 {
-    is_column(x) && is_row(y) && is_eighth(x) && is_eighth(y)
+    is_column(x) && is_row(y) && is_sixteenth(x) && is_sixteenth(y)
 }
 
 /// A triangle at these positions, with these depths and red; blue and alpha have the reds in other orders, and green is flat.
@@ -62,10 +62,10 @@ fn channel_at(rt: &impl Abort, t: &Placed, p: Point, number: usize) -> u16 {
     floor_at(&t.tri, p, [u16::from(a), u16::from(b), u16::from(c)])
 }
 
-/// Corners moved to the left and upwards by the distance of (x, y) from the last multiple of an eighth of a pixel.
+/// Corners moved to the left and upwards by the distance of (x, y) from the last multiple of a sixteenth of a pixel.
 fn moved(at: [(i32, i32); 3], (x, y): (i32, i32)) -> [(i32, i32); 3] {
     let [a, b, c] = at;
-    let (x, y) = (x.rem_euclid(32), y.rem_euclid(32));
+    let (x, y) = (x.rem_euclid(16), y.rem_euclid(16));
     [
         (a.0.wrapping_sub(x), a.1.wrapping_sub(y)),
         (b.0.wrapping_sub(x), b.1.wrapping_sub(y)),
@@ -130,8 +130,8 @@ fn agrees(
 ) -> Option<bool> {
     let t = placed(rt, moved(at, start), z, red);
     let from = (
-        start.0.wrapping_sub(start.0.rem_euclid(32)),
-        start.1.wrapping_sub(start.1.rem_euclid(32)),
+        start.0.wrapping_sub(start.0.rem_euclid(16)),
+        start.1.wrapping_sub(start.1.rem_euclid(16)),
     );
     let found = agrees_at(rt, &t, false, from, &mut Corrections::none());
     assert_eq!(rt;

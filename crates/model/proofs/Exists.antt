@@ -2,9 +2,9 @@
 use Rattle.std.proofs.Common.{◌≡◌, refl, ℕ, zero, suc, ◌+◌, ◌*◌, ◌/◌, ◌%◌, ◌<◌, List, [], ◌++◌, add-one, arith}
 use Rattle.std.proofs.Math.Nat.{mod-lt, div-add-mod'}
 use Rattle.grid.specs.declared.sample_count.SampleCount.{SampleCount}
-use Rattle.grid.specs.declared.sample_count.SampleCount.TheVariants.{One, Four}
+use Rattle.grid.specs.declared.sample_count.SampleCount.TheVariants.{One, Two, Four, Eight, Sixteen}
 use Rattle.shade.specs.declared.sample.Sample.{Sample}
-use Rattle.shade.specs.Resolve.{IsResolved}
+use Rattle.shade.specs.Resolve.{IsResolved, total}
 use Rattle.shade.proofs.Values.{quotient}
 use Rattle.model.specs.declared.output.Output.{Output}
 use Rattle.model.specs.declared.output.Output.TheVariants.{Color, Depth}
@@ -16,6 +16,9 @@ use Rattle.shade.proofs.Endings.{ends}
 
 resolved : (count : SampleCount) (channel : ℕ → ℕ) → (q : ℕ) × IsResolved count channel q
 resolved One channel = (channel 0, refl)
+resolved Two channel = (_, quotient (channel 0 + channel 1 + 1) 2 (omega arith))
+resolved Eight channel = (_, quotient (total 8 channel + 4) 8 (omega arith))
+resolved Sixteen channel = (_, quotient (total 16 channel + 8) 16 (omega arith))
 resolved Four channel = (_, quotient (channel 0 + channel 1 + channel 2 + channel 3 + 2) 4 (omega arith))
 
 end_of : (l : Scene) (i j s : ℕ) → (end : Sample) × IsEnd l i j s end

@@ -4,7 +4,7 @@ use Rattle.serde_json.specs.Data.{Data}
 use Rattle.serde_json.specs.Find.{get}
 use Rattle.grid.specs.Samples.{count_of}
 use Rattle.grid.specs.declared.sample_count.SampleCount.{SampleCount}
-use Rattle.grid.specs.declared.sample_count.SampleCount.TheVariants.{One, Four}
+use Rattle.grid.specs.declared.sample_count.SampleCount.TheVariants.{One, Two, Four, Eight, Sixteen}
 use Rattle.shade.specs.declared.sample.Sample.{Sample}
 use Rattle.model.specs.Json.{json_of, whole, text}
 use Rattle.model.specs.Listing.{DrawListing, Listing, scene_of}
@@ -19,12 +19,33 @@ use Rattle.model.proofs.OneDraw.{draw-unique}
 
 same_count : (x y : SampleCount) → count_of x ≡ count_of y → x ≡ y
 same_count One One e = refl
+same_count One Two e = absurd (omega arith)
 same_count One Four e = absurd (omega arith)
+same_count One Eight e = absurd (omega arith)
+same_count One Sixteen e = absurd (omega arith)
+same_count Two One e = absurd (omega arith)
+same_count Two Two e = refl
+same_count Two Four e = absurd (omega arith)
+same_count Two Eight e = absurd (omega arith)
+same_count Two Sixteen e = absurd (omega arith)
 same_count Four One e = absurd (omega arith)
+same_count Four Two e = absurd (omega arith)
 same_count Four Four e = refl
+same_count Four Eight e = absurd (omega arith)
+same_count Four Sixteen e = absurd (omega arith)
+same_count Eight One e = absurd (omega arith)
+same_count Eight Two e = absurd (omega arith)
+same_count Eight Four e = absurd (omega arith)
+same_count Eight Eight e = refl
+same_count Eight Sixteen e = absurd (omega arith)
+same_count Sixteen One e = absurd (omega arith)
+same_count Sixteen Two e = absurd (omega arith)
+same_count Sixteen Four e = absurd (omega arith)
+same_count Sixteen Eight e = absurd (omega arith)
+same_count Sixteen Sixteen e = refl
 
 count-unique : IsUnique IsSampleCount
-count-unique value x y h k = same_count x y (same_number (whole value) _ _ h k)
+count-unique value x y h k = same_count x y (same_number (whole value) _ _ h.0 k.0)
 
 depth-unique : IsUnique IsDepthNumber
 depth-unique value x y h k = same_number (whole value) x y h.0 k.0

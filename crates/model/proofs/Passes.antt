@@ -68,8 +68,11 @@ sample_mask_passes : (v : Data) (n : ℕ) → IsSampleMask (Some v) n → first_
 sample_mask_passes v n is = number_passes _ _ _ (Some v) (pos n) is
 
 sample_count_passes : (v : Data) (n : SampleCount) → IsSampleCount (Some v) n → first_fault (sample_count_checks (Some v)) ≡ None
-sample_count_passes v samples.One is = rw is refl
-sample_count_passes v samples.Four is = rw is refl
+sample_count_passes v samples.One is = rw is.0 refl
+sample_count_passes v samples.Two is = absurd is.1
+sample_count_passes v samples.Four is = rw is.0 refl
+sample_count_passes v samples.Eight is = absurd is.1
+sample_count_passes v samples.Sixteen is = absurd is.1
 
 truth_passes : (v : Data) (b : Bool) → IsTruth (Some v) b → first_fault (truth_checks (Some v)) ≡ None
 truth_passes v b is = rw is refl

@@ -182,9 +182,17 @@ pub record IsDraw (picture : PixelBox) (value : Data) (draw : DrawListing) : Typ
 abbrev pub IsOutput : Option Data → Output → Type 0
 IsOutput value output = text value ≡ Some (output_word output)
 
--- The value is this number of samples of a pixel.
+-- A draw list may have this number of samples of a pixel: 1 or 4.
+abbrev pub IsOneOrFour : SampleCount → Type 0
+IsOneOrFour samples.One = Unit {0}
+IsOneOrFour samples.Two = ⊥
+IsOneOrFour samples.Four = Unit {0}
+IsOneOrFour samples.Eight = ⊥
+IsOneOrFour samples.Sixteen = ⊥
+
+-- The value is this number of samples of a pixel: 1 or 4.
 abbrev pub IsSampleCount : Option Data → SampleCount → Type 0
-IsSampleCount value n = whole value ≡ Some (pos (count_of n))
+IsSampleCount value n = (whole value ≡ Some (pos (count_of n))) × IsOneOrFour n
 
 -- The value is this clear colour: [red, green, blue], each from 0 to 255.
 pub record IsClearColour (value : Option Data) (colour : List ℕ) : Type 0 where

@@ -25,7 +25,7 @@ pub const MOST_STRIP_INDICES: usize = 65_538;
 pub const MOST_QUADS: usize = 32_768;
 
 /// The sample mask of all samples, and so the greatest.
-pub const ALL_SAMPLES: u8 = 15;
+pub const ALL_SAMPLES: u16 = 15;
 
 /// Whether a number of pixels is within the limits of a picture's width and height.
 pub fn is_side(pixels: u32) -> bool

@@ -21,7 +21,7 @@ use Rattle.planes.specs.AttributePlane.{sum_at, AreCandidates, AreNear, AreValue
 use Rattle.shade.proofs.Values.{area_positive, weighted_sum-bound}
 use Rattle.planes.proofs.Certificate.{candidate_near, candidate_sure}
 use Rattle.planes.proofs.Modulos.{modulo_through}
-use Rattle.planes.proofs.WholeValues.{multiple_sum, pixels_eighth}
+use Rattle.planes.proofs.WholeValues.{multiple_sum, pixels_sixteenth}
 
 -- ---- a covered sample of the group is near the slope's vertex
 -- the numerator is small enough for the fraction
@@ -50,8 +50,8 @@ reached k a b c p values s i area all slope narrow screen less covered =
     rw all (record {
       value = slope.sum (position_in p i) covered;
       most = most_room k a b c (position_in p i) values narrow covered;
-      eighth_x = multiple_sum 32 p.x (pos (256 * (i % 8))) screen.eighth_x (pixels_eighth (i % 8));
-      eighth_y = multiple_sum 32 p.y (pos (256 * (i / 8))) screen.eighth_y (pixels_eighth (i / 8));
+      sixteenth_x = multiple_sum 16 p.x (pos (256 * (i % 8))) screen.sixteenth_x (pixels_sixteenth (i % 8));
+      sixteenth_y = multiple_sum 16 p.y (pos (256 * (i / 8))) screen.sixteenth_y (pixels_sixteenth (i / 8));
       near_x = record { low = omega (arith, ints, screen.left, in_x.high); high = omega (arith, ints, screen.right, in_x.low, column) };
       near_y = record { low = omega (arith, ints, screen.top, in_y.high); high = omega (arith, ints, screen.bottom, in_y.low, row) };
     })

@@ -100,7 +100,7 @@ raised_is k n area s p q x y r b m w m_fits w_fits some plane higher whole heigh
     let fits = not_wrapped k n area _ close reached.most some in
     let g = whole.unit in
     let some_unit : 0 < g = lt_of_mul-lt-mul_right (2 ^ k) (omega (arith, whole.few)) in
-    let value = whole.of_numerator (x +ℤ r) (y +ℤ b) reached.eighth_x reached.eighth_y in
+    let value = whole.of_numerator (x +ℤ r) (y +ℤ b) reached.sixteenth_x reached.sixteenth_y in
     let of_n = times_of n g value.times some_unit (sym reached.value ∙ value.is) in
     let none : area % g ≡ 0 = mod-eq-zero_of_dvd g whole.of_area in
     let of_area : area ≡ area / g * g = omega (arith, none, div-add-mod' area g) in

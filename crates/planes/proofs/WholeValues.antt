@@ -1,5 +1,5 @@
 -- Values that are whole multiples of a part of the area.
-use Rattle.std.proofs.Common.{◌≡◌, refl, sym, ap, ◌∙◌, subst, [], ◌∷◌, arith, None, Some, Option, IfSome, IsTrue, false, ℕ, zero, suc, slice_index, ◌+◌, ◌*◌, ◌/◌, ◌%◌, ◌<◌, ◌≤◌, ◌^◌, ℤ, pos, negsuc, FitsSigned, w32, w64, to_z, of_z, neg_ℤ, ◌+ℤ◌, ◌-ℤ◌, ◌*ℤ◌}
+use Rattle.std.proofs.Common.{◌≡◌, refl, sym, ap, ◌∙◌, subst, List, [], ◌∷◌, arith, None, Some, Option, IfSome, IsTrue, false, ℕ, zero, suc, slice_index, ◌+◌, ◌*◌, ◌/◌, ◌%◌, ◌<◌, ◌≤◌, ◌^◌, ℤ, pos, negsuc, FitsSigned, w32, w64, to_z, of_z, neg_ℤ, ◌+ℤ◌, ◌-ℤ◌, ◌*ℤ◌}
 use Rattle.std.specs.Int.{◌∣◌, int_rem_euclid}
 use Rattle.std.specs.Option.{is_some}
 use Rattle.std.specs.Int.RustNames.{unsigned_abs}
@@ -8,12 +8,12 @@ use Rattle.std.proofs.Math.Nat.{one-dvd}
 use Rattle.std.proofs.lemmas.Nat.{div-add-mod'}
 use Rattle.std.proofs.lemmas.Nat.Gcd.{mod-eq-zero_of_dvd, dvd_trans}
 use Rattle.grid.specs.declared.sample_count.SampleCount.{SampleCount}
-use Rattle.grid.specs.declared.sample_count.SampleCount.TheVariants.{One, Four}
+use Rattle.grid.specs.declared.sample_count.SampleCount.TheVariants.{One, Two, Four, Eight, Sixteen}
 use Rattle.grid.specs.Samples.{offsets_x, offsets_y, sample_position}
 use Rattle.grid.specs.Bounds.{IsWithin}
 use Rattle.grid.proofs.Bounds.{IsWithin-mul}
 use Rattle.grid.proofs.Ring.{var, plus, neg, times, ring}
-use Rattle.planes.specs.Multiple.{IsMultiple, IsEighth}
+use Rattle.planes.specs.Multiple.{IsMultiple, IsSixteenth}
 use Rattle.planes.specs.Slope.{numerator}
 use Rattle.planes.specs.Whole.{IsCommonDivisor, IsPast, IsWholeSlope}
 use Rattle.planes.specs.declared.slope.Slope.{Slope}
@@ -37,12 +37,12 @@ multiple_product n x y h =
     let both = ring (x ∷ h.times ∷ pos n ∷ []) (times (var 0) (times (var 1) (var 2))) (times (times (var 0) (var 1)) (var 2)) refl in
     record { times = x *ℤ h.times; is = ap (λ z. x *ℤ z) h.is ∙ both }
 
--- eighths of a pixel by the growth over 1/256 pixel
-multiple_growth : (g : ℕ) (w n : ℤ) → IsEighth w → IsMultiple g (pos 32 *ℤ n) → IsMultiple g (w *ℤ n)
+-- sixteenths of a pixel by the growth over 1/256 pixel
+multiple_growth : (g : ℕ) (w n : ℤ) → IsSixteenth w → IsMultiple g (pos 16 *ℤ n) → IsMultiple g (w *ℤ n)
 multiple_growth g w n h k =
-    let both : h.times *ℤ pos 32 *ℤ n ≡ h.times *ℤ (pos 32 *ℤ n) = ring (h.times ∷ pos 32 ∷ n ∷ []) (times (times (var 0) (var 1)) (var 2)) (times (var 0) (times (var 1) (var 2))) refl in
-    let same : w *ℤ n ≡ h.times *ℤ (pos 32 *ℤ n) = ap (λ z. z *ℤ n) h.is ∙ both in
-    subst (IsMultiple g) (sym same) (multiple_product g h.times (pos 32 *ℤ n) k)
+    let both : h.times *ℤ pos 16 *ℤ n ≡ h.times *ℤ (pos 16 *ℤ n) = ring (h.times ∷ pos 16 ∷ n ∷ []) (times (times (var 0) (var 1)) (var 2)) (times (var 0) (times (var 1) (var 2))) refl in
+    let same : w *ℤ n ≡ h.times *ℤ (pos 16 *ℤ n) = ap (λ z. z *ℤ n) h.is ∙ both in
+    subst (IsMultiple g) (sym same) (multiple_product g h.times (pos 16 *ℤ n) k)
 
 pub multiple_of_size : (g : ℕ) (z : ℤ) → g ∣ unsigned_abs z → IsMultiple g z
 multiple_of_size g (pos n) h =
@@ -56,14 +56,14 @@ multiple_of_size g (negsuc n) h =
     record { times = neg_ℤ (pos (suc n / g)); is = omega (arith, ints, none, parts, turned) }
 
 -- whole pixels
-pub pixels_eighth : (n : ℕ) → IsEighth (pos (256 * n))
-pixels_eighth n = record { times = pos (8 * n); is = omega (arith, ints) }
+pub pixels_sixteenth : (n : ℕ) → IsSixteenth (pos (256 * n))
+pixels_sixteenth n = record { times = pos (16 * n); is = omega (arith, ints) }
 
-pub eighth_from : (z : ℤ) → IsEighth (z -ℤ int_rem_euclid z (pos 32))
-eighth_from (pos a) = record { times = pos (a / 32); is = omega (arith, ints) }
-eighth_from (negsuc a) = record { times = negsuc (a / 32); is = omega (arith, ints) }
+pub sixteenth_from : (z : ℤ) → IsSixteenth (z -ℤ int_rem_euclid z (pos 16))
+sixteenth_from (pos a) = record { times = pos (a / 16); is = omega (arith, ints) }
+sixteenth_from (negsuc a) = record { times = negsuc (a / 16); is = omega (arith, ints) }
 
--- ---- the numerator at a sample, counted from the multiples of an eighth that the slope's vertex is past by r and q
+-- ---- the numerator at a sample, counted from the multiples of a sixteenth that the slope's vertex is past by r and q
 counted : (start x y sx sy r q nx ny : ℤ)
     → start +ℤ (x -ℤ sx) *ℤ nx +ℤ (y -ℤ sy) *ℤ ny
     ≡ start +ℤ (x -ℤ (sx -ℤ r)) *ℤ nx +ℤ (y -ℤ (sy -ℤ q)) *ℤ ny -ℤ (r *ℤ nx +ℤ q *ℤ ny)
@@ -75,15 +75,15 @@ counted start x y sx sy r q nx ny =
     (neg (plus (times (var 5) (var 7)) (times (var 6) (var 8)))))
     refl
 
-pub whole_numerator : (g area : ℕ) (s : Slope) (m n : ℤ) → g ∣ area → IsMultiple g (pos 32 *ℤ s.across) → IsMultiple g (pos 32 *ℤ s.down)
+pub whole_numerator : (g area : ℕ) (s : Slope) (m n : ℤ) → g ∣ area → IsMultiple g (pos 16 *ℤ s.across) → IsMultiple g (pos 16 *ℤ s.down)
     → IsPast s.x s.across m → IsPast s.y s.down n → IsMultiple g (m +ℤ n)
-    → (x y : ℤ) → IsEighth x → IsEighth y → IsMultiple g (numerator s area x y)
+    → (x y : ℤ) → IsSixteenth x → IsSixteenth y → IsMultiple g (numerator s area x y)
 whole_numerator g area s m n divides across down past_x past_y corner x y on_x on_y =
     let r = past_x.by in
     let q = past_y.by in
     let start : IsMultiple g (pos (s.first * area)) = multiple_product g (pos s.first) (pos area) (multiple_of_size g (pos area) divides) in
-    let right = multiple_growth g (x -ℤ (s.x -ℤ r)) s.across (multiple_difference 32 x (s.x -ℤ r) on_x past_x.eighth) across in
-    let below = multiple_growth g (y -ℤ (s.y -ℤ q)) s.down (multiple_difference 32 y (s.y -ℤ q) on_y past_y.eighth) down in
+    let right = multiple_growth g (x -ℤ (s.x -ℤ r)) s.across (multiple_difference 16 x (s.x -ℤ r) on_x past_x.sixteenth) across in
+    let below = multiple_growth g (y -ℤ (s.y -ℤ q)) s.down (multiple_difference 16 y (s.y -ℤ q) on_y past_y.sixteenth) down in
     let least : IsMultiple g (r *ℤ s.across +ℤ q *ℤ s.down) = rw (past_x.is, past_y.is) at corner in
     let whole = multiple_difference g _ _ (multiple_sum g _ _ (multiple_sum g _ _ start right) below) least in
     subst (IsMultiple g) (sym (counted (pos (s.first * area)) x y s.x s.y r q s.across s.down)) whole
@@ -95,16 +95,16 @@ pub record IsExactPast (z growth f : ℤ) : Type 0 where
   pub size : IsWithin (2 ^ 46) (to_z w64 (of_z w64 (to_z w64 (of_z w64 f) *ℤ to_z w64 (of_z w64 growth))))
 
 pub exact_past : (z growth f r : ℤ) → FitsSigned w32 z → FitsSigned w64 growth → unsigned_abs growth < 2 ^ 41
-    → r ≡ int_rem_euclid (to_z w32 (of_z w32 z)) (pos 32) → IsWithin 32 r → f ≡ r → IsExactPast z growth f
+    → r ≡ int_rem_euclid (to_z w32 (of_z w32 z)) (pos 16) → IsWithin 16 r → f ≡ r → IsExactPast z growth f
 exact_past z growth f r fits fits' bound e small same =
-    let past : r ≡ int_rem_euclid z (pos 32) = rw (to_z-of_z w32 z fits) at e in
+    let past : r ≡ int_rem_euclid z (pos 16) = rw (to_z-of_z w32 z fits) at e in
     let narrow : FitsSigned w64 f = omega (arith, ints, small, same) in
     let few : IsWithin (2 ^ 41) growth = record { low = omega (arith, ints, bound); high = omega (arith, ints, bound) } in
-    let size : IsWithin (32 * 2 ^ 41) (f *ℤ growth) = IsWithin-mul f growth 32 (2 ^ 41) (rw same small) few in
+    let size : IsWithin (16 * 2 ^ 41) (f *ℤ growth) = IsWithin-mul f growth 16 (2 ^ 41) (rw same small) few in
     let product : FitsSigned w64 (f *ℤ growth) = omega (arith, ints, size) in
     record {
       fits = simp to_z-of_z product;
-      past = simp to_z-of_z (record { by = f; eighth = rw (same, past) (eighth_from z); is = refl });
+      past = simp to_z-of_z (record { by = f; sixteenth = rw (same, past) (sixteenth_from z); is = refl });
       size = simp to_z-of_z (record { low = omega (arith, ints, size); high = omega (arith, ints, size) });
     }
 
@@ -121,22 +121,22 @@ divisor_from (Some g) area across down corner least h k some first second third 
 }
 
 -- a multiple in size
-multiple_of_32 : (g : ℕ) (z : ℤ) (a b : ℕ) → a ≡ unsigned_abs z → b ≡ 32 * a → g ∣ b → IsMultiple g (pos 32 *ℤ z)
-multiple_of_32 g z a b e f h =
-    let size : b ≡ unsigned_abs (pos 32 *ℤ z) = f ∙ ap (λ n. 32 * n) e ∙ sym (unsigned_abs-mul (pos 32) z) in
-    multiple_of_size g (pos 32 *ℤ z) (subst (λ n. g ∣ n) size h)
+multiple_of_16 : (g : ℕ) (z : ℤ) (a b : ℕ) → a ≡ unsigned_abs z → b ≡ 16 * a → g ∣ b → IsMultiple g (pos 16 *ℤ z)
+multiple_of_16 g z a b e f h =
+    let size : b ≡ unsigned_abs (pos 16 *ℤ z) = f ∙ ap (λ n. 16 * n) e ∙ sym (unsigned_abs-mul (pos 16) z) in
+    multiple_of_size g (pos 16 *ℤ z) (subst (λ n. g ∣ n) size h)
 
 none : IsTrue false → ⊥
 none e = cc
 
-pub whole_from : (k area : ℕ) (s : Slope) (m n : ℤ) (r : Option ℕ) (across a down d corner : ℕ) → a ≡ unsigned_abs s.across → d ≡ unsigned_abs s.down → across ≡ 32 * a → down ≡ 32 * d
+pub whole_from : (k area : ℕ) (s : Slope) (m n : ℤ) (r : Option ℕ) (across a down d corner : ℕ) → a ≡ unsigned_abs s.across → d ≡ unsigned_abs s.down → across ≡ 16 * a → down ≡ 16 * d
     → corner ≡ unsigned_abs (m +ℤ n) → IsPast s.x s.across m → IsPast s.y s.down n
     → IfSome r (λ g. 6 * area < g * 2 ^ k) → IfSome r (λ g. IsCommonDivisor area across down corner g) → IsTrue (is_some r) → IsWholeSlope k area s
 whole_from k area s m n None across a down d corner e f e' f' is past_x past_y few divides some = absurd (none some)
 whole_from k area s m n (Some g) across a down d corner e f e' f' is past_x past_y few divides some = record {
   unit = g;
   of_area = divides.of_area;
-  of_numerator = whole_numerator g area s m n divides.of_area (multiple_of_32 g s.across a across e e' divides.of_across) (multiple_of_32 g s.down d down f f' divides.of_down) past_x past_y
+  of_numerator = whole_numerator g area s m n divides.of_area (multiple_of_16 g s.across a across e e' divides.of_across) (multiple_of_16 g s.down d down f f' divides.of_down) past_x past_y
       (multiple_of_size g (m +ℤ n) (subst (λ c. g ∣ c) is divides.of_corner));
   few = few;
 }
@@ -151,32 +151,47 @@ whole_of_one k area bits s few none = record {
 }
 
 -- ---- the samples of a pixel
-offset_x : (count : SampleCount) (s : ℕ) → (m : ℕ) × (slice_index (offsets_x count) s ≡ 32 * m)
-offset_x One zero = (4, refl)
-offset_x One (suc s) = (0, refl)
-offset_x Four zero = (3, refl)
-offset_x Four (suc zero) = (7, refl)
-offset_x Four (suc (suc zero)) = (1, refl)
-offset_x Four (suc (suc (suc zero))) = (5, refl)
-offset_x Four (suc (suc (suc (suc s)))) = (0, refl)
+-- each element of a list is a multiple of a sixteenth of a pixel
+abbrev IsWhole : ℕ → Type 0
+IsWhole n = (m : ℕ) × (n ≡ 16 * m)
 
-offset_y : (count : SampleCount) (s : ℕ) → (m : ℕ) × (slice_index (offsets_y count) s ≡ 32 * m)
-offset_y One zero = (4, refl)
-offset_y One (suc s) = (0, refl)
-offset_y Four zero = (1, refl)
-offset_y Four (suc zero) = (3, refl)
-offset_y Four (suc (suc zero)) = (5, refl)
-offset_y Four (suc (suc (suc zero))) = (7, refl)
-offset_y Four (suc (suc (suc (suc s)))) = (0, refl)
+abbrev Every : List ℕ → Type 0
+Every [] = Unit {0}
+Every (x ∷ xs) = IsWhole x × Every xs
 
-pub sample_x : (i j s : ℕ) (count : SampleCount) → IsEighth (sample_position i j s count).x
-sample_x i j s count = let o = offset_x count s in record { times = pos (8 * i + o.0); is = omega (arith, ints, o.1) }
+of_each : (xs : List ℕ) → Every xs → (s : ℕ) → IsWhole (slice_index xs s)
+of_each [] h s = (0, refl)
+of_each (x ∷ xs) h zero = h.0
+of_each (x ∷ xs) h (suc s) = of_each xs h.1 s
 
-pub sample_y : (i j s : ℕ) (count : SampleCount) → IsEighth (sample_position i j s count).y
-sample_y i j s count = let o = offset_y count s in record { times = pos (8 * j + o.0); is = omega (arith, ints, o.1) }
+all_x : (count : SampleCount) → Every (offsets_x count)
+all_x One = ((8, refl), tt)
+all_x Two = ((12, refl), ((4, refl), tt))
+all_x Four = ((6, refl), ((14, refl), ((2, refl), ((10, refl), tt))))
+all_x Eight = ((9, refl), ((7, refl), ((13, refl), ((5, refl), ((3, refl), ((1, refl), ((11, refl), ((15, refl), tt))))))))
+all_x Sixteen = ((9, refl), ((7, refl), ((5, refl), ((12, refl), ((3, refl), ((10, refl), ((13, refl), ((11, refl), ((6, refl), ((8, refl), ((4, refl), ((2, refl), ((0, refl), ((15, refl), ((14, refl), ((1, refl), tt))))))))))))))))
 
--- what is past a multiple of an eighth by nothing is one
-pub eighth_when : (z r : ℤ) → r ≡ int_rem_euclid z (pos 32) → r ≡ pos 0 → IsEighth z
-eighth_when z r e f =
-    let same : z -ℤ int_rem_euclid z (pos 32) ≡ z = omega (arith, ints, e, f) in
-    subst IsEighth same (eighth_from z)
+offset_x : (count : SampleCount) (s : ℕ) → IsWhole (slice_index (offsets_x count) s)
+offset_x count s = of_each (offsets_x count) (all_x count) s
+
+all_y : (count : SampleCount) → Every (offsets_y count)
+all_y One = ((8, refl), tt)
+all_y Two = ((12, refl), ((4, refl), tt))
+all_y Four = ((2, refl), ((6, refl), ((10, refl), ((14, refl), tt))))
+all_y Eight = ((5, refl), ((11, refl), ((9, refl), ((3, refl), ((13, refl), ((7, refl), ((15, refl), ((1, refl), tt))))))))
+all_y Sixteen = ((9, refl), ((5, refl), ((10, refl), ((7, refl), ((6, refl), ((13, refl), ((11, refl), ((3, refl), ((14, refl), ((1, refl), ((2, refl), ((12, refl), ((8, refl), ((4, refl), ((15, refl), ((0, refl), tt))))))))))))))))
+
+offset_y : (count : SampleCount) (s : ℕ) → IsWhole (slice_index (offsets_y count) s)
+offset_y count s = of_each (offsets_y count) (all_y count) s
+
+pub sample_x : (i j s : ℕ) (count : SampleCount) → IsSixteenth (sample_position i j s count).x
+sample_x i j s count = let o = offset_x count s in record { times = pos (16 * i + o.0); is = omega (arith, ints, o.1) }
+
+pub sample_y : (i j s : ℕ) (count : SampleCount) → IsSixteenth (sample_position i j s count).y
+sample_y i j s count = let o = offset_y count s in record { times = pos (16 * j + o.0); is = omega (arith, ints, o.1) }
+
+-- what is past a multiple of a sixteenth by nothing is one
+pub sixteenth_when : (z r : ℤ) → r ≡ int_rem_euclid z (pos 16) → r ≡ pos 0 → IsSixteenth z
+sixteenth_when z r e f =
+    let same : z -ℤ int_rem_euclid z (pos 16) ≡ z = omega (arith, ints, e, f) in
+    subst IsSixteenth same (sixteenth_from z)

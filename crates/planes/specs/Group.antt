@@ -1,7 +1,7 @@
 -- Sixteen samples of two rows of eight pixels.
 use Rattle.std.specs.Prelude.{ℕ, pos, ◌*◌, ◌/◌, ◌%◌, ◌^◌, ◌≤ℤ◌, ◌<ℤ◌, ◌+ℤ◌}
 use Rattle.grid.specs.Position.{Position}
-use Rattle.planes.specs.Multiple.{IsEighth}
+use Rattle.planes.specs.Multiple.{IsSixteenth}
 
 -- The sample of pixel k of a block whose first pixel has its sample at p: pixel k stands in row k / 8 and column k % 8.
 abbrev pub position_in : Position → ℕ → Position
@@ -13,5 +13,5 @@ pub record IsGroupOnScreen (p : Position) : Type 0 where
   pub top : pos 0 ≤ℤ p.y
   pub right : (p.x +ℤ pos 1792) <ℤ pos (2 ^ 20)
   pub bottom : (p.y +ℤ pos 256) <ℤ pos (2 ^ 20)
-  pub eighth_x : IsEighth p.x
-  pub eighth_y : IsEighth p.y
+  pub sixteenth_x : IsSixteenth p.x
+  pub sixteenth_y : IsSixteenth p.y

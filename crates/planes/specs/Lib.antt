@@ -19,7 +19,7 @@
 --
 -- Multiple.antt
 --   IsMultiple: z is a multiple of n.
---   IsEighth: A coordinate that a sample may have: the samples of a pixel lie at multiples of an eighth of it.
+--   IsSixteenth: A coordinate that a sample may have: the samples of a pixel lie at multiples of a sixteenth of it.
 --
 -- Group.antt
 --   position_in: The sample of pixel k of a block whose first pixel has its sample at p: pixel k stands in row k / 8 and column k % 8.
@@ -27,7 +27,7 @@
 --
 -- Whole.antt
 --   IsCommonDivisor: g divides the four numbers, and is over 0.
---   IsPast: n is a growth times the distance of z from some multiple of an eighth of a pixel.
+--   IsPast: n is a growth times the distance of z from some multiple of a sixteenth of a pixel.
 --   IsWholeSlope: The area, and the numerator wherever a sample may lie, are multiples of a unit.
 --
 -- Plane.antt

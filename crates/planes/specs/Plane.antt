@@ -6,7 +6,7 @@ use Rattle.planes.specs.declared.slope.Slope.{Slope}
 use Rattle.planes.specs.Slope.{numerator, IsBounded}
 use Rattle.planes.specs.Reciprocal.{IsGradient, IsExactGradient}
 use Rattle.planes.specs.Modulo.{IsModulo}
-use Rattle.planes.specs.Multiple.{IsEighth}
+use Rattle.planes.specs.Multiple.{IsSixteenth}
 use Rattle.planes.specs.Whole.{IsWholeSlope}
 
 -- How far a plane lies above its slope, so that no error takes it under the slope. That is two units of 2^32 and a sixteenth, or
@@ -65,8 +65,8 @@ IsHeight p x y n = IsModulo (pos p.start +ℤ (x *ℤ p.across +ℤ y *ℤ p.dow
 pub record IsReached (k area : ℕ) (s : Slope) (x y : ℤ) (n : ℕ) : Type 0 where
   pub value : numerator s area x y ≡ pos n
   pub most : n * 2 ^ (32 + k) + 2 ^ 48 * area ≤ 2 ^ 64 * area
-  pub eighth_x : IsEighth x
-  pub eighth_y : IsEighth y
+  pub sixteenth_x : IsSixteenth x
+  pub sixteenth_y : IsSixteenth y
   pub near_x : IsWithin (2 ^ 23 + 2 ^ 20) (x -ℤ s.x)
   pub near_y : IsWithin (2 ^ 23 + 2 ^ 20) (y -ℤ s.y)
 

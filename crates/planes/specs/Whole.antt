@@ -3,7 +3,7 @@ use Rattle.std.specs.Prelude.{ℕ, ℤ, ◌≡◌, ◌<◌, ◌*◌, ◌^◌, �
 use Rattle.std.specs.Int.{◌∣◌}
 use Rattle.planes.specs.declared.slope.Slope.{Slope}
 use Rattle.planes.specs.Slope.{numerator}
-use Rattle.planes.specs.Multiple.{IsMultiple, IsEighth}
+use Rattle.planes.specs.Multiple.{IsMultiple, IsSixteenth}
 
 -- g divides the four numbers, and is over 0.
 pub record IsCommonDivisor (area across down corner g : ℕ) : Type 0 where
@@ -13,10 +13,10 @@ pub record IsCommonDivisor (area across down corner g : ℕ) : Type 0 where
   pub of_down : g ∣ down
   pub of_corner : g ∣ corner
 
--- n is a growth times the distance of z from some multiple of an eighth of a pixel.
+-- n is a growth times the distance of z from some multiple of a sixteenth of a pixel.
 pub record IsPast (z growth n : ℤ) : Type 0 where
   pub by : ℤ
-  pub eighth : IsEighth (z -ℤ by)
+  pub sixteenth : IsSixteenth (z -ℤ by)
   pub is : n ≡ by *ℤ growth
 
 -- The area, and the numerator wherever a sample may lie, are multiples of a unit.
@@ -25,5 +25,5 @@ pub record IsPast (z growth n : ℤ) : Type 0 where
 pub record IsWholeSlope (k area : ℕ) (s : Slope) : Type 0 where
   pub unit : ℕ
   pub of_area : unit ∣ area
-  pub of_numerator : (x y : ℤ) → IsEighth x → IsEighth y → IsMultiple unit (numerator s area x y)
+  pub of_numerator : (x y : ℤ) → IsSixteenth x → IsSixteenth y → IsMultiple unit (numerator s area x y)
   pub few : 6 * area < unit * 2 ^ k

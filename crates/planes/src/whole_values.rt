@@ -94,14 +94,14 @@ fn large_unit(
     common_divisor(reciprocal.area, across, down, corner, least)
 }
 
-/// The distance of a coordinate from the last multiple of an eighth of a pixel, times a growth.
+/// The distance of a coordinate from the last multiple of a sixteenth of a pixel, times a growth.
 #[inline(always)]
-fn past_eighth(z: i32, growth: i64) -> i64
+fn past_sixteenth(z: i32, growth: i64) -> i64
     requires { unsigned_abs growth < 2 ^ 41 }
     ensures value { IsPast z growth result }
     ensures size { IsWithin (2 ^ 46) result }
 {
-    i64::from(z.rem_euclid(32)) * growth
+    i64::from(z.rem_euclid(16)) * growth
 }
 
 impl Slope {
@@ -121,11 +121,11 @@ impl Slope {
         if !search && !is_multiple(reciprocal.area, bits) {
             return false;
         }
-        let corner = past_eighth(self.x, self.across) + past_eighth(self.y, self.down);
+        let corner = past_sixteenth(self.x, self.across) + past_sixteenth(self.y, self.down);
         large_unit(
             reciprocal,
-            32 * self.across.unsigned_abs(),
-            32 * self.down.unsigned_abs(),
+            16 * self.across.unsigned_abs(),
+            16 * self.down.unsigned_abs(),
             corner.unsigned_abs(),
             fraction,
             search,

@@ -1,10 +1,12 @@
 -- The samples of one block of a tile.
 use Rattle.std.proofs.Common.{◌≡◌, ◌≢◌, ◌∙◌, ap, sym, subst, suc, zero, ℕ, ◌+◌, ◌-◌, ◌*◌, ◌/◌, ◌%◌, ◌^◌, ◌<◌, ◌≤◌, ◌↔◌, List, [], length, take, drop, IsBitSet, bit_and, pos, ◌+ℤ◌, slice_index, arith}
 use Rattle.std.proofs.lemmas.Int.{ints}
+use Rattle.std.proofs.Math.Nat.{div-div-eq-div-mul}
+use Rattle.std.proofs.lemmas.Nat.{pow-add}
 use Rattle.grid.specs.Pixels.{side_of, IsInBox}
-use Rattle.grid.specs.Samples.{count_of, sample_position, offsets_x, offsets_y}
+use Rattle.grid.specs.Samples.{count_of, part_size, IsPart, sample_position, offsets_x, offsets_y}
 use Rattle.grid.specs.declared.sample_count.SampleCount.{SampleCount}
-use Rattle.grid.specs.declared.sample_count.SampleCount.TheVariants.{One, Four}
+use Rattle.grid.specs.declared.sample_count.SampleCount.TheVariants.{One, Two, Four, Eight, Sixteen}
 use Rattle.cover.specs.Rasterized.{IsRasterized}
 use Rattle.cover.specs.Masks.{IsPlaneOf}
 use Rattle.lanes.specs.declared.block_samples.BlockSamples.{BlockSamples}
@@ -16,7 +18,7 @@ use Rattle.lanes.specs.BlockMask.{CoversBlock, IsBlockDrawn, first_of, plane_of}
 use Rattle.shade.specs.Placed.{Meets}
 use Rattle.raster.specs.declared.tile.Tile.{Tile}
 use Rattle.raster.specs.Samples.{IsSampleOf, place_of, planes_of, stored}
-use Rattle.raster.specs.Drawing.{DrawsPart, DrawsAt, KeepsAt, IsInSquare, AreMet, LiesIn}
+use Rattle.raster.specs.Drawing.{DrawsPart, DrawsAt, KeepsAt, IsInSquare, IsInPart, IsInSquarePart, AreMet, LiesIn}
 use Rattle.raster.proofs.Bits.{both_set}
 use Rattle.raster.proofs.Cut.{put, put_here, put_elsewhere, part_of}
 use Rattle.raster.proofs.Places.{within, same_place, whole_blocks}
@@ -43,6 +45,11 @@ module _ (t : Placed) (bx by : ℕ) (count : SampleCount) (d : IsRasterized t.tr
         λ met. outer.1 (inner.1 (c.1 met.covered, i.1 met.in_scissor), m.1 met.in_mask),
       )
 
+-- a bit of the mask, counted from a part's first one
+pub masked_further : (m from s bits : ℕ) → ((k : ℕ) → k < 64 → (IsBitSet bits k ↔ (m / 2 ^ from / 2 ^ s % 2 ≡ 1))) → (k : ℕ) → k < 64 → (IsBitSet bits k ↔ (m / 2 ^ (from + s) % 2 ≡ 1))
+masked_further m from s bits h =
+    subst (λ (q : ℕ). (k : ℕ) → k < 64 → (IsBitSet bits k ↔ (q % 2 ≡ 1))) (div-div-eq-div-mul m (2 ^ from) (2 ^ s) ∙ ap (λ d. m / d) (sym (pow-add 2 from s))) h
+
 -- what holds of each sample index
 pub each_of_four : (P : ℕ → Type 0) → (n : ℕ) → n ≤ 4 → (0 < n → P 0) → (1 < n → P 1) → (2 < n → P 2) → (3 < n → P 3) → (s : ℕ) → s < n → P s
 each_of_four P n few a b c d zero l = a l
@@ -51,12 +58,30 @@ each_of_four P n few a b c d (suc (suc zero)) l = c l
 each_of_four P n few a b c d (suc (suc (suc zero))) l = d l
 each_of_four P n few a b c d (suc (suc (suc (suc s)))) l = absurd (omega (arith, few, l))
 
+-- ---- the parts of a pixel's samples
+pub part_at_most : (count : SampleCount) → (0 < part_size count) × (part_size count ≤ 4)
+part_at_most One = (omega arith, omega arith)
+part_at_most Two = (omega arith, omega arith)
+part_at_most Four = (omega arith, omega arith)
+part_at_most Eight = (omega arith, omega arith)
+part_at_most Sixteen = (omega arith, omega arith)
+
+pub part_below : (count : SampleCount) (from : ℕ) → IsPart count from → from ≤ 12
+part_below One from h = omega (arith, h)
+part_below Two from h = omega (arith, h)
+part_below Four from h = omega (arith, h)
+part_below Eight from h = omega (arith, h)
+part_below Sixteen from h = omega (arith, h)
+
+pub part_begins : (count : SampleCount) (from : ℕ) → IsPart count from → from < count_of count
+part_begins count from h = let some = part_at_most count in omega (arith, h, some.0)
+
 -- ---- where they lie
 module _ (t : Placed) (m : BlockMask) (met : AreMet t m) where
-  at_pixel : (s k : ℕ) → position_in (first_of m s) k ≡ sample_position (8 * m.bx + k % 8) (8 * m.by + k / 8) s m.count
+  at_pixel : (s k : ℕ) → position_in (first_of m s) k ≡ sample_position (8 * m.bx + k % 8) (8 * m.by + k / 8) (m.from + s) m.count
   at_pixel s k =
-      let ox : ℕ = slice_index (offsets_x m.count) s in
-      let oy : ℕ = slice_index (offsets_y m.count) s in
+      let ox : ℕ = slice_index (offsets_x m.count) (m.from + s) in
+      let oy : ℕ = slice_index (offsets_y m.count) (m.from + s) in
       let x : pos (256 * (8 * m.bx) + ox) +ℤ pos (256 * (k % 8)) ≡ pos (256 * (8 * m.bx + k % 8) + ox) = omega (arith, ints) in
       let y : pos (256 * (8 * m.by) + oy) +ℤ pos (256 * (k / 8)) ≡ pos (256 * (8 * m.by + k / 8) + oy) = omega (arith, ints) in
       λ i. record { x = x i; y = y i }
@@ -68,7 +93,7 @@ module _ (t : Placed) (m : BlockMask) (met : AreMet t m) where
       rw (at_pixel s k) ((met (k / 8) (k % 8) s (omega arith) (omega arith) small).0 (rw here set)).covered
 
 -- ---- a block of the tile, drawn
-module _ (t : Placed) (tile : Tile) (bx by : ℕ) (lies : LiesIn tile bx by 8) (m : BlockMask) (is : (m.bx ≡ bx) × (m.by ≡ by) × (m.count ≡ tile.count)) (met : AreMet t m) where
+module _ (t : Placed) (tile : Tile) (bx by from : ℕ) (lies : LiesIn tile bx by 8) (is_part : IsPart tile.count from) (m : BlockMask) (is : (m.bx ≡ bx) × (m.by ≡ by) × (m.count ≡ tile.count)) (begins : m.from ≡ from) (met : AreMet t m) where
   -- the pixel in its block
   abbrev pixel : ℕ → ℕ → ℕ
   pixel row column = 8 * (row % 8) + column % 8
@@ -92,38 +117,46 @@ module _ (t : Placed) (tile : Tile) (bx by : ℕ) (lies : LiesIn tile bx by 8) (
     down : 8 * by + row % 8 ≡ 8 * tile.by + row
     down = omega (arith, lies.top, p.top, p.bottom)
 
-    met_here : s < count_of tile.count → (IsBitSet (slice_index m.plane s) (pixel row column) ↔ Meets t tile.count (8 * tile.bx + column) (8 * tile.by + row) s)
+    met_here : s < part_size tile.count → (IsBitSet (slice_index m.plane s) (pixel row column) ↔ Meets t tile.count (8 * tile.bx + column) (8 * tile.by + row) (from + s))
     met_here small =
         let there = met (row % 8) (column % 8) s (omega arith) (omega arith) (rw is.2 small) in
-        rw (is.0, is.1, is.2, across, down) at there
+        rw (is.0, is.1, is.2, begins, across, down) at there
 
-    position : position_in (first_of m s) (pixel row column) ≡ sample_position (8 * tile.bx + column) (8 * tile.by + row) s tile.count
+    position : position_in (first_of m s) (pixel row column) ≡ sample_position (8 * tile.bx + column) (8 * tile.by + row) (from + s) tile.count
     position =
         let k : ℕ = pixel row column in
         let x : 8 * m.bx + k % 8 ≡ 8 * tile.bx + column = omega (arith, across, is.0) in
         let y : 8 * m.by + k / 8 ≡ 8 * tile.by + row = omega (arith, down, is.1) in
-        at_pixel t m met s k ∙ (λ i. sample_position (x i) (y i) s (is.2 i))
+        at_pixel t m met s k ∙ (λ i. sample_position (x i) (y i) (begins i + s) (is.2 i))
 
   -- the block's samples are stored from here on
   abbrev first : ℕ
-  first = place_of tile (by - tile.by) (bx - tile.bx) 0
+  first = place_of tile (by - tile.by) (bx - tile.bx) from
 
   module _ (xs ys : List BlockSamples) (long : length xs ≡ planes_of tile.side tile.count)
-      (here : (s : ℕ) → s < count_of tile.count → AreDrawn t (first_of m s) (slice_index m.plane s) (plane_of xs (first + s)) (plane_of ys (first + s)) 0 64)
-      (elsewhere : (k : ℕ) → ((s : ℕ) → s < count_of tile.count → k ≢ first + s) → plane_of ys k ≡ plane_of xs k) where
-    there : (row column s : ℕ) (zs : List BlockSamples) → IsInSquare tile bx by 8 row column s → stored tile zs row column s ≡ stored_at (plane_of zs (first + s)) (pixel row column)
+      (here : (s : ℕ) → s < part_size tile.count → AreDrawn t (first_of m s) (slice_index m.plane s) (plane_of xs (first + s)) (plane_of ys (first + s)) 0 64)
+      (elsewhere : (k : ℕ) → ((s : ℕ) → s < part_size tile.count → k ≢ first + s) → plane_of ys k ≡ plane_of xs k) where
+    there : (row column s : ℕ) (zs : List BlockSamples) → IsInSquare tile bx by 8 row column s → stored tile zs row column (from + s) ≡ stored_at (plane_of zs (first + s)) (pixel row column)
     there row column s zs p =
-        let place : place_of tile (row / 8) (column / 8) s ≡ first + s = rw (in_row row column s p, in_column row column s p) (omega arith) in
+        let place : place_of tile (row / 8) (column / 8) (from + s) ≡ first + s = rw (in_row row column s p, in_column row column s p) (omega arith) in
         ap (λ k. stored_at (plane_of zs k) (pixel row column)) place
 
-    draws : (row column s : ℕ) → IsSampleOf tile row column s → IsInSquare tile bx by 8 row column s → DrawsAt t tile xs ys row column s
-    draws row column s h p =
-        let bit = met_here row column s p h.is_sample in
-        let drawn = here s h.is_sample in
+    draws_at : (row column s : ℕ) → s < part_size tile.count → IsInSquare tile bx by 8 row column s → DrawsAt t tile xs ys row column (from + s)
+    draws_at row column s small p =
+        let bit = met_here row column s p small in
+        let drawn = here s small in
         rw (there row column s xs p, there row column s ys p) (record {
           met = λ e. rw (← position row column s p) (drawn.drawn (pixel row column) (omega arith) (omega arith) (bit.1 e));
           missed = λ n. drawn.kept (pixel row column) (omega arith) (omega arith) (λ set. n (bit.0 set));
         })
+
+    draws : (row column s : ℕ) → IsSampleOf tile row column s → IsInSquarePart tile bx by 8 from row column s → DrawsAt t tile xs ys row column s
+    draws row column s h p =
+        let part = p.samples in
+        let same : from + (s - from) ≡ s = omega (arith, part.low) in
+        let square = p.square in
+        subst (λ k. DrawsAt t tile xs ys row column k) same
+        (draws_at row column (s - from) (omega (arith, part.low, part.high)) (record { left = square.left; right = square.right; top = square.top; bottom = square.bottom }))
 
     in_block : (row column s : ℕ) → row / 8 ≡ by - tile.by → column / 8 ≡ bx - tile.bx → IsInSquare tile bx by 8 row column s
     in_block row column s down across = record {
@@ -133,42 +166,39 @@ module _ (t : Placed) (tile : Tile) (bx by : ℕ) (lies : LiesIn tile bx by 8) (
       bottom = omega (arith, lies.top);
     }
 
-    keeps : (row column s : ℕ) → IsSampleOf tile row column s → ¬ IsInSquare tile bx by 8 row column s → KeepsAt tile xs ys row column s
+    keeps : (row column s : ℕ) → IsSampleOf tile row column s → ¬ IsInSquarePart tile bx by 8 from row column s → KeepsAt tile xs ys row column s
     keeps row column s h n =
-        let other : (s' : ℕ) → s' < count_of tile.count → place_of tile (row / 8) (column / 8) s ≢ first + s' =
+        let other : (s' : ℕ) → s' < part_size tile.count → place_of tile (row / 8) (column / 8) s ≢ first + s' =
         λ s' small e.
-        let same = same_place tile (by - tile.by) (bx - tile.bx) s' row_within column_within small (row / 8) (column / 8) s (omega (arith, h.wide, whole_blocks tile.side)) h.is_sample (rw e (omega arith)) in
-        n (in_block row column s same.0 same.1) in
+        let same = same_place tile (by - tile.by) (bx - tile.bx) (from + s') row_within column_within (omega (arith, small, is_part)) (row / 8) (column / 8) s (omega (arith, h.wide, whole_blocks tile.side)) h.is_sample (rw e (omega arith)) in
+        n (record { square = in_block row column s same.0 same.1; samples = record { low = omega (arith, same.2); high = omega (arith, same.2, small) } }) in
         ap (λ plane. stored_at plane (pixel row column)) (elsewhere (place_of tile (row / 8) (column / 8) s) other)
 
-    block_drawn : DrawsPart t tile (IsInSquare tile bx by 8) xs ys
+    block_drawn : DrawsPart t tile (IsInSquarePart tile bx by 8 from) xs ys
     block_drawn = record { drawn = draws; kept = keeps }
 
-  some_sample : (count : SampleCount) → 0 < count_of count
-  some_sample One = omega arith
-  some_sample Four = omega arith
-
   -- the block's samples, drawn and put back
-  module _ (xs part : List BlockSamples) (at n : ℕ) (from : at ≡ first) (many : n ≡ count_of tile.count) (long : length xs ≡ planes_of tile.side tile.count) (whole : length part ≡ n)
+  module _ (xs part : List BlockSamples) (at n : ℕ) (starts : at ≡ first) (many : n ≡ part_size tile.count) (long : length xs ≡ planes_of tile.side tile.count) (whole : length part ≡ n)
       (drawn : IsBlockDrawn t m (take n (drop at xs)) part) where
     room : at + n ≤ length xs
     room =
-        let last = within tile (by - tile.by) (bx - tile.bx) (count_of tile.count - 1) row_within column_within (omega (arith, some_sample tile.count)) in
-        omega (arith, from, many, long, last, some_sample tile.count)
+        let some = part_at_most tile.count in
+        let last = within tile (by - tile.by) (bx - tile.bx) (from + (part_size tile.count - 1)) row_within column_within (omega (arith, some.0, is_part)) in
+        omega (arith, starts, many, long, last, some.0)
 
     abbrev none : BlockSamples
     none = record { z = []; r = []; g = []; b = [] }
 
-    here : (s : ℕ) → s < count_of tile.count → AreDrawn t (first_of m s) (slice_index m.plane s) (plane_of xs (first + s)) (plane_of (put xs part at n) (first + s)) 0 64
+    here : (s : ℕ) → s < part_size tile.count → AreDrawn t (first_of m s) (slice_index m.plane s) (plane_of xs (first + s)) (plane_of (put xs part at n) (first + s)) 0 64
     here s small =
         let in_part : s < n = omega (arith, many, small) in
-        let old : plane_of (take n (drop at xs)) s ≡ plane_of xs (first + s) = part_of xs at n none s in_part ∙ ap (λ k. plane_of xs (k + s)) from in
-        let new : plane_of (put xs part at n) (first + s) ≡ plane_of part s = ap (λ k. plane_of (put xs part at n) (k + s)) (sym from) ∙ put_here xs part at n none room whole s in_part in
+        let old : plane_of (take n (drop at xs)) s ≡ plane_of xs (first + s) = part_of xs at n none s in_part ∙ ap (λ k. plane_of xs (k + s)) starts in
+        let new : plane_of (put xs part at n) (first + s) ≡ plane_of part s = ap (λ k. plane_of (put xs part at n) (k + s)) (sym starts) ∙ put_here xs part at n none room whole s in_part in
         subst (λ x. AreDrawn t (first_of m s) (slice_index m.plane s) x (plane_of (put xs part at n) (first + s)) 0 64) old
         (subst (λ x. AreDrawn t (first_of m s) (slice_index m.plane s) (plane_of (take n (drop at xs)) s) x 0 64) (sym new) (drawn s (rw is.2 small)))
 
-    elsewhere : (k : ℕ) → ((s : ℕ) → s < count_of tile.count → k ≢ first + s) → plane_of (put xs part at n) k ≡ plane_of xs k
-    elsewhere k other = put_elsewhere xs part at n none room whole k (λ s l e. other s (omega (arith, many, l)) (omega (arith, e, from)))
+    elsewhere : (k : ℕ) → ((s : ℕ) → s < part_size tile.count → k ≢ first + s) → plane_of (put xs part at n) k ≡ plane_of xs k
+    elsewhere k other = put_elsewhere xs part at n none room whole k (λ s l e. other s (omega (arith, many, l)) (omega (arith, e, starts)))
 
-    pub part_drawn : DrawsPart t tile (IsInSquare tile bx by 8) xs (put xs part at n)
+    pub part_drawn : DrawsPart t tile (IsInSquarePart tile bx by 8 from) xs (put xs part at n)
     part_drawn = block_drawn xs (put xs part at n) long here elsewhere

@@ -1,14 +1,14 @@
 -- What a triangle makes of the samples of a tile.
 use Rattle.std.specs.Prelude.{◌≡◌, ◌↔◌, ℕ, ◌+◌, ◌*◌, ◌<◌, ◌≤◌, List, slice_index, IsBitSet}
 use Rattle.grid.specs.Pixels.{side_of}
-use Rattle.grid.specs.Samples.{count_of}
+use Rattle.grid.specs.Samples.{part_size}
 use Rattle.grid.specs.declared.triangle.Tri.{Tri}
 use Rattle.grid.specs.declared.pixels.TileSide.TheVariants.{T8}
 use Rattle.grid.specs.declared.sample_count.SampleCount.{SampleCount}
 use Rattle.lanes.specs.declared.block_samples.BlockSamples.{BlockSamples}
 use Rattle.lanes.specs.declared.block_mask.BlockMask.{BlockMask}
 use Rattle.cover.specs.Masks.{IsPlaneOf}
-use Rattle.cover.specs.Square.{TestedSquare}
+use Rattle.cover.specs.Square.{TestedSquare, CoversIn}
 use Rattle.shade.specs.declared.placed.Placed.{Placed}
 use Rattle.shade.specs.Placed.{Meets, Draws}
 use Rattle.raster.specs.declared.tile.Tile.{Tile}
@@ -41,6 +41,21 @@ pub record IsInSquare (tile : Tile) (bx by side : ℕ) (row column s : ℕ) : Ty
   pub top : 8 * by ≤ 8 * tile.by + row
   pub bottom : 8 * tile.by + row < 8 * by + side
 
+-- Sample s of a pixel is in the part of its samples that begins with sample `from`.
+pub record IsInPart (count : SampleCount) (from s : ℕ) : Type 0 where
+  pub low : from ≤ s
+  pub high : s < from + part_size count
+
+-- The same, whatever the pixel.
+abbrev pub IsOfPart : SampleCount → ℕ → ℕ → ℕ → ℕ → Type 0
+IsOfPart count from row column s = IsInPart count from s
+
+-- Sample s, of a part that begins with sample `from`, of the pixel in a row and a column of the tile is in the square of this size
+-- that begins at pixel (8 bx, 8 by).
+pub record IsInSquarePart (tile : Tile) (bx by side from : ℕ) (row column s : ℕ) : Type 0 where
+  pub square : IsInSquare tile bx by side row column s
+  pub samples : IsInPart tile.count from s
+
 -- A square of this size that begins at pixel (8 bx, 8 by) lies in the tile.
 pub record LiesIn (tile : Tile) (bx by side : ℕ) : Type 0 where
   pub left : tile.bx ≤ bx
@@ -59,9 +74,14 @@ block_of t tile bx by = record { triangle = t; bx = bx; by = by; side = T8; coun
 -- The bits of the mask say which samples of its block the triangle meets.
 abbrev pub AreMet : Placed → BlockMask → Type 0
 AreMet t m =
-    (row column s : ℕ) → row < 8 → column < 8 → s < count_of m.count
-    → (IsBitSet (slice_index m.plane s) (8 * row + column) ↔ Meets t m.count (8 * m.bx + column) (8 * m.by + row) s)
+    (row column s : ℕ) → row < 8 → column < 8 → s < part_size m.count
+    → (IsBitSet (slice_index m.plane s) (8 * row + column) ↔ Meets t m.count (8 * m.bx + column) (8 * m.by + row) (m.from + s))
 
--- The planes say which samples of block (bx, by) the triangle covers.
-abbrev pub ArePlanesOf : Tri → ℕ → ℕ → SampleCount → List ℕ → Type 0
-ArePlanesOf t bx by count planes = (s : ℕ) → s < count_of count → IsPlaneOf t bx by count s (slice_index planes s)
+-- The planes say which samples of block (bx, by), of the part that begins with sample `from`, the triangle covers.
+abbrev pub ArePlanesOf : Tri → ℕ → ℕ → SampleCount → ℕ → List ℕ → Type 0
+ArePlanesOf t bx by count from planes = (s : ℕ) → s < part_size count → IsPlaneOf t bx by count (from + s) (slice_index planes s)
+
+-- The triangle covers no sample of the square, of the part that begins with sample `from`.
+abbrev pub CoversNoneOf : TestedSquare → ℕ → Type 0
+CoversNoneOf q from =
+    (s row column : ℕ) → s < part_size q.count → row < side_of q.side → column < side_of q.side → ¬ CoversIn q (from + s) row column

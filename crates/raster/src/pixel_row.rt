@@ -1,12 +1,13 @@
 //! The colours of eight pixels in a row of a block.
-ghost use Rattle.std.specs.Prelude.{◌≡◌, ℕ, ◌+◌, ◌*◌, ◌/◌, ◌%◌, ◌<◌, ◌≤◌, length, slice_index};
+ghost use Rattle.std.specs.Prelude.{◌≡◌, ℕ, ◌+◌, ◌*◌, ◌/◌, ◌%◌, ◌^◌, ◌<◌, ◌≤◌, length, slice_index};
 ghost use Rattle.grid.specs.Pixels.{side_of};
+ghost use Rattle.grid.specs.Samples.{count_of};
 ghost use Rattle.raster.specs.Samples.{planes_of};
-ghost use Rattle.raster.specs.Colours.{AreColoursAt, AreInterleaved};
+ghost use Rattle.raster.specs.Colours.{AreColoursAt, AreMeansAt, AreInterleaved};
 
 use crate::tile::Tile;
 use grid::SampleCount;
-use lanes::{BlockSamples, means_of_four};
+use lanes::{BlockSamples, means_of_four, means_of_sums, sums};
 use std::simd::prelude::*;
 
 /// Red, green and blue of eight pixels, pixel by pixel, and behind them eight bytes that nobody reads: a vector has as many lanes
@@ -30,6 +31,55 @@ fn interleaved(r: u8x8, g: u8x8, b: u8x8) -> u8x32
     )
 }
 
+/// Red, green and blue of eight pixels of a block from pixel `from` on, pixel by pixel: the means of 2^bits planes of samples, by
+/// their sums. Half the number of samples is `half`.
+fn colours_by_sums(samples: &[BlockSamples], from: usize, half: u16, bits: u16) -> u8x32
+    requires from { from + 8 ≤ 64 }
+    requires bits { bits ≤ 4 }
+    requires samples { length samples.now ≡ 2 ^ bits }
+    requires half { half ≡ 2 ^ bits / 2 }
+    ensures whole { length result ≡ 32 }
+    ensures means { AreMeansAt samples.now from result }
+{
+    let (red, green, blue) = sums(samples, from);
+    interleaved(
+        means_of_sums(red, half, bits),
+        means_of_sums(green, half, bits),
+        means_of_sums(blue, half, bits),
+    )
+}
+
+/// The logarithm of the number of samples, and half of that number, rounded down.
+fn logarithm_and_half(count: SampleCount) -> (u16, u16)
+    ensures few { result.0 ≤ 4 }
+    ensures logarithm { 2 ^ result.0 ≡ count_of count }
+    ensures half { result.1 ≡ count_of count / 2 }
+{
+    match count {
+        SampleCount::One => (0, 0),
+        SampleCount::Two => (1, 1),
+        SampleCount::Four => (2, 2),
+        SampleCount::Eight => (3, 4),
+        SampleCount::Sixteen => (4, 8),
+    }
+}
+
+/// The same as `colours`, by the sums of the samples.
+#[cold]
+#[inline(never)]
+fn colours_of_more(tile: &Tile, samples: &[BlockSamples], row: u32, column: u32) -> u8x32
+    requires samples { length samples.now ≡ planes_of tile.now.side tile.now.count }
+    requires row { row < side_of tile.now.side }
+    requires column { column < side_of tile.now.side / 8 }
+    ensures whole { length result ≡ 32 }
+    ensures colours { AreColoursAt tile.now samples.now row column result }
+{
+    let place = tile.place(row / 8, column, 0);
+    let planes = &samples[place..place + tile.count.count() as usize];
+    let (bits, half) = logarithm_and_half(tile.count);
+    colours_by_sums(planes, 8 * (row % 8) as usize, half, bits)
+}
+
 /// Red, green and blue of the eight pixels in a row of the tile and a column of its blocks, pixel by pixel: the first 24 bytes of
 /// the result.
 #[inline(always)]
@@ -41,13 +91,17 @@ pub fn colours(tile: &Tile, samples: &[BlockSamples], row: u32, column: u32) -> 
     ensures colours { AreColoursAt tile.now samples.now row column result }
 {
     let from = 8 * (row % 8) as usize;
-    let first = &samples[tile.place(row / 8, column, 0)];
+    let place = tile.place(row / 8, column, 0);
+    let first = &samples[place];
     match tile.count {
         SampleCount::One => interleaved(
             u8x8::from_slice(&first.r[from..]),
             u8x8::from_slice(&first.g[from..]),
             u8x8::from_slice(&first.b[from..]),
         ),
+        SampleCount::Two | SampleCount::Eight | SampleCount::Sixteen => {
+            colours_of_more(tile, samples, row, column)
+        }
         SampleCount::Four => {
             let second = &samples[tile.place(row / 8, column, 1)];
             let third = &samples[tile.place(row / 8, column, 2)];

@@ -21,9 +21,14 @@ use Rattle.scene.specs.declared.vertex.SceneVertex.{SceneVertex}
 
 -- ---- numbers for words
 
--- The samples of a pixel by their number, 1 or 4.
+-- The samples of a pixel by their number: 1, 2, 4, 8 or 16.
 abbrev pub samples_listed : ℕ → SampleCount
-samples_listed n = if n == 4 then samples.Four else samples.One
+samples_listed n =
+    if n == 2 then samples.Two
+    else (if n == 4 then samples.Four
+    else (if n == 8 then samples.Eight
+    else (if n == 16 then samples.Sixteen
+    else samples.One)))
 
 -- What a picture shows, by its number: 0 is colour, and 1 is depth.
 abbrev pub output_listed : ℕ → Output

@@ -43,10 +43,12 @@ impl SceneHead {
     fn count(&self) -> SampleCount
         ensures { result ≡ samples_listed self.now.samples }
     {
-        if self.samples == 4 {
-            SampleCount::Four
-        } else {
-            SampleCount::One
+        match self.samples {
+            2 => SampleCount::Two,
+            4 => SampleCount::Four,
+            8 => SampleCount::Eight,
+            16 => SampleCount::Sixteen,
+            _ => SampleCount::One,
         }
     }
 

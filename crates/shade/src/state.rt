@@ -9,7 +9,7 @@ pub struct State {
     /// Which triangles are left out by the way that they run.
     pub cull: Cull,
     /// Bit s says whether sample s of a pixel is drawn.
-    pub sample_mask: u8,
+    pub sample_mask: u16,
     /// The pixels that are drawn.
     pub scissor: PixelBox,
 }

@@ -4,34 +4,11 @@ use Rattle.std.proofs.lemmas.Simd.{length-chunk, get_or-chunk, length-zip2, get_
 use Rattle.shade.specs.Quotient.{IsQuotient}
 use Rattle.lanes.proofs.Blending.{plus, shifted}
 use Rattle.lanes.proofs.LaneNumbers.{lane_mean, mean-bound, mean_is}
+use Rattle.lanes.proofs.Rows.{IsRow, zipped, splat, loaded, byte}
 use Rattle.lanes.proofs.resolve.means_of_four.Goals as goal
-
--- eight lanes
-record IsRow (v : List ℕ) (f : ℕ → ℕ) : Type 0 where
-  long : length v ≡ 8
-  each : (k : ℕ) → k < 8 → get_or v k 0 ≡ f k
-
-zipped : (g : ℕ → ℕ → ℕ) (xs ys : List ℕ) (f h : ℕ → ℕ) → IsRow xs f → IsRow ys h → IsRow (zip2 g xs ys) (λ k. g (f k) (h k))
-zipped g xs ys f h a b =
-    let p = a.long in
-    let q = b.long in
-    record {
-      long = length-zip2 g xs ys (p ∙ sym q) ∙ p;
-      each = λ k l. get_or-zip2 g xs ys k 0 0 0 (omega arith) (omega arith) ∙ (λ i. g (a.each k l i) (b.each k l i));
-    }
-
-splat : (x : ℕ) → IsRow (replicate 8 x) (λ k. x)
-splat x = record { long = length-replicate 8 x; each = λ k l. get_or-replicate 8 k x 0 l }
 
 abbrev means : List ℕ → List ℕ → List ℕ → List ℕ → List ℕ
 means a b c d = zip2 shifted (zip2 plus (zip2 plus (zip2 plus (zip2 plus a b) c) d) (replicate 8 2)) (replicate 8 2)
-
--- eight bytes from a place on
-loaded : (xs ys : List ℕ) (at : ℕ) → at + 8 ≤ length xs → ys ≡ chunk at 8 xs → IsRow ys (λ k. get_or xs (at + k) 0)
-loaded xs ys at room e = rw e (record { long = length-chunk at 8 xs room; each = λ k l. get_or-chunk at 8 xs k 0 l })
-
-byte : (xs : List ℕ) → ((k : ℕ) → Fits w8 (get_or xs k 0)) → (k : ℕ) → get_or xs k 0 ≤ 255
-byte xs fits k = omega (arith, (fits k).fits)
 
 formed : (a b c d : List ℕ) (f g h j : ℕ → ℕ) → IsRow a f → IsRow b g → IsRow c h → IsRow d j
     → ((k : ℕ) → f k ≤ 255) → ((k : ℕ) → g k ≤ 255) → ((k : ℕ) → h k ≤ 255) → ((k : ℕ) → j k ≤ 255)

@@ -2,7 +2,7 @@ use Rattle.std.proofs.Common.{ℕ, [], ◌∙◌, ◌+◌, ◌-◌, ◌*◌, ◌
 use Rattle.lanes.specs.declared.block_samples.BlockSamples.{BlockSamples}
 use Rattle.raster.proofs.PixelRow.{one_resolved, four_resolved, four_in_row}
 use Rattle.raster.proofs.pixel_row.colours.Goals as goal
-use Rattle.raster.proofs.pixel_row.colours.Goals.{in-One, in-Four}
+use Rattle.raster.proofs.pixel_row.colours.Goals.{in-One, in-Two, in-Four}
 
 pub returns-clause-colours : goal.returns-clause-colours
 returns-clause-colours c = elim c.match-tile.branch [
@@ -11,12 +11,12 @@ returns-clause-colours c = elim c.match-tile.branch [
       (λ i h.
       let bytes = w.interleaved.ensures.bytes i h in
       let from : ℕ = 8 * (c.args.row % 8) in
-      let first : BlockSamples = slice_index_or c.args.samples.now c.place.result (record { z = []; r = []; g = []; b = [] }) in
+      let first : BlockSamples = slice_index_or c.args.samples.now c.place-place.result (record { z = []; r = []; g = []; b = [] }) in
       one_resolved c.args.tile.now c.args.samples.now c.args.row c.args.column i h w.in-One.is
       (slice_index w.interleaved.result (3 * i)) (slice_index w.interleaved.result (3 * i + 1)) (slice_index w.interleaved.result (3 * i + 2))
-      (rw c.place.ensures.value at (bytes.0 ∙ get_or-take 8 (take (64 - from) (drop from first.r)) i 0 h ∙ get_or-take (64 - from) (drop from first.r) i 0 (omega arith) ∙ get_or-drop from first.r i 0))
-      (rw c.place.ensures.value at (bytes.1 ∙ get_or-take 8 (take (64 - from) (drop from first.g)) i 0 h ∙ get_or-take (64 - from) (drop from first.g) i 0 (omega arith) ∙ get_or-drop from first.g i 0))
-      (rw c.place.ensures.value at (bytes.2 ∙ get_or-take 8 (take (64 - from) (drop from first.b)) i 0 h ∙ get_or-take (64 - from) (drop from first.b) i 0 (omega arith) ∙ get_or-drop from first.b i 0)))
+      (rw c.place-place.ensures.value at (bytes.0 ∙ get_or-take 8 (take (64 - from) (drop from first.r)) i 0 h ∙ get_or-take (64 - from) (drop from first.r) i 0 (omega arith) ∙ get_or-drop from first.r i 0))
+      (rw c.place-place.ensures.value at (bytes.1 ∙ get_or-take 8 (take (64 - from) (drop from first.g)) i 0 h ∙ get_or-take (64 - from) (drop from first.g) i 0 (omega arith) ∙ get_or-drop from first.g i 0))
+      (rw c.place-place.ensures.value at (bytes.2 ∙ get_or-take 8 (take (64 - from) (drop from first.b)) i 0 h ∙ get_or-take (64 - from) (drop from first.b) i 0 (omega arith) ∙ get_or-drop from first.b i 0)))
   | in-Four w ↦
       rw w.result-is
       (λ i h.
@@ -25,7 +25,8 @@ returns-clause-colours c = elim c.match-tile.branch [
       let from : ℕ = 8 * (c.args.row % 8) in
       four_resolved c.args.tile.now c.args.samples.now c.args.row c.args.column i h w.in-Four.is
       (slice_index all (3 * i)) (slice_index all (3 * i + 1)) (slice_index all (3 * i + 2))
-      (four_in_row _ _ _ _ w.means_of_four-red.result from i _ (rw (c.place.ensures.value, w.place-in-Four.ensures.value, w.place-in-Four-2.ensures.value, w.place-in-Four-3.ensures.value) at (w.means_of_four-red.ensures.resolved i h)) bytes.0)
-      (four_in_row _ _ _ _ w.means_of_four-green.result from i _ (rw (c.place.ensures.value, w.place-in-Four.ensures.value, w.place-in-Four-2.ensures.value, w.place-in-Four-3.ensures.value) at (w.means_of_four-green.ensures.resolved i h)) bytes.1)
-      (four_in_row _ _ _ _ w.means_of_four-blue.result from i _ (rw (c.place.ensures.value, w.place-in-Four.ensures.value, w.place-in-Four-2.ensures.value, w.place-in-Four-3.ensures.value) at (w.means_of_four-blue.ensures.resolved i h)) bytes.2))
+      (four_in_row _ _ _ _ w.means_of_four-red.result from i _ (rw (c.place-place.ensures.value, w.place.ensures.value, w.place-in-Four.ensures.value, w.place-in-Four-2.ensures.value) at (w.means_of_four-red.ensures.resolved i h)) bytes.0)
+      (four_in_row _ _ _ _ w.means_of_four-green.result from i _ (rw (c.place-place.ensures.value, w.place.ensures.value, w.place-in-Four.ensures.value, w.place-in-Four-2.ensures.value) at (w.means_of_four-green.ensures.resolved i h)) bytes.1)
+      (four_in_row _ _ _ _ w.means_of_four-blue.result from i _ (rw (c.place-place.ensures.value, w.place.ensures.value, w.place-in-Four.ensures.value, w.place-in-Four-2.ensures.value) at (w.means_of_four-blue.ensures.resolved i h)) bytes.2))
+  | in-Two w ↦ rw w.result-is w.colours_of_more.ensures.colours
 ]

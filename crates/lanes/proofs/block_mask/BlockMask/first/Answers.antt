@@ -1,6 +1,6 @@
-use Rattle.std.proofs.Common.{◌*◌, subst, sym, rules}
+use Rattle.std.proofs.Common.{◌+◌, ◌*◌, subst, sym, rules}
 use Rattle.grid.specs.Position.{Position}
-use Rattle.planes.specs.Multiple.{IsEighth}
+use Rattle.planes.specs.Multiple.{IsSixteenth}
 use Rattle.planes.proofs.WholeValues.{sample_x, sample_y}
 use Rattle.lanes.proofs.block_mask.BlockMask.first.Goals as goal
 
@@ -12,6 +12,6 @@ returns-clause-on_screen c =
       top = search rules;
       right = search rules;
       bottom = search rules;
-      eighth_x = subst (λ (p : Position). IsEighth p.x) (sym c.sample_at.ensures) (sample_x (8 * m.bx) (8 * m.by) c.args.s m.count);
-      eighth_y = subst (λ (p : Position). IsEighth p.y) (sym c.sample_at.ensures) (sample_y (8 * m.bx) (8 * m.by) c.args.s m.count);
+      sixteenth_x = subst (λ (p : Position). IsSixteenth p.x) (sym c.sample_at.ensures) (sample_x (8 * m.bx) (8 * m.by) (m.from + c.args.s) m.count);
+      sixteenth_y = subst (λ (p : Position). IsSixteenth p.y) (sym c.sample_at.ensures) (sample_y (8 * m.bx) (8 * m.by) (m.from + c.args.s) m.count);
     }
