@@ -21,10 +21,25 @@ from tools.public_calls import CRATES, calls_in, given_out, named_calls, public_
 PATH = re.compile(r"`((?:[a-z_.]+/)+[\w.-]+\.(?:antt|rt|md|py|json|png|1|c|cpp|txt))`")
 
 
+# A link to a file of the repository, to a part of one, or to a part of the page itself.
+LINK = re.compile(r"\]\((?!\w+:)([\w./-]*)(?:#([^)]*))?\)")
+
+
+def without_code(text: str) -> str:
+    """A document without its blocks of code."""
+    return re.sub(r"(?ms)^```.*?^```$", "", text)
+
+
+def anchors(text: str) -> set[str]:
+    """The names by which links find the headings of a document, as GitHub makes them."""
+    heads = re.findall(r"(?m)^#+ (.*)$", without_code(text))
+    return {re.sub(r"[^\w -]", "", head.lower()).replace(" ", "-") for head in heads}
+
+
 def documents() -> dict[str, str]:
     names = ["README.md", "CONTRIBUTING.md", "RELEASING.md"]
     names += [os.path.join(folder, "README.md") for folder in ("examples", os.path.join("tests", "regressions"))]
-    names += places.files("docs", "*.md")
+    names += places.files("docs", "**", "*.md")
     return {name: text_of(name) for name in names}
 
 
@@ -81,6 +96,15 @@ class Names(unittest.TestCase):
                 if not path.startswith(("out/", "conformance/out/", "crates/NAME/", "trirast/lib/")):
                     self.assertTrue(any(map(glob.glob, places)), f"{name}: {path}")
 
+    def test_links(self) -> None:
+        texts = documents()
+        for name, text in texts.items():
+            for page, anchor in LINK.findall(without_code(text)):
+                path = os.path.normpath(os.path.join(os.path.dirname(name), page)) if page else name
+                self.assertTrue(os.path.exists(os.path.join(TOP, path)), f"{name}: {page}")
+                if anchor and path in texts:
+                    self.assertIn(anchor, anchors(texts[path]), f"{name}: {page}#{anchor}")
+
     def test_commands(self) -> None:
         rules = text_of("Makefile") + "".join(map(text_of, places.files("packaging", "*.mk")))
         targets = set(re.findall(r"^([\w-]+):", rules, re.MULTILINE))
@@ -126,9 +150,9 @@ class Names(unittest.TestCase):
             if len(names) == 1:
                 uses = set(re.findall(r"`(\w+)`", re.sub(r"\(.*?\)", "", below)))
                 self.assertEqual(uses - {"std"}, named[names[0]], names[0])
-        _before, *trusted = re.split(r"\*\*Trusted\.\*\*", text_of("README.md"))
+        trusted = text_of("README.md").split("| Trusted |")[1].split("\n\n")[0]
         of_toolchain = set[str]().union(*named.values()) - set(named)
-        self.assertLessEqual(of_toolchain, set(re.findall(r"`(\w+)`", trusted[0].split("\n\n")[0])))
+        self.assertLessEqual(of_toolchain, set(re.findall(r"`(\w+)`", trusted)))
 
     def test_quoted_programs(self) -> None:
         for page, language, *path in (

@@ -1,7 +1,7 @@
 /* Draws a triangle on a canvas, and writes the picture to standard output as a PPM file. At the top of the repository:
  *
  *     make library
- *     cc -std=c11 -o canvas examples/c/canvas.c -Iinclude lib/libtrirast.a
+ *     cc -std=c99 -o canvas examples/c/canvas.c -Iinclude lib/libtrirast.a
  *     ./canvas > canvas.ppm
  */
 #include <stdint.h>
@@ -56,7 +56,7 @@ int main(void) {
     canvas.samples = SAMPLES;
     canvas.end = trirast_canvas_rows(HEIGHT);
     const size_t bytes = trirast_canvas_bytes(WIDTH, HEIGHT, SAMPLES, 0, canvas.end);
-    canvas.memory = aligned_alloc(64, bytes);
+    canvas.memory = malloc(bytes);
     canvas.plane_count = bytes / TRIRAST_PLANE_BYTES;
     if (!canvas.memory) {
         fputs("canvas: out of memory\n", stderr);

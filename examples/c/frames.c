@@ -21,7 +21,7 @@ enum { WIDTH = 480, HEIGHT = 320, TILE_SIZE = 32, ALONG = 48, ROUND = 16, MAX_TH
 
 static const double TURN = 6.283185307179586;
 
-static _Noreturn void stop(const char *why) {
+static void stop(const char *why) {
     fprintf(stderr, "frames: %s\n", why);
     exit(1);
 }

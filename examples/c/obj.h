@@ -8,7 +8,7 @@
 #include <stdlib.h>
 #include <string.h>
 
-static _Noreturn void stop(const char *what, const char *why) {
+static void stop(const char *what, const char *why) {
     fprintf(stderr, "spin: %s: %s\n", what, why);
     exit(1);
 }

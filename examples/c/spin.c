@@ -8,6 +8,9 @@
  *
  *     cc -O2 spin.c $(pkg-config --cflags --libs trirast sdl2) -pthread -lm
  */
+/* For posix_memalign in C99. */
+#define _POSIX_C_SOURCE 200112L
+
 #include <SDL.h>
 #include <pthread.h>
 
@@ -135,8 +138,9 @@ static trirast_canvas new_canvas(uint32_t width, uint32_t height, uint32_t sampl
     canvas.width = width, canvas.height = height, canvas.samples = samples;
     canvas.end = trirast_canvas_rows(height);
     size_t bytes = trirast_canvas_bytes(width, height, samples, 0, canvas.end);
-    canvas.memory = bytes ? aligned_alloc(64, bytes) : NULL, canvas.plane_count = bytes / TRIRAST_PLANE_BYTES;
-    if (!canvas.memory) stop("no canvas", "a side is not 1 to 4096 pixels, or out of memory");
+    if (!bytes || posix_memalign(&canvas.memory, 64, bytes))
+        stop("no canvas", "a side is not 1 to 4096 pixels, or out of memory");
+    canvas.plane_count = bytes / TRIRAST_PLANE_BYTES;
     return canvas;
 }
 
@@ -274,8 +278,10 @@ static trirast_format format_of(const SDL_Surface *surface) {
     case SDL_PIXELFORMAT_ARGB8888: return TRIRAST_FORMAT_BGRA8;
     case SDL_PIXELFORMAT_BGR888:
     case SDL_PIXELFORMAT_ABGR8888: return TRIRAST_FORMAT_RGBA8;
-    default: stop("the window", "its pixels have no format of a canvas");
+    default: break;
     }
+    stop("the window", "its pixels have no format of a canvas");
+    return TRIRAST_FORMAT_RGBA8;
 }
 
 static void must(int holds) {

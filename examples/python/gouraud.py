@@ -3,9 +3,9 @@
 
     PYTHONPATH=python/src python3 examples/python/gouraud.py gouraud.png
 
-Each mesh covers all of its axes. Of one colour, each pixel of the axes has to be of that colour, blended once over the white ground: a pixel
-of another colour is one that was drawn twice, or not wholly. The picture shows a part of the axes enlarged. It needs numpy and matplotlib
-(python3-matplotlib in Debian). After `pip install ./python` no PYTHONPATH is needed.
+Each mesh has one colour and covers all of its axes, so each pixel of the axes has to be of that colour, blended once over the white ground: a
+pixel of another colour is one that was drawn twice, or not wholly. The picture shows a part of the axes enlarged. It needs numpy and
+matplotlib (python3-matplotlib in Debian). After `pip install ./python` no PYTHONPATH is needed.
 """
 
 import argparse
@@ -20,11 +20,13 @@ from trirast.matplotlib import FigureCanvasTrirast
 
 CANVASES = (("Agg", FigureCanvasAgg), ("trirast", FigureCanvasTrirast))
 ALPHA = 0.5
+COLORS = "GnBu"
 # The axes, as parts of a figure of 640 by 480 pixels, and the pixels inside of them that are counted.
 AXES = (0.1, 0.1, 0.8, 0.8)
 INSIDE = (slice(60, -60), slice(80, -80))
-# What the picture shows of them.
+# What the picture shows of them, four times as large.
 SHOWN = (slice(150, 250), slice(200, 350))
+SHOWN_MESH = "tripcolor"
 
 Draws = Callable[[Any], None]
 
@@ -42,35 +44,22 @@ def warped() -> Tuple[Any, Any]:
     return x + 0.03 * np.sin(7 * y), y + 0.03 * np.sin(5 * x)
 
 
-def one_color(x: Any, y: Any) -> Any:
-    return 0 * x + 0 * y + 0.6
+def one_color(x: Any) -> Any:
+    """A value for each point, which is the same everywhere."""
+    return np.full_like(x, 0.7)
 
 
-def waves(x: Any, y: Any) -> Any:
-    return 0.5 + 0.5 * np.sin(18 * x) * np.cos(15 * y)
+def tripcolor(axes: Any) -> None:
+    x, y = points()
+    axes.tripcolor(Triangulation(x, y), one_color(x), shading="gouraud", vmin=0, vmax=1, alpha=ALPHA, cmap=COLORS)
 
 
-def tripcolor(field: Callable[[Any, Any], Any], **more: Any) -> Draws:
-    def draw(axes: Any) -> None:
-        x, y = points()
-        axes.tripcolor(Triangulation(x, y), field(x, y), shading="gouraud", vmin=0, vmax=1, alpha=ALPHA, **more)
-
-    return draw
+def pcolormesh(axes: Any) -> None:
+    x, y = warped()
+    axes.pcolormesh(x, y, one_color(x), shading="gouraud", vmin=0, vmax=1, alpha=ALPHA, cmap=COLORS)
 
 
-def pcolormesh(field: Callable[[Any, Any], Any], **more: Any) -> Draws:
-    def draw(axes: Any) -> None:
-        x, y = warped()
-        axes.pcolormesh(x, y, field(x, y), shading="gouraud", vmin=0, vmax=1, alpha=ALPHA, **more)
-
-    return draw
-
-
-MESHES: Dict[str, Draws] = {
-    "tripcolor, one colour": tripcolor(one_color, cmap="gray"),
-    "pcolormesh, one colour": pcolormesh(one_color, cmap="gray"),
-    "tripcolor, waves": tripcolor(waves),
-}
+MESHES: Dict[str, Draws] = {"tripcolor": tripcolor, "pcolormesh": pcolormesh}
 
 
 def pixels_of(draw: Draws, canvas_class: Any) -> Any:
@@ -91,36 +80,31 @@ def seams(pixels: Any) -> Tuple[int, int]:
     return len(inside) - int(counts.max()), len(inside)
 
 
-def show(path: str, parts: List[List[Tuple[str, Any]]]) -> None:
-    """Writes a picture of rows of pictures, each with its title."""
-    figure = Figure(figsize=(7.2, 2.7 * len(parts)), dpi=80)
+def show(path: str, halves: List[Tuple[str, Any]]) -> None:
+    """Writes a picture of two pictures side by side, each with a line below it."""
+    figure = Figure(figsize=(12, 4.3), dpi=100)
     FigureCanvasAgg(figure)
-    grid = figure.subplots(len(parts), 2, squeeze=False, gridspec_kw={"hspace": 0.16, "wspace": 0.03})
-    figure.subplots_adjust(0.01, 0.01, 0.99, 0.96)
-    for axes, (title, pixels) in zip(grid.ravel(), (part for row in parts for part in row)):
+    for k, (line, pixels) in enumerate(halves):
+        axes = figure.add_axes((k * 0.505, 0.07, 0.495, 0.93))
         axes.imshow(pixels[SHOWN], interpolation="nearest")
-        axes.set_title(title, fontsize=8)
         axes.set_axis_off()
+        figure.text(k * 0.505 + 0.2475, 0.022, line, fontsize=13, ha="center")
     figure.savefig(path)
 
 
 def main() -> None:
     parser = argparse.ArgumentParser(description="Draws half transparent meshes by Agg and by trirast.matplotlib.")
-    parser.add_argument("picture", help="the PNG file to write")
-    parts = []
+    parser.add_argument("picture", help="the PNG file to write, of the first mesh")
     path = parser.parse_args().picture
+    halves = []
     for mesh, draw in MESHES.items():
-        row = []
         for name, canvas_class in CANVASES:
             pixels = pixels_of(draw, canvas_class)
-            title = f"{name}: {mesh}"
-            if "one colour" in mesh:
-                wrong, count = seams(pixels)
-                print(f"{title}: {wrong} of {count} pixels are of another colour")
-                title += f": {wrong:,} of {count:,} pixels differ"
-            row.append((title, pixels))
-        parts.append(row)
-    show(path, [row for row, mesh in zip(parts, MESHES) if mesh.startswith("tripcolor")])
+            wrong, count = seams(pixels)
+            print(f"{name}: {mesh}: {wrong} of {count} pixels are of another colour")
+            if mesh == SHOWN_MESH:
+                halves.append((f"{name}: {wrong:,} of {count:,} pixels are of another colour", pixels))
+    show(path, halves)
 
 
 if __name__ == "__main__":

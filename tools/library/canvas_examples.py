@@ -34,7 +34,7 @@ def build_spin() -> None:
     if done.returncode:
         raise MissingError("libsdl2-dev")
     source = os.path.join(EXAMPLES, "c", "spin.c")
-    flags = ["-std=c11", "-O2", "-g", *WARNINGS, "-I", INCLUDE]
+    flags = ["-std=c99", "-O2", "-g", *WARNINGS, "-I", INCLUDE]
     run([need("gcc"), *flags, "-o", SPIN, source, STATIC_LIBRARY, *done.stdout.split(), "-pthread", "-lm"])
 
 

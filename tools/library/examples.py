@@ -31,7 +31,7 @@ COVERAGE_LINES = 9
 def build_frames() -> str:
     """Builds the frame loop. Returns its path."""
     program = os.path.join(OUT, "frames")
-    flags = ["-std=c11", "-O2", "-g", *WARNINGS, "-I", INCLUDE]
+    flags = ["-std=c99", "-O2", "-g", *WARNINGS, "-I", INCLUDE]
     run([need("gcc"), *flags, "-o", program, C_EXAMPLE, *SHARED, "-pthread", "-lm"])
     return program
 
@@ -66,7 +66,7 @@ def check_cpp() -> str:
 def check_c_canvas(tool: str = "") -> None:
     """canvas.c writes the program's picture of its triangle, if a tool is given under that tool of valgrind, which finds nothing."""
     program = os.path.join(OUT, "c_canvas")
-    run([need("gcc"), "-std=c11", "-O2", "-g", *WARNINGS, "-I", INCLUDE, "-o", program, C_CANVAS_EXAMPLE, STATIC_LIBRARY])
+    run([need("gcc"), "-std=c99", "-O2", "-g", *WARNINGS, "-I", INCLUDE, "-o", program, C_CANVAS_EXAMPLE, STATIC_LIBRARY])
     written = must_be_silent(tool, [program]) if tool else run([program])
     must(written == drawn_by_program(encode(SCENE)).output, "another picture")
 

@@ -91,7 +91,7 @@ edition = "2021"
 trirast = {{ path = "{}" }}
 [workspace]
 """
-COMPILERS = {"c": ("gcc", "-std=c11"), "cpp": ("g++", "-std=c++17")}
+COMPILERS = {"c": ("gcc", "-std=c99"), "cpp": ("g++", "-std=c++17")}
 
 
 def written_by(name: str, language: str, text: str, draw_list: bytes) -> bytes:
