@@ -16,7 +16,7 @@ import random
 import subprocess
 import sys
 from dataclasses import replace
-from typing import Any, NamedTuple
+from typing import Any, NamedTuple, Sequence
 
 from tools import answers, generated_lists, picture_file, reference
 from tools.draw_list import Draw, DrawList, encode, triangles_of
@@ -27,6 +27,7 @@ from tools.places import OUT, PROGRAM, SHARED_LIBRARY, TOP, is_built
 LISTS = 1000
 LOWEST, HIGHEST = -8388608, 8388607
 WHITE = (255, 255, 255)
+CLEARED = 0xFFFFFF
 
 
 # ---- Batches
@@ -112,9 +113,14 @@ def of_canvas(canvas: Any, threads: int) -> Readings:
 def of_reference(rules: Any, scene: reference.Scene) -> Readings:
     """What these rules make of a scene: tools/reference.py, or a mutant of it."""
     samples, count = rules.drawn(scene), scene.samples
-    colours = [[red + 256 * green + 65536 * blue for red, green, blue, _depth in samples[s::count]] for s in range(count)]
+    colours = [[number_of(sample) for sample in samples[s::count]] for s in range(count)]
     depths = [[sample[3] for sample in samples[s::count]] for s in range(count)]
     return Readings(rules.resolve(samples, count), colours, depths)
+
+
+def number_of(sample: Sequence[int]) -> int:
+    """The colour of a sample as a number, as ids are stored."""
+    return sample[0] + 256 * sample[1] + 65536 * sample[2]
 
 
 def with_ids(scene: reference.Scene) -> reference.Scene:

@@ -112,7 +112,8 @@ class Arrays(Files):
             value = {"width": 3, "height": 3, "samples": samples, "draws": [{"triangles": 1, "sample_mask": 65535}]}
             scene = poster.scene_of_arrays(vertices, triangles, value)
             self.assertEqual((scene.sheet.samples, scene.draws[0].state["sample_mask"]), (samples, 65535))
-        for more in ({"samples": 3}, {"samples": 32}, {"samples": 16, "draws": [{"triangles": 1, "sample_mask": 65536}]}):
+        refused: List[Dict[str, Any]] = [{"samples": 3}, {"samples": 32}, {"draws": [{"triangles": 1, "sample_mask": 65536}]}]
+        for more in refused:
             with self.assertRaises(trirast.DrawListError):
                 poster.scene_of_arrays(vertices, triangles, {"width": 3, "height": 3, "draws": [{"triangles": 1}], **more})
 
