@@ -21,7 +21,7 @@
 #   make check-packages     install each package in a clean folder, and use it there
 #   make compare   draw generated lists, and compare each byte with the reference renderer
 #   make compare-history    compare the histories that bin/trirast_why prints and the library writes with the reference's, and with the pictures
-#   make compare-canvas    draw generated lists on canvases, split into batches, and compare them with program and reference
+#   make compare-canvas    draw generated lists on canvases, split into batches, and compare them with reference and program; and mutants
 #   make check-compare      test that comparison: what its lists cover, and mutants of the reference's rules
 #   make golden    compare the pictures of examples/ and tests/regressions/ with their checksums and the reference renderer
 #   make schema    try the JSON Schema of the draw list
@@ -261,6 +261,7 @@ compare-history: $(PROGRAM) $(WHY) $(if $(shell command -v gcc),library)
 
 compare-canvas: $(PROGRAM) library
 	$(PYTHON) -m tools.compare_canvas
+	$(PYTHON) -m tools.canvas_mutants
 
 check-compare: $(PROGRAM)
 	$(PYTHON) -m tools.test_compare

@@ -65,7 +65,7 @@ typedef enum trirast_status {
     TRIRAST_STATUS_BAD_TILE_SIZE = 5,    /* the tile size is none of 8, 16, 32 and 64 */
     TRIRAST_STATUS_BAD_TILE_ROWS = 6,    /* the first tile row is not before the end, or the picture has fewer than the end */
     TRIRAST_STATUS_BAD_STRUCT_SIZE = 7,  /* a size member is another than the library's own */
-    TRIRAST_STATUS_BAD_CANVAS = 8,       /* a side is not 1 to 4096, or the samples of a pixel are neither 1 nor 4 */
+    TRIRAST_STATUS_BAD_CANVAS = 8,       /* a side is not 1 to 4096, or the samples of a pixel are none of 1, 2, 4, 8 and 16 */
     TRIRAST_STATUS_BAD_MEMORY = 9,       /* the memory of the samples is not as large as the tile rows need */
     TRIRAST_STATUS_BAD_FORMAT = 10,      /* the number is none of trirast_format */
     TRIRAST_STATUS_BAD_SAMPLE = 11,      /* a pixel has no sample of this index */
@@ -275,7 +275,7 @@ typedef struct trirast_batch_draw {
     uint32_t write_red;    /* 1 if the channel is written, else 0 */
     uint32_t write_green;
     uint32_t write_blue;
-    uint32_t sample_mask;  /* bit s is 1 if sample s is drawn: 0 to 15 */
+    uint32_t sample_mask;  /* bit s is 1 if sample s is drawn: 0 to 65535. Bits past a pixel's samples are not looked at */
     uint32_t scissor_left; /* the pixels that are drawn, right and bottom outside: 0 to 4096 each, on a canvas 0 to 32,768 */
     uint32_t scissor_top;
     uint32_t scissor_right;
@@ -297,11 +297,12 @@ typedef struct trirast_batch {
 } trirast_batch;
 
 /* The defaults of the format of draw lists, for a declaration: trirast_scene_head head = TRIRAST_SCENE_HEAD_INIT;
- * What has no default is 0. The scissor is as large as any picture; a canvas may need a larger one (trirast_canvas_draw). */
+ * What has no default is 0. The scissor is as large as any picture; a canvas may need a larger one (trirast_canvas_draw). The
+ * sample mask draws every sample, however many a pixel has. */
 #define TRIRAST_SCENE_HEAD_INIT {sizeof(trirast_scene_head), 0, 0, 1, TRIRAST_OUTPUT_COLOR, 0, 0, 0, 65535}
 #define TRIRAST_BATCH_DRAW_INIT \
-    {0, 0, TRIRAST_TOPOLOGY_TRIANGLES, TRIRAST_CULL_NONE, TRIRAST_DEPTH_ALWAYS, 0, TRIRAST_BLEND_NONE, 1, 1, 1, 15, 0, 0, \
-     4096, 4096}
+    {0, 0, TRIRAST_TOPOLOGY_TRIANGLES, TRIRAST_CULL_NONE, TRIRAST_DEPTH_ALWAYS, 0, TRIRAST_BLEND_NONE, 1, 1, 1, 65535, \
+     0, 0, 4096, 4096}
 #define TRIRAST_BATCH_INIT \
     {sizeof(trirast_batch), sizeof(trirast_batch_draw), sizeof(trirast_vertex), sizeof(uint32_t), 0, 0, 0, 0, 0, 0}
 
@@ -479,12 +480,14 @@ trirast_status trirast_triangle_samples(const char *json, size_t json_len, size_
  * (trirast_canvas_piece), and may then call at once: two pieces without a tile row in common have no memory in common.
  *
  * A canvas is a window on the screen: pixel (x, y) of the canvas is pixel (x + origin_x, y + origin_y) of the screen.
- * Positions and scissors are those of the screen, and the canvas shows what lies there, sample by sample. */
+ * Positions and scissors are those of the screen, and the canvas shows what lies there, sample by sample.
+ *
+ * A pixel has 1, 2, 4, 8 or 16 samples, in the standard patterns of Direct3D 11: docs/rules.md. */
 typedef struct trirast_canvas {
     uint32_t struct_size; /* sizeof(trirast_canvas) */
     uint32_t width;       /* of the whole canvas, in pixels: 1 to 4096 */
     uint32_t height;      /* of the whole canvas, in pixels: 1 to 4096 */
-    uint32_t samples;     /* samples of a pixel: 1 or 4 */
+    uint32_t samples;     /* samples of a pixel: 1, 2, 4, 8 or 16 */
     int32_t origin_x;     /* the pixel of the screen at which the upper left one of the canvas lies; 0, 0 without a window */
     int32_t origin_y;
     uint32_t first;       /* the first of these tile rows; the whole canvas: 0 */
@@ -506,7 +509,8 @@ typedef enum trirast_format {
 } trirast_format;
 
 /* Returns the bytes of the samples of the tile rows from `first` to before `end`. Returns 0 if there is no such canvas, or it
- * has no such tile rows. */
+ * has no such tile rows. A tile of 64 by 64 pixels takes (1 + 65 * samples) * TRIRAST_PLANE_BYTES bytes, so the largest canvas
+ * takes 87 MB with one sample, 172 MB with 2, 342 MB with 4, 683 MB with 8 and 1.36 GB with 16. */
 size_t trirast_canvas_bytes(uint32_t width, uint32_t height, uint32_t samples, uint32_t first, uint32_t end);
 
 /* Returns the number of tile rows of a canvas of this height. Returns 0 if there is no such canvas. */

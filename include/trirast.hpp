@@ -131,7 +131,7 @@ struct Batch {
     Span<const std::uint32_t> indices;
 };
 
-/* A draw of triangles with the defaults of draw lists. Its scissor is as large as the screen. */
+/* A draw of triangles with the defaults of draw lists. Its scissor is as large as the screen, and its mask has every sample. */
 inline trirast_batch_draw new_draw() noexcept {
     trirast_batch_draw draw = TRIRAST_BATCH_DRAW_INIT;
     draw.scissor_right = draw.scissor_bottom = 32768;
@@ -279,8 +279,8 @@ private:
 /* All tile rows of a canvas, with memory of its own. A canvas that was moved from has none, and its calls throw. */
 class Canvas : public TileRows {
 public:
-    /* What the samples begin with is not specified: call clear first. Throws Error, BAD_CANVAS, if there is no such canvas, and
-     * std::bad_alloc. */
+    /* A pixel has 1, 2, 4, 8 or 16 samples. What they begin with is not specified: call clear first. Throws Error, BAD_CANVAS, if
+     * there is no such canvas, and std::bad_alloc. */
     Canvas(std::uint32_t width, std::uint32_t height, std::uint32_t samples = 1, Origin origin = {}) {
         const std::uint32_t end = trirast_canvas_rows(height);
         const std::size_t bytes = trirast_canvas_bytes(width, height, samples, 0, end);

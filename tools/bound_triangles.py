@@ -14,7 +14,7 @@ import random
 from typing import Iterator, NamedTuple
 
 from tools.draw_list import Draw, DrawList, draw, draw_list, vertex
-from tools.reference import SAMPLES, side
+from tools.reference import LIST, SAMPLES, side
 
 TRIANGLES = 1000
 # A triangle has a cell of two by two blocks to itself.
@@ -94,5 +94,5 @@ def scene(kind: Kind, samples: int) -> DrawList:
 def lists() -> Iterator[DrawList]:
     """The lists: of red and of depth, with one and with four samples."""
     for kind in (RED, DEPTH):
-        for samples in SAMPLES:
+        for samples in LIST.counts:
             yield scene(kind, samples)

@@ -43,6 +43,7 @@ def check_all(tally: Tally, seed: int) -> None:
     canvas_examples.check(tally)
     tally.run("examples/python: canvas", examples.check_python_canvas)
     tally.run("examples/python: coverage", examples.check_coverage)
+    tally.run("examples/python: edges", examples.check_edges)
     tally.run("examples/python: viewer", examples.check_viewer)
     tally.run("examples/python: what the viewer refuses", examples.check_viewer_refuses)
     tally.run("examples/python: gouraud", examples.check_gouraud)

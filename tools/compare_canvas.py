@@ -1,10 +1,11 @@
-"""Compares canvases with the program and with the slow reference renderer on generated draw lists.
+"""Compares canvases with the slow reference renderer, sample by sample, on generated draw lists, and with the program.
 
-    python3 -m tools.compare_canvas [--lists 1000] [--seed 1]
+    python3 -m tools.compare_canvas [--lists 1000] [--seed 1] [--samples 1 2 4 8 16]
 
-Each list of tools/generated_lists.py is split at random into batches, one triangle a batch among them, and drawn on a canvas by some
-threads, with and without a window. Every pixel and every depth is compared with the program's, and every id with that of the last
-triangle that passes at the sample in the reference. Exit status 1 on any difference; the list is then left in out/compare/.
+Each list of tools/generated_lists.py has one of these numbers of samples a pixel, and masks of 16 bits. It is split at random into
+batches, one triangle a batch among them, and drawn on a canvas by some threads, with and without a window. Every pixel, and of every
+sample the colour, the depth and the id of the last triangle that passes there, is compared with the reference's; with one or four
+samples every pixel and depth also with the program's. Exit status 1 on any difference; the list is then left in out/compare/.
 """
 
 from __future__ import annotations
@@ -15,6 +16,7 @@ import random
 import subprocess
 import sys
 from dataclasses import replace
+from typing import Any, NamedTuple, Sequence
 
 from tools import answers, generated_lists, picture_file, reference
 from tools.draw_list import Draw, DrawList, encode, triangles_of
@@ -24,6 +26,7 @@ from tools.places import OUT, PROGRAM, SHARED_LIBRARY, TOP, is_built
 
 LISTS = 1000
 LOWEST, HIGHEST = -8388608, 8388607
+WHITE = (255, 255, 255)
 CLEARED = 0xFFFFFF
 
 
@@ -65,19 +68,29 @@ def an_origin(pick: random.Random, scene: DrawList) -> tuple[int, int]:
     return found[0], found[1]
 
 
-# ---- One list
+# ---- What canvases and the reference have
 
 
 class Difference(Exception):
     """What differs."""
 
 
-def drawn(scene: DrawList, batches: list[list[Draw]], size: tuple[int, int], origin: tuple[int, int], threads: int, by_ids: bool) -> object:
+class Readings(NamedTuple):
+    """The pixels of a picture, and for each sample index the colours as numbers and the depths of all pixels."""
+
+    pixels: bytes
+    colours: list[list[int]]
+    depths: list[list[int]]
+
+
+def drawn(
+    scene: DrawList, batches: list[list[Draw]], size: tuple[int, int], origin: tuple[int, int], threads: int, by_ids: bool = False
+) -> Any:
     """A canvas of this size at this origin, on which the batches of a list are drawn."""
     import trirast
 
     canvas = trirast.Canvas(*size, samples=scene.get("samples", 1), origin=origin)
-    colour = (255, 255, 255) if by_ids else scene.get("clear", (0, 0, 0))
+    colour = WHITE if by_ids else scene.get("clear", (0, 0, 0))
     canvas.clear(colour, scene.get("clear_depth", 65535), threads=threads)
     before = 0
     for batch in batches:
@@ -90,24 +103,62 @@ def drawn(scene: DrawList, batches: list[list[Draw]], size: tuple[int, int], ori
     return canvas
 
 
+def of_canvas(canvas: Any, threads: int) -> Readings:
+    samples = range(canvas.samples)
+    colours = [memoryview(bytes_of(canvas.ids(s, threads=threads))).cast("I").tolist() for s in samples]
+    depths = [memoryview(bytes_of(canvas.depth(s, threads=threads))).cast("H").tolist() for s in samples]
+    return Readings(bytes_of(canvas.rgb(threads=threads)), colours, depths)
+
+
+def of_reference(rules: Any, scene: reference.Scene) -> Readings:
+    """What these rules make of a scene: tools/reference.py, or a mutant of it."""
+    samples, count = rules.drawn(scene), scene.samples
+    colours = [[number_of(sample) for sample in samples[s::count]] for s in range(count)]
+    depths = [[sample[3] for sample in samples[s::count]] for s in range(count)]
+    return Readings(rules.resolve(samples, count), colours, depths)
+
+
+def number_of(sample: Sequence[int]) -> int:
+    """The colour of a sample as a number, as ids are stored."""
+    return sample[0] + 256 * sample[1] + 65536 * sample[2]
+
+
+def with_ids(scene: reference.Scene) -> reference.Scene:
+    """The scene with each triangle in the colour of its id, on white."""
+    triangles = []
+    for number, triangle in enumerate(scene.triangles):
+        colour = (number % 256, number // 256 % 256, number // 65536, 255)
+        state = replace(triangle.state, write=(True, True, True), blend="none")
+        triangles.append(replace(triangle, vertices=tuple(vertex[:3] + colour for vertex in triangle.vertices), state=state))
+    return replace(scene, triangles=tuple(triangles), clear=(*WHITE, scene.clear[3]))
+
+
+def bytes_of(buffer: Any) -> bytes:
+    return memoryview(buffer).tobytes()
+
+
+# ---- Comparisons
+
+
+def compare_readings(what: str, found: Readings, wanted: Readings) -> int:
+    """Returns the number of values that were compared."""
+    for s, (colours, depths) in enumerate(zip(wanted.colours, wanted.depths)):
+        if found.colours[s] != colours:
+            raise Difference(f"{what}: other colours of sample {s}")
+        if found.depths[s] != depths:
+            raise Difference(f"{what}: other depths of sample {s}")
+    if found.pixels != wanted.pixels:
+        raise Difference(f"{what}: other pixels")
+    return len(found.pixels) // 3 + 2 * sum(map(len, found.colours))
+
+
 def file_of(scene: DrawList, output: str) -> bytes:
     """The pixels of the program's file."""
-    answer = answers.drawn(PROGRAM, encode({**scene, "output": output}), [])
+    draws = [{**draw, "sample_mask": draw.get("sample_mask", 15) & 15} for draw in scene["draws"]]
+    answer = answers.drawn(PROGRAM, encode({**scene, "draws": draws, "output": output}), [])
     if answer.status != 0:
         raise Difference(f"the program refuses the list: {answer}")
     return picture_file.decode(answer.output).pixel_data
-
-
-def ids_of(scene: DrawList) -> list[int]:
-    """The id of each sample, by the reference: each triangle is drawn in the colour of its id."""
-    read = reference.read(encode(scene))
-    samples: list[reference.Sample] = [(255, 255, 255, read.clear[3])] * (read.width * read.height * read.samples)
-    for number, triangle in enumerate(read.triangles):
-        colour = (number % 256, number // 256 % 256, number // 65536, 255)
-        state = replace(triangle.state, write=(True, True, True), blend="none")
-        vertices = tuple(vertex[:3] + colour for vertex in triangle.vertices)
-        reference.draw(replace(triangle, vertices=vertices, state=state), read, samples)
-    return [sample[0] + 256 * sample[1] + 65536 * sample[2] for sample in samples]
 
 
 def same(what: str, wanted: bytes, found: bytes, size: tuple[int, int], part: tuple[int, int], origin: tuple[int, int], unit: int) -> int:
@@ -122,76 +173,82 @@ def same(what: str, wanted: bytes, found: bytes, size: tuple[int, int], part: tu
         here = (j * part[0] + first) * unit
         length = (end - first) * unit
         if wanted[there : there + length] != found[here : here + length]:
-            raise Difference(f"{what}: other values in row {j} of the canvas at {origin}")
+            raise Difference(f"{what}: other values than the program's in row {j} of the canvas at {origin}")
         compared += end - first
     return compared
 
 
-def compare(scene: DrawList, pick: random.Random) -> int:
-    """Compares a list's canvases. Returns the number of values that were compared."""
-    size = (scene["width"], scene["height"])
-    colours = file_of(scene, "color")
+def compare_with_program(scene: DrawList, canvas: Any) -> int:
+    """Compares the pixels and the first depths of a canvas of a list with those of the program."""
+    size, part = (scene["width"], scene["height"]), (canvas.width, canvas.height)
     depths = b"".join(pair[::-1] for pair in pairs(file_of(scene, "depth")))
-    batches = split(pick, scene["draws"])
-    compared = 0
-    window = (pick.randint(1, size[0] + 9), pick.randint(1, size[1] + 9))
-    for part, origin in ((size, (0, 0)), (window, an_origin(pick, scene))):
-        canvas = drawn(scene, batches, part, origin, pick.randint(1, 4), False)
-        compared += same("colours", colours, bytes_of(canvas.rgb(threads=pick.randint(1, 3))), size, part, origin, 3)  # type: ignore[attr-defined]
-        compared += same("depths", depths, bytes_of(canvas.depth(0)), size, part, origin, 2)  # type: ignore[attr-defined]
-    by_ids = drawn(scene, batches, size, (0, 0), pick.randint(1, 4), True)
-    wanted = ids_of(scene)
-    count = scene.get("samples", 1)
-    for sample in range(count):
-        found = memoryview(bytes_of(by_ids.ids(sample))).cast("I").tolist()  # type: ignore[attr-defined]
-        if found != wanted[sample::count]:
-            raise Difference(f"ids: other ids of sample {sample}")
-        compared += len(found)
-    return compared
+    compared = same("colours", file_of(scene, "color"), bytes_of(canvas.rgb()), size, part, canvas.origin, 3)
+    return compared + same("depths", depths, bytes_of(canvas.depth(0)), size, part, canvas.origin, 2)
 
 
 def pairs(data: bytes) -> list[bytes]:
     return [data[k : k + 2] for k in range(0, len(data), 2)]
 
 
-def bytes_of(buffer: object) -> bytes:
-    return memoryview(buffer).tobytes()  # type: ignore[arg-type]
+def compare(scene: DrawList, pick: random.Random) -> int:
+    """Compares a list's canvases. Returns the number of values that were compared."""
+    read, batches = reference.read(encode(scene), reference.CANVAS), split(pick, scene["draws"])
+    size = (read.width, read.height)
+    window = (pick.randint(1, size[0] + 9), pick.randint(1, size[1] + 9))
+    compared = 0
+    for part, origin in ((size, (0, 0)), (window, an_origin(pick, scene))):
+        seen = replace(read, width=part[0], height=part[1], origin=origin)
+        canvas = drawn(scene, batches, part, origin, pick.randint(1, 4))
+        found = of_canvas(canvas, pick.randint(1, 3))
+        compared += compare_readings(f"a canvas at {origin}", found, of_reference(reference, seen))
+        if read.samples in reference.LIST.counts:
+            compared += compare_with_program(scene, canvas)
+        found = of_canvas(drawn(scene, batches, part, origin, pick.randint(1, 4), by_ids=True), 1)
+        compared += compare_readings(f"ids of a canvas at {origin}", found, of_reference(reference, with_ids(seen)))
+    return compared
 
 
-def compare_lists(lists: int, seed: int) -> int:
-    import json
-
+def compare_lists(lists: int, seed: int, counts: list[int]) -> int:
     compared = differences = 0
     for number in range(lists):
-        text = generated_lists.accepted_text(seed, number)
-        pick = random.Random(f"canvas {seed} {number}")
+        scene = generated_lists.canvas_list(seed, number, counts[number % len(counts)])
         try:
-            compared += compare(json.loads(text), pick)
+            compared += compare(scene, random.Random(f"canvas {seed} {number}"))
         except Difference as difference:
             differences += 1
             folder = os.path.join(OUT, "compare")
             os.makedirs(folder, exist_ok=True)
             path = os.path.join(folder, f"canvas_{number}.json")
             with open(path, "wb") as file:
-                file.write(text)
+                file.write(encode(scene))
             print(f"{os.path.relpath(path, TOP)}: {difference}")
     print(f"{lists} lists, {compared} values compared, {differences} differences")
     print(f"{lists - differences} passed, {differences} failed", flush=True)
     return 1 if differences or not compared else 0
 
 
-def main() -> int:
-    parser = argparse.ArgumentParser(description="Compares canvases with the program and the reference.")
-    parser.add_argument("--lists", type=int, default=LISTS, help=f"number of lists (default {LISTS})")
-    parser.add_argument("--seed", type=int, default=1, help="of the lists and the batches (default 1)")
-    options = parser.parse_args()
+# ---- The command
+
+
+def run_with_package(module: str) -> int | None:
+    """Runs a module again in an environment in which the package is found. Returns its status, or `None` if this is that run."""
+    if "TRIRAST_CANVAS_COMPARED" in os.environ:
+        return None
     if not is_built(PROGRAM, made_by="make compare-canvas") or not is_built(SHARED_LIBRARY, made_by="make compare-canvas"):
         return 1
-    if "trirast" not in sys.modules and "TRIRAST_CANVAS_COMPARED" not in os.environ:
-        # The package is found in an environment of its own.
-        environment = {**os.environ, **PACKAGE_ENVIRONMENT, "TRIRAST_CANVAS_COMPARED": "1"}
-        return subprocess.run([sys.executable, "-m", "tools.compare_canvas", *sys.argv[1:]], env=environment, cwd=TOP).returncode
-    return compare_lists(options.lists, options.seed)
+    environment = {**os.environ, **PACKAGE_ENVIRONMENT, "TRIRAST_CANVAS_COMPARED": "1"}
+    return subprocess.run([sys.executable, "-m", module, *sys.argv[1:]], env=environment, cwd=TOP).returncode
+
+
+def main() -> int:
+    parser = argparse.ArgumentParser(description="Compares canvases with the reference and the program.")
+    parser.add_argument("--lists", type=int, default=LISTS, help=f"number of lists (default {LISTS})")
+    parser.add_argument("--seed", type=int, default=1, help="of the lists and the batches (default 1)")
+    counts = reference.CANVAS.counts
+    parser.add_argument("--samples", type=int, nargs="+", choices=counts, default=counts, help="samples of a pixel, list after list")
+    options = parser.parse_args()
+    status = run_with_package("tools.compare_canvas")
+    return compare_lists(options.lists, options.seed, list(options.samples)) if status is None else status
 
 
 if __name__ == "__main__":

@@ -77,6 +77,7 @@ CHECKS = (
     Check("allocation failures", module("allocation_failures"), 20 * MINUTE),
     Check("fault injection", module("fault_injection"), 20 * MINUTE),
     Check("canvases", (*module("compare_canvas"), "--lists", "40"), 15 * MINUTE, runs_library=True, needs=("cc", "gcc")),
+    Check("mutants of the rules of canvases", module("canvas_mutants"), 15 * MINUTE, runs_library=True, needs=("cc", "gcc")),
     Check("the library", module("check_library"), 30 * MINUTE, runs_library=True, needs=("cc", "gcc")),
     Check("packages", module("check_packages"), 15 * MINUTE, runs_library=True, needs=("cc", "gcc")),
     Check("posters", module("check_poster"), 30 * MINUTE, runs_library=True, needs=("cc", "gcc")),

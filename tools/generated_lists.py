@@ -1,4 +1,5 @@
-"""Generated draw lists by which the program is compared with the reference renderer. A seed gives the same lists each time.
+"""Generated draw lists by which the program is compared with the reference renderer, and others for canvases, which may have more
+samples. A seed gives the same lists each time.
 
 The lists are small and look for trouble: triangles without area, slivers, edges and corners on sample positions, shared
 edges, ends of the guard band, every state, both sample counts, scissors past the picture. `tools/test_compare.py` shows
@@ -17,18 +18,19 @@ from tools.draw_list import Draw, DrawList, Vertex
 
 LOW, HIGH = reference.BAND
 MAX_PIXELS = 4500
+MAX_SAMPLES = 4 * MAX_PIXELS
 
 
 # ---- Lists that are accepted ---------------------------------------------------------------------------------------
 
 
-def a_size(pick: random.Random) -> tuple[int, int]:
+def a_size(pick: random.Random, max_pixels: int = MAX_PIXELS) -> tuple[int, int]:
     """A width and a height: often a few pixels, sometimes past a tile's side or at the end, never many pixels together."""
     if pick.random() < 0.03:
         return pick.choice(((4096, 1), (1, 4096)))
     while True:
         width, height = (pick.choice((pick.randint(1, 12), pick.randint(13, 34), pick.randint(62, 131))) for _ in "wh")
-        if width * height <= MAX_PIXELS:
+        if width * height <= max_pixels:
             return width, height
 
 
@@ -171,7 +173,13 @@ def some_faces(pick: random.Random, vertices: list[Vertex]) -> Draw:
     return {"quads": some_quads(pick, vertices)}
 
 
-def a_state(pick: random.Random, width: int, height: int) -> Draw:
+def a_mask(pick: random.Random, limits: reference.Limits) -> int:
+    """A sample mask: of a canvas often one that has the first samples, and bits of samples that its pixels lack."""
+    mask = pick.randint(0, limits.mask)
+    return mask if limits is reference.LIST else mask | pick.choice((0, 0, 3, 15, 255, limits.mask))
+
+
+def a_state(pick: random.Random, width: int, height: int, limits: reference.Limits = reference.LIST) -> Draw:
     state: Draw = {}
     if pick.random() < 0.4:
         state["cull"] = pick.choice(("none", "front", "back"))
@@ -184,7 +192,7 @@ def a_state(pick: random.Random, width: int, height: int) -> Draw:
     if pick.random() < 0.3:
         state["write"] = [pick.random() < 0.6 for _ in range(3)]
     if pick.random() < 0.4:
-        state["sample_mask"] = pick.randint(0, 15)
+        state["sample_mask"] = a_mask(pick, limits)
     if pick.random() < 0.4:
         columns = [pick.choice((0, width, 4096) + (pick.randint(0, width),) * 4) for _ in range(2)]
         rows = [pick.choice((0, height, 4096) + (pick.randint(0, height),) * 4) for _ in range(2)]
@@ -197,10 +205,20 @@ def a_state(pick: random.Random, width: int, height: int) -> Draw:
 
 def a_list(pick: random.Random) -> DrawList:
     width, height = a_size(pick)
-    samples = pick.choice((1, 4))
+    return list_of(pick, width, height, pick.choice(reference.LIST.counts), reference.LIST)
+
+
+def a_canvas_list(pick: random.Random, samples: int) -> DrawList:
+    """What is drawn on a canvas with so many samples a pixel, as a list: its masks have 16 bits."""
+    width, height = a_size(pick, MAX_SAMPLES // max(samples, 4))
+    return list_of(pick, width, height, samples, reference.CANVAS)
+
+
+def list_of(pick: random.Random, width: int, height: int, samples: int, limits: reference.Limits) -> DrawList:
+    """A list of this size."""
     depths = some_depths(pick)
     scene: DrawList = {"width": width, "height": height}
-    if samples == 4 or pick.random() < 0.5:
+    if samples > 1 or pick.random() < 0.5:
         scene["samples"] = samples
     if pick.random() < 0.6:
         scene["clear"] = [pick.randint(0, 255) for _ in range(3)]
@@ -212,7 +230,7 @@ def a_list(pick: random.Random) -> DrawList:
     for _ in range(pick.randint(1, 5) if pick.random() < 0.97 else 0):
         vertices = some_vertices(pick, width, height, samples, depths)
         faces = some_faces(pick, vertices)
-        scene["draws"].append({**a_state(pick, width, height), "vertices": vertices, **faces})
+        scene["draws"].append({**a_state(pick, width, height, limits), "vertices": vertices, **faces})
     return scene
 
 
@@ -339,6 +357,11 @@ def a_broken_text(pick: random.Random) -> bytes:
 def accepted_text(seed: int, number: int) -> bytes:
     """List `number` of a seed."""
     return json.dumps(a_list(random.Random(f"list {seed} {number}"))).encode()
+
+
+def canvas_list(seed: int, number: int, samples: int) -> DrawList:
+    """List `number` of a seed for canvases with so many samples a pixel."""
+    return a_canvas_list(random.Random(f"canvas {seed} {number} {samples}"), samples)
 
 
 def broken_text(seed: int, number: int) -> bytes:

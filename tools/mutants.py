@@ -21,9 +21,9 @@ from tools.places import is_built, text_of
 
 # The mutants: the name of the mistake, the text of the rule in tools/reference.py, and what stands in its place.
 MUTANTS = [
-    ("a sample pattern mirrored", "(96, 32), (224, 96), (32, 160), (160, 224)", "(160, 32), (32, 96), (224, 160), (96, 224)"),
-    ("two samples in each other's place", "(96, 32), (224, 96)", "(224, 96), (96, 32)"),
-    ("a centre off by one unit", "1: ((128, 128),)", "1: ((127, 128),)"),
+    ("a sample pattern mirrored", "(-2, -6), (6, -2), (-6, 2), (2, 6)", "(2, -6), (-6, -2), (6, 2), (-2, 6)"),
+    ("two samples in each other's place", "(-2, -6), (6, -2)", "(6, -2), (-2, -6)"),
+    ("a centre off by one unit", "(128 + 16 * x, 128 + 16 * y)", "(128 + 16 * x - (count == 1), 128 + 16 * y)"),
     ("bottom edges in place of top edges", "top = a[1] == b[1] and c[1] > a[1]", "top = a[1] == b[1] and c[1] < a[1]"),
     ("right edges in place of left edges", "(b[0] - a[0]) * (c[1] - a[1])) > 0", "(b[0] - a[0]) * (c[1] - a[1])) < 0"),
     ("points of every edge counted in", "(value == 0 and self.owns_its_points)", "value == 0"),
@@ -49,10 +49,10 @@ MUTANTS = [
         "weights = (abs(at_a), abs(at_b), abs(at_c))",
         "weights = (abs(at_b), abs(at_a), abs(at_c))",
     ),
-    ("the resolve rounded down", "for sample in four) + 2) // 4", "for sample in four)) // 4"),
-    ("three of four samples resolved", "for sample in four) + 2) // 4", "for sample in four[:3]) + four[0][channel] + 2) // 4"),
-    ("a scissor one pixel too wide", "min(scene.width, right, max(xs) + 1)", "min(scene.width, right + 1, max(xs) + 1)"),
-    ("a scissor one pixel too low", "range(max(0, top, min(ys))", "range(max(0, top + 1, min(ys))"),
+    ("the resolve rounded down", "for sample in pixel) + count // 2) // count", "for sample in pixel)) // count"),
+    ("three of four samples resolved", "for sample in pixel) + count // 2) // count", "for sample in pixel[:3]) + pixel[0][channel] + 2) // 4"),
+    ("a scissor one pixel too wide", "min(x + scene.width, right, max(xs) + 1)", "min(x + scene.width, right + 1, max(xs) + 1)"),
+    ("a scissor one pixel too low", "range(max(y, top, min(ys))", "range(max(y, top + 1, min(ys))"),
     ("the last column of a triangle left out", "right, max(xs) + 1)", "right, max(xs))"),
     ("the sample mask passed over", "if triangle.state.sample_mask >> s & 1]", "]"),
     ("the sample mask turned", "sample_mask >> s & 1", "sample_mask >> (3 - s) & 1"),

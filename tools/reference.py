@@ -1,4 +1,4 @@
-"""A small, slow reference renderer for trirast draw lists.
+"""A small, slow reference renderer for trirast draw lists, and for what is drawn on a canvas.
 
 It reads a draw list on standard input and writes the binary PPM picture, or the PGM picture of the depths, on standard
 output, straight from the rules of docs/rules.md and docs/draw-list.md: exact integers, every sample by itself, all
@@ -59,8 +59,22 @@ DEPTH_TESTS: dict[str, Callable[[int, int], bool]] = {
     "always": lambda new, old: True,
 }
 
+# How far right of a pixel's centre and below it its samples lie, in 1/16 pixel: one in the centre, and else the standard patterns of
+# Direct3D 11.
+PATTERNS: dict[int, tuple[Point, ...]] = {
+    1: ((0, 0),),
+    2: ((4, 4), (-4, -4)),
+    4: ((-2, -6), (6, -2), (-6, 2), (2, 6)),
+    8: ((1, -3), (-1, 3), (5, 1), (-3, -5), (-5, 5), (-7, -1), (3, 7), (7, -7)),
+    16: (
+        (1, 1), (-1, -3), (-3, 2), (4, -1), (-5, -2), (2, 5), (5, 3), (3, -5),
+        (-2, 6), (0, -7), (-4, -6), (-6, 4), (-8, 0), (7, -4), (6, 7), (-7, -8),
+    ),
+}
 # Offsets of the samples from a pixel's upper left corner in 1/256 pixel.
-SAMPLES: dict[int, tuple[Point, ...]] = {1: ((128, 128),), 4: ((96, 32), (224, 96), (32, 160), (160, 224))}
+SAMPLES: dict[int, tuple[Point, ...]] = {
+    count: tuple((128 + 16 * x, 128 + 16 * y) for x, y in pattern) for count, pattern in PATTERNS.items()
+}
 
 
 class ListFault(Exception):
@@ -77,6 +91,20 @@ class InputTooLong(Exception):
 
     def __init__(self) -> None:
         super().__init__("trirast: input too long")
+
+
+@dataclass(frozen=True)
+class Limits:
+    """The numbers of samples that a pixel may have, and the greatest sample mask and edge of a scissor."""
+
+    counts: tuple[int, ...]
+    mask: int
+    edge: int
+
+
+# Those of a draw list, and those of a canvas, which a list's value describes as well.
+LIST = Limits((1, 4), 15, 4096)
+CANVAS = Limits((1, 2, 4, 8, 16), 65535, 32768)
 
 
 @dataclass(frozen=True)
@@ -100,12 +128,15 @@ class Triangle:
 
 @dataclass(frozen=True)
 class Scene:
+    """What is drawn. The picture begins at the pixel `origin` of the screen."""
+
     width: int
     height: int
     samples: int
     clear: Sample
     output: str
     triangles: tuple[Triangle, ...]
+    origin: Point = (0, 0)
 
 
 # ---- Reading -------------------------------------------------------------------------------------------------------
@@ -253,27 +284,27 @@ def check_draw_keys(value: Any, draw: int) -> str:
     return named[0]
 
 
-def read_state(value: Any, draw: int, width: int, height: int) -> State:
+def read_state(value: Any, draw: int, limits: Limits) -> State:
     return State(
         cull=check_word(value.get("cull", "none"), ("none", "front", "back"), draw),
         depth_test=check_word(value.get("depth_test", "always"), DEPTH_TESTS, draw),
         depth_write=check_truth(value.get("depth_write", False), draw),
         blend=check_word(value.get("blend", "none"), ("none", "over"), draw),
         write=tuple(check_truth(c, draw) for c in check_array(value.get("write", [True] * 3), 3, draw)),
-        sample_mask=check_whole(value.get("sample_mask", 15), 0, 15, draw),
-        scissor=check_wholes(value.get("scissor", [0, 0, width, height]), 4, 0, 4096, draw),
+        sample_mask=check_whole(value.get("sample_mask", limits.mask), 0, limits.mask, draw),
+        scissor=check_wholes(value.get("scissor", [0, 0, limits.edge, limits.edge]), 4, 0, limits.edge, draw),
     )
 
 
-def read_draw(value: Any, draw: int, width: int, height: int, triangles_before: int) -> list[Triangle]:
+def read_draw(value: Any, draw: int, limits: Limits, triangles_before: int) -> list[Triangle]:
     key = check_draw_keys(value, draw)
-    state = read_state(value, draw, width, height)
+    state = read_state(value, draw, limits)
     vertices = [read_vertex(vertex, draw) for vertex in check_list(value["vertices"], 65536, draw)]
     triangles = FACES[key](value[key], vertices, triangles_before, draw)
     return [Triangle(tuple(vertices[index] for index in triangle), state) for triangle in triangles]
 
 
-def read(data: bytes) -> Scene:
+def read(data: bytes, limits: Limits = LIST) -> Scene:
     """The scene that the bytes denote; ListFault at the first check that fails."""
     if len(data) > INPUT_LIMIT:
         raise InputTooLong
@@ -282,14 +313,14 @@ def read(data: bytes) -> Scene:
     width = check_whole(value["width"], 1, 4096, None)
     height = check_whole(value["height"], 1, 4096, None)
     samples = check_whole(value.get("samples", 1), -(2**63), 2**64, None)
-    if samples not in SAMPLES:
+    if samples not in limits.counts:
         raise ListFault(OUT_OF_RANGE)
     clear = check_wholes(value.get("clear", [0, 0, 0]), 3, 0, 255, None)
     clear += (check_whole(value.get("clear_depth", 65535), 0, 65535, None),)
     output = check_word(value.get("output", "color"), ("color", "depth"), None)
     triangles: list[Triangle] = []
     for draw, description in enumerate(check_list(value["draws"], 1024, None)):
-        triangles += read_draw(description, draw, width, height, len(triangles))
+        triangles += read_draw(description, draw, limits, len(triangles))
     return Scene(width, height, samples, clear, output, tuple(triangles))
 
 
@@ -351,10 +382,11 @@ def shade(triangle: Triangle, weights: tuple[int, int, int], size: int, old: Sam
 def pixels_of(triangle: Triangle, scene: Scene) -> tuple[range, range]:
     """The columns and rows in which the triangle can cover a sample: its bounding box in scissor and picture."""
     left, top, right, bottom = triangle.state.scissor
+    x, y = scene.origin
     xs = [vertex[0] // 256 for vertex in triangle.vertices]
     ys = [vertex[1] // 256 for vertex in triangle.vertices]
-    columns = range(max(0, left, min(xs)), min(scene.width, right, max(xs) + 1))
-    rows = range(max(0, top, min(ys)), min(scene.height, bottom, max(ys) + 1))
+    columns = range(max(x, left, min(xs)), min(x + scene.width, right, max(xs) + 1))
+    rows = range(max(y, top, min(ys)), min(y + scene.height, bottom, max(ys) + 1))
     return columns, rows
 
 
@@ -379,28 +411,35 @@ def draw(triangle: Triangle, scene: Scene, samples: list[Sample]) -> None:
                 at_c = opposite_c.at(p)
                 if not opposite_c.passes(at_c):
                     continue
-                index = (j * scene.width + i) * scene.samples + s
+                pixel = (j - scene.origin[1]) * scene.width + i - scene.origin[0]
+                index = pixel * scene.samples + s
                 weights = (abs(at_a), abs(at_b), abs(at_c))
                 samples[index] = shade(triangle, weights, abs(area), samples[index])
 
 
 def resolve(samples: list[Sample], count: int) -> bytes:
-    """The bytes of the picture from its samples."""
+    """The bytes of the picture from its samples: the means of each pixel's, halves rounded up."""
     if count == 1:
         return bytes(channel for sample in samples for channel in sample[:3])
     out = bytearray()
-    for first in range(0, len(samples), 4):
-        four = samples[first : first + 4]
+    for first in range(0, len(samples), count):
+        pixel = samples[first : first + count]
         for channel in range(3):
-            out.append((sum(sample[channel] for sample in four) + 2) // 4)
+            out.append((sum(sample[channel] for sample in pixel) + count // 2) // count)
     return bytes(out)
+
+
+def drawn(scene: Scene) -> list[Sample]:
+    """All samples after all triangles: those of a pixel one after another, and the pixels row by row."""
+    samples = [scene.clear] * (scene.width * scene.height * scene.samples)
+    for triangle in scene.triangles:
+        draw(triangle, scene, samples)
+    return samples
 
 
 def render(scene: Scene) -> bytes:
     """The picture's file."""
-    samples = [scene.clear] * (scene.width * scene.height * scene.samples)
-    for triangle in scene.triangles:
-        draw(triangle, scene, samples)
+    samples = drawn(scene)
     if scene.output == "depth":
         depths = b"".join(sample[3].to_bytes(2, "big") for sample in samples[:: scene.samples])
         return PictureFile(scene.width, scene.height, 2, depths).encode()

@@ -218,11 +218,11 @@ class Bounds(unittest.TestCase):
         return False
 
     def test_red(self) -> None:
-        for samples in reference.SAMPLES:
+        for samples in reference.LIST.counts:
             self.check(bound_triangles.RED, samples)
 
     def test_depth(self) -> None:
-        for samples in reference.SAMPLES:
+        for samples in reference.LIST.counts:
             self.check(bound_triangles.DEPTH, samples)
 
 

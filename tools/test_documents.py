@@ -14,7 +14,7 @@ import unittest
 from typing import Iterator
 from unittest import mock
 
-from tools import counts, definitions as lines, mutants, places, reference
+from tools import canvas_mutants, counts, definitions as lines, mutants, places, reference, sample_patterns
 from tools.places import TOP, text_of
 from tools.public_calls import CRATES, calls_in, given_out, named_calls, public_calls
 
@@ -164,6 +164,14 @@ class Names(unittest.TestCase):
 
     def test_number_of_mutants(self) -> None:
         self.assertIn(f"that {len(mutants.MUTANTS)} wrong rules", text_of("docs/proofs.md"))
+        self.assertIn(f"finds {len(canvas_mutants.MUTANTS)} wrong rules", text_of("docs/proofs.md"))
+
+    def test_sample_patterns(self) -> None:
+        table = text_of("docs/rules.md").split("## Sample positions")[1].split("\n\n")[2]
+        listed = {int(count): re.findall(r"\((-?\d), (-?\d)\)", positions) for count, positions in list(rows(table))[1:]}
+        found = {count: tuple((int(x), int(y)) for x, y in positions) for count, positions in listed.items()}
+        self.assertEqual(found, reference.PATTERNS)
+        self.assertEqual(text_of("docs/samples.svg"), sample_patterns.svg())
 
 
 class Proofs(unittest.TestCase):

@@ -8,6 +8,7 @@ from __future__ import annotations
 import json
 import re
 import unittest
+from dataclasses import replace
 from typing import Any, Sequence
 
 from tools import counts, picture_file, reference
@@ -141,6 +142,59 @@ class FourSamples(unittest.TestCase):
         whites = [vertex(0, 0), vertex(512, 0), vertex(0, 512)]
         self.assertEqual(colour_of_one(draw(whites, sample_mask=5)), "80 80 80")
         self.assertEqual(colour_of_one(draw(whites, sample_mask=0)), BLACK)
+
+
+class OnCanvases(unittest.TestCase):
+    """2, 8 and 16 samples a pixel, which only a canvas has."""
+
+    # Where samples lie, in hexadecimal digits of 1/16 pixel from the upper left corner.
+    PLACES = {
+        2: "cc 44", 8: "95 7b d9 53 3d 17 bf f1", 16: "99 75 5a c7 36 ad db b3 6e 81 42 2c 08 f4 ef 10",
+    }
+
+    def canvas_pixels(self, samples: int, width: int, *draws: Draw, origin: tuple[int, int] = (0, 0)) -> list[str]:
+        read = reference.read(json.dumps(scene(width, 1, *draws, samples=samples)).encode(), reference.CANVAS)
+        picture = reference.render(replace(read, origin=origin))
+        return [pixel.hex(" ") for pixel in picture_file.decode(picture).pixels()]
+
+    def test_positions(self) -> None:
+        for samples, places in self.PLACES.items():
+            found = [f"{x // 16:x}{y // 16:x}" for x, y in reference.SAMPLES[samples]]
+            self.assertEqual(" ".join(found), places)
+
+    def test_half_a_pixel(self) -> None:
+        half = draw([vertex(0, 0), vertex(256, 0), vertex(0, 256)])
+        for samples, grey in ((2, "80"), (8, "60"), (16, "8f")):
+            self.assertEqual(self.canvas_pixels(samples, 1, half), [f"{grey} {grey} {grey}"])
+
+    def test_samples_on_the_left_and_the_upper_border_belong_to_their_pixel(self) -> None:
+        left, right = (draw([vertex(x, 0), vertex(x + 256, 0), vertex(x, 256), vertex(x + 256, 256)], [(0, 1, 2), (2, 1, 3)]) for x in (0, 256))
+        self.assertEqual(self.canvas_pixels(16, 2, left), [WHITE, BLACK])
+        self.assertEqual(self.canvas_pixels(16, 2, right), [BLACK, WHITE])
+
+    def test_each_bit_of_a_mask_is_a_sixteenth(self) -> None:
+        wide = [vertex(0, 0), vertex(512, 0), vertex(0, 512)]
+        for mask, grey in ((1, "10"), (1 << 8, "10"), (1 << 15, "10"), (0x0180, "20"), (0xFF00, "80"), (0xFFFF, "ff")):
+            self.assertEqual(self.canvas_pixels(16, 1, draw(wide, sample_mask=mask)), [f"{grey} {grey} {grey}"])
+        self.assertEqual(self.canvas_pixels(8, 1, draw(wide, sample_mask=0xFF00)), [BLACK])
+        self.assertEqual(self.canvas_pixels(16, 1, draw(wide)), [WHITE])
+
+    def test_windows(self) -> None:
+        whole = draw([vertex(256, 0), vertex(1024, 0), vertex(256, 768)], scissor=[2, 0, 32768, 32768])
+        seen = self.canvas_pixels(2, 4, whole)
+        self.assertEqual(seen, [BLACK, BLACK, WHITE, "80 80 80"])
+        self.assertEqual(self.canvas_pixels(2, 3, whole, origin=(1, 0)), seen[1:])
+        self.assertEqual(self.canvas_pixels(2, 5, whole, origin=(-1, 0)), [BLACK, *seen])
+
+    def test_limits(self) -> None:
+        for samples, mask, fault in ((3, 0, "5 OutOfRange"), (16, 65536, "5 OutOfRange in draw 0"), (16, 65535, None), (2, 16, None)):
+            text = json.dumps(scene(1, 1, draw(FIRST, sample_mask=mask), samples=samples)).encode()
+            if fault is None:
+                self.assertEqual(reference.read(text, reference.CANVAS).samples, samples)
+                self.assertEqual(error_of(text), "5 OutOfRange")
+                continue
+            with self.assertRaisesRegex(reference.ListFault, fault):
+                reference.read(text, reference.CANVAS)
 
 
 class Merging(unittest.TestCase):

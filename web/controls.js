@@ -4,7 +4,7 @@ import { find, make } from './elements.js';
 import { COLUMNS, NAMES, ROWS, SHOWN, figureOf, snapped } from './figure.js';
 
 const SWITCHES = [
-  ['samples', 'Samples', { 4: 'four', 1: 'one' }],
+  ['samples', 'Samples', { 1: '1', 2: '2', 4: '4', 8: '8', 16: '16' }],
   ['cull', 'Cull', { none: 'none', front: 'front', back: 'back' }],
   ['turned', 'Orientation', { no: 'as it is', yes: 'reversed' }],
   ['diagonal', 'Shared edge', { BC: 'BC', AD: 'AD' }],

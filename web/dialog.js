@@ -3,6 +3,9 @@
 import { find, make } from './elements.js';
 import { copy } from './link.js';
 
+/** The numbers of samples that a picture of the program may have. */
+const LISTED = [1, 4];
+
 /** The JSON text of a value. Objects, and arrays of arrays or objects, have a line for each of their parts. */
 export function textOfList(value, indent = '') {
   const isArray = Array.isArray(value);
@@ -20,6 +23,9 @@ export function showList(name, list) {
   const text = `${textOfList(list)}\n`;
   find('list-text').value = text;
   find('list-name').textContent = `${name}.json`;
+  const isTaken = LISTED.includes(list.samples ?? 1);
+  find('list-taken').hidden = !isTaken;
+  find('list-refused').hidden = isTaken;
   find('list-copy').onclick = () => copy(find('list-copy'), text);
   find('list-save').onclick = () => {
     const url = URL.createObjectURL(new Blob([text], { type: 'application/json' }));

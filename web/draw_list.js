@@ -20,7 +20,7 @@ function stateOf(draw, primitives) {
   const write = draw.write ?? [true, true, true];
   return [
     PRIMITIVES.indexOf(primitives), CULLS.indexOf(draw.cull ?? 'none'), TESTS.indexOf(draw.depth_test ?? 'always'),
-    Number(draw.depth_write ?? false), BLENDS.indexOf(draw.blend ?? 'none'), ...write.map(Number), draw.sample_mask ?? 15,
+    Number(draw.depth_write ?? false), BLENDS.indexOf(draw.blend ?? 'none'), ...write.map(Number), draw.sample_mask ?? 65535,
     ...(draw.scissor ?? [0, 0, 4096, 4096]),
   ];
 }

@@ -8,11 +8,20 @@ export const NAMES = ['A', 'B', 'C', 'D'];
 const MARGIN = UNIT / 2;
 
 /** Where the samples of a pixel lie, as in Direct3D. */
-export const PATTERNS = { 1: [[128, 128]], 4: [[96, 32], [224, 96], [32, 160], [160, 224]] };
+export const PATTERNS = {
+  1: [[128, 128]],
+  2: [[192, 192], [64, 64]],
+  4: [[96, 32], [224, 96], [32, 160], [160, 224]],
+  8: [[144, 80], [112, 176], [208, 144], [80, 48], [48, 208], [16, 112], [176, 240], [240, 16]],
+  16: [
+    [144, 144], [112, 80], [80, 160], [192, 112], [48, 96], [160, 208], [208, 176], [176, 48],
+    [96, 224], [128, 16], [64, 32], [32, 192], [0, 128], [240, 64], [224, 240], [16, 0],
+  ],
+};
 
 /** What each choice may be. The first is what a link leaves out. */
 export const CHOICES = {
-  samples: ['4', '1'],
+  samples: ['4', '1', '2', '8', '16'],
   cull: ['none', 'front', 'back'],
   turned: ['no', 'yes'],
   diagonal: ['BC', 'AD'],
@@ -28,6 +37,7 @@ export const START = {
 export const SHOWN = {
   'Shared edge on samples': 'A=384,896&B=2432,384&C=2432,2688&D=3456,1664&samples=1&at=9,5,0',
   'Rectangle on centres': 'A=640,640&B=3456,640&C=640,2432&D=3456,2432&samples=1&at=2,2,0',
+  'Level edge, sixteen samples': 'A=300,700&B=3900,900&C=300,2300&D=3900,2450&samples=16&at=7,3,0',
   'Thin slivers': 'A=200,1200&B=3900,1390&C=250,1300&D=3800,1640&at=9,5,1',
   'Cut by a scissor': 'A=300,300&B=3800,200&C=420,2800&D=3700,2700&diagonal=AD&scissor=3,2,13,10&at=8,5,2',
   'Back face culled': 'A=700,500&B=3300,700&C=1500,2700&D=900,1700&cull=back&at=5,6,0',
@@ -66,7 +76,7 @@ export function nameOf(triangle) {
   return [0, 1, 2].map((k) => NAMES[triangle[(first + k) % 3]]).join('');
 }
 
-/** The figure as a draw list that the program takes, in these tints. */
+/** The figure as a draw list, in these tints. */
 export function drawListOf(figure, tints) {
   const vertex = (index, tint) => [...figure.points[index], 0, ...tint, 255];
   const draw = figure.cull === 'none' ? {} : { cull: figure.cull };

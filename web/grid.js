@@ -7,6 +7,8 @@ import { Handle, positionIn } from './handle.js';
 import { css } from './tints.js';
 
 const CORNERS = ['upper left', 'lower right'];
+/** The radius of a sample, by their number. */
+const RADII = { 1: 0.12, 2: 0.1, 4: 0.09, 8: 0.065, 16: 0.05 };
 
 /** The index of a sample among all of a picture. */
 function places(samples) {
@@ -52,9 +54,9 @@ export class Grid {
     const count = this.samples.childElementCount;
     if (count !== samples.length) {
       this.samples.replaceChildren();
-      const radius = samples.length > COLUMNS * ROWS ? 0.09 : 0.12;
+      const r = RADII[samples.length / (COLUMNS * ROWS)];
       for (const { column, row, sample, position: [x, y] } of samples) {
-        draw(this.samples, 'circle', { class: 'sample', cx: x / UNIT, cy: y / UNIT, r: radius, 'data-at': `${column},${row},${sample}` });
+        draw(this.samples, 'circle', { class: 'sample', cx: x / UNIT, cy: y / UNIT, r, 'data-at': `${column},${row},${sample}` });
       }
     }
     const bits = (of, key) => of.map((each) => Number(each[key])).join('');

@@ -1,4 +1,4 @@
-// The chosen pixel by itself, large: each sample with its position and the signs of the edge functions.
+// The chosen pixel by itself, large: each sample with its position and the signs of the edge functions, or with its index.
 
 import { draw, find } from './elements.js';
 import { drawEdges } from './edges.js';
@@ -17,19 +17,24 @@ export function showLens(svg, figure, coverage) {
   draw(svg, 'rect', { class: 'cell', x: column, y: row, width: 1, height: 1, fill: css(color) });
   coverage.triangles.forEach((triangle, k) => drawEdges(svg, triangle, k + 1, 0.006));
   for (const sample of coverage.samples) {
-    if (sample.column === column && sample.row === row) showSample(svg, sample, sample.sample === chosen);
+    if (sample.column === column && sample.row === row) showSample(svg, sample, sample.sample === chosen, Number(figure.samples) > 4);
   }
   find('pixel').textContent = `Pixel (${column}, ${row})`;
 }
 
-/** Shows a sample, and beside it three lines: its position, and the signs for each triangle. */
-function showSample(svg, { position, of }, isChosen) {
+/** Shows a sample. Beside it stand its position and the signs for each triangle, or its index alone where there are many. */
+function showSample(svg, { position, sample, of }, isChosen, isOneOfMany) {
   const [x, y] = position.map((value) => value / UNIT);
   const bits = (key) => of.map((each) => Number(each[key])).join('');
-  draw(svg, 'circle', { class: 'sample', cx: x, cy: y, r: 0.035, 'data-covers': bits('covers'), 'data-drawn': bits('drawn') });
-  if (isChosen) draw(svg, 'circle', { class: 'ring', cx: x, cy: y, r: 0.055 });
+  const r = isOneOfMany ? 0.022 : 0.035;
+  draw(svg, 'circle', { class: 'sample', cx: x, cy: y, r, 'data-covers': bits('covers'), 'data-drawn': bits('drawn') });
+  if (isChosen) draw(svg, 'circle', { class: 'ring', cx: x, cy: y, r: r + 0.02 });
   const isLeft = x - Math.floor(x) <= 0.5;
-  const more = { x: x + (isLeft ? 0.075 : -0.075), 'text-anchor': isLeft ? 'start' : 'end' };
+  const more = { x: x + (isLeft ? r + 0.04 : -r - 0.04), 'text-anchor': isLeft ? 'start' : 'end' };
+  if (isOneOfMany) {
+    draw(svg, 'text', { class: 'note', y, ...more }, String(sample));
+    return;
+  }
   draw(svg, 'text', { class: 'note', y: y - LINE, ...more }, positionName(position));
   of.forEach(({ values }, k) => draw(svg, 'text', { class: `note signs of${k + 1}`, y: y + k * LINE, ...more }, values.map(signOf).join(' ')));
 }

@@ -9,6 +9,9 @@ import trirast
 from .common import PIXELS, VERTICES
 
 WHITE_ID = 16777215
+COUNTS = (1, 2, 4, 8, 16)
+# A triangle over all of a canvas of 3 by 3 pixels, in red 5.
+LARGE = [[-1000, -1000, 7, 5, 0, 0, 255], [6000, -1000, 7, 5, 0, 0, 255], [-1000, 6000, 7, 5, 0, 0, 255]]
 
 
 def bytes_of(buffer: Any) -> bytes:
@@ -78,6 +81,30 @@ class Pictures(unittest.TestCase):
         ids = array("I", bytes_of(canvas.ids()))
         self.assertEqual(list(ids), [70000, 70000, WHITE_ID, 70000] + 5 * [WHITE_ID])
 
+    def test_every_sample_of_each_count_is_drawn(self) -> None:
+        for samples in COUNTS:
+            canvas = trirast.Canvas(3, 70, samples=samples)
+            canvas.clear((255, 255, 255), 9)
+            canvas.draw_ids(LARGE, [[0, 1, 2]], first_id=5, scissor=[0, 0, 3, 3], depth_write=True, threads=2)
+            for sample in range(samples):
+                self.assertEqual(array("I", bytes_of(canvas.ids(sample))).tolist(), 9 * [5] + 201 * [WHITE_ID])
+                self.assertEqual(array("H", bytes_of(canvas.depth(sample))).tolist(), 9 * [7] + 201 * [9])
+            with self.assertRaises(trirast.SampleError):
+                canvas.ids(samples)
+
+    def test_each_bit_of_a_mask_is_a_sample(self) -> None:
+        for samples, mask in ((2, 0x2), (8, 0x81), (16, 0x8100), (16, 0x0001), (4, 0xFFF1), (1, 0xFFFE)):
+            canvas = trirast.Canvas(3, 3, samples=samples)
+            canvas.clear((255, 255, 255))
+            canvas.draw(LARGE, [[0, 1, 2]], sample_mask=mask)
+            drawn = [mask >> sample & 1 for sample in range(samples)]
+            for sample, is_drawn in enumerate(drawn):
+                self.assertEqual(set(array("I", bytes_of(canvas.ids(sample)))), {5 if is_drawn else WHITE_ID})
+            sums = [each * sum(drawn) + 255 * (samples - sum(drawn)) for each in (5, 0, 0)]
+            self.assertEqual(bytes_of(canvas.rgb()), bytes((each + samples // 2) // samples for each in sums) * 9)
+        with self.assertRaises(trirast.DrawListError):
+            cleared().draw(LARGE, [[0, 1, 2]], sample_mask=0x10000)
+
     def test_the_memory_is_the_callers(self) -> None:
         memory = bytearray(trirast.Canvas.size(3, 3))
         canvas = trirast.Canvas(3, 3, memory=memory)
@@ -91,7 +118,7 @@ class Pictures(unittest.TestCase):
 
 class Refused(unittest.TestCase):
     def test_a_size_that_there_is_not(self) -> None:
-        for numbers in ((0, 1, 1), (1, 4097, 1), (1, 1, 2), (-1, 1, 1), (1 << 32, 1, 1)):
+        for numbers in ((0, 1, 1), (1, 4097, 1), (-1, 1, 1), (1 << 32, 1, 1), *((1, 1, samples) for samples in (0, 3, 5, 15, 17, 32))):
             with self.assertRaises(trirast.CanvasError):
                 trirast.Canvas(numbers[0], numbers[1], samples=numbers[2])
 

@@ -278,6 +278,21 @@ class Given(unittest.TestCase):
                     self.assertEqual(drawn(tripcolor(slope, alpha=0.5), facecolor=facecolor).tobytes(), wanted.tobytes())
 
 
+    def test_samples_are_shares_of_an_edge(self) -> None:
+        # Of a pixel whose left part is black, a sixteenth is the least share that sixteen samples show, and a quarter that of four.
+        for samples, shares in ((1, 2), (2, 3), (4, 5), (8, 9), (16, 17)):
+            with mock.patch.object(RendererTrirast, "samples", samples):
+                rights = [10 + sixteenth / 16 for sixteenth in range(17)]
+                grays = {int(pixels_with([[(0, 0), (right, 0), (0, 30)], [(right, 0), (right, 30), (0, 30)]], [BLACK, BLACK])[15, 10, 0]) for right in rights}
+            self.assertEqual(len(grays), shares)
+
+    def test_more_samples_have_smaller_windows(self) -> None:
+        with mock.patch.object(RendererTrirast, "samples", 16):
+            wanted = drawn(tripcolor(slope, alpha=0.5))
+            with mock.patch.object(_drawing, "MAX_SIDE", 50):
+                self.assertEqual(drawn(tripcolor(slope, alpha=0.5)).tobytes(), wanted.tobytes())
+
+
 class Far(unittest.TestCase):
     def test_zoomed_far_in(self) -> None:
         for limits in ((0.5, 0.5001), (0.3, 0.3000001)):

@@ -18,7 +18,7 @@ import numpy as np
 
 import trirast
 from trirast import poster
-from trirast.poster import _command, _draw_list, _index, _journal, _part, _png, _threads, _tiles_writer, _windows
+from trirast.poster import _command, _draw_list, _index, _journal, _part, _png, _scene, _threads, _tiles_writer, _windows
 from trirast.poster._dask import draw_by_dask
 
 from .common import DRAW_LIST, FILE, VERTICES
@@ -105,6 +105,17 @@ class Arrays(Files):
         self.assertEqual(read.checksum(), scene.checksum())
         np.savez_compressed(self.path("packed.npz"), vertices=scene.vertices, triangles=scene.triangles, draws=np.array(json.dumps(value)))
         self.assertEqual(poster.scene_of(self.path("packed.npz")).checksum(), scene.checksum())
+
+    def test_samples_and_masks_may_be_those_of_a_canvas(self) -> None:
+        vertices, triangles = np.array(VERTICES), np.array([[0, 1, 2]])
+        for samples in (1, 2, 4, 8, 16):
+            value = {"width": 3, "height": 3, "samples": samples, "draws": [{"triangles": 1, "sample_mask": 65535}]}
+            scene = poster.scene_of_arrays(vertices, triangles, value)
+            self.assertEqual((scene.sheet.samples, scene.draws[0].state["sample_mask"]), (samples, 65535))
+        refused: List[Dict[str, Any]] = [{"samples": 3}, {"samples": 32}, {"draws": [{"triangles": 1, "sample_mask": 65536}]}]
+        for more in refused:
+            with self.assertRaises(trirast.DrawListError):
+                poster.scene_of_arrays(vertices, triangles, {"width": 3, "height": 3, "draws": [{"triangles": 1}], **more})
 
     def test_wrong_arrays_are_refused(self) -> None:
         vertices, triangles = np.array(VERTICES), np.array([[0, 1, 2]])
@@ -241,6 +252,32 @@ class Pictures(Files):
             poster.draw_poster(scene, self.path("a.ppm"), window=70)
             self.assertEqual(self.content("a.ppm"), trirast.draw_file(as_list(scene)))
             self.assertGreater(len(self.content("a.ppm")) - self.content("a.ppm").count(0), 99)
+
+    def test_more_samples_are_those_of_a_canvas(self) -> None:
+        pick = np.random.default_rng(4)
+        for samples, places in _scene.SAMPLES.items():
+            scene = random_scene(9, 70, 70, 70 * 70, 2)
+            pixels = np.stack(np.meshgrid(np.arange(70), np.arange(70)), 2).reshape(-1, 1, 2) * 256
+            at = pick.choice(np.array(places), (70 * 70, 1)) + pick.integers(-3, 4, (70 * 70, 1, 2))
+            scene.vertices[:, :2] = (pixels + at + pick.integers(-2, 3, (70 * 70, 3, 2))).reshape(-1, 2)
+            canvas = trirast.Canvas(70, 70, samples=samples)
+            canvas.clear()
+            canvas.draw(scene.vertices, scene.triangles)
+            scene = poster.Scene(poster.Sheet(70, 70), scene.vertices, scene.triangles, [poster.PosterDraw(70 * 70)])
+            for window in (70, 16):
+                poster.draw_poster(scene, self.path("a.ppm"), samples=samples, window=window)
+                self.assertEqual(self.content("a.ppm")[-3 * 70 * 70 :], canvas.rgb().tobytes(), (samples, window))
+            self.assertGreater(np.count_nonzero(canvas.rgb()), 99)
+
+    def test_another_number_of_samples_keeps_what_is_masked(self) -> None:
+        scene = poster.scene_of_list(list_of(samples=4, draws=[{**DRAW_LIST["draws"][0], "sample_mask": mask} for mask in (15, 5)]))
+        self.assertIs(_scene.with_samples(scene, 4), scene)
+        more = _scene.with_samples(scene, 16)
+        self.assertEqual([more.sheet.samples, *(draw.state.get("sample_mask") for draw in more.draws)], [16, None, 5])
+        for samples in (0, 3, 17):
+            with self.assertRaises(ValueError):
+                poster.draw_poster(scene, self.path("a.ppm"), samples=samples)
+        self.assertEqual(os.listdir(self.folder), [])
 
     def test_a_pixel_may_have_more_than_a_list_has(self) -> None:
         for draws, each in ((1025, 1), (1, 70_000)):

@@ -123,6 +123,7 @@ class Errors(unittest.TestCase):
             (lambda: trirast.draw_scene(0, 3, []), 5, None),
             (lambda: trirast.draw_scene((1 << 32) + 3, 3, []), 5, None),
             (lambda: trirast.draw_scene(3, 3, [], samples=(1 << 32) + 4), 5, None),
+            (lambda: trirast.draw_scene(3, 3, [], samples=16), 5, None),
             (lambda: trirast.draw_scene(3, 3, draws[:1] * 1025), 7, None),
             (lambda: trirast.draw_scene(3, 3, draws), 6, 1),
             (lambda: trirast.draw_scene(3, 3, [trirast.Draw(VERTICES, strip=array("i", [-1]))]), 6, 0),

@@ -7,7 +7,8 @@ import os
 import re
 import subprocess
 
-from tools import compare_canvas, picture_file, places
+from tools import compare_canvas, picture_file, places, reference
+from tools.draw_list import draw_list, encode
 from tools.library import examples
 from tools.library.commands import (
     OUT, WARNINGS, drawn_by_program, must_be_silent, must_be_the_programs, need, run,
@@ -62,7 +63,8 @@ def check_picks() -> str:
     size = (160, 120)
     path, _ = saved("picks", "--size", *map(str, size))
     scene = json.loads(places.text_of(f"{path}.json"))
-    wanted = compare_canvas.ids_of({"width": size[0], "height": size[1], "samples": 1, "draws": [scene["draws"][3]]})
+    model = reference.read(encode(draw_list(*size, scene["draws"][3])))
+    (wanted,) = compare_canvas.of_reference(reference, compare_canvas.with_ids(model)).colours
     seen = set()
     for y in range(3, size[1], 13):
         for x in range(5, size[0], 17):

@@ -251,9 +251,14 @@ static void compare_weights(void) {
 
 static void compare_sizes(void) {
     expect(trirast_canvas_bytes(4096, 4096, 4, 0, 64) == (size_t)4096 * 261 * 320, "the largest canvas");
+    expect(trirast_canvas_bytes(4096, 4096, 16, 0, 64) == (size_t)4096 * 1041 * 320, "the largest canvas of sixteen samples");
+    for (uint32_t samples = 0; samples <= 33; samples++) {
+        int is_count = samples == 1 || samples == 2 || samples == 4 || samples == 8 || samples == 16;
+        expect(trirast_canvas_bytes(1, 1, samples, 0, 1) == (is_count ? (1 + 65 * samples) * 320 : 0), "one tile of %u samples", samples);
+    }
     expect(trirast_canvas_bytes(1, 1, 1, 0, 1) == 66 * 320 && trirast_canvas_bytes(65, 1, 1, 0, 1) == 2 * 66 * 320, "one tile");
     expect(!trirast_canvas_bytes(0, 1, 1, 0, 1) && !trirast_canvas_bytes(4097, 1, 1, 0, 1) && !trirast_canvas_bytes(1, 4097, 1, 0, 1) &&
-               !trirast_canvas_bytes(1, 1, 2, 0, 1) && !trirast_canvas_bytes(1, 1, 1, 0, 2) && !trirast_canvas_bytes(1, 1, 1, 1, 0),
+               !trirast_canvas_bytes(1, 1, 1, 0, 2) && !trirast_canvas_bytes(1, 1, 1, 1, 0),
            "none");
     expect(trirast_canvas_rows(1) == 1 && trirast_canvas_rows(65) == 2 && trirast_canvas_rows(4096) == 64 && !trirast_canvas_rows(0) &&
                !trirast_canvas_rows(4097) && trirast_canvas_row_pixels() == 64,
@@ -277,5 +282,6 @@ void compare_canvases(void) {
     compare_alignments();
     compare_loaded();
     compare_weights();
+    compare_samples();
     compare_refused_canvases();
 }

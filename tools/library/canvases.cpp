@@ -81,12 +81,24 @@ static void compare_entries() {
     report(window.pixels(TRIRAST_FORMAT_BGRA8)[0] == 255 && window.pixels(TRIRAST_FORMAT_BGRA8)[4 * 50] == 7, "a canvas is a window");
 }
 
+static void compare_samples() {
+    bool has_all = true;
+    for (const std::uint32_t samples : {1u, 2u, 4u, 8u, 16u}) {
+        Canvas canvas(100, 200, samples);
+        canvas.clear({255, 255, 255});
+        canvas.draw_ids(CORNERS, TRIANGLE, 70000);
+        for (std::uint32_t s = 0; s < samples; s++) has_all &= canvas.ids(s)[101] == 70000 && canvas.ids(s).back() == 16777215;
+        has_all &= throws(TRIRAST_STATUS_BAD_SAMPLE, [&] { canvas.ids(samples); });
+    }
+    report(has_all, "a draw has every one of 1, 2, 4, 8 and 16 samples");
+}
+
 static void compare_errors() {
     Canvas canvas = cleared();
     const std::vector<std::uint8_t> before = canvas.pixels(TRIRAST_FORMAT_RGBA8);
     std::vector<std::uint8_t> small(299);
     report(throws(TRIRAST_STATUS_BAD_CANVAS, [] { Canvas(0, 1); }) && throws(TRIRAST_STATUS_BAD_CANVAS, [] { Canvas(1, 4097); }) &&
-               throws(TRIRAST_STATUS_BAD_CANVAS, [] { Canvas(1, 1, 2); }),
+               throws(TRIRAST_STATUS_BAD_CANVAS, [] { Canvas(1, 1, 3); }),
            "a canvas that there is not is an exception");
     report(throws(TRIRAST_STATUS_BAD_TILE_ROWS, [&] { canvas.rows(0, 5); }) && throws(TRIRAST_STATUS_BAD_TILE_ROWS, [&] { canvas.rows(2, 1); }),
            "so are tile rows");
@@ -123,6 +135,7 @@ int main() {
     compare_pictures();
     compare_large_canvas();
     compare_entries();
+    compare_samples();
     compare_errors();
     compare_moves();
     return has_failed ? 1 : 0;

@@ -26,6 +26,9 @@ void make_canvas(stage *made, uint32_t width, uint32_t height, uint32_t samples)
 void make_quad(quad *all);
 trirast_status clear_to(trirast_canvas *canvas, const trirast_scene_head *head);
 
+// Each number of samples a pixel, in samples.c.
+void compare_samples(void);
+
 // What each call refuses, in refused_canvases.c.
 void compare_refused_canvases(void);
 

@@ -4,7 +4,7 @@
 
 #include "canvases.h"
 
-enum { CALLS = 7, BROKEN = 20, BROKEN_PIECES = 8, SHORT = 26, BROKEN_BATCHES = 28, BY_IDS = 3 };
+enum { CALLS = 7, BROKEN = 24, BROKEN_PIECES = 8, SHORT = 26, BROKEN_BATCHES = 28, BY_IDS = 3 };
 
 // ---- Canvases -------------------------------------------------------------------------------------------------------
 
@@ -18,9 +18,9 @@ static trirast_status break_canvas(trirast_canvas *canvas, int change) {
     case 4: canvas->width = UINT32_MAX; return TRIRAST_STATUS_BAD_CANVAS;
     case 5: canvas->height = 0; return TRIRAST_STATUS_BAD_CANVAS;
     case 6: canvas->height = 4097; return TRIRAST_STATUS_BAD_CANVAS;
-    case 7: canvas->samples = 2; return TRIRAST_STATUS_BAD_CANVAS;
+    case 7: canvas->samples = 3; return TRIRAST_STATUS_BAD_CANVAS;
     case 8: canvas->samples = 0; return TRIRAST_STATUS_BAD_CANVAS;
-    case 9: canvas->samples = 16; return TRIRAST_STATUS_BAD_CANVAS;
+    case 9: canvas->samples = 17; return TRIRAST_STATUS_BAD_CANVAS;
     case 10: canvas->end++; return TRIRAST_STATUS_BAD_TILE_ROWS;
     case 11: canvas->first = canvas->end + 1; return TRIRAST_STATUS_BAD_TILE_ROWS;
     case 12: canvas->end = UINT32_MAX; return TRIRAST_STATUS_BAD_TILE_ROWS;
@@ -31,6 +31,10 @@ static trirast_status break_canvas(trirast_canvas *canvas, int change) {
     case 16: canvas->samples = 1; return TRIRAST_STATUS_BAD_MEMORY;
     case 17: canvas->width = 64; return TRIRAST_STATUS_BAD_MEMORY;
     case 18: canvas->end = canvas->first; return TRIRAST_STATUS_BAD_MEMORY;
+    case 19: canvas->samples = 5; return TRIRAST_STATUS_BAD_CANVAS;
+    case 20: canvas->samples = UINT32_MAX; return TRIRAST_STATUS_BAD_CANVAS;
+    case 21: canvas->samples = 2; return TRIRAST_STATUS_BAD_MEMORY;
+    case 22: canvas->samples = 16; return TRIRAST_STATUS_BAD_MEMORY;
     default: canvas->memory = NULL, canvas->plane_count = 0; return TRIRAST_STATUS_BAD_MEMORY;
     }
 }
@@ -229,7 +233,7 @@ static uint32_t break_batch(quad *all, int change, int *draw, uint32_t *first_id
     case 17: last->depth_write = 2; break;
     case 18: last->blend = 2; break;
     case 19: last->write_green = 2; break;
-    case 20: last->sample_mask = 16; break;
+    case 20: last->sample_mask = 65536; break;
     case 21: last->scissor_right = 32769; break;
     case 22: all->indices[3] = 4; break;
     case 23: all->vertices[3].alpha = 256; break;

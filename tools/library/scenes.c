@@ -102,6 +102,9 @@ static void compare_broken(int change, uint32_t list_error, int draw) {
     if (change == 11) made.draws[1].topology = TRIRAST_TOPOLOGY_QUADS, made.draws[1].index_count = 4, batch->index_count = 4;
     if (change == 12) made.draws[0].depth_test = 8;
     if (change == 13) batch->draw_count = 1;
+    if (change == 14) made.draws[1].sample_mask = 65536;
+    if (change == 15) made.all.head.samples = 2;
+    if (change == 16) made.all.head.samples = 16;
     draw_triangle_file(&made, list_error ? TRIRAST_STATUS_BAD_LIST : TRIRAST_STATUS_OK, list_error, draw, change);
 }
 
@@ -163,6 +166,9 @@ void compare_scenes(void) {
     compare_broken(11, TRIRAST_LIST_NOT_CONVEX, 1);
     compare_broken(12, TRIRAST_LIST_OUT_OF_RANGE, 0);
     compare_broken(13, TRIRAST_LIST_WRONG_KIND, -1);
+    compare_broken(14, TRIRAST_LIST_OUT_OF_RANGE, 1);
+    compare_broken(15, TRIRAST_LIST_OUT_OF_RANGE, -1);
+    compare_broken(16, TRIRAST_LIST_OUT_OF_RANGE, -1);
     report("a scene with a number out of range, or of other lengths than its draws say, is refused");
     compare_sizes(4);
     compare_sizes(1u << 31);

@@ -1,4 +1,4 @@
-"""Figures of the coverage explorer: their links, their draw lists, and what the program makes of each of their samples."""
+"""Figures of the coverage explorer: their links, their draw lists, and what the program or the reference makes of each of their samples."""
 
 from __future__ import annotations
 
@@ -11,7 +11,7 @@ from tools import answers, picture_file
 from tools.draw_list import Draw, DrawList, draw, draw_list, encode, vertex
 from tools.library.tally import must
 from tools.places import PROGRAM
-from tools.reference import SAMPLES, Edge, side
+from tools.reference import CANVAS, LIST, SAMPLES, Edge, ListFault, drawn, read, render, side
 
 Point = tuple[int, int]
 Corners = tuple[Point, Point, Point]
@@ -107,7 +107,7 @@ def some_points(pick: random.Random, samples: int) -> tuple[Point, ...]:
 
 def some_figure(pick: random.Random) -> Figure:
     """A random figure."""
-    samples = pick.choice((1, 4))
+    samples = pick.choice(CANVAS.counts)
     columns, rows = sorted(pick.choices(range(COLUMNS + 1), k=2)), sorted(pick.choices(range(ROWS + 1), k=2))
     return Figure(
         some_points(pick, samples), samples, pick.choice(("none", *CULLS)), pick.random() < 0.5, pick.choice(tuple(TRIANGLES)),
@@ -116,7 +116,13 @@ def some_figure(pick: random.Random) -> Figure:
 
 
 def run_program(scene: DrawList) -> answers.Answer:
-    return answers.drawn(PROGRAM, encode(scene))
+    """The program's answer to a list. One with a number of samples that the program does not take is drawn by the reference."""
+    if scene.get("samples", 1) in LIST.counts:
+        return answers.drawn(PROGRAM, encode(scene))
+    try:
+        return answers.Answer(0, render(read(encode(scene), CANVAS)), b"")
+    except ListFault as error:
+        return answers.Answer(1, b"", str(error).encode() + b"\n")
 
 
 def pixels_of(scene: DrawList) -> bytes:
@@ -127,20 +133,32 @@ def pixels_of(scene: DrawList) -> bytes:
 
 
 def drawn_samples(figure: Figure) -> list[list[str]]:
-    """For each sample index and each pixel two digits: whether the program draws the first and the second triangle there.
+    """For each sample index and each pixel two digits: whether the first and the second triangle are drawn there.
 
-    The first is drawn in red and the second in green, sample index by sample index.
+    The first is drawn in red and the second in green: by the program sample index by sample index, or by the reference.
     """
+    if figure.samples not in LIST.counts:
+        samples = drawn(read(encode(red_and_green(figure, CANVAS.mask)), CANVAS))
+        return [[digits(sample) for sample in samples[s :: figure.samples]] for s in range(figure.samples)]
     planes = []
     for sample in range(figure.samples):
-        draws = [
-            draw([vertex(x, y) for x, y in corners], write=[k == 0, k == 1, False], cull=figure.cull, sample_mask=1 << sample,
-                 scissor=list(figure.scissor or (0, 0, COLUMNS, ROWS)))
-            for k, corners in enumerate(figure.triangles())
-        ]
-        pixels = pixels_of(draw_list(COLUMNS, ROWS, *draws, samples=figure.samples, clear=BLACK))
-        planes.append([f"{int(pixels[k] > 0)}{int(pixels[k + 1] > 0)}" for k in range(0, len(pixels), 3)])
+        pixels = pixels_of(red_and_green(figure, 1 << sample))
+        planes.append([digits(pixels[k : k + 3]) for k in range(0, len(pixels), 3)])
     return planes
+
+
+def red_and_green(figure: Figure, sample_mask: int) -> DrawList:
+    """The first triangle in red and the second in green, which do not hide each other, on black."""
+    draws = [
+        draw([vertex(x, y) for x, y in corners], write=[k == 0, k == 1, False], cull=figure.cull, sample_mask=sample_mask,
+             scissor=list(figure.scissor or (0, 0, COLUMNS, ROWS)))
+        for k, corners in enumerate(figure.triangles())
+    ]
+    return draw_list(COLUMNS, ROWS, *draws, samples=figure.samples, clear=BLACK)
+
+
+def digits(colour: Sequence[int]) -> str:
+    return f"{int(colour[0] > 0)}{int(colour[1] > 0)}"
 
 
 def signs_at(corners: Corners, point: Sequence[int]) -> str:

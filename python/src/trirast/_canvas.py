@@ -14,7 +14,7 @@ FARTHEST = 32768
 
 
 class Canvas:
-    """The samples of `width` by `height` pixels, 1 to 4096 each, with 1 or 4 `samples` a pixel.
+    """The samples of `width` by `height` pixels, 1 to 4096 each, with 1, 2, 4, 8 or 16 `samples` a pixel.
 
     What they begin with is not specified: call `clear`, or `load` and `clear`, first. `origin` is the pixel of the screen at which
     the upper left pixel of the canvas lies; positions and scissors are those of the screen. `memory` is a buffer of at least
@@ -47,12 +47,13 @@ class Canvas:
 
     @staticmethod
     def size(width: SupportsIndex, height: SupportsIndex, *, samples: SupportsIndex = 1) -> int:
-        """The bytes of the samples of such a canvas. Raises CanvasError if there is none."""
+        """The bytes of the samples of such a canvas, 5.2 a sample in whole tiles of 64 by 64 pixels. Raises CanvasError if there is
+        none."""
         given_numbers = (number(width, 0), number(height, 0), number(samples, 0))
         rows = library().trirast_canvas_rows(given_numbers[1])
         size: int = library().trirast_canvas_bytes(*given_numbers, 0, rows)
         if not size:
-            raise CanvasError(8, "trirast: a canvas has 1 to 4096 pixels a side and 1 or 4 samples a pixel")
+            raise CanvasError(8, "trirast: a canvas has 1 to 4096 pixels a side and 1, 2, 4, 8 or 16 samples a pixel")
         return size
 
     def clear(self, color: Sequence[SupportsIndex] = (0, 0, 0), depth: int = 65535, *, threads: int = 1) -> None:

@@ -14,6 +14,8 @@ DEPTH_TESTS = ("never", "less", "equal", "less_equal", "greater", "not_equal", "
 BLENDS = ("none", "over")
 OUTPUTS = ("color", "depth")
 MAX_SIZE = 4096
+# The sample mask that has every sample, however many a pixel has.
+EVERY_SAMPLE = 0xFFFF
 VERTEX_NUMBERS = 7
 # Of each topology, in the order of trirast_topology, its name and the indices of a primitive.
 TOPOLOGIES = (("triangles", 3), ("strip", 1), ("quads", 4))
@@ -26,7 +28,8 @@ class Draw:
     of 3, 1 and 4 indices of vertices. Each is a buffer of integers, as a numpy array, an array.array or a memoryview, with one
     row after another or with two dimensions; bytes or a bytearray, which hold 32-bit integers in the machine's order; or a
     sequence of rows. A contiguous buffer that can be written, of 32-bit integers, signed for vertices, is not copied if the
-    scene has no other draw. The other parameters are the keys of docs/draw-list.md, with their values and defaults.
+    scene has no other draw. The other parameters are the keys of docs/draw-list.md, with their values and defaults. `sample_mask`
+    has 16 bits, one for each sample that a pixel of a canvas can have, and without it every sample is drawn.
     """
 
     def __init__(
@@ -41,7 +44,7 @@ class Draw:
         depth_write: bool = False,
         blend: str = "none",
         write: Sequence[bool] = (True, True, True),
-        sample_mask: SupportsIndex = 15,
+        sample_mask: SupportsIndex = EVERY_SAMPLE,
         scissor: Optional[Sequence[SupportsIndex]] = None,
     ) -> None:
         given = [(kind, values) for kind, values in enumerate((triangles, strip, quads)) if values is not None]

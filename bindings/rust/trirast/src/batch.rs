@@ -65,8 +65,8 @@ pub struct State {
     pub blend: Blend,
     /// Whether red, green and blue are written.
     pub write: [bool; 3],
-    /// Bit s is 1 if sample s is drawn: 0 to 15.
-    pub sample_mask: u8,
+    /// Bit s is 1 if sample s is drawn. Bits past a pixel's samples are not looked at. The default draws every sample.
+    pub sample_mask: u16,
     /// The pixels that are drawn: left, top, right, bottom, the last two outside; 0 to 4096 each, and on a canvas, where they
     /// are pixels of the screen, 0 to 32,768. `None` is all of them.
     pub scissor: Option<[u32; 4]>,
@@ -81,7 +81,7 @@ impl Default for State {
             depth_write: false,
             blend: Blend::default(),
             write: [true; 3],
-            sample_mask: 15,
+            sample_mask: u16::MAX,
             scissor: None,
         }
     }

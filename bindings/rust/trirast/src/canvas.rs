@@ -89,6 +89,7 @@ pub type Canvas = TileRows<'static>;
 #[derive(Debug)]
 pub struct TileRows<'m> {
     raw: sys::trirast_canvas,
+    samples: Samples,
     threads: u32,
     /// The memory, of all tile rows of a canvas. It is freed with them.
     _own: Option<Memory>,
@@ -100,7 +101,8 @@ pub struct TileRows<'m> {
 unsafe impl Send for TileRows<'_> {}
 
 impl TileRows<'static> {
-    /// Makes a canvas of a width and a height of 1 to 4096 pixels each. Its calls run on one thread.
+    /// Makes a canvas of a width and a height of 1 to 4096 pixels each. Its calls run on one thread. It takes 5.2 bytes a sample,
+    /// in whole tiles of 64 by 64 pixels.
     ///
     /// # Errors
     ///
@@ -125,7 +127,7 @@ impl TileRows<'static> {
             memory: own.start().cast(),
             plane_count: bytes / sys::TRIRAST_PLANE_BYTES,
         };
-        Ok(TileRows { raw, threads: 1, _own: Some(own), lent: PhantomData })
+        Ok(TileRows { raw, samples, threads: 1, _own: Some(own), lent: PhantomData })
     }
 
     /// Makes the canvas a window on the screen: pixel (x, y) of it is pixel (x + origin.x, y + origin.y) of the screen.
@@ -166,11 +168,7 @@ impl TileRows<'_> {
 
     /// Returns the samples of a pixel.
     pub fn samples(&self) -> Samples {
-        if self.raw.samples == Samples::One as u32 {
-            Samples::One
-        } else {
-            Samples::Four
-        }
+        self.samples
     }
 
     /// Returns the pixel of the screen at which the upper left one of the canvas lies.
@@ -370,7 +368,7 @@ impl TileRows<'_> {
         let mut raw = self.raw;
         // SAFETY: both structs are valid, and this one has the memory of its tile rows.
         done(unsafe { sys::trirast_canvas_piece(&self.raw, first, end, &mut raw) })?;
-        Ok(TileRows { raw, threads: 1, _own: None, lent: PhantomData })
+        Ok(TileRows { raw, samples: self.samples, threads: 1, _own: None, lent: PhantomData })
     }
 
     /// These tile rows in this many parts.

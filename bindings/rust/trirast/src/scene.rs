@@ -12,12 +12,16 @@ use crate::{Draw, Error, ImageInfo, Picture, TileSize};
 /// The greatest width and height of a picture in pixels.
 const MAX_SIDE: u32 = 4096;
 
-/// Samples of a pixel.
+/// Samples of a pixel, in the standard patterns of Direct3D 11. A canvas has any of these, and a scene [`One`](Samples::One) or
+/// [`Four`](Samples::Four).
 #[derive(Clone, Copy, Debug, Default, PartialEq, Eq)]
 pub enum Samples {
     #[default]
     One = 1,
+    Two = 2,
     Four = 4,
+    Eight = 8,
+    Sixteen = 16,
 }
 
 /// What a picture shows.
@@ -37,6 +41,7 @@ pub struct Head {
     pub width: u32,
     /// In pixels: 1 to 4096.
     pub height: u32,
+    /// One or four.
     pub samples: Samples,
     pub output: Output,
     /// The colour with which each sample begins: red, green, blue.

@@ -159,6 +159,35 @@ fn draws_ids() {
 }
 
 #[test]
+fn draws_every_sample_of_each_count() {
+    for samples in [Samples::One, Samples::Two, Samples::Four, Samples::Eight, Samples::Sixteen] {
+        let mut canvas = Canvas::new(70, 130, samples).unwrap();
+        canvas.set_threads(2);
+        canvas.clear([255; 3], 9).unwrap();
+        canvas.draw_ids(&[Draw { vertices: &triangle(5, 0, 300), indices: &[0, 1, 2], state: State::default() }], 5).unwrap();
+        for sample in 0..samples as u32 {
+            assert!(canvas.ids(sample).unwrap().iter().all(|&id| id == 5));
+        }
+        assert_eq!(canvas.ids(samples as u32).unwrap_err().kind(), ErrorKind::BadSample);
+        assert_eq!((canvas.samples(), canvas.split(2)[1].samples()), (samples, samples));
+    }
+}
+
+#[test]
+fn masks_samples_of_sixteen() {
+    let mut canvas = Canvas::new(70, 130, Samples::Sixteen).unwrap();
+    canvas.clear([255; 3], 9).unwrap();
+    let state = State { sample_mask: 1 << 8 | 1 << 15, ..State::default() };
+    canvas.draw_indexed(&triangle(5, 0, 300), &[0, 1, 2], &state).unwrap();
+    for sample in 0..16 {
+        let wanted = if sample == 8 || sample == 15 { 5 } else { 16_777_215 };
+        assert!(canvas.ids(sample).unwrap().iter().all(|&id| id == wanted));
+    }
+    // Of sixteen samples 14 are white, and 2 have red 5, green 0 and blue 0.
+    assert_eq!(canvas.pixels(Format::Rgb8).unwrap(), [224, 223, 223].repeat(70 * 130));
+}
+
+#[test]
 fn reads_depths_and_samples() {
     let mut canvas = Canvas::new(150, 190, Samples::Four).unwrap();
     canvas.clear([255; 3], 900).unwrap();

@@ -25,8 +25,10 @@ __all__ = ["FigureCanvas", "FigureCanvasTrirast", "RendererTrirast"]
 
 
 class RendererTrirast(RendererAgg):
-    """Agg's renderer with Gouraud triangles of its own. `threads` share the drawing of a figure, and change no pixel."""
+    """Agg's renderer with Gouraud triangles of its own, drawn with 1, 2, 4, 8 or 16 `samples` a pixel. `threads` share the drawing of a
+    figure, and change no pixel."""
 
+    samples = 4
     threads = 1
 
     def _update_methods(self) -> None:
@@ -47,7 +49,8 @@ class RendererTrirast(RendererAgg):
         figure: Pixels = np.asarray(self.buffer_rgba())
         points = in_pixels(triangles_array, transform, len(figure))
         colors = np.broadcast_to(ma.filled(colors_array, np.nan), (count, 3, 4))
-        draw_triangles(figure, Triangles(points, colors), clip_box(gc, figure), self._clip_mask(gc), self.threads)
+        clip, mask = clip_box(gc, figure), self._clip_mask(gc)
+        draw_triangles(figure, Triangles(points, colors), clip, mask, self.threads, self.samples)
 
     def _clip_mask(self, gc: Any) -> Optional[Pixels]:
         """The share of each pixel inside of the clip path, as Agg fills that path."""

@@ -10,7 +10,7 @@ from numpy.typing import NDArray
 from .._canvas import Canvas
 from ._triangles import Box, Triangles, Vertices, bounds_of, box_around, meets, numbered, vertices_of, within_reach
 
-# A canvas of this side takes 84 MB.
+# A canvas of this side takes 86 MB with four samples a pixel. With more of them it has half of this side.
 MAX_SIDE = 2048
 # The triangles of a batch: few enough to stay in the cache of a processor. It changes no pixel.
 BATCH = 16384
@@ -20,7 +20,9 @@ Pixels = NDArray[np.uint8]
 Shares = NDArray[np.float32]
 
 
-def draw_triangles(figure: Pixels, triangles: Triangles, clip: Box, mask: Optional[Pixels] = None, threads: int = 1) -> None:
+def draw_triangles(
+    figure: Pixels, triangles: Triangles, clip: Box, mask: Optional[Pixels] = None, threads: int = 1, samples: int = 4
+) -> None:
     """Draws triangles over a figure of the shape (height, width, 4), inside of a box of its pixels. `mask` has for each pixel of the
     figure the share that is drawn, 255 for all of it."""
     triangles = numbered(triangles)
@@ -31,28 +33,30 @@ def draw_triangles(figure: Pixels, triangles: Triangles, clip: Box, mask: Option
     if not seen.all():
         triangles, least, greatest = triangles.of(seen), least[:, seen], greatest[:, seen]
     around = box_around(least.clip(min=[[clip.left], [clip.top]]), greatest.clip(max=[[clip.right], [clip.bottom]]))
-    for window in windows(around):
+    for window in windows(around, MAX_SIDE if samples <= 4 else MAX_SIDE // 2):
         seen = meets(least, greatest, window)
         if seen.any():
-            draw_window(figure, triangles if seen.all() else triangles.of(seen), window, mask, threads)
+            draw_window(figure, triangles if seen.all() else triangles.of(seen), window, mask, threads, samples)
 
 
-def windows(box: Box) -> Iterator[Box]:
-    """The parts of a box that a canvas can have, row after row."""
-    for top in range(box.top, box.bottom, MAX_SIDE):
-        for left in range(box.left, box.right, MAX_SIDE):
-            yield Box(left, top, min(left + MAX_SIDE, box.right), min(top + MAX_SIDE, box.bottom))
+def windows(box: Box, side: int) -> Iterator[Box]:
+    """The parts of a box, each for a canvas of at most this side, row after row."""
+    for top in range(box.top, box.bottom, side):
+        for left in range(box.left, box.right, side):
+            yield Box(left, top, min(left + side, box.right), min(top + side, box.bottom))
 
 
-def draw_window(figure: Pixels, triangles: Triangles, window: Box, mask: Optional[Pixels], threads: int) -> None:
+def draw_window(
+    figure: Pixels, triangles: Triangles, window: Box, mask: Optional[Pixels], threads: int, samples: int
+) -> None:
     """Draws triangles over a window of a figure."""
     place = slice(window.top, window.bottom), slice(window.left, window.right)
     below = np.ascontiguousarray(figure[place])
     shares = None if mask is None else mask[place][..., None].astype(np.float32) / 255
     if (below[..., 3] == OPAQUE).all():
-        figure[place] = drawn_over_opaque(below, batches(triangles, window), shares, threads)
+        figure[place] = drawn_over_opaque(below, batches(triangles, window), shares, threads, samples)
     else:
-        figure[place] = drawn_over_clear(below, batches(triangles, window), shares, threads)
+        figure[place] = drawn_over_clear(below, batches(triangles, window), shares, threads, samples)
 
 
 def batches(triangles: Triangles, window: Box) -> Iterator[Vertices]:
@@ -70,10 +74,10 @@ def draw_batch(canvas: Canvas, vertices: Vertices, threads: int) -> None:
     canvas.draw(vertices, np.arange(len(vertices), dtype=np.uint32), blend=blend, threads=threads)
 
 
-def drawn_over_opaque(below: Pixels, given: Iterator[Vertices], shares: Optional[Shares], threads: int) -> Pixels:
+def drawn_over_opaque(below: Pixels, given: Iterator[Vertices], shares: Optional[Shares], threads: int, samples: int) -> Pixels:
     """An opaque picture with triangles drawn over it."""
     height, width, _channels = below.shape
-    canvas = Canvas(width, height, samples=4)
+    canvas = Canvas(width, height, samples=samples)
     canvas.load(below, threads=threads)
     for vertices in given:
         draw_batch(canvas, vertices, threads)
@@ -84,14 +88,14 @@ def drawn_over_opaque(below: Pixels, given: Iterator[Vertices], shares: Optional
     return rounded(old + shares * (new - old))
 
 
-def drawn_over_clear(below: Pixels, given: Iterator[Vertices], shares: Optional[Shares], threads: int) -> Pixels:
+def drawn_over_clear(below: Pixels, given: Iterator[Vertices], shares: Optional[Shares], threads: int, samples: int) -> Pixels:
     """A picture of which some is transparent, with triangles drawn over it.
 
     A canvas has no alpha. Over black, colours are blended to the triangles' own, multiplied by their alpha; and white, blended by the
     same alphas, is that alpha.
     """
     height, width, _channels = below.shape
-    canvases: List[Canvas] = [Canvas(width, height, samples=4) for _ in range(2)]
+    canvases: List[Canvas] = [Canvas(width, height, samples=samples) for _ in range(2)]
     for canvas in canvases:
         canvas.clear(threads=threads)
     for vertices in given:

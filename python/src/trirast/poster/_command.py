@@ -10,6 +10,7 @@ from .._errors import Error
 from ._arrays import scene_of
 from ._errors import PosterError
 from ._poster import SIDE, draw_poster
+from ._scene import SAMPLES
 
 # The status of a program that Ctrl-C ended, as shells give it.
 INTERRUPTED = 130
@@ -23,6 +24,7 @@ def arguments(words: Optional[List[str]] = None) -> argparse.Namespace:
     parser.add_argument("list", metavar="LIST", help="a draw list, or arrays of numpy (.npz)")
     parser.add_argument("-o", dest="out", metavar="OUT", help="the picture: PNG if the name ends in .png, else PPM (of depths PGM)")
     parser.add_argument("--tiles", metavar="FOLDER", help="a new folder of PNG tiles z/x/y.png with a page that shows them")
+    parser.add_argument("--samples", type=int, choices=sorted(SAMPLES), help="samples of a pixel, in place of the list's")
     parser.add_argument("--window", type=int, default=SIDE, metavar="SIDE", help=f"pixels of a window's side (default {SIDE})")
     parser.add_argument("--workers", type=int, metavar="N", help="how many draw at once (default one a core)")
     parser.add_argument("--scheduler", metavar="local|ADDRESS", help="draw by Dask: its processes here, or a cluster's scheduler")
@@ -42,7 +44,7 @@ def main(words: Optional[List[str]] = None) -> int:
     try:
         scene = scene_of(options.list)
         draw_poster(
-            scene, options.out, tiles=options.tiles, window=options.window, workers=options.workers,
+            scene, options.out, tiles=options.tiles, samples=options.samples, window=options.window, workers=options.workers,
             scheduler=options.scheduler, resume=options.resume, show_progress=True,
         )
     except (Error, PosterError, OSError, ValueError, MemoryError) as error:

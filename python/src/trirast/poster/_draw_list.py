@@ -9,11 +9,14 @@ import numpy as np
 from numpy.typing import NDArray
 
 from .._draw_list import image_info
-from ._scene import MAX_SIDE, PosterDraw, Scene, Sheet
+from .._scene import EVERY_SAMPLE
+from ._scene import MAX_SIDE, SAMPLES, PosterDraw, Scene, Sheet
 
 # The library reads lists of at most this many pixels a side, and this many draws.
 LIST_SIDE = 4096
 LIST_DRAWS = 1024
+# The greatest sample mask of a list.
+LIST_MASK = 15
 PRIMITIVES = ("triangles", "strip", "quads")
 SHEET_KEYS = ("width", "height", "samples", "clear_depth", "output")
 
@@ -94,11 +97,25 @@ def triangles_of(draw: Any) -> NDArray[np.int32]:
 
 
 def check_states(value: Any) -> None:
-    """Raises trirast.Error if a list without vertices and triangles is none: what arrays say once, and the states of draws."""
+    """Raises trirast.Error if a list without vertices and triangles is none: what arrays say once, and the states of draws. Its pixels
+    may have 2, 8 or 16 samples, and its sample masks 16 bits."""
     draws = value.get("draws") if isinstance(value, dict) else None
     if not isinstance(draws, list):
         image_info(value)
         return
     for first in range(0, max(1, len(draws)), LIST_DRAWS):
-        bare = [{**draw, "vertices": [], "triangles": []} if isinstance(draw, dict) else draw for draw in draws[first : first + LIST_DRAWS]]
-        image_info(cut({**value, "draws": bare}))
+        bare = [bare_draw(draw) if isinstance(draw, dict) else draw for draw in draws[first : first + LIST_DRAWS]]
+        image_info(cut({**value, **listed_samples(value), "draws": bare}))
+
+
+def bare_draw(draw: Any) -> Any:
+    """The state of a draw as the draw of a list, without triangles."""
+    mask = draw.get("sample_mask")
+    listed = {"sample_mask": LIST_MASK} if type(mask) is int and LIST_MASK < mask <= EVERY_SAMPLE else {}
+    return {**draw, **listed, "vertices": [], "triangles": []}
+
+
+def listed_samples(value: Any) -> Any:
+    """What stands in a list for a number of samples that only a canvas has."""
+    samples = value.get("samples")
+    return {"samples": 4} if type(samples) is int and samples in SAMPLES else {}

@@ -18,7 +18,7 @@ from ._part import part_of
 from ._png_writer import PngWriter
 from ._ppm_writer import PpmWriter
 from ._progress import Step, progress
-from ._scene import Pixels, Scene, Sheet
+from ._scene import Pixels, Scene, Sheet, with_samples
 from ._threads import rows_by_threads
 from ._tiles_writer import TilesWriter
 from ._windows import Windows
@@ -33,6 +33,7 @@ def draw_poster(
     out: Optional[Path] = None,
     *,
     tiles: Optional[Path] = None,
+    samples: Optional[int] = None,
     window: int = SIDE,
     workers: Optional[int] = None,
     scheduler: Optional[str] = None,
@@ -41,14 +42,16 @@ def draw_poster(
 ) -> None:
     """Draws a scene, up to 32,768 pixels wide and high, to a file or to a folder of tiles or to both.
 
-    `out` is a PNG file if its name ends in .png, else a PPM file (of depths a PGM file); `tiles` is a new folder. `window` is
-    the side in pixels of the squares that are drawn by themselves, 1 to 4096; `workers` how many draw at once (one a core).
-    Neither changes a byte. Without `scheduler` threads of this process draw; with "local" Dask's processes, and with an
+    `out` is a PNG file if its name ends in .png, else a PPM file (of depths a PGM file); `tiles` is a new folder. `samples` is the
+    number of samples of a pixel in place of the scene's: 1, 2, 4, 8 or 16. `window` is the side in pixels of the squares that are
+    drawn by themselves, 1 to 4096; `workers` how many draw at once (one a core). These two do not change a byte. Without `scheduler` threads of this process draw; with "local" Dask's processes, and with an
     address the workers of that cluster. `resume` goes on with what a stopped run left. Under the final names are whole files
     alone. Raises PosterError and trirast.Error, and OSError if a file cannot be written.
     """
     if out is None and tiles is None:
         raise ValueError("a poster goes to a file, to a folder of tiles, or to both")
+    if samples is not None:
+        scene = with_samples(scene, samples)
     count = workers or os.cpu_count() or 1
     # Without a last slash, so that what is beside a folder is not put into it.
     file, folder = (os.path.normpath(os.fspath(each)) if each is not None else None for each in (out, tiles))

@@ -5,7 +5,7 @@ from __future__ import annotations
 import hashlib
 import json
 from concurrent.futures import ThreadPoolExecutor
-from dataclasses import dataclass, field
+from dataclasses import dataclass, field, replace
 from functools import cached_property
 from itertools import accumulate
 from typing import TYPE_CHECKING, Any, Mapping, Sequence
@@ -22,7 +22,16 @@ if TYPE_CHECKING:
 LOW, HIGH = -8388608, 8388607
 UNIT = 256
 # Where the samples of a pixel lie, in 1/256 pixel (docs/rules.md), by their number.
-SAMPLES = {1: ((128, 128),), 4: ((96, 32), (224, 96), (32, 160), (160, 224))}
+SAMPLES: dict[int, Sequence[tuple[int, int]]] = {
+    1: ((128, 128),),
+    2: ((192, 192), (64, 64)),
+    4: ((96, 32), (224, 96), (32, 160), (160, 224)),
+    8: ((144, 80), (112, 176), (208, 144), (80, 48), (48, 208), (16, 112), (176, 240), (240, 16)),
+    16: (
+        (144, 144), (112, 80), (80, 160), (192, 112), (48, 96), (160, 208), (208, 176), (176, 48),
+        (96, 224), (128, 16), (64, 32), (32, 192), (0, 128), (240, 64), (224, 240), (16, 0),
+    ),
+}
 # Sides of a poster, in pixels: what the guard band reaches.
 MAX_SIDE = 32768
 VERTEX_NUMBERS = 7
@@ -102,6 +111,23 @@ class Scene:
             for each in pool.map(digest_of, parts):
                 found.update(each)
         return found.hexdigest()
+
+
+def with_samples(scene: Scene, samples: int) -> Scene:
+    """A scene with another number of samples a pixel. A draw whose sample mask has every sample still has every one, and another mask
+    stays as it is. Raises ValueError if no pixel has as many samples."""
+    if samples not in SAMPLES:
+        raise ValueError(f"samples: 1, 2, 4, 8 or 16, and not {samples}")
+    if samples == scene.sheet.samples:
+        return scene
+    every = (1 << scene.sheet.samples) - 1
+    draws = [without_mask(draw) if ~draw.state.get("sample_mask", every) & every == 0 else draw for draw in scene.draws]
+    return replace(scene, sheet=replace(scene.sheet, samples=samples), draws=draws)
+
+
+def without_mask(draw: PosterDraw) -> PosterDraw:
+    """A draw that draws every sample."""
+    return replace(draw, state={key: value for key, value in draw.state.items() if key != "sample_mask"})
 
 
 def digest_of(array: NDArray[np.int32]) -> bytes:

@@ -87,7 +87,7 @@ impl Pick {
             depth_write: self.below(2) == 1,
             blend: self.one_of(&BLENDS),
             write: [self.below(4) > 0, self.below(4) > 0, self.below(4) > 0],
-            sample_mask: 15 - self.below(4) as u8,
+            sample_mask: u16::MAX - self.below(4) as u16,
             scissor: if self.below(3) == 0 { Some(scissor) } else { None },
         }
     }
@@ -144,7 +144,7 @@ fn state_of(draw: &[u32; 15]) -> State {
         depth_write: draw[5] == 1,
         blend: BLENDS[draw[6] as usize],
         write: [draw[7] == 1, draw[8] == 1, draw[9] == 1],
-        sample_mask: draw[10] as u8,
+        sample_mask: draw[10] as u16,
         scissor: Some([draw[11], draw[12], draw[13], draw[14]]),
     }
 }
