@@ -86,31 +86,19 @@ impl Write for Sink {
     }
 }
 
-/// A reader that gives `text` and then spaces, at most `a_call` bytes a call. It fails after `calls_left` calls.
+/// A reader that gives `text`, at most `a_call` bytes a call. It fails after `calls_left` calls.
 #[derive(Drop)]
 pub(crate) struct Source<'a> {
     pub(crate) text: &'a [u8],
-    pub(crate) spaces: usize,
     pub(crate) a_call: usize,
     pub(crate) calls_left: u64,
 }
 
 impl<'a> Source<'a> {
-    /// Gives the text and then this many spaces, a megabyte a call, and never fails.
-    pub(crate) fn padded(text: &'a [u8], spaces: usize) -> Source<'a> {
-        Source {
-            text,
-            spaces,
-            a_call: 1_000_000,
-            calls_left: 1_000_000,
-        }
-    }
-
     /// Gives the text, `a_call` bytes a call, and fails after `calls_left` calls.
     pub(crate) fn failing(text: &'a [u8], a_call: usize, calls_left: u64) -> Source<'a> {
         Source {
             text,
-            spaces: 0,
             a_call,
             calls_left,
         }
@@ -124,12 +112,6 @@ impl Read for Source<'_> {
         }
         self.calls_left -= 1;
         let text = self.text;
-        if text.is_empty() {
-            let count = buffer.len().min(self.a_call).min(self.spaces);
-            buffer[..count].fill(b' ');
-            self.spaces -= count;
-            return Ok(count);
-        }
         let count = buffer.len().min(self.a_call).min(text.len());
         buffer[..count].copy_from_slice(&text[..count]);
         self.text = &text[count..];

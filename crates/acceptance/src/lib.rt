@@ -1,5 +1,6 @@
-//! Pictures, errors and failing readers and writers of the whole program, through `trirast::run_with` and `trirast::command`. Each
-//! expected byte was computed by hand from the rules.
+//! Tests of the whole program that no list and no argument can make: readers and writers that fail, through `trirast::run` and
+//! `trirast::command`, and calls of the library. Each expected byte was computed by hand from the rules. What a list and arguments can
+//! show stands in tests/acceptance.
 #![tactic(auto)]
 
 #[cfg(test)]
@@ -8,14 +9,6 @@ mod depths;
 mod devices;
 #[cfg(test)]
 mod drawing;
-#[cfg(test)]
-mod faults;
-#[cfg(test)]
-mod lines;
-#[cfg(test)]
-mod pictures;
-#[cfg(test)]
-mod primitives;
 #[cfg(test)]
 mod streams;
 #[cfg(test)]

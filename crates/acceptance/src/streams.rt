@@ -1,8 +1,6 @@
 //! Readers and writers that fail: what a run and the program then report, and which bytes are written.
 use crate::devices::{End, Sink, Source};
-use crate::support::{
-    HALF, PIXELS, TRIANGLE, call_over, file, half, refuses, run_into, was_cut_short, writes,
-};
+use crate::support::{HALF, TRIANGLE, TRIANGLE_FILE, call_over, half, run_into, was_cut_short};
 use grid::TileSide;
 use std::alloc::{AllocError, Global};
 use std::process::Abort;
@@ -42,30 +40,8 @@ fn reports_of_each_read_that_fails(rt: HostRuntime) -> Result<(), Fail> {
         }
         let (result, written) = run_over(&rt, rt.alloc(), Source::failing(bytes, a_call, reads));
         assert_eq!(rt; result, Ok(()));
-        let expected = file(rt.alloc(), 3, 3, PIXELS)?;
-        assert_eq!(rt; written.as_slice(), expected.as_slice());
+        assert_eq!(rt; written.as_slice(), TRIANGLE_FILE);
     }
-    Ok(())
-}
-
-#[test]
-fn takes_an_input_of_the_greatest_length(rt: HostRuntime) -> Result<(), Fail> {
-    let spaces = 67_108_864 - TRIANGLE.len();
-    let source = Source::padded(TRIANGLE.as_bytes(), spaces);
-    let (result, written) = run_over(&rt, rt.alloc(), source);
-    assert_eq!(rt; result, Ok(()));
-    let expected = file(rt.alloc(), 3, 3, PIXELS)?;
-    assert_eq!(rt; written.as_slice(), expected.as_slice());
-    Ok(())
-}
-
-#[test]
-fn takes_no_input_of_a_byte_more(rt: HostRuntime) -> Result<(), Fail> {
-    let spaces = 67_108_865 - TRIANGLE.len();
-    let source = Source::padded(TRIANGLE.as_bytes(), spaces);
-    let (result, written) = run_over(&rt, rt.alloc(), source);
-    assert_eq!(rt; result, Err(Fault::InputTooLong));
-    assert!(rt; written.is_empty());
     Ok(())
 }
 
@@ -99,33 +75,23 @@ fn reports_how_much_went_out_at_each_byte(rt: HostRuntime) -> Result<(), Fail> {
     Ok(())
 }
 
-#[test]
-fn reports_how_much_went_out_of_a_larger_picture(rt: HostRuntime) -> Result<(), Fail> {
-    let expected = half(rt.alloc())?;
-    assert_eq!(rt; expected.len(), 12_688);
-    for room in 0..12_688usize {
-        for end in [End::Fails, End::TakesNothing] {
-            let sink = Sink::new(rt.alloc(), room, end);
-            let (result, sink) = run_into(&rt, rt.alloc(), HALF, sink, 1);
-            was_cut_short(&rt, result, &sink, &expected, room);
-        }
-    }
-    Ok(())
-}
-
 /// Numbers of bytes at which the header and the tile rows end, and numbers next to these.
 const PLACES: [usize; 12] = [
     0, 1, 5, 12, 13, 14, 6252, 6253, 6254, 12_492, 12_493, 12_687,
 ];
 
+// tools/fault_injection.py has each number of bytes of this picture, with one worker.
 #[test]
-fn reports_how_much_went_out_with_seven_workers(rt: HostRuntime) -> Result<(), Fail> {
+fn reports_how_much_went_out_of_a_larger_picture(rt: HostRuntime) -> Result<(), Fail> {
     let expected = half(rt.alloc())?;
+    assert_eq!(rt; expected.len(), 12_688);
     for room in PLACES {
         for end in [End::Fails, End::TakesNothing] {
-            let sink = Sink::in_pieces(rt.alloc(), room, 4096, end);
-            let (result, sink) = run_into(&rt, rt.alloc(), HALF, sink, 7);
-            was_cut_short(&rt, result, &sink, &expected, room);
+            for workers in [1u32, 7] {
+                let sink = Sink::in_pieces(rt.alloc(), room, 4096, end);
+                let (result, sink) = run_into(&rt, rt.alloc(), HALF, sink, workers);
+                was_cut_short(&rt, result, &sink, &expected, room);
+            }
         }
     }
     Ok(())
@@ -179,13 +145,6 @@ fn reports_on_its_line_that_the_input_failed(rt: HostRuntime) -> Result<(), Fail
     }
     // If the bytes so far denote no list, that is not reported.
     reports_of_the_input(&rt, rt.alloc(), Source::failing(b"{]", 1, 2), line)
-}
-
-#[test]
-fn reports_on_its_line_that_the_input_is_too_long(rt: HostRuntime) -> Result<(), Fail> {
-    // It is not reported that the bytes denote no list.
-    let source = Source::padded(b"{]", 67_108_863);
-    reports_of_the_input(&rt, rt.alloc(), source, b"trirast: input too long\n")
 }
 
 /// Calls the program without arguments, with a list and an output that fails. Asserts that it reports after how many bytes the
@@ -265,15 +224,14 @@ fn passes_over_failing_errors<R: Threads + Wait + Sync + Abort>(
 #[test]
 fn passes_over_a_line_that_cannot_be_written(rt: HostRuntime) -> Result<(), Fail> {
     let alloc = rt.alloc();
-    let picture = file(alloc, 3, 3, PIXELS)?;
-    let part = picture.get(..20).unwrap_or_default();
+    let part = TRIANGLE_FILE.get(..20).unwrap_or_default();
     for (words, list, room, status, output, line) in [
         (
             ["--tile", "8"],
             TRIANGLE,
             99,
             0,
-            picture.as_slice(),
+            TRIANGLE_FILE,
             "".as_bytes(),
         ),
         (
@@ -330,25 +288,19 @@ fn passes_over_a_usage_line_that_cannot_be_written(rt: HostRuntime) -> Result<()
     Ok(())
 }
 
-// A program that is called again after a fault draws as ever.
+// What is called again after a fault draws as ever.
 #[test]
 fn draws_after_a_fault(rt: HostRuntime) -> Result<(), Fail> {
+    for (list, room) in [("[]", 0), (HALF, 6253)] {
+        let sink = Sink::new(rt.alloc(), room, End::Fails);
+        let (result, sink) = run_into(&rt, rt.alloc(), list, sink, 3);
+        assert!(rt; result.is_err());
+        assert_eq!(rt; sink.taken.len(), room);
+    }
+    let sink = Sink::new(rt.alloc(), 20_000, End::Fails);
+    let (result, sink) = run_into(&rt, rt.alloc(), HALF, sink, 3);
     let expected = half(rt.alloc())?;
-    refuses(&rt, rt.alloc(), b"[]", "list fault 4 WrongKind")?;
-    let (result, _) = run_into(
-        &rt,
-        rt.alloc(),
-        HALF,
-        Sink::new(rt.alloc(), 6253, End::Fails),
-        3,
-    );
-    assert_eq!(rt; result, Err(Fault::WriteFailed(6253)));
-    writes(
-        &rt,
-        rt.alloc(),
-        &[],
-        HALF.as_bytes(),
-        &expected,
-        "after faults",
-    )
+    assert_eq!(rt; result, Ok(()));
+    assert_eq!(rt; sink.taken.as_slice(), expected.as_slice());
+    Ok(())
 }

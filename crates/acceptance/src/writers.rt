@@ -10,43 +10,19 @@ use trirast::{
 };
 
 #[test]
-fn writes_a_file(rt: HostRuntime) -> Result<(), Fail> {
+fn writes_files_headers_and_rows(rt: HostRuntime) -> Result<(), Fail> {
     let mut out = Counted::new(Vec::new(rt.alloc()));
     assert_eq!(rt; write_ppm(1, 1, &[1, 2, 3], &mut out), Ok(()));
-    assert_eq!(rt; out.failures(), 0);
-    let written: Vec<u8> = out.into_inner();
-    assert_eq!(rt;
-        written.as_slice(),
-        b"P6\n1 1\n255\n\x01\x02\x03".as_slice()
-    );
-    Ok(())
-}
-
-#[test]
-fn writes_header_and_rows(rt: HostRuntime) -> Result<(), Fail> {
-    let mut out = Counted::new(Vec::new(rt.alloc()));
     assert_eq!(rt; ppm_header(4096, 65, &mut out), Ok(15));
     assert_eq!(rt; ppm_rows(&[7, 8], 15, &mut out), Ok(17));
-    let written: Vec<u8> = out.into_inner();
-    assert_eq!(rt;
-        written.as_slice(),
-        b"P6\n4096 65\n255\n\x07\x08".as_slice()
-    );
-    Ok(())
-}
-
-#[test]
-fn writes_the_header_of_depths_and_rows(rt: HostRuntime) -> Result<(), Fail> {
-    let mut out = Counted::new(Vec::new(rt.alloc()));
     assert_eq!(rt; pgm_header(1, 1, &mut out), Ok(13));
     assert_eq!(rt; ppm_rows(&[0, 95], 13, &mut out), Ok(15));
     assert_eq!(rt; pgm_header(4096, 4095, &mut out), Ok(19));
     assert_eq!(rt; out.failures(), 0);
     let written: Vec<u8> = out.into_inner();
-    assert_eq!(rt;
-        written.as_slice(),
-        b"P5\n1 1\n65535\n\0\x5FP5\n4096 4095\n65535\n".as_slice()
-    );
+    let expected =
+        b"P6\n1 1\n255\n\x01\x02\x03P6\n4096 65\n255\n\x07\x08P5\n1 1\n65535\n\0\x5FP5\n4096 4095\n65535\n";
+    assert_eq!(rt; written.as_slice(), expected.as_slice());
     Ok(())
 }
 

@@ -1,20 +1,11 @@
-//! Tests of `list` and of `scene`, through what they make public.
+//! Tests of `list` and of `scene`, through what they make public. Which fault a list has is tested by the program, in
+//! tests/acceptance.
 #![tactic(auto)]
 
 #[cfg(test)]
 mod arrays;
 #[cfg(test)]
-mod counts;
-#[cfg(test)]
 mod draw_list;
-#[cfg(test)]
-mod draws;
-#[cfg(test)]
-mod kinds;
-#[cfg(test)]
-mod order;
-#[cfg(test)]
-mod primitives;
 #[cfg(test)]
 mod readers;
 #[cfg(test)]

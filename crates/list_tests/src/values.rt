@@ -2,6 +2,10 @@
 use crate::draw_list::{BLACK, STATE, point};
 use crate::support::answer;
 use grid::{Cull, PixelBox, SampleCount, Tri};
+use list::ReadKind::{
+    BadIndex, MissingKey, NotConvex, NotJson, OutOfMemory, OutOfRange, TooMany, TwoLists,
+    UnknownKey, WrongKind,
+};
 use list::{Output, State};
 use shade::{DepthTest, Merge, Sample};
 
@@ -143,4 +147,23 @@ fn keeps_coordinates_by_value(rt: HostRuntime) {
         point(&rt, (8_388_607, -8_388_608)),
     );
     assert_eq!(rt; list.triangle(0).tri, tri);
+}
+
+#[test]
+fn numbers_and_names_its_faults(rt: HostRuntime) {
+    for (kind, number, name) in [
+        (NotJson, 1, "NotJson"),
+        (UnknownKey, 2, "UnknownKey"),
+        (MissingKey, 3, "MissingKey"),
+        (WrongKind, 4, "WrongKind"),
+        (OutOfRange, 5, "OutOfRange"),
+        (BadIndex, 6, "BadIndex"),
+        (TooMany, 7, "TooMany"),
+        (OutOfMemory, 8, "OutOfMemory"),
+        (TwoLists, 9, "TwoLists"),
+        (NotConvex, 10, "NotConvex"),
+    ] {
+        assert_eq!(rt; kind.number(), number);
+        assert!(rt; kind.name() == name, "{name}");
+    }
 }
