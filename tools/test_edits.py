@@ -2,7 +2,7 @@
 """Tests of the must-fail edits: that each can be applied to the sources, is named for a function that it changes, and that the
 table of wrong bodies in docs/proofs.md names edits and tests that are there.
 
-    python3 -m tools.test_edits
+    python3 -m pytest tools/test_edits.py
 """
 
 from __future__ import annotations
@@ -11,7 +11,7 @@ import os
 import re
 import unittest
 
-from tools import counts, places
+from tools import places
 from tools.places import TOP, text_of
 
 # As many rows as the table of wrong bodies has at least: a wrong body that was named once stays named.
@@ -109,7 +109,3 @@ class WrongBodies(unittest.TestCase):
         bodies = [body for body, _names in wrong_bodies()]
         self.assertGreaterEqual(len(bodies), ROWS)
         self.assertEqual(len(bodies), len(set(bodies)))
-
-
-if __name__ == "__main__":
-    counts.run_tests()

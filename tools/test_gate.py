@@ -1,6 +1,6 @@
 """Tests of tools/gate.py with commands of their own in place of rt ci and of the checks.
 
-    python3 -m tools.test_gate
+    python3 -m pytest tools/test_gate.py
 """
 
 from __future__ import annotations
@@ -253,7 +253,3 @@ class Gate(unittest.TestCase):
                 pass
             os.chmod(gate.program(self.top, name), 0o755)
         self.assertEqual(self.total("no such rt", needs, PASSES, with_proofs=False), Counts(2, 0, 0))
-
-
-if __name__ == "__main__":
-    counts.run_tests()

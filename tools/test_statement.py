@@ -1,6 +1,6 @@
 """Tests that docs/statement.md is what the sources have, that it is whole, and that statement.py sees what is left out.
 
-    python3 -m tools.test_statement
+    python3 -m pytest tools/test_statement.py
 """
 
 from __future__ import annotations
@@ -14,7 +14,7 @@ import unittest
 from typing import Iterator
 from unittest import mock
 
-from tools import counts, statement
+from tools import statement
 from tools import statement_sources as sources
 from tools.places import TOP, text_of
 from tools.statement_sources import Name, Unclear
@@ -264,7 +264,3 @@ class Reading(unittest.TestCase):
             self.assertTrue(found.text.startswith("/// Reads.\npub fn run"))
             self.assertTrue(found.text.endswith("ensures { Far (R.remaining input.old) result }"))
             self.assertRaises(Unclear, sources.contract_of, "crates/a/src/lib.rt", "walk")
-
-
-if __name__ == "__main__":
-    counts.run_tests()
