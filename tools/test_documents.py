@@ -15,6 +15,7 @@ from typing import Iterator
 from unittest import mock
 
 from tools import canvas_mutants, definitions as lines, mutants, places, reference, sample_patterns
+from tools.ci import checks
 from tools.places import TOP, text_of
 from tools.public_calls import CRATES, calls_in, given_out, named_calls, public_calls
 
@@ -107,7 +108,7 @@ class Names(unittest.TestCase):
 
     def test_commands(self) -> None:
         rules = text_of("Makefile") + "".join(map(text_of, places.files("packaging", "*.mk")))
-        targets = set(re.findall(r"^([\w-]+):", rules, re.MULTILINE))
+        targets = set(re.findall(r"^([\w-]+):", rules, re.MULTILINE)) | {check.name for check in checks.CHECKS}
         for name, text in documents().items():
             named = re.findall(r"`make ([\w-]+)`", text) + re.findall(r"^make ([\w-]+)", text, re.MULTILINE)
             self.assertLessEqual(set(named), targets, name)

@@ -144,12 +144,12 @@ class Check(unittest.TestCase):
         return status, said.getvalue()
 
     def test_of_a_page_that_differs(self) -> None:
-        self.assertEqual(self.status("--check"), (0, "1 passed, 0 failed\n"))
+        self.assertEqual(self.status("--check"), (0, "1 passed, 0 failed, 0 skipped\n"))
         with mock.patch.object(statement, "written", lambda: statement.page().replace("128 ∷ []", "127 ∷ []")):
             status, said = self.status("--check")
         self.assertEqual(status, 1)
         self.assertIn("+offsets_x One = 128 ∷ []", said)
-        self.assertTrue(said.endswith("0 passed, 1 failed\n"))
+        self.assertTrue(said.endswith("0 passed, 1 failed, 0 skipped\n"))
 
     def test_of_a_definition_in_no_group(self) -> None:
         with mock.patch.object(statement, "GROUPS", GROUPS[1:]):

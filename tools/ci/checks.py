@@ -74,6 +74,10 @@ CHECKS = (
     Check(name="statement", about="docs/statement.md against the sources", command=("pytest", "tools/test_statement.py"), seconds=10),
     Check(name="edits", about="must-fail edits by name", command=("pytest", "tools/test_edits.py"), seconds=10),
     Check(name="schema", about="the JSON Schema on examples and refused lists", command=("tools.check_schema",), seconds=60, needs=("python:jsonschema",)),
+    Check(
+        name="acceptance", about="the program's pictures, lines and statuses, by lists and lines", command=("pytest", "tests/acceptance"), seconds=60,
+        runs=("program", "why"),
+    ),
     Check(name="check-compare", about="what generated lists cover", command=("pytest", "tools/test_compare.py"), seconds=60),
     Check(name="compare", about="generated lists, every byte against a second renderer", command=("tools.compare",), seconds=200, runs=("program",)),
     Check(
@@ -87,6 +91,10 @@ CHECKS = (
     Check(
         name="compare-canvas", about="generated lists on canvases, split into batches, against program and second renderer",
         command=("tools.compare_canvas",), seconds=100, runs=EVERYTHING, needs=COMPILER,
+    ),
+    Check(
+        name="canvas-mutants", about="mutants of the second renderer's canvases", command=("tools.canvas_mutants",), seconds=60,
+        runs=EVERYTHING, needs=COMPILER,
     ),
     Check(name="check-golden", about="how pictures are compared and recorded", command=("pytest", "tools/test_golden.py"), seconds=30),
     Check(name="golden", about="pictures of examples/ and tests/regressions/ by their checksums", command=("tools.golden",), seconds=90, runs=("program",)),
@@ -132,9 +140,9 @@ def table() -> str:
 
 
 def with_table(page: str) -> str:
-    """The page with the table of these checks."""
+    """The page with the table of these checks, in place of the first one under its heading."""
     head, rest = page.split(f"\n{HEADING}\n", 1)
-    return re.sub(r"(?m)^\|(?:.|\n\|)*$", lambda _found: table(), f"{head}\n{HEADING}\n{rest}"[len(head) :], count=1).join((head, ""))
+    return f"{head}\n{HEADING}\n" + re.sub(r"(?:^\|.*\n)+", lambda _found: f"{table()}\n", rest, count=1, flags=re.MULTILINE)
 
 
 def main() -> int:

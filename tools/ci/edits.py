@@ -125,12 +125,12 @@ def sample_of(names: Sequence[str], commits: int, size: int) -> list[str]:
     return [order[(begin + k) % len(order)] for k in range(min(size, len(order)))]
 
 
-def make_plan(sums: Checksums, record: tried.Record, commits: int, size: int = SAMPLE) -> Plan:
+def make_plan(sums: Checksums, record: tried.Record, commits: int, size: int | None = None) -> Plan:
     due: dict[str, str] = {}
     for crate in sums.tree.uses:
         if sums.tree.edits(crate):
             due.update(due_in(sums, crate, record.get(crate)))
-    sample = sample_of(all_edits(sums.tree), commits, size)
+    sample = sample_of(all_edits(sums.tree), commits, SAMPLE if size is None else size)
     return Plan(due, tuple(name for name in sample if name not in due), faults_of(sums.tree))
 
 

@@ -160,7 +160,8 @@ def main() -> int:
         stop_all()
         sys.exit(143)
 
-    signal.signal(signal.SIGTERM, end)
+    for number in (signal.SIGTERM, signal.SIGINT):
+        signal.signal(number, end)
     counts = prove(options)
     print(counts, flush=True)
     return 1 if counts.failed else 0

@@ -138,7 +138,8 @@ def main() -> int:
         stop_all()
         sys.exit(143)
 
-    signal.signal(signal.SIGTERM, end)
+    for number in (signal.SIGTERM, signal.SIGINT):
+        signal.signal(number, end)
     checks = [by_name(name) for name in options.names] if options.names else list(CHECKS)
     counts = Tests(TOP, options.long).run(checks, options.processors)
     print(counts, flush=True)
