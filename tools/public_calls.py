@@ -46,16 +46,17 @@ def calls_in(text: str, crate: str, public: set[str]) -> Iterator[str]:
                 yield f"{owner}::{name}"
 
 
-def calls_of(crate: str) -> set[str]:
-    """The public calls of a crate."""
-    folder = os.path.join("crates", crate, "src")
-    public = given_out(places.text_of(folder, "lib.rt"))
-    return {call for path in places.files(folder, "**", "*.rt") for call in calls_in(places.text_of(path), crate, public)}
+def calls_of(crate: str) -> dict[str, str]:
+    """The public calls of a crate, each with the file in which it stands, named from the crate's folder."""
+    folder = os.path.join("crates", crate)
+    public = given_out(places.text_of(folder, "src", "lib.rt"))
+    paths = places.files(folder, "src", "**", "*.rt")
+    return {call: os.path.relpath(path, folder) for path in paths for call in calls_in(places.text_of(path), crate, public)}
 
 
 def public_calls() -> set[str]:
     """All public calls of the crates."""
-    return set().union(*map(calls_of, CRATES))
+    return {call for crate in CRATES for call in calls_of(crate)}
 
 
 def named_calls(cell: str, public: set[str]) -> set[str]:

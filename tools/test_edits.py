@@ -18,7 +18,7 @@ from tools.public_calls import CRATES, calls_of
 
 # The rows of the table of wrong bodies, and the edits and tests that they name: a wrong body that was named once stays named. Raise them
 # with each new row or name.
-ROWS, NAMES = 76, 0
+ROWS, NAMES = 76, 171
 
 
 def edits() -> list[str]:
@@ -91,10 +91,11 @@ class WrongBodies(unittest.TestCase):
         self.assertEqual((len(bodies), sum(len(names) for _body, names in wrong_bodies())), (ROWS, NAMES))
 
 
-def without_edit() -> set[tuple[str, str]]:
-    """The public functions for which no edit of their crate is named, as crate and call."""
-    named = {(edit.split("/")[0], edit.split(".")[-2]) for edit in edits()}
-    return {(crate, call) for crate in CRATES for call in calls_of(crate) if (crate, call.split("::")[1]) not in named}
+def with_edit(is_by_file: bool) -> set[tuple[str, str]]:
+    """The public functions, as crate and call, for which an edit of their crate is named, or one that changes their own file."""
+    named = {(edit.split("/")[0], edit.split(".")[-2], path if is_by_file else "") for edit in edits() for path, _old, _new in pairs_of(edit)}
+    calls = [(crate, call, path if is_by_file else "") for crate in CRATES for call, path in calls_of(crate).items()]
+    return {(crate, call) for crate, call, path in calls if (crate, call.split("::")[1], path) in named}
 
 
 def said_to_have_none() -> set[tuple[str, str]]:
@@ -106,4 +107,7 @@ def said_to_have_none() -> set[tuple[str, str]]:
 
 class PublicFunctions(unittest.TestCase):
     def test_have_an_edit_or_are_said_to_have_none(self) -> None:
-        self.assertEqual(without_edit(), said_to_have_none())
+        every = {(crate, call) for crate in CRATES for call in calls_of(crate)}
+        self.assertEqual(every - with_edit(is_by_file=False) - said_to_have_none(), set(), "a public function without an edit")
+        self.assertEqual(said_to_have_none() - every, set(), "no public function")
+        self.assertEqual(said_to_have_none() & with_edit(is_by_file=True), set(), "a public function that has an edit")
