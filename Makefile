@@ -6,31 +6,19 @@
 #   make why       prove what trirast_why needs, and leave it at bin/trirast_why
 #   make look      draw examples/mesh.json to out/look.ppm within two minutes, by a program that is not proved
 #   make demo      draw every list of examples/ to out/*.pnm, and to out/*.png where pnmtopng is installed
-#   make test      the merge gate: every proof from nothing, the must-fail edits, all tests, and the checks of make checks
+#   make test      everything that runs, over bin/ and lib/, which it builds if they are missing or old; make test-long takes longer forms
+#   make prove     everything that needs the prover: each crate with its tests, the programs by two compilers, the must-fail edits that
+#                  are due and a sample; make prove-all tries all of them, after the whole of rt ci
+#   make record    writes the edits that make prove saw refused into tests/edits_tried.json
 #   make library   prove and build the core for other programs: lib/libtrirast.a, lib/libtrirast.so and lib/trirast.pc, and for
 #                  the loader a second lib/x86-64-v3/libtrirast.so.1; with ARCH=aarch64 for ARM64 in lib/aarch64/, by a cross compiler
-#   make check-library      run the library, its header, the packages in Python and Rust and the examples against the program
-#   make check-poster       draw posters by threads and by Dask, stop and resume them, and look at their tiles in Chromium
 #   make install   program, manual page, header, libraries, pkg-config and CMake files and schema below PREFIX (an absolute path,
 #                  /usr/local if not given), behind DESTDIR where that is given; make uninstall takes them away
 #   make web       the coverage explorer for browsers, in web/out, as python3 -m http.server -d web/out serves it
-#   make check-web          drag the vertices of that page in Chromium, and compare each sample with the program
 #   make deb       the Debian packages of program, library and header, in dist/
 #   make wheel     the Python packages with the library inside, for x86-64 and, where its compiler is there, ARM64, in dist/
 #   make release   all packages and the sources, with SHA-256 checksums, in dist/
-#   make check-packages     install each package in a clean folder, and use it there
-#   make compare   draw generated lists, and compare each byte with the reference renderer
-#   make compare-history    compare the histories that bin/trirast_why prints and the library writes with the reference's, and with the pictures
-#   make compare-canvas    draw generated lists on canvases, split into batches, and compare them with reference and program; and mutants
-#   make check-compare      test that comparison: what its lists cover, and mutants of the reference's rules
-#   make golden    compare the pictures of examples/ and tests/regressions/ with their checksums and the reference renderer
-#   make schema    try the JSON Schema of the draw list
-#   make allocation-failures  run the program where allocations fail, and test that mistakes are seen there; also make memory
-#   make fault-injection      run the program where devices, threads and lists fail; also make hostile
-#   make types     check the types of the Python sources, by mypy
-#   make checks    the gate's checks without its proofs: compare, check-compare, golden, schema, check-conformance,
-#                  allocation-failures, fault-injection, types where there is mypy, compare-canvas, check-library, check-packages
-#                  and check-web where there is a C compiler, and the tests of the gate's counts, of the documents, of docs/statement.md and of the must-fail edits
+#   make help      this list, and the checks of make test, each of which is a goal too; with LONG=1 that takes its longer form
 #   make races     run the program under valgrind; no part of the gate
 #   make bench     time the program on generated scenes
 #   make frames    build the program that times frames by themselves, bin/frames, for python3 -m bench.llvmpipe and others;
@@ -39,11 +27,14 @@
 #   make conformance        compare the machine's OpenGL driver with the program, sample by sample; out/conformance.html.
 #                  With DEVICE=d3d11 Direct3D 11, here by Wine: out/conformance-d3d11.html; ADAPTER=warp or a number, else hardware
 #   make conformance-windows  write dist/trirast-conformance-windows.zip, which asks Direct3D on a Windows machine
-#   make check-conformance  test that comparison without a driver, by mutants and by recorded answers
 #   make clean     remove what this file made; what rt keeps in crates/*/out/ stays
 
 RT ?= rt
-PYTHON ?= python3
+# The tests need pytest, which the python3 that comes first may lack.
+ifndef PYTHON
+HAS_PYTEST := -c 'import importlib.util as found; raise SystemExit(not found.find_spec("pytest"))'
+PYTHON := $(or $(shell for it in python3 /usr/bin/python3; do $$it $(HAS_PYTEST) 2> /dev/null && echo $$it && break; done),python3)
+endif
 PREFIX ?= /usr/local
 # Where libraries go below PREFIX.
 LIBDIR = lib
@@ -80,9 +71,11 @@ INSTALLED := bin/trirast share/man/man1/trirast.1 share/trirast/draw-list.schema
     $(addprefix $(LIBDIR)/,libtrirast.a $(SHARED) libtrirast.so pkgconfig/trirast.pc glibc-hwcaps/$(LEVEL)/$(SHARED) \
     $(addprefix cmake/trirast/,$(CMAKE_FILES)))
 
-.PHONY: all why look library check-library check-poster install uninstall demo test checks compare compare-history compare-canvas \
-    check-compare golden schema types memory hostile allocation-failures fault-injection races bench frames model conformance \
-    conformance-windows check-conformance clean
+# The checks, each a goal: the names in the list of tools/ci/checks.py.
+CHECKS := $(shell sed -n 's/.*\bname="\([a-z-]*\)".*/\1/p' tools/ci/checks.py)
+
+.PHONY: all why look library install uninstall demo test test-long prove prove-all record help races bench frames model conformance \
+    conformance-windows clean $(CHECKS)
 .DELETE_ON_ERROR:
 
 all: $(PROGRAM_$(ARCH))
@@ -205,12 +198,6 @@ Cflags: -I$${includedir}
 Libs: -L$${libdir} -ltrirast
 endef
 
-check-library: $(PROGRAM) library
-	$(PYTHON) -m tools.check_library
-
-check-poster: $(PROGRAM) library
-	$(PYTHON) -m tools.check_poster
-
 install: $(PROGRAM) $(WHY) $(LIBRARY_x86_64)
 	install -D -m 755 $(PROGRAM) "$(DESTDIR)$(PREFIX)/bin/trirast"
 	install -D -m 755 $(WHY) "$(DESTDIR)$(PREFIX)/bin/trirast_why"
@@ -246,54 +233,34 @@ demo: $(PICTURES)
 	else echo "pnmtopng is not installed, so there are PPM and PGM pictures only"; fi
 
 test:
-	@$(PYTHON) -m tools.gate --rt $(RT)
+	@$(PYTHON) -m tools.ci.run_checks
 
-checks: $(PROGRAM) $(WHY) $(TILES) $(READER) $(if $(shell command -v gcc),library)
-	@$(PYTHON) -m tools.gate --without-proofs
+test-long:
+	@$(PYTHON) -m tools.ci.run_checks --long
 
-compare: $(PROGRAM)
-	$(PYTHON) -m tools.test_reference
-	$(PYTHON) -m tools.compare --program $(PROGRAM)
+$(CHECKS):
+	@$(PYTHON) -m tools.ci.run_checks $@ $(if $(LONG),--long)
 
-compare-history: $(PROGRAM) $(WHY) $(if $(shell command -v gcc),library)
-	$(PYTHON) -m tools.compare_history
-	$(if $(shell command -v gcc),$(PYTHON) -m tools.compare_library_history)
+prove:
+	@$(PYTHON) -m tools.ci.prove --rt $(RT)
 
-compare-canvas: $(PROGRAM) library
-	$(PYTHON) -m tools.compare_canvas
-	$(PYTHON) -m tools.canvas_mutants
+prove-all:
+	@$(PYTHON) -m tools.ci.prove --rt $(RT) --all
 
-check-compare: $(PROGRAM)
-	$(PYTHON) -m tools.test_compare
-	$(PYTHON) -m tools.mutants
+record:
+	@$(PYTHON) -m tools.ci.edits record
 
-golden: $(PROGRAM)
-	$(PYTHON) -m tools.test_golden
-	$(PYTHON) -m tools.golden
-
-schema:
-	$(PYTHON) -m tools.check_schema
-
-types:
-	mypy
+help:
+	@sed -n '/^[^#]/q; s/^# \?//p' Makefile
+	@echo "The checks of make test:"
+	@$(PYTHON) -m tools.ci.checks
 
 $(READER): $(SOURCES)
 	cd crates/list_bench && $(RT) run < "$(CURDIR)/examples/triangle.json" > /dev/null
 	install -D -m 755 crates/list_bench/out/list_bench $@
 
-memory: allocation-failures
-
-allocation-failures: $(PROGRAM) $(TILES) $(READER)
-	$(PYTHON) -m tools.test_injection
-	$(PYTHON) -m tools.allocation_failures
-
-hostile: fault-injection
-
-fault-injection: $(PROGRAM)
-	$(PYTHON) -m tools.fault_injection
-
 races: $(PROGRAM)
-	$(PYTHON) -m tools.races
+	$(PYTHON) -m pytest tools/races.py
 
 frames: $(PROGRAM)
 	cd crates/frames && $(RT) run $(if $(CPU),--cpu $(CPU)) < "$(CURDIR)/examples/triangle.json" > /dev/null
@@ -319,10 +286,6 @@ $(RASTERIZE): $(wildcard conformance/d3d11/rasterize/*)
 
 conformance-windows: $(RASTERIZE)
 	$(PYTHON) -m conformance.d3d11.windows dist/trirast-conformance-windows.zip
-
-check-conformance:
-	$(PYTHON) -m conformance.test_conformance
-	$(PYTHON) -m conformance.d3d11.test_direct3d
 
 include packaging/packages.mk
 include packaging/web.mk

@@ -2,7 +2,7 @@
 driver's side one of its mutants. Each mutant must be found under its own subject, and only if it can be seen there.
 conformance/d3d11/test_direct3d.py tries the others.
 
-    python3 -m conformance.test_conformance
+    python3 -m pytest conformance/test_conformance.py
 """
 
 from __future__ import annotations
@@ -28,7 +28,7 @@ from conformance.report import Report, page, text
 from conformance.run import measure
 from conformance.suites.setting import Setting
 from conformance.suites.shapes import Lists, coarser, draw, rectangle, scene
-from tools import counts, reference
+from tools import reference
 from tools.draw_list import DrawList
 from tools.opengl.frames import DrawState, Mesh, Viewport
 from tools.places import TOP
@@ -307,7 +307,3 @@ class Reports(unittest.TestCase):
         run = subprocess.run(command, cwd=TOP, stdout=subprocess.PIPE, stderr=subprocess.PIPE)
         self.assertEqual((run.returncode, run.stdout), (2, b""))
         self.assertIn(b"no program", run.stderr)
-
-
-if __name__ == "__main__":
-    counts.run_tests()

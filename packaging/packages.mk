@@ -1,6 +1,6 @@
 # Packages and releases. The Makefile includes this file, and says of each target what it is for.
 
-.PHONY: deb wheel release check-packages
+.PHONY: deb wheel release
 
 # Whether the cross compiler for ARM64 is there: its package is made only then.
 WITH_ARM64 := $(shell command -v aarch64-linux-gnu-gcc)
@@ -13,6 +13,3 @@ wheel: $(LIBRARY_x86_64) $(if $(WITH_ARM64),$(LIBRARY_aarch64))
 
 release: deb wheel
 	$(PYTHON) -m tools.packages.release
-
-check-packages: $(PROGRAM) $(LIBRARY_x86_64)
-	$(PYTHON) -m tools.check_packages

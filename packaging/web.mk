@@ -1,6 +1,6 @@
 # The page of web/ with the canvas for WebAssembly, in web/out. The Makefile includes this file, and says of each target what it is for.
 
-.PHONY: web check-web
+.PHONY: web
 
 PAGE := $(patsubst web/%,web/out/%,$(wildcard web/*.*))
 # At least TRIRAST_STACK of include/trirast.h.
@@ -23,6 +23,3 @@ lib/wasm64/canvas_c.a: $(CANVAS_ARCHIVE)
 web/out/examples.json.gz: $(LISTS) examples/README.md tools/web/examples.py
 	@mkdir -p $(@D)
 	$(PYTHON) -m tools.web.examples $@
-
-check-web: $(PROGRAM) $(CANVAS_ARCHIVE)
-	$(PYTHON) -m tools.check_web

@@ -1,28 +1,26 @@
 """Runs bin/trirast with allocations that fail: each in turn, each and all behind it, and two of them.
 
-    python3 -m tools.allocation_failures [NAME ..]
+    python3 -m pytest tools/allocation_failures.py
 
 If an allocation fails, a run ends as it would have without (a vector that could grow ahead of need grows by less, and a
 batch of tile rows whose workers are out of memory is drawn again by the calling thread), or with status 1, the line `trirast:
 out of memory` and exactly the tile rows before the one for which the calling thread had no memory. bin/refused_tiles, which draws
 the tiles of a list in one tile buffer, goes on after a refusal: the tiles that follow are right. The program's line names no
-draw, so the draw in which memory ran out is seen by crates/list_bench, which prints it. Needs gcc. The last line is `N passed,
-M failed`, or `N passed, M failed, K skipped`.
+draw, so the draw in which memory ran out is seen by crates/list_bench, which prints it. Needs gcc.
 """
 
 from __future__ import annotations
 
 import collections
 import itertools
-import sys
 from typing import Any, Callable, ClassVar, Sequence
 
-from tools import counts, injection
+from tools import injection
 from tools import tall_picture as tall
 from tools.answers import drawn
 from tools.draw_list import Draw, DrawList, draw, draw_list, encode, vertex
 from tools.injection import Refusal, Run
-from tools.places import PROGRAM, READER_PROGRAM, TILES_PROGRAM, bytes_of, is_built
+from tools.places import PROGRAM, READER_PROGRAM, TILES_PROGRAM, bytes_of
 from tools.small_pictures import (
     FIRST, FIRST_DRAW, FIRST_PICTURE, FIRST_VERTICES, LARGE, LARGE_BEGINNINGS, LARGE_HEADER, LARGE_PICTURE, OUT_OF_MEMORY,
     SQUARE_PICTURE, SQUARE_VERTICES,
@@ -332,9 +330,3 @@ class Tiles(AllocationTest):
         corners = [vertex(0, 0), vertex(2560, 0, 65535), vertex(0, 2560, 300)]
         nearest = draw(corners, depth_test="less", depth_write=True)
         self.check_tiles(encode(draw_list(10, 10, nearest, output="depth")), 4)
-
-
-if __name__ == "__main__":
-    if not is_built(PROGRAM, TILES_PROGRAM, READER_PROGRAM, made_by="make memory"):
-        sys.exit(1)
-    counts.run_tests()

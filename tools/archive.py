@@ -4,27 +4,22 @@
 
 `make library` and `make web` run this for a processor for which `rt lib` has not built, since `rt lib` has one place for its archive.
 Of the program it builds the object file, without what the toolchain brings in C for x86-64 alone.
-
-The gate calls `build`. `rt ci` proves the crates of the library and writes no archive of them. What it proved of each crate
-below stands in crates/NAME/out/rlib, with no stamp, so that `rt lib` would prove these crates once more. `rattle build` takes
-them as they are: it checks one crate alone.
 """
 
 from __future__ import annotations
 
 import argparse
 import os
-import re
 import subprocess
 import sys
-from typing import Iterable, Mapping, Sequence
+from typing import Iterable, Sequence
 
+from tools.crates import Tree, Uses, below
 from tools.places import TOP
 
-# The crates of the library, and the archives in which `make library` looks for them.
+# The crates of the library.
 CRATES = ("trirast_c", "canvas_c")
 PROGRAM = "trirast_cli"
-ARCHIVES = {crate: os.path.join("crates", crate, "out", f"lib{crate}.a") for crate in CRATES}
 # The processors besides the toolchain's default, x86-64-v2, with the flags that ask the toolchain for them.
 PROCESSORS = {
     "x86-64-v3": ("--cpu", "x86-64-v3"),
@@ -34,35 +29,10 @@ PROCESSORS = {
 # Where a check of the crate keeps what it has checked, so that the next archive takes it over. rt uses the same folder.
 KEPT = os.path.join("out", "incremental")
 
-# Of each crate, the crates that it uses.
-Uses = Mapping[str, Sequence[str]]
-
-
-def read_uses(top: str) -> Uses:
-    """Reads from crates.txt which crates each crate uses; those of the toolchain are among them."""
-    with open(os.path.join(top, "crates.txt"), encoding="utf-8") as file:
-        lines = re.findall(r"^(\w+)[^:#\n]*:(.*)$", file.read(), re.MULTILINE)
-    return {name: used.split() for name, used in lines}
-
-
-def below(crate: str, uses: Uses) -> set[str]:
-    """The repository's crates that a crate uses, by itself or through others."""
-    found: set[str] = set()
-    for name in uses[crate]:
-        if name in uses:
-            found |= {name} | below(name, uses)
-    return found
-
 
 def folder(top: str, crate: str) -> str:
-    """Where rt ci leaves the library of a crate."""
+    """Where rt leaves the library of a crate."""
     return os.path.join(top, "crates", crate, "out", "rlib")
-
-
-def is_left_by_ci(top: str, crate: str) -> bool:
-    """Whether the library of a crate is there as rt ci leaves it. One with a stamp is of another run, and may be older."""
-    library, stamp = (os.path.join(folder(top, crate), name) for name in (f"{crate}.rlib", "stamp"))
-    return os.path.isdir(library) and not os.path.exists(stamp)
 
 
 def search_flags(folders: Iterable[str]) -> list[str]:
@@ -83,24 +53,12 @@ def build_command(top: str, kit: str, uses: Uses, crate: str, archive: str, more
     return [*command, "--incremental", KEPT, *more, "-o", os.path.join(top, archive)]
 
 
-def run(top: str, rt: str, crate: str, archive: str, more: Sequence[str], seconds: float | None = None) -> bool:
+def run(top: str, rt: str, crate: str, archive: str, more: Sequence[str]) -> bool:
     """Builds the archive of a crate over what is proved. Returns whether it was built."""
     page = subprocess.run([rt, "doc"], stdout=subprocess.PIPE, text=True, check=True).stdout.strip()
-    command = build_command(top, os.path.dirname(page), read_uses(top), crate, archive, more)
+    command = build_command(top, os.path.dirname(page), Tree(top).uses, crate, archive, more)
     place = os.path.join(top, "crates", crate)
-    return subprocess.run(command, cwd=place, timeout=seconds, stdin=subprocess.DEVNULL).returncode == 0
-
-
-def build(top: str, rt: str, seconds: float) -> bool:
-    """Builds the archives if rt ci has left all that they need. Returns whether they were built."""
-    uses = read_uses(top) if os.path.isfile(os.path.join(top, "crates.txt")) else {}
-    for crate in CRATES:
-        if crate not in uses or not all(is_left_by_ci(top, name) for name in below(crate, uses)):
-            return False
-    try:
-        return all(run(top, rt, crate, ARCHIVES[crate], (), seconds) for crate in CRATES)
-    except (OSError, subprocess.SubprocessError):
-        return False
+    return subprocess.run(command, cwd=place, stdin=subprocess.DEVNULL).returncode == 0
 
 
 def main() -> int:

@@ -1,16 +1,17 @@
-"""How many checks passed, failed and were skipped: the line in which the gate and its checks end."""
+"""How many checks passed, failed and were skipped: the line in which CI and its checks end."""
 
 from __future__ import annotations
 
 import re
-import sys
-import unittest
 from dataclasses import dataclass
 
 # The exit status of a check that tried nothing, since something of the system that it needs is missing.
 MISSING = 77
 
 LINE = re.compile(r"(\d+) passed, (\d+) failed(?:, (\d+) skipped)?")
+# The last line of pytest, in which a number may be left out.
+PYTEST = re.compile(r"=* ?((?:\d+ [a-z]+(?:, )?)+) in [\d.]+s(?: \([\d:]+\))? ?=*")
+FAILURES = ("failed", "error", "errors", "xpassed")
 
 
 @dataclass(frozen=True)
@@ -23,19 +24,15 @@ class Counts:
         return Counts(self.passed + other.passed, self.failed + other.failed, self.skipped + other.skipped)
 
     def __str__(self) -> str:
-        return f"{self.passed} passed, {self.failed} failed" + (f", {self.skipped} skipped" if self.skipped else "")
+        return f"{self.passed} passed, {self.failed} failed, {self.skipped} skipped"
 
     @staticmethod
     def in_line(line: str) -> Counts | None:
-        """The counts of a line, or `None` if it has another form."""
-        found = LINE.fullmatch(line.strip())
-        return Counts(*(int(number or 0) for number in found.groups())) if found else None
-
-
-def run_tests() -> None:
-    """Runs the tests of the module that was started, prints their counts as the last line, and exits. Status 1 if one failed."""
-    result = unittest.main(exit=False, verbosity=2).result
-    failed, skipped = len(result.failures) + len(result.errors), len(result.skipped)
-    counts = Counts(max(0, result.testsRun - failed - skipped), failed, skipped)
-    print(counts, flush=True)
-    sys.exit(1 if failed else 0)
+        """The counts of a line of a check or of pytest, or `None` if it has another form."""
+        if found := LINE.fullmatch(line.strip()):
+            return Counts(*(int(number or 0) for number in found.groups()))
+        if found := PYTEST.fullmatch(line.strip()):
+            numbers = {word: int(number) for number, word in re.findall(r"(\d+) ([a-z]+)", found[1])}
+            failed = sum(numbers.get(word, 0) for word in FAILURES)
+            return Counts(numbers.get("passed", 0), failed, numbers.get("skipped", 0) + numbers.get("xfailed", 0))
+        return None

@@ -1,10 +1,9 @@
 """Runs bin/trirast where things go wrong: devices that fail, limits of the system, lists at the ends of their limits.
 
-    python3 -m tools.fault_injection [NAME ..]
+    python3 -m pytest tools/fault_injection.py
 
 Each run ends by itself, with the picture or with one line and its status. What the system here does not have is named and
-skipped, as is gcc, by which single threads are refused. The last line is `N passed, M failed`, or `N passed, M failed, K
-skipped`. Linux alone.
+skipped, as is gcc, by which single threads are refused. Linux alone.
 """
 
 from __future__ import annotations
@@ -13,16 +12,15 @@ import os
 import resource
 import shutil
 import subprocess
-import sys
 import tempfile
 import unittest
 from typing import IO, Any
 
-from tools import counts, injection, reference, small_pictures
+from tools import injection, reference, small_pictures
 from tools import tall_picture as tall
 from tools.answers import Answer
 from tools.draw_list import Draw, draw, draw_list, encode, vertex
-from tools.places import PROGRAM, is_built
+from tools.places import PROGRAM
 from tools.small_pictures import (
     FIRST_DRAW, FIRST_PICTURE, FIRST_VERTICES, LARGE, LARGE_BEGINNINGS, LARGE_PICTURE, OUT_OF_MEMORY, RED_DRAW,
     RED_PICTURE, RED_VERTICES, SQUARE_PICTURE, SQUARE_VERTICES,
@@ -374,9 +372,3 @@ class Lists(unittest.TestCase):
             for corner in ((outside, 0), (0, outside)):
                 text = encode(draw_list(2, 2, triangle(corner, (0, 0), (256, 0))))
                 self.check_error(text, "5 OutOfRange in draw 0")
-
-
-if __name__ == "__main__":
-    if not is_built(PROGRAM):
-        sys.exit(1)
-    counts.run_tests()

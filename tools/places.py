@@ -10,7 +10,7 @@ TOP = os.path.dirname(os.path.dirname(os.path.abspath(__file__)))
 OUT = os.path.join(TOP, "out")
 EXAMPLES = os.path.join(TOP, "examples")
 
-# What `make` and `make checks` build.
+# What `make` and `make test` build.
 PROGRAM = os.path.join(TOP, "bin", "trirast")
 WHY_PROGRAM = os.path.join(TOP, "bin", "trirast_why")
 TILES_PROGRAM = os.path.join(TOP, "bin", "refused_tiles")

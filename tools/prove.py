@@ -21,7 +21,7 @@ import sys
 import time
 from typing import Collection, Sequence, TextIO
 
-from tools.archive import Uses, below, read_uses
+from tools.crates import Tree, Uses, below
 from tools.places import OUT, TOP
 
 WAITING = 2
@@ -90,7 +90,7 @@ class Prover:
 
     def build(self, program: str, flags: Sequence[str], arguments: Sequence[str]) -> int:
         """Proves a program's crates and runs it. Returns the status of the first command that failed."""
-        uses = read_uses(TOP)
+        uses = Tree(TOP).uses
         lone = alone(program, uses)
         others = below(program, uses).difference(lone)
         jobs = ["--jobs", str(self.jobs)]

@@ -15,7 +15,7 @@ from tools import places
 CRATES = (
     "grid", "shade", "history", "planes", "lanes", "cover", "raster", "reach", "canvas", "model", "canvas_picture", "checking_reader",
     "fast_reader", "list", "scene", "list_history", "plain", "bins", "pool", "picture_file", "command_line", "program_input", "tile_row",
-    "tile", "tile_rows", "trirast", "sample_events", "trirast_c", "why",
+    "tile", "tile_rows", "trirast", "sample_events", "trirast_c", "why", "batch", "canvas_c",
 )
 HEAD = re.compile(r"(?:pub )?(impl|trait)\b(?:<(?:[^<>]|<[^<>]*>)*>)? (?!.* for )(\w+)")
 CALL = re.compile(r'( {4})?(pub )?(?:extern "C" )?fn (\w+)')
@@ -46,15 +46,17 @@ def calls_in(text: str, crate: str, public: set[str]) -> Iterator[str]:
                 yield f"{owner}::{name}"
 
 
+def calls_of(crate: str) -> dict[str, str]:
+    """The public calls of a crate, each with the file in which it stands, named from the crate's folder."""
+    folder = os.path.join("crates", crate)
+    public = given_out(places.text_of(folder, "src", "lib.rt"))
+    paths = places.files(folder, "src", "**", "*.rt")
+    return {call: os.path.relpath(path, folder) for path in paths for call in calls_in(places.text_of(path), crate, public)}
+
+
 def public_calls() -> set[str]:
     """All public calls of the crates."""
-    found: set[str] = set()
-    for crate in CRATES:
-        folder = os.path.join("crates", crate, "src")
-        public = given_out(places.text_of(folder, "lib.rt"))
-        for path in places.files(folder, "**", "*.rt"):
-            found.update(calls_in(places.text_of(path), crate, public))
-    return found
+    return {call for crate in CRATES for call in calls_of(crate)}
 
 
 def named_calls(cell: str, public: set[str]) -> set[str]:

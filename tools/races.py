@@ -1,9 +1,9 @@
 """Runs bin/trirast under valgrind's memcheck and drd with several workers, and expects no error and the same picture.
 
-    python3 -m tools.races
+    python3 -m pytest tools/races.py
 
 A race and a use of freed memory planted in small C programs must be found too, so that silence means something. Needs
-valgrind, and gcc for the planted ones. The last line is `N passed, M failed`, or `N passed, M failed, K skipped`. What it
+valgrind, and gcc for the planted ones. What it
 shows is of these runs alone: another schedule could have a race that none of them had.
 """
 
@@ -12,14 +12,12 @@ from __future__ import annotations
 import os
 import shutil
 import subprocess
-import sys
 import tempfile
 import unittest
 from typing import Any, Sequence
 
-from tools import counts
 from tools.answers import drawn
-from tools.places import PROGRAM, TOP, bytes_of, is_built
+from tools.places import PROGRAM, TOP, bytes_of
 
 EXAMPLES = ("top_left", "scissor_and_masks", "gradient")
 WORKERS = 4
@@ -93,9 +91,3 @@ class Runs(unittest.TestCase):
 
     def test_a_planted_race_is_found(self) -> None:
         self.check_planted("drd", RACE, "Conflicting")
-
-
-if __name__ == "__main__":
-    if not is_built(PROGRAM):
-        sys.exit(1)
-    counts.run_tests()

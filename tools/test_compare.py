@@ -1,6 +1,6 @@
 """Tests of what the lists of tools/generated_lists.py and tools/bound_triangles.py cover, as `make compare` draws them.
 
-    python3 -m tools.test_compare
+    python3 -m pytest tools/test_compare.py
 """
 
 from __future__ import annotations
@@ -13,7 +13,7 @@ import unittest
 from typing import ClassVar, Iterable, Iterator, Sequence
 from unittest import mock
 
-from tools import bound_triangles, compare, counts, generated_lists, reference
+from tools import bound_triangles, compare, generated_lists, reference
 from tools.draw_list import Draw, Vertex
 from tools.reference import Point, Sample, side
 
@@ -270,7 +270,3 @@ class Overdraw(unittest.TestCase):
     def test_every_sample_mask(self) -> None:
         self.assertLessEqual({("sample mask", 4, mask) for mask in range(1, 16)}, self.met)
         self.assertLessEqual({("sample mask", 1, mask) for mask in range(1, 16, 2)}, self.met)
-
-
-if __name__ == "__main__":
-    counts.run_tests()

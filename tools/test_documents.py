@@ -1,7 +1,7 @@
 """Tests that what the documents name is there: files, definitions, commands, and the calls and clauses of proofs.md. Also that each
 public definition of specs/ has a sentence of its own, above it and in its crate's Lib.antt.
 
-    python3 -m tools.test_documents
+    python3 -m pytest tools/test_documents.py
 """
 
 from __future__ import annotations
@@ -14,7 +14,8 @@ import unittest
 from typing import Iterator
 from unittest import mock
 
-from tools import canvas_mutants, counts, definitions as lines, mutants, places, reference, sample_patterns
+from tools import canvas_mutants, definitions as lines, mutants, places, reference, sample_patterns
+from tools.ci import checks
 from tools.places import TOP, text_of
 from tools.public_calls import CRATES, calls_in, given_out, named_calls, public_calls
 
@@ -107,7 +108,7 @@ class Names(unittest.TestCase):
 
     def test_commands(self) -> None:
         rules = text_of("Makefile") + "".join(map(text_of, places.files("packaging", "*.mk")))
-        targets = set(re.findall(r"^([\w-]+):", rules, re.MULTILINE))
+        targets = set(re.findall(r"^([\w-]+):", rules, re.MULTILINE)) | {check.name for check in checks.CHECKS}
         for name, text in documents().items():
             named = re.findall(r"`make ([\w-]+)`", text) + re.findall(r"^make ([\w-]+)", text, re.MULTILINE)
             self.assertLessEqual(set(named), targets, name)
@@ -314,7 +315,3 @@ class Definitions(unittest.TestCase):
             self.assertRegex(" ".join(lines.faults("a")), "missing: --   g: .* of no definition: --   h: ")
             put("Lib.antt", whole.replace("pub mod B\n", ""))
             self.assertRegex(" ".join(lines.faults("a")), "B is no module of it")
-
-
-if __name__ == "__main__":
-    counts.run_tests()

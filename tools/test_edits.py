@@ -1,8 +1,8 @@
 #!/usr/bin/env python3
-"""Tests of the must-fail edits: that each can be applied to the sources, is named for a function that it changes, and that the
-table of wrong bodies in docs/proofs.md names edits and tests that are there.
+"""Tests of the must-fail edits: that each can be applied to the sources, is named for a function that it changes, that the table of
+wrong bodies in docs/proofs.md names edits and tests that are there, and that docs/DECISIONS.md names each public function without an edit.
 
-    python3 -m tools.test_edits
+    python3 -m pytest tools/test_edits.py
 """
 
 from __future__ import annotations
@@ -11,11 +11,14 @@ import os
 import re
 import unittest
 
-from tools import counts, places
+from tools import places
+from tools.ci.edit import applied, pairs_in
 from tools.places import TOP, text_of
+from tools.public_calls import CRATES, calls_of
 
-# As many rows as the table of wrong bodies has at least: a wrong body that was named once stays named.
-ROWS = 48
+# The rows of the table of wrong bodies, and the edits and tests that they name: a wrong body that was named once stays named. Raise them
+# with each new row or name.
+ROWS, NAMES = 76, 171
 
 
 def edits() -> list[str]:
@@ -24,39 +27,16 @@ def edits() -> list[str]:
     return sorted(f"{path.split(os.sep)[1]}/{os.path.basename(path)[:-len('.edit')]}" for path in paths)
 
 
+def applied_to(edit: str) -> tuple[dict[str, str], str | None]:
+    """The texts that an edit makes, or why it cannot be applied."""
+    crate, name = edit.split("/")
+    return applied(os.path.join(TOP, "crates", crate), text_of("crates", crate, "must-fail", f"{name}.edit"))
+
+
 def pairs_of(edit: str) -> list[tuple[str, str, str]]:
     """The pairs of an edit in order: the file, the old text and the new one."""
     crate, name = edit.split("/")
-    file, old = "", ""
-    pairs: list[tuple[str, str, str]] = []
-    for line in text_of("crates", crate, "must-fail", f"{name}.edit").splitlines():
-        kind, _colon, text = line.partition(": ")
-        if kind == "file":
-            file = text.strip()
-        elif kind == "old":
-            old = text
-        elif line.startswith("new:"):
-            pairs.append((file, old, text))
-            old = ""
-    return pairs
-
-
-def fault_of(edit: str) -> str | None:
-    """Why an edit cannot be applied, or `None` if it can: each old text stands once in what the pairs before it made."""
-    crate = edit.split("/")[0]
-    texts: dict[str, str] = {}
-    for file, old, new in pairs_of(edit):
-        if not file or not old:
-            return "a new text without a file or an old one"
-        if not file.startswith("src/") or not os.path.isfile(os.path.join(TOP, "crates", crate, file)):
-            return f"there is no {file}"
-        texts.setdefault(file, text_of("crates", crate, file))
-        if texts[file].count(old) != 1:
-            return f"{texts[file].count(old)} times in {file}: {old}"
-        if old == new:
-            return f"nothing is changed: {old}"
-        texts[file] = texts[file].replace(old, new)
-    return None if texts else "it has no pair of texts"
+    return pairs_in(text_of("crates", crate, "must-fail", f"{name}.edit"))
 
 
 def tests() -> set[str]:
@@ -78,7 +58,7 @@ def wrong_bodies() -> list[tuple[str, list[str]]]:
 class Edits(unittest.TestCase):
     def test_can_be_applied(self) -> None:
         for edit in edits():
-            self.assertIsNone(fault_of(edit), edit)
+            self.assertIsNone(applied_to(edit)[1], edit)
 
     def test_are_named_for_a_function(self) -> None:
         for edit in edits():
@@ -107,9 +87,27 @@ class WrongBodies(unittest.TestCase):
 
     def test_none_is_lost(self) -> None:
         bodies = [body for body, _names in wrong_bodies()]
-        self.assertGreaterEqual(len(bodies), ROWS)
         self.assertEqual(len(bodies), len(set(bodies)))
+        self.assertEqual((len(bodies), sum(len(names) for _body, names in wrong_bodies())), (ROWS, NAMES))
 
 
-if __name__ == "__main__":
-    counts.run_tests()
+def with_edit(is_by_file: bool) -> set[tuple[str, str]]:
+    """The public functions, as crate and call, for which an edit of their crate is named, or one that changes their own file."""
+    named = {(edit.split("/")[0], edit.split(".")[-2], path if is_by_file else "") for edit in edits() for path, _old, _new in pairs_of(edit)}
+    calls = [(crate, call, path if is_by_file else "") for crate in CRATES for call, path in calls_of(crate).items()]
+    return {(crate, call) for crate, call, path in calls if (crate, call.split("::")[1], path) in named}
+
+
+def said_to_have_none() -> set[tuple[str, str]]:
+    """The public functions that docs/DECISIONS.md says have no edit."""
+    section = text_of("docs", "DECISIONS.md").split("### Some public functions have no must-fail edit\n")[1].split("\n### ")[0]
+    rows = [line.strip("|").split("|", 1) for line in section.split("\n") if line.startswith("| `")]
+    return {(crate.strip().strip("`"), call) for crate, cells in rows for call in re.findall(r"`(\w+::\w+)`", cells)}
+
+
+class PublicFunctions(unittest.TestCase):
+    def test_have_an_edit_or_are_said_to_have_none(self) -> None:
+        every = {(crate, call) for crate in CRATES for call in calls_of(crate)}
+        self.assertEqual(every - with_edit(is_by_file=False) - said_to_have_none(), set(), "a public function without an edit")
+        self.assertEqual(said_to_have_none() - every, set(), "no public function")
+        self.assertEqual(said_to_have_none() & with_edit(is_by_file=True), set(), "a public function that has an edit")

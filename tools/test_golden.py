@@ -1,6 +1,6 @@
 """Tests of tools/golden.py and tools/png.py, over lists and programs of their own.
 
-    python3 -m tools.test_golden
+    python3 -m pytest tools/test_golden.py
 """
 
 from __future__ import annotations
@@ -15,7 +15,7 @@ import tempfile
 import unittest
 import zlib
 
-from tools import counts, golden, png
+from tools import golden, png
 from tools.counts import Counts
 
 # Two lists without triangles and their files, by the rules: each pixel has the clear colour, or the clear depth in two bytes.
@@ -212,7 +212,3 @@ sys.stdout.buffer.write({tiles_of_8!r} if {tiles_of_8!r} and "8" in sys.argv els
         recorded = golden.read_sums(os.path.join(self.top, "examples", golden.SUMS))
         sums = {name: hashlib.sha256(data).hexdigest() for name, data in (("colours", COLOUR_FILE), ("more", DEPTH_FILE))}
         self.assertEqual(recorded, sums)
-
-
-if __name__ == "__main__":
-    counts.run_tests()

@@ -1,6 +1,6 @@
 """Tests of tools/allocation_failures.py and of the threads in tools/fault_injection.py: they catch mistakes in tools/stand_in.c.
 
-    python3 -m tools.test_injection
+    python3 -m pytest tools/test_injection.py
 
 The stand-in writes one picture as the program does if an allocation fails or a thread does not start, or with a mistake in that.
 Needs gcc.
@@ -14,7 +14,7 @@ from typing import ClassVar
 from unittest import mock
 
 # The test classes are named by their modules, so that they are no tests of this one.
-from tools import allocation_failures, counts, fault_injection, injection
+from tools import allocation_failures, fault_injection, injection
 from tools.places import TOP
 
 SOURCE = os.path.join(TOP, "tools", "stand_in.c")
@@ -66,7 +66,3 @@ class Mistakes(injection.CompilingTest):
             for test_class, name in tests:
                 with self.subTest(mistake=mistake, test=name):
                     self.assertTrue(self.result(test_class, name, mistake).failures)
-
-
-if __name__ == "__main__":
-    counts.run_tests()

@@ -1,6 +1,6 @@
 """Worked values of the reference renderer, reckoned by hand from the rules.
 
-    python3 -m tools.test_reference
+    python3 -m pytest tools/test_reference.py
 """
 
 from __future__ import annotations
@@ -11,7 +11,7 @@ import unittest
 from dataclasses import replace
 from typing import Any, Sequence
 
-from tools import counts, picture_file, reference
+from tools import picture_file, reference
 from tools.draw_list import Draw, DrawList, Vertex, draw, draw_list as scene, vertex
 from tools.places import text_of
 
@@ -411,7 +411,3 @@ class Comparing(unittest.TestCase):
         other = file_of(scene(3, 3, draw(FIRST, scissor=[0, 0, 1, 3])))
         self.assertIsNone(picture_file.difference(one, one))
         self.assertEqual(picture_file.difference(one, other), "1 pixels differ, first (1, 0): ff ff ff and 00 00 00")
-
-
-if __name__ == "__main__":
-    counts.run_tests()

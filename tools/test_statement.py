@@ -1,6 +1,6 @@
 """Tests that docs/statement.md is what the sources have, that it is whole, and that statement.py sees what is left out.
 
-    python3 -m tools.test_statement
+    python3 -m pytest tools/test_statement.py
 """
 
 from __future__ import annotations
@@ -14,7 +14,7 @@ import unittest
 from typing import Iterator
 from unittest import mock
 
-from tools import counts, statement
+from tools import statement
 from tools import statement_sources as sources
 from tools.places import TOP, text_of
 from tools.statement_sources import Name, Unclear
@@ -144,12 +144,12 @@ class Check(unittest.TestCase):
         return status, said.getvalue()
 
     def test_of_a_page_that_differs(self) -> None:
-        self.assertEqual(self.status("--check"), (0, "1 passed, 0 failed\n"))
+        self.assertEqual(self.status("--check"), (0, "1 passed, 0 failed, 0 skipped\n"))
         with mock.patch.object(statement, "written", lambda: statement.page().replace("128 ∷ []", "127 ∷ []")):
             status, said = self.status("--check")
         self.assertEqual(status, 1)
         self.assertIn("+offsets_x One = 128 ∷ []", said)
-        self.assertTrue(said.endswith("0 passed, 1 failed\n"))
+        self.assertTrue(said.endswith("0 passed, 1 failed, 0 skipped\n"))
 
     def test_of_a_definition_in_no_group(self) -> None:
         with mock.patch.object(statement, "GROUPS", GROUPS[1:]):
@@ -264,7 +264,3 @@ class Reading(unittest.TestCase):
             self.assertTrue(found.text.startswith("/// Reads.\npub fn run"))
             self.assertTrue(found.text.endswith("ensures { Far (R.remaining input.old) result }"))
             self.assertRaises(Unclear, sources.contract_of, "crates/a/src/lib.rt", "walk")
-
-
-if __name__ == "__main__":
-    counts.run_tests()

@@ -1,7 +1,7 @@
 """Tests of the comparison with Direct3D, without a driver: the rules in Python, or one of their mutants, take rasterize.exe's place
 behind both streams, and a stream that rasterize.exe wrote is compared again.
 
-    python3 -m conformance.d3d11.test_direct3d
+    python3 -m pytest conformance/d3d11/test_direct3d.py
 """
 
 from __future__ import annotations
@@ -35,7 +35,7 @@ from conformance.report import page, text
 from conformance.run import measure
 from conformance.suites.setting import PLAIN, Setting
 from conformance.suites.shapes import draw, flat, rectangle, scene, vertex
-from tools import counts, reference
+from tools import reference
 from tools.draw_list import DrawList
 from tools.places import TOP
 
@@ -437,7 +437,3 @@ class Rasterize(unittest.TestCase):
             with self.assertRaises(process.CannotRun) as raised:
                 process.draw(stream, process.command(process.EXE, "hardware", None))
             self.assertIn(f"rasterize: {name}: ", str(raised.exception))
-
-
-if __name__ == "__main__":
-    counts.run_tests()

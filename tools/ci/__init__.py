@@ -1,0 +1,1 @@
+"""What CI runs: the proofs with the must-fail edits, and the checks of what was built."""

@@ -1,0 +1,162 @@
+"""The checks of what was built: one list, of which make, `make help`, `make test` and the table in CONTRIBUTING are made.
+
+    python3 -m tools.ci.checks [--write]
+
+Prints the list as `make help` shows it. With --write it writes the table in CONTRIBUTING.md.
+"""
+
+from __future__ import annotations
+
+import argparse
+import importlib.util
+import os
+import re
+import shutil
+import sys
+from dataclasses import dataclass
+
+from tools.places import TOP, text_of
+
+# What make builds for checks, in the order in which it is built, with the goals that build it.
+BUILDS = {
+    "program": ("bin/trirast",),
+    "library": ("library",),
+    "why": ("bin/trirast_why",),
+    "readers": ("bin/refused_tiles", "bin/list_bench"),
+}
+# The table stands in CONTRIBUTING between this heading and the next one.
+PAGE, HEADING = "CONTRIBUTING.md", "### The checks"
+
+
+@dataclass(frozen=True)
+class Check:
+    # The goal of make.
+    name: str
+    # What it looks at, as a part of a sentence.
+    about: str
+    # What it runs, without Python itself if that is a module.
+    command: tuple[str, ...]
+    # About how many seconds of a processor it takes.
+    seconds: int
+    # Words for the longer form that `make test-long` runs, and its seconds.
+    long: tuple[str, ...] = ()
+    long_seconds: int = 0
+    # What it runs of what make builds.
+    runs: tuple[str, ...] = ()
+    # Commands of the system and modules of Python (as `python:NAME`) without which it is skipped.
+    needs: tuple[str, ...] = ()
+
+    def words(self, is_long: bool = False) -> list[str]:
+        """The command, in its short or its long form."""
+        head = [sys.executable, "-m"] if "." in self.command[0] or self.command[0] == "pytest" else []
+        return [*head, *self.command, *(self.long if is_long else ())]
+
+    def missing(self) -> list[str]:
+        """What it needs of the system and is not there."""
+        needs = (*self.needs, *(("python:pytest",) if self.command[0] == "pytest" else ()))
+        return [name for name in needs if not is_there(name)]
+
+
+def is_there(need: str) -> bool:
+    kind, _colon, module = need.partition(":")
+    if module:
+        return importlib.util.find_spec(module) is not None
+    return shutil.which(kind) is not None
+
+
+COMPILER = ("cc", "gcc")
+EVERYTHING = ("program", "library")
+CHECKS = (
+    Check(name="check-ci", about="what `make prove` and `make test` count and refuse", command=("pytest", "tools/ci"), seconds=20),
+    Check(name="types", about="types of the Python sources, by mypy in its strict form", command=("mypy",), seconds=40, needs=("mypy",)),
+    Check(name="reference", about="worked values of the second renderer", command=("pytest", "tools/test_reference.py"), seconds=20),
+    Check(name="documents", about="what documents name", command=("pytest", "tools/test_documents.py"), seconds=10),
+    Check(name="statement", about="docs/statement.md against the sources", command=("pytest", "tools/test_statement.py"), seconds=10),
+    Check(name="edits", about="must-fail edits by name", command=("pytest", "tools/test_edits.py"), seconds=10),
+    Check(name="schema", about="the JSON Schema on examples and refused lists", command=("tools.check_schema",), seconds=60, needs=("python:jsonschema",)),
+    Check(
+        name="acceptance", about="the program's pictures, lines and statuses, by lists and lines", command=("pytest", "tests/acceptance"), seconds=60,
+        runs=("program", "why"),
+    ),
+    Check(name="check-compare", about="what generated lists cover", command=("pytest", "tools/test_compare.py"), seconds=60),
+    Check(name="compare", about="generated lists, every byte against a second renderer", command=("tools.compare",), seconds=200, runs=("program",)),
+    Check(
+        name="compare-history", about="histories of trirast_why against the second renderer, reason by reason, and the pictures",
+        command=("tools.compare_history",), seconds=100, runs=("program", "why"),
+    ),
+    Check(
+        name="compare-library-history", about="histories of the library against those of trirast_why", command=("tools.compare_library_history",), seconds=100,
+        runs=("program", "why", "library"), needs=COMPILER,
+    ),
+    Check(
+        name="compare-canvas", about="generated lists on canvases, split into batches, against program and second renderer",
+        command=("tools.compare_canvas",), seconds=100, runs=EVERYTHING, needs=COMPILER,
+    ),
+    Check(
+        name="canvas-mutants", about="mutants of the second renderer's canvases", command=("tools.canvas_mutants",), seconds=60,
+        runs=EVERYTHING, needs=COMPILER,
+    ),
+    Check(name="check-golden", about="how pictures are compared and recorded", command=("pytest", "tools/test_golden.py"), seconds=30),
+    Check(name="golden", about="pictures of examples/ and tests/regressions/ by their checksums", command=("tools.golden",), seconds=90, runs=("program",)),
+    Check(name="mutants", about="mutants of the second renderer, which the comparison has to find", command=("tools.mutants",), seconds=120, runs=("program",)),
+    Check(
+        name="check-conformance", about="the comparison with drivers, by mutants and by recorded answers",
+        command=("pytest", "conformance/test_conformance.py", "conformance/d3d11/test_direct3d.py"), seconds=60,
+    ),
+    Check(name="injection", about="mistakes after failed allocations, by mutants", command=("pytest", "tools/test_injection.py"), seconds=60, needs=COMPILER),
+    Check(
+        name="allocation-failures", about="the program where allocations fail", command=("pytest", "tools/allocation_failures.py"), seconds=120,
+        runs=("program", "readers"), needs=COMPILER,
+    ),
+    Check(
+        name="fault-injection", about="readers, writers, devices and threads that fail, and lists at their limits",
+        command=("pytest", "tools/fault_injection.py"), seconds=120, runs=("program",), needs=COMPILER,
+    ),
+    Check(
+        name="check-library", about="library, header, packages in Python and Rust and examples against the program", command=("tools.check_library",), seconds=400,
+        runs=EVERYTHING, needs=COMPILER,
+    ),
+    Check(
+        name="check-packages", about="Debian packages, wheels and CMake files, each installed in a clean folder", command=("tools.check_packages",), seconds=120,
+        runs=EVERYTHING, needs=COMPILER,
+    ),
+    Check(name="check-poster", about="posters against the program, stopped and resumed", command=("tools.check_poster",), seconds=200, runs=EVERYTHING, needs=COMPILER),
+    Check(name="check-web", about="the page in Chromium, each sample against the program", command=("tools.check_web",), seconds=120, runs=EVERYTHING, needs=COMPILER),
+)
+
+
+def by_name(name: str) -> Check:
+    return next(check for check in CHECKS if check.name == name)
+
+
+def table() -> str:
+    """The table of the checks in CONTRIBUTING."""
+    rows = ["| `make ..` | What it looks at | Seconds | Long form | Needs |", "|---|---|---|---|---|"]
+    for check in CHECKS:
+        long = f"{check.long_seconds}, `{' '.join(check.long)}`" if check.long else ""
+        needs = ", ".join(f"`{name.rpartition(':')[2]}`" for name in check.needs)
+        rows.append(f"| `{check.name}` | {check.about} | {check.seconds} | {long} | {needs} |")
+    return "\n".join(rows)
+
+
+def with_table(page: str) -> str:
+    """The page with the table of these checks, in place of the first one under its heading."""
+    head, rest = page.split(f"\n{HEADING}\n", 1)
+    return f"{head}\n{HEADING}\n" + re.sub(r"(?:^\|.*\n)+", lambda _found: f"{table()}\n", rest, count=1, flags=re.MULTILINE)
+
+
+def main() -> int:
+    parser = argparse.ArgumentParser(description="The checks of what was built.")
+    parser.add_argument("--write", action="store_true", help="write the table in CONTRIBUTING.md")
+    if parser.parse_args().write:
+        page = with_table(text_of(PAGE))
+        with open(os.path.join(TOP, PAGE), "w", encoding="utf-8") as file:
+            file.write(page)
+        return 0
+    for check in CHECKS:
+        print(f"  make {check.name:24} {check.about}")
+    return 0
+
+
+if __name__ == "__main__":
+    sys.exit(main())

@@ -1,0 +1,171 @@
+"""All that needs the prover: each crate and its tests, the programs by two compilers, and the must-fail edits.
+
+    python3 -m tools.ci.prove [--all] [--anew] [--base COMMIT] [--processors N] [CRATE ..]
+
+Every crate is proved, as many side by side as there are processors, those with the longest chain above them first. A crate that is
+proved is checked as it stands, which says what its last line rests on, and then its tests and must-fail edits are tried beside the
+crates above. `edits.py` says which edits that are; with --all it is every one, and the whole of `rt ci` comes first. Over work that is
+kept in this checkout a step is taken again only if the crate or one below it has changed; with --anew each is. With crates named, only
+they and those below them are proved, and all edits of those named are tried.
+
+A line for each step has the time, the seconds of a processor and what came of it. What failed stands once more at the end. The last
+line is `N passed, M failed, K skipped`. Exit status 1 if something failed. Which edits were refused is left in
+out/prove/refused.json, and `python3 -m tools.ci.edits record` takes it over into the committed record.
+"""
+
+from __future__ import annotations
+
+import argparse
+import os
+import shutil
+import signal
+import sys
+import time
+from typing import Sequence
+
+from tools.ci import edits, rt_ci, tried
+from tools.ci.passed import Passed
+from tools.ci.rooms import Rooms
+from tools.ci.schedule import Ended, Schedule, Task
+from tools.ci.steps import Steps
+from tools.ci.tasks import tasks_of
+from tools.ci.toolchain import Toolchain, stop_all
+from tools.ci.verdict import has_nm, read_handles
+from tools.counts import Counts
+from tools.crates import Tree, below
+from tools.places import TOP
+
+# The crates whose programs the checks run, and the names under which they stand in bin/.
+PROGRAMS = {"trirast_cli": "trirast", "trirast_why": "trirast_why", "refused_tiles": "refused_tiles", "list_bench": "list_bench"}
+
+
+def processors() -> int:
+    return len(os.sched_getaffinity(0))
+
+
+class Run:
+    """A run over a tree, with what it printed and counted."""
+
+    def __init__(self, top: str, rt: str, is_anew: bool = False) -> None:
+        self.tree = Tree(top)
+        self.sums = edits.Checksums(self.tree)
+        self.rt = Toolchain(rt)
+        self.steps = Steps(
+            self.tree, Rooms(self.tree), self.rt, Passed(self.tree, self.rt.version(), is_anew), read_handles(top),
+        )
+        self.counts = Counts()
+        self.failures: list[Ended] = []
+        self.refused: dict[str, dict[str, tried.Tried]] = {}
+        self.seconds = 0.0
+
+    def tell(self, ended: Ended) -> None:
+        """Prints and counts what came of a task."""
+        outcome, name = ended.outcome, ended.task.name
+        minutes, seconds = divmod(int(ended.at), 60)
+        print(f"{minutes:4}:{seconds:02} {outcome.seconds:7.1f}  {name}: {outcome.remark}", flush=True)
+        self.seconds += outcome.seconds
+        self.counts += outcome.number()
+        if not outcome.has_passed:
+            self.failures.append(ended)
+        elif "/" in name:
+            crate, edit = name.split("/")
+            made = tried.Tried(self.sums.of_edit(crate, edit), round(outcome.seconds))
+            self.refused.setdefault(crate, {})[edit] = made
+
+    def tasks(self, crates: Sequence[str], names: Sequence[str], known: dict[str, int]) -> list[Task]:
+        """The tasks of these crates, lowest first, with these edits."""
+        order = sorted(crates, key=lambda crate: len(self.tree.below(crate)))
+        of = {crate: [name.split("/")[1] for name in names if name.startswith(f"{crate}/")] for crate in order}
+        return [task for crate in order for task in tasks_of(crate, self.steps, of[crate], known)]
+
+    def keep_refused(self) -> None:
+        """Leaves for `record` which edits were refused."""
+        record = {crate: tried.Entry(self.sums.of_crate(crate), names) for crate, names in self.refused.items()}
+        tried.write_file(os.path.join(self.tree.top, tried.REFUSED), record)
+
+    def take_programs(self) -> None:
+        """Puts the programs that were proved into bin/, for the checks."""
+        for crate, name in PROGRAMS.items():
+            built = os.path.join(self.tree.folder(crate), "out", crate)
+            if crate in self.tree.uses and "run" in self.steps.passed.steps(crate) and os.path.isfile(built):
+                os.makedirs(os.path.join(self.tree.top, "bin"), exist_ok=True)
+                shutil.copy(built, os.path.join(self.tree.top, "bin", name))
+
+    def summarize(self, begun: float) -> None:
+        for ended in self.failures:
+            print(f"\nFAILED {ended.task.name}: {ended.outcome.remark}")
+            for line in ended.outcome.details:
+                print(f"    {line}")
+        minutes = (time.monotonic() - begun) / 60
+        print(f"{minutes:.1f} minutes, {self.seconds / 60:.1f} of a processor", flush=True)
+
+
+def known_seconds(record: tried.Record) -> dict[str, int]:
+    return {f"{crate}/{name}": it.seconds for crate, entry in record.items() for name, it in entry.edits.items()}
+
+
+def chosen(run: Run, options: argparse.Namespace, has_refused: frozenset[str]) -> tuple[list[str], list[str], dict[str, int]]:
+    """The crates to prove, the edits to try, and what these are known to take. Edits that cannot be applied are counted as failed."""
+    base = tried.base_of(options.top, options.base)
+    plan = edits.make_plan(run.sums, base.record, tried.number_of_commits(options.top))
+    known = known_seconds(tried.read_file(os.path.join(options.top, tried.RECORD)))
+    every = edits.all_edits(run.tree)
+    print(f"what was tried: {base.why}")
+    edits.say_plan(plan, len(every))
+    run.counts += Counts(failed=len(plan.faults))
+    names = every if options.all else [*plan.due, *plan.sample]
+    crates = list(run.tree.uses)
+    if options.crates:
+        wanted = set(options.crates).union(*(below(crate, run.tree.uses) for crate in options.crates))
+        crates = [crate for crate in crates if crate in wanted]
+        names = [name for name in every if name.split("/")[0] in options.crates]
+    return crates, [name for name in names if name not in plan.faults and name not in has_refused], known
+
+
+def prove(options: argparse.Namespace) -> Counts:
+    begun = time.monotonic()
+    shutil.rmtree(os.path.join(options.top, "out", "prove"), ignore_errors=True)
+    whole = rt_ci.run(options.rt, options.top) if options.all else rt_ci.Whole(Counts(), frozenset())
+    run = Run(options.top, options.rt, options.anew)
+    run.counts += whole.counts
+    crates, names, known = chosen(run, options, whole.refused)
+    for name in whole.refused:
+        crate, edit = name.split("/")
+        run.refused.setdefault(crate, {})[edit] = tried.Tried(run.sums.of_edit(crate, edit), known.get(name, 0))
+    if not has_nm():
+        print("what programs link of the system: skipped, since nm of GNU binutils is missing")
+        run.counts += Counts(skipped=1)
+    try:
+        Schedule(run.tasks(crates, names, known), options.processors, run.tell).run()
+    finally:
+        run.keep_refused()
+        shutil.rmtree(run.steps.rooms.place, ignore_errors=True)
+    run.take_programs()
+    run.summarize(begun)
+    return run.counts
+
+
+def main() -> int:
+    parser = argparse.ArgumentParser(description="All that needs the prover.")
+    parser.add_argument("crates", nargs="*", metavar="CRATE", help="only these and those below them, with all edits of these")
+    parser.add_argument("--all", action="store_true", help="the whole of rt ci first, and every edit")
+    parser.add_argument("--anew", action="store_true", help="take no step as passed before")
+    parser.add_argument("--base", metavar="COMMIT", help="the commit whose record of what was tried is believed")
+    parser.add_argument("--processors", type=int, default=processors(), metavar="N", help="tasks at once (default: one a processor)")
+    parser.add_argument("--rt", default=os.environ.get("RT", "rt"), help="the toolchain's command (default rt)")
+    parser.add_argument("--top", default=TOP, help="of the repository (default: this one)")
+    options = parser.parse_args()
+
+    def end(*_: object) -> None:
+        stop_all()
+        sys.exit(143)
+
+    for number in (signal.SIGTERM, signal.SIGINT):
+        signal.signal(number, end)
+    counts = prove(options)
+    print(counts, flush=True)
+    return 1 if counts.failed else 0
+
+
+if __name__ == "__main__":
+    sys.exit(main())

@@ -1,0 +1,150 @@
+"""Runs the checks of what was built, side by side.
+
+    python3 -m tools.ci.run_checks [--long] [NAME ..]
+
+What a check runs is built first, if it is missing or old, by make. A line for each check has the time, the seconds of a processor and
+its counts as it ends; what it prints goes to out/test/NAME.log, and the end of that is shown if it failed. What was skipped is named at
+the end, each with the reason. The last line is `N passed, M failed, K skipped`, and the exit status 1 if something failed. With --long
+each check takes its longer form. `checks.py` has the list.
+"""
+
+from __future__ import annotations
+
+import argparse
+import os
+import re
+import shutil
+import signal
+import sys
+import time
+from functools import partial
+from typing import Sequence
+
+from tools.ci.checks import BUILDS, CHECKS, Check, by_name
+from tools.ci.schedule import Ended, Outcome, Schedule, Task
+from tools.ci.toolchain import Ran, run, stop_all
+from tools.counts import MISSING, Counts
+from tools.places import TOP
+
+LOGS = os.path.join("out", "test")
+MINUTE = 60
+# Against a check that does not end, on a machine that may be slow and busy. What make builds may have to be proved from nothing.
+CHECK_SECONDS, LONG_SECONDS, BUILD_SECONDS = 40 * MINUTE, 120 * MINUTE, 120 * MINUTE
+SKIPPED = re.compile(r"^(?:skipped\b|SKIPPED\b).*", re.MULTILINE)
+
+
+def counted(ran: Ran) -> Counts:
+    """What a check's last line counts, or one. A status against the counts is a failure more."""
+    last = (ran.last_lines(1) or [""])[0]
+    counts = Counts.in_line(last)
+    if ran.status == MISSING:
+        return Counts(skipped=1)
+    if ran.status != 0:
+        return counts if counts and counts.failed and ran.status is not None else (counts or Counts()) + Counts(failed=1)
+    return counts or Counts(passed=1)
+
+
+class Tests:
+    """A run of checks at the top of a repository."""
+
+    def __init__(self, top: str, is_long: bool = False) -> None:
+        self.top = top
+        self.is_long = is_long
+        self.counts = Counts()
+        self.seconds = 0.0
+        self.skipped: list[str] = []
+        self.failures: list[Ended] = []
+
+    def log(self, name: str, ran: Ran) -> None:
+        path = os.path.join(self.top, LOGS, f"{name}.log")
+        with open(path, "w", encoding="utf-8") as file:
+            file.write(ran.text)
+
+    def build(self, name: str, _processors: int) -> Outcome:
+        ran = run(["make", *BUILDS[name]], self.top, BUILD_SECONDS)
+        self.log(f"build-{name}", ran)
+        if ran.status != 0:
+            return Outcome(False, f"make failed with status {ran.status}", ran.seconds, tuple(ran.last_lines(12)))
+        return Outcome(True, "there", ran.seconds, counts=Counts())
+
+    def check(self, check: Check, _processors: int) -> Outcome:
+        environment = {**os.environ, "PYTHONUNBUFFERED": "1"}
+        ran = run(check.words(self.is_long), self.top, LONG_SECONDS if self.is_long else CHECK_SECONDS, environment)
+        self.log(check.name, ran)
+        counts = counted(ran)
+        if ran.status == MISSING:
+            self.skipped.append(f"{check.name}: {(ran.last_lines(1) or [''])[0]}")
+        self.skipped += [f"{check.name}: {found[0]}" for found in SKIPPED.finditer(ran.text)]
+        late = " (its time was over)" if ran.status is None else ""
+        return Outcome(not counts.failed, f"{counts}{late}", ran.seconds, tuple(ran.last_lines(40)) if counts.failed else (), counts)
+
+    def tell(self, ended: Ended) -> None:
+        outcome = ended.outcome
+        self.counts += outcome.number()
+        self.seconds += outcome.seconds
+        if outcome.number() != Counts():
+            minutes, seconds = divmod(int(ended.at), 60)
+            print(f"{minutes:4}:{seconds:02} {outcome.seconds:7.1f}  {ended.task.name}: {outcome.remark}", flush=True)
+        if not outcome.has_passed:
+            self.failures.append(ended)
+
+    def tasks(self, checks: Sequence[Check]) -> list[Task]:
+        """The builds that are needed, one after the other, and the checks behind them."""
+        wanted = [name for name in BUILDS if any(name in check.runs for check in checks)]
+        made: list[Task] = []
+        for name in wanted:
+            # rt works in a crate for one command at a time.
+            made.append(Task(f"build of {name}", partial(self.build, name), tuple(task.name for task in made[-1:])))
+        for check in checks:
+            needs = tuple(f"build of {name}" for name in check.runs)
+            made.append(Task(check.name, partial(self.check, check), needs, check.long_seconds if self.is_long else check.seconds))
+        return made
+
+    def run(self, checks: Sequence[Check], processors: int) -> Counts:
+        begun = time.monotonic()
+        shutil.rmtree(os.path.join(self.top, LOGS), ignore_errors=True)
+        os.makedirs(os.path.join(self.top, LOGS))
+        able = [check for check in checks if not check.missing()]
+        for check in checks:
+            if check.missing():
+                self.skipped.append(f"{check.name}: there is no {' and no '.join(check.missing())}")
+                self.counts += Counts(skipped=1)
+        Schedule(self.tasks(able), processors, self.tell).run()
+        self.summarize(begun)
+        return self.counts
+
+    def summarize(self, begun: float) -> None:
+        for line in self.skipped:
+            print(f"skipped: {line}")
+        for ended in self.failures:
+            print(f"\nFAILED {ended.task.name}: {ended.outcome.remark}; out/test/{ended.task.name}.log")
+            for line in ended.outcome.details:
+                print(f"    {line}")
+        minutes = (time.monotonic() - begun) / 60
+        print(f"{minutes:.1f} minutes, {self.seconds / 60:.1f} of a processor", flush=True)
+
+
+def main() -> int:
+    parser = argparse.ArgumentParser(description="Runs the checks of what was built.")
+    parser.add_argument("names", nargs="*", metavar="NAME", help="of checks (default: all)")
+    parser.add_argument("--long", action="store_true", help="each check in its longer form")
+    parser.add_argument("--processors", type=int, default=len(os.sched_getaffinity(0)), metavar="N", help="checks at once")
+    options = parser.parse_args()
+    known = {check.name for check in CHECKS}
+    if lacking := [name for name in options.names if name not in known]:
+        parser.error(f"there is no check {lacking[0]}")
+
+    def end(*_: object) -> None:
+        stop_all()
+        sys.exit(143)
+
+    for number in (signal.SIGTERM, signal.SIGINT):
+        signal.signal(number, end)
+    checks = [by_name(name) for name in options.names] if options.names else list(CHECKS)
+    counts = Tests(TOP, options.long).run(checks, options.processors)
+    print(counts, flush=True)
+    return 1 if counts.failed else 0
+
+
+if __name__ == "__main__":
+    sys.exit(main())

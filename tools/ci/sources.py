@@ -1,0 +1,96 @@
+"""What a checksum takes of a source: its words, without comments and layout, and of a crate below without what no contract can read."""
+
+from __future__ import annotations
+
+import os
+import re
+
+from tools.crates import files_in, text_of
+
+# Strings and characters stand before comments: a text may hold `//`. A lifetime is no character.
+WORDS = re.compile(
+    r"""(?P<comment>//[^\n]*|/\*.*?\*/)|(?P<text>b?r?"(?:\\.|[^"\\])*"|b?'(?:\\.[^']*|[^'\\])')"""
+    r"""|(?P<word>'?\w+\*?)|(?P<space>\s+)|(?P<mark>.)""",
+    re.DOTALL,
+)
+TEST_MODULE = re.compile(r"#\[cfg\(test\)\]\s*mod (\w+);")
+SPEC_COMMENT = re.compile(r"(^|(?<=\s))--(?=\s|$).*$", re.MULTILINE)
+CLAUSES = ("requires", "ensures", "requires*", "ensures*")
+NAME = re.compile(r"[A-Za-z_]\w*")
+
+
+def words_of(text: str) -> list[str]:
+    """The words of a Rattle source, without comments and layout."""
+    return [found[0] for found in WORDS.finditer(text) if found.lastgroup not in ("comment", "space")]
+
+
+def after_group(words: list[str], at: int) -> int:
+    """Where the bracketed group that begins there has ended."""
+    depth = 0
+    while at < len(words):
+        depth += words[at] in "([{"
+        depth -= words[at] in ")]}"
+        at += 1
+        if depth == 0:
+            break
+    return at
+
+
+def is_clause(words: list[str], at: int) -> bool:
+    """Whether the brace there begins a clause and no body: behind `requires`, `ensures*`, `ensures value` or `ghost name:`."""
+    before = [word for word in words[max(0, at - 4) : at] if word != "*"]
+    return any(word in CLAUSES for word in before[-2:]) or (before[-1:] == [":"] and before[-3:-2] == ["ghost"])
+
+
+def head_of_function(words: list[str], at: int, keeps_body: bool) -> tuple[list[str], int]:
+    """The words of a function from `fn` on, with `;` for its body unless that is kept, and where it ends."""
+    kept: list[str] = []
+    while at < len(words) and words[at] != ";":
+        if words[at] not in "([{":
+            kept.append(words[at])
+            at += 1
+            continue
+        end = after_group(words, at)
+        is_body = words[at] == "{" and not is_clause(words, at)
+        kept += [";"] if is_body and not keeps_body else words[at:end]
+        at = end
+        if is_body:
+            break
+    return kept, at
+
+
+def without_bodies(words: list[str]) -> list[str]:
+    """The words without the bodies of functions. A body that a constant may need stays: that of a `const fn`."""
+    kept: list[str] = []
+    at = 0
+    while at < len(words):
+        if words[at] == "fn" and at + 1 < len(words) and NAME.fullmatch(words[at + 1]):
+            head, at = head_of_function(words, at, keeps_body="const" in kept[-3:])
+            kept += head
+        else:
+            kept.append(words[at])
+            at += 1
+    return kept
+
+
+def normal(path: str, is_below: bool) -> str:
+    """What a checksum takes of a file: all that a check can read, or what a crate above can."""
+    text = text_of(path)
+    if path.endswith(".rt"):
+        words = words_of(text)
+        return " ".join(without_bodies(words) if is_below else words)
+    if path.endswith(".antt"):
+        return "\n".join(line.rstrip() for line in SPEC_COMMENT.sub("", text).split("\n") if line.strip())
+    return text
+
+
+def sources_in(folder: str) -> list[str]:
+    """The files of a folder, without modules that stand there for tests alone."""
+    found = files_in(folder)
+    tests: set[str] = set()
+    for path in found:
+        if path.endswith(".rt"):
+            is_root = os.path.basename(path) in ("lib.rt", "main.rt")
+            at = os.path.dirname(path) if is_root else path[: -len(".rt")]
+            tests.update(os.path.join(at, f"{name}.rt") for name in TEST_MODULE.findall(text_of(path)))
+    return [path for path in found if path not in tests]

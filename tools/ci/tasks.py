@@ -1,0 +1,60 @@
+"""The tasks of a run: of each crate its steps, and its must-fail edits that are tried."""
+
+from __future__ import annotations
+
+import os
+from functools import partial
+from typing import Mapping, Sequence
+
+from tools.ci.edit_trial import try_edit
+from tools.ci.schedule import Outcome, Task
+from tools.ci.steps import Steps
+from tools.crates import PARTS, Tree, files_in
+
+# For the order of tasks alone: what a check takes at least, and the seconds of a processor for a byte of a crate's sources.
+CHECK_SECONDS = 10.0
+SECONDS_A_BYTE = 1 / 1200
+EDIT_SECONDS = 20.0
+BUILD_SECONDS = 100.0
+
+
+def likely_seconds(tree: Tree, crate: str) -> float:
+    """The seconds of a processor that a crate's proof is likely to take."""
+    paths = [path for part in PARTS for path in files_in(os.path.join(tree.folder(crate), part))]
+    return CHECK_SECONDS + SECONDS_A_BYTE * sum(os.path.getsize(path) for path in paths)
+
+
+def tried(steps: Steps, crate: str, edit: str, _jobs: int) -> Outcome:
+    return try_edit(steps.rooms, steps.rt, crate, edit)
+
+
+def steps_of(crate: str, steps: Steps, has_edits: bool) -> list[Task]:
+    """The steps of a crate. Only one of them works in the crate at a time."""
+    tree, seconds = steps.tree, likely_seconds(steps.tree, crate)
+    made: list[Task] = []
+
+    def add(name: str, run: "partial[Outcome]", expected: float) -> None:
+        below = tuple(f"{name}: proof" for name in tree.below(crate))
+        made.append(Task(f"{crate}: {name}", run, (*below, *(task.name for task in made[-1:])), expected, is_wide=True))
+
+    if tree.is_program(crate):
+        add("program", partial(steps.run, crate), seconds + BUILD_SECONDS)
+    elif tree.above(crate):
+        add("proof", partial(steps.prove, crate), seconds)
+    if not tree.is_program(crate) or has_edits:
+        add("as it stands", partial(steps.stand, crate), CHECK_SECONDS if made else seconds)
+    if tree.is_static(crate):
+        add("archive", partial(steps.archive, crate), BUILD_SECONDS)
+    if tree.has_tests(crate):
+        add("tests", partial(steps.test, crate), seconds)
+    return made
+
+
+def tasks_of(crate: str, steps: Steps, edits: Sequence[str], known: Mapping[str, int]) -> list[Task]:
+    """The tasks of a crate, each behind those that it needs. Its edits are tried once it stands, beside its tests."""
+    made = steps_of(crate, steps, has_edits=bool(edits))
+    for edit in edits:
+        name = f"{crate}/{edit}"
+        seconds = known.get(name, EDIT_SECONDS)
+        made.append(Task(name, partial(tried, steps, crate, edit), (f"{crate}: as it stands",), seconds))
+    return made
