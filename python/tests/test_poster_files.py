@@ -259,7 +259,7 @@ class Stops(Files):
             stopped = 0
             while self.is_stopped(scene, kind, stopped):
                 self.draw(scene, kind, resume=True)
-                self.assertEqual(self.there(), wanted, (kind, stopped))
+                self.assertTrue(self.there() == wanted, (kind, stopped))
                 stopped += 1
             self.assertGreater(stopped, 9, kind)
 
@@ -270,10 +270,11 @@ class Stops(Files):
 
         def stopping(call: Any) -> Any:
             def stop(*given: Any, **named: Any) -> Any:
-                if left[0] <= 0:
-                    raise Killed
                 left[0] -= 1
-                return call(*given, **named)
+                if left[0] == -1:
+                    raise Killed
+                # A process that was killed makes no calls as it ends.
+                return call(*given, **named) if left[0] >= 0 else None
             return stop
 
         class Killed(BaseException):
@@ -303,7 +304,7 @@ class Stops(Files):
                 self.assertFalse(os.path.exists(self.path(name)))
                 self.draw(scene if resume else other, (name, None), resume=resume)
                 self.draw(scene if resume else other, ("wanted" + name, None))
-                self.assertEqual(self.content(name), self.content("wanted" + name))
+                self.assertTrue(self.content(name) == self.content("wanted" + name), name)
                 os.system(f"rm -r {self.folder}/*")
 
 
@@ -347,10 +348,10 @@ class BrokenArrays(Files):
 
         def shrink(*given: Any) -> Any:
             os.truncate(self.path("a.npz"), len(data) // 4)
-            return copied(*given)
+            return copy_part(*given)
 
-        copied = _arrays.copied
-        with mock.patch.object(_arrays, "copied", shrink), self.assertRaises(poster.ArraysError):
+        copy_part = _arrays.copy_part
+        with mock.patch.object(_arrays, "copy_part", shrink), self.assertRaises(poster.ArraysError):
             poster.scene_of(self.path("a.npz"))
 
     def test_a_file_is_saved_over_its_own_arrays(self) -> None:

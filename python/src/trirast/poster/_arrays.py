@@ -90,12 +90,14 @@ def member(file: IO[bytes], archive: zipfile.ZipFile, name: str) -> NDArray[Any]
     size = int(np.prod(shape, dtype=object)) * dtype.itemsize
     if header + size > info.file_size:
         raise ValueError(f"{name} has {info.file_size - header} bytes, and not {size}")
-    return np.memmap(copied(file, name, data_offset(file, info) + header, size), dtype, "c", 0, shape)
+    # A mapping stays when its file is closed.
+    with tempfile.TemporaryFile(dir=os.environ.get("TMPDIR", "/var/tmp")) as copy:
+        copy_part(file, name, data_offset(file, info) + header, size, copy)
+        return np.memmap(copy, dtype, "c", 0, shape)
 
 
-def copied(file: IO[bytes], name: str, start: int, size: int) -> IO[bytes]:
-    """A part of a file as a file without a name, which nobody else can change. Raises ValueError if the file ends before."""
-    copy: IO[bytes] = tempfile.TemporaryFile(dir=os.environ.get("TMPDIR", "/var/tmp"))
+def copy_part(file: IO[bytes], name: str, start: int, size: int, copy: IO[bytes]) -> None:
+    """Copies a part of a file to a file without a name, which nobody else can change. Raises ValueError if the file ends before."""
     file.seek(start)
     while size:
         block = file.read(min(size, BLOCK))
@@ -104,7 +106,6 @@ def copied(file: IO[bytes], name: str, start: int, size: int) -> IO[bytes]:
         copy.write(block)
         size -= len(block)
     copy.flush()
-    return copy
 
 
 def header_of(file: IO[bytes]) -> tuple[tuple[int, ...], bool, np.dtype[Any]]:

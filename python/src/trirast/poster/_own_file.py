@@ -33,15 +33,19 @@ class OwnFile:
 
     def close(self) -> None:
         """Closes it. A file that was made and not written to is removed."""
-        if not self._is_kept and not self.file.closed:
-            os.remove(self.path)
-        self.file.close()
+        try:
+            if not self._is_kept:
+                self.remove()
+        finally:
+            self.file.close()
 
     def remove(self) -> None:
         """Removes it, and then closes it."""
-        os.remove(self.path)
         self._is_kept = True
-        self.file.close()
+        try:
+            os.remove(self.path)
+        finally:
+            self.file.close()
 
 
 def open_alone(path: str, flags: int) -> int:

@@ -30,6 +30,8 @@ def places_of(out: Optional[Path], tiles: Optional[Path], source: Optional[str])
     places = Places(*(None if path is None else without_slash(os.fspath(path)) for path in (out, tiles)))
     if places.file is None and places.folder is None:
         raise ValueError("a poster goes to a file, to a folder of tiles, or to both")
+    if "" in places:
+        raise OutputError("a file or a folder without a name")
     check_names(places)
     if places.file is not None:
         check_file(places.file)
