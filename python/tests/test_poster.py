@@ -7,7 +7,7 @@ import os
 import unittest
 import zlib
 from contextlib import redirect_stderr
-from typing import Any, List
+from typing import Any, Dict, List
 from unittest import mock
 
 if importlib.util.find_spec("numpy") is None:

@@ -18,7 +18,7 @@ using trirast::TileRows;
 namespace {
 
 using Pixels = std::vector<std::uint8_t>;
-constexpr std::uint32_t NO_ID = 16777215;
+constexpr std::uint32_t NO_ID = 16777215, SAMPLES[] = {1, 2, 4, 8, 16};
 constexpr trirast_format FORMATS[] = {TRIRAST_FORMAT_RGB8, TRIRAST_FORMAT_RGBA8, TRIRAST_FORMAT_BGRA8};
 std::uint64_t seed_of_scene = 0;
 
@@ -71,7 +71,7 @@ void add_draw(Pick &pick, Scene &scene) {
     trirast_batch_draw draw = trirast::new_draw();
     const std::size_t first = scene.vertices.size(), begin = scene.indices.size();
     draw.topology = pick.below(3), draw.cull = pick.below(3), draw.depth_test = pick.below(8), draw.depth_write = pick.below(2);
-    draw.blend = pick.below(2), draw.sample_mask = 15 - (pick.chance(3) ? pick.below(16) : 0);
+    draw.blend = pick.below(2), draw.sample_mask = pick.chance(3) ? pick.below(1u << scene.samples) : (1u << scene.samples) - 1;
     draw.write_red = !pick.chance(5), draw.write_green = !pick.chance(5), draw.write_blue = !pick.chance(5);
     if (draw.topology == TRIRAST_TOPOLOGY_QUADS) {
         add_quad(pick, scene);
@@ -98,7 +98,7 @@ void add_draw(Pick &pick, Scene &scene) {
 Scene some_scene(Pick &pick) {
     Scene scene = {};
     scene.width = 1 + pick.below(pick.chance(10) ? 600 : 150), scene.height = 1 + pick.below(pick.chance(10) ? 600 : 150);
-    scene.samples = pick.chance(2) ? 1 : 4, scene.depth = pick.below(65536);
+    scene.samples = SAMPLES[pick.below(5)], scene.depth = pick.below(65536);
     if (pick.chance(2)) scene.origin = {pick.from(0, 3000), pick.from(0, 3000)};
     scene.color = {static_cast<std::uint8_t>(pick.below(256)), static_cast<std::uint8_t>(pick.below(256)), static_cast<std::uint8_t>(pick.below(256))};
     for (std::uint32_t count = pick.below(6); count > 0; count--) add_draw(pick, scene);
@@ -122,9 +122,26 @@ Scene moved(const Scene &scene) {
     return found;
 }
 
-// The pixels of a scene by trirast_draw_scene.
+Canvas cleared(const Scene &scene) {
+    Canvas canvas(scene.width, scene.height, scene.samples, scene.origin);
+    canvas.clear(scene.color, static_cast<std::uint16_t>(scene.depth));
+    return canvas;
+}
+
+Pixels depths_of(const TileRows &rows) {
+    Pixels found;
+    for (const std::uint16_t depth : rows.depths()) found.push_back(static_cast<std::uint8_t>(depth >> 8)), found.push_back(static_cast<std::uint8_t>(depth));
+    return found;
+}
+
+// The pixels of a scene by trirast_draw_scene. Where it has no such samples, those of a canvas without a window.
 Pixels wanted_of(const Scene &given, std::uint32_t output) {
     const Scene scene = moved(given);
+    if (scene.samples != 1 && scene.samples != 4) {
+        Canvas canvas = cleared(scene);
+        canvas.draw(scene.batch());
+        return output == TRIRAST_OUTPUT_COLOR ? canvas.pixels(TRIRAST_FORMAT_RGB8) : depths_of(canvas);
+    }
     trirast_scene_head head = TRIRAST_SCENE_HEAD_INIT;
     head.width = scene.width, head.height = scene.height, head.samples = scene.samples, head.output = output;
     head.clear_red = scene.color.red, head.clear_green = scene.color.green, head.clear_blue = scene.color.blue, head.clear_depth = scene.depth;
@@ -140,12 +157,6 @@ Pixels wanted_of(const Scene &given, std::uint32_t output) {
 }
 
 // ---- The ways in which a canvas is drawn
-
-Canvas cleared(const Scene &scene) {
-    Canvas canvas(scene.width, scene.height, scene.samples, scene.origin);
-    canvas.clear(scene.color, static_cast<std::uint16_t>(scene.depth));
-    return canvas;
-}
 
 // Draws a scene draw by draw.
 void draw_each(const Scene &scene, TileRows &rows) {
@@ -184,12 +195,6 @@ Pixels resolved(Pick &pick, const TileRows &rows, trirast_format format) {
             for (std::size_t c = 0; c < 3; c++) found.push_back(begin[bytes * x + (format == TRIRAST_FORMAT_BGRA8 ? 2 - c : c)]);
         if (y + 1 < rows.height()) must(std::all_of(begin + row, begin + stride, [](std::uint8_t byte) { return byte == 77; }), "bytes between rows");
     }
-    return found;
-}
-
-Pixels depths_of(const TileRows &rows) {
-    Pixels found;
-    for (const std::uint16_t depth : rows.depths()) found.push_back(static_cast<std::uint8_t>(depth >> 8)), found.push_back(static_cast<std::uint8_t>(depth));
     return found;
 }
 
