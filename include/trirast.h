@@ -545,7 +545,8 @@ static inline trirast_status trirast_canvas_piece(const trirast_canvas *whole, u
     *piece = *whole;
     piece->first = first;
     piece->end = end;
-    piece->memory = (unsigned char *)whole->memory + (first - whole->first) * row;
+    /* Without tile rows the memory may be NULL, to which nothing is added. */
+    if (first != whole->first) piece->memory = (unsigned char *)whole->memory + (first - whole->first) * row;
     piece->plane_count = (end - first) * (row / TRIRAST_PLANE_BYTES);
     return TRIRAST_STATUS_OK;
 }

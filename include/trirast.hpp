@@ -13,6 +13,7 @@
 #include <new>
 #include <optional>
 #include <stdexcept>
+#include <string>
 #include <type_traits>
 #include <utility>
 #include <vector>
@@ -25,19 +26,30 @@
 
 namespace trirast {
 
+namespace detail {
+
+/* Is a type if a pointer is to elements of type T, or of T without const. A pointer to a struct that is derived from T is not: its
+ * elements are larger. */
+template <class Pointer, class T>
+using IfElements = std::enable_if_t<std::is_convertible_v<std::remove_pointer_t<Pointer> (*)[], T (*)[]>>;
+
+}  // namespace detail
+
 /* Elements one after another in memory that another object owns, as std::span of C++20. */
 template <class T>
 class Span {
 public:
     constexpr Span() noexcept = default;
-    constexpr Span(T *data, std::size_t size) noexcept : data_(data), size_(size) {}
+
+    template <class U, class = detail::IfElements<U *, T>>
+    constexpr Span(U *data, std::size_t size) noexcept : data_(data), size_(size) {}
 
     template <std::size_t count>
     constexpr Span(T (&array)[count]) noexcept : data_(array), size_(count) {}
 
     /* The elements of a container that has data() and size(), as std::vector and std::array. */
-    template <class C, class = std::enable_if_t<std::is_convertible_v<decltype(std::declval<C &>().data()), T *>>>
-    constexpr Span(C &&container) noexcept : data_(container.data()), size_(container.size()) {}
+    template <class C, class = detail::IfElements<decltype(std::declval<C &>().data()), T>>
+    constexpr Span(C &&container) noexcept : data_(container.data()), size_(static_cast<std::size_t>(container.size())) {}
 
     constexpr T *data() const noexcept { return data_; }
     constexpr std::size_t size() const noexcept { return size_; }
@@ -55,18 +67,22 @@ private:
 /* A call that failed, and its status. */
 class Error : public std::runtime_error {
 public:
-    explicit Error(trirast_status status) : std::runtime_error(trirast_status_string(status)), status_(status) {}
+    explicit Error(trirast_status status) : Error(status, trirast_status_string(status)) {}
 
     trirast_status status() const noexcept { return status_; }
+
+protected:
+    Error(trirast_status status, const std::string &text) : std::runtime_error(text), status_(status) {}
 
 private:
     trirast_status status_;
 };
 
-/* A batch that was refused, with the first error in it. */
+/* A batch that was refused, with the first error in it. Its text is the line of trirast_error_line, as
+ * "trirast: list fault 6 BadIndex in draw 0". */
 class BatchError : public Error {
 public:
-    explicit BatchError(const trirast_error &error) : Error(TRIRAST_STATUS_BAD_LIST), error_(error) {}
+    explicit BatchError(const trirast_error &error) : Error(TRIRAST_STATUS_BAD_LIST, line_of(error)), error_(error) {}
 
     trirast_list_error list_error() const noexcept { return static_cast<trirast_list_error>(error_.list_error); }
 
@@ -77,6 +93,13 @@ public:
     }
 
 private:
+    static std::string line_of(const trirast_error &error) {
+        char line[TRIRAST_ERROR_LINE_SIZE];
+        const std::size_t length = trirast_error_line(&error, line, sizeof line);
+        /* Without the line feed at its end. */
+        return length == 0 ? trirast_status_string(TRIRAST_STATUS_BAD_LIST) : std::string(line, length - 1);
+    }
+
     trirast_error error_;
 };
 
@@ -141,9 +164,19 @@ inline trirast_batch_draw new_draw() noexcept {
 /* ---- Canvases ---- */
 
 /* Some tile rows of a canvas. The memory of their samples is the Canvas's, which has to outlive them. One thread at a time may use
- * them, and others may use tile rows of which these have none. */
+ * them, and others may use tile rows of which these have none. They are moved and not copied, so that const ones stay as they are. */
 class TileRows {
 public:
+    TileRows(const TileRows &) = delete;
+    TileRows &operator=(const TileRows &) = delete;
+
+    /* Those that were moved from are none. */
+    TileRows(TileRows &&other) noexcept { std::swap(rows_, other.rows_); }
+    TileRows &operator=(TileRows &&other) noexcept {
+        TileRows(std::move(other)).swap_rows(*this);
+        return *this;
+    }
+
     std::uint32_t width() const noexcept { return rows_.width; }
 
     /* The rows of pixels of these tile rows. */
@@ -252,6 +285,8 @@ public:
 protected:
     TileRows() noexcept = default;
 
+    void swap_rows(TileRows &other) noexcept { std::swap(rows_, other.rows_); }
+
     trirast_canvas rows_ = TRIRAST_CANVAS_INIT;
 
 private:
@@ -299,7 +334,7 @@ public:
 
 private:
     void swap(Canvas &other) noexcept {
-        std::swap(rows_, other.rows_);
+        swap_rows(other);
         memory_.swap(other.memory_);
     }
 

@@ -24,6 +24,7 @@ from tools.poster.browser import chromium
 from tools.web import checks
 from tools.web.explorer import Explorer, explorer, served
 from tools.web.mutants import check_mutants
+from tools.web.numbers import check_numbers
 from tools.web.positions import check_positions
 
 OUT = os.path.join(places.OUT, "check-web")
@@ -47,6 +48,7 @@ def check_page(tally: Tally, page: Explorer, address: str, figures: int) -> None
     tally.run("links", checks.check_links, page, address)
     tally.run("controls", checks.check_controls, page, address)
     tally.run("the chosen sample", checks.check_chosen, page, address)
+    tally.run("numbers that a canvas does not take", check_numbers, page, address)
     tally.run("examples", checks.check_examples, page, address)
     for theme, is_phone in VIEWS:
         tally.run(f"view: {theme}{', a phone' if is_phone else ''}", checks.check_view, page, address, OUT, theme, is_phone)

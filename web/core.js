@@ -1,5 +1,7 @@
 // The calls of canvas.wasm: the proved canvas, compiled for WebAssembly with 64-bit memory. include/trirast.h says what each does.
 
+import { INT32, integer, integers } from './numbers.js';
+
 const PAGE_BYTES = 65536;
 const ALIGNMENT = 64;
 
@@ -29,9 +31,9 @@ export class Core {
   /** The address of this many bytes. The module never grows its memory itself, so that is done here. */
   take(bytes) {
     const address = Math.ceil(this.top / ALIGNMENT) * ALIGNMENT;
-    this.top = address + bytes;
-    const lacking = Math.ceil((this.top - this.memory.buffer.byteLength) / PAGE_BYTES);
+    const lacking = Math.ceil((address + bytes - this.memory.buffer.byteLength) / PAGE_BYTES);
     if (lacking > 0) this.memory.grow(BigInt(lacking));
+    this.top = address + bytes;
     return address;
   }
 
@@ -66,14 +68,17 @@ export class EdgeFunctions {
     this.edges = core.take(40);
   }
 
-  /** Sets the triangle of the next calls. */
+  /** Sets the triangle of the next calls: three corners, of two integers each. */
   of(corners) {
+    integers('corners', corners?.flat?.(), INT32, 6);
     this.core.view(Int32Array, this.corners, 6).set(corners.flat());
     return this;
   }
 
   /** The edge functions at a point, the doubled area, and whether the triangle covers the point. */
   at(x, y) {
+    integer('x', x, INT32);
+    integer('y', y, INT32);
     const status = this.core.calls.trirast_weights(BigInt(this.corners), x, y, BigInt(this.edges));
     if (status !== 0) throw new RangeError(`no edge functions at (${x}, ${y}): status ${status}`);
     const [a, b, c, area, covers] = this.core.view(BigInt64Array, this.edges, 5);

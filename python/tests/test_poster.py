@@ -4,7 +4,6 @@ import importlib.util
 import io
 import json
 import os
-import tempfile
 import unittest
 import zlib
 from contextlib import redirect_stderr
@@ -22,53 +21,13 @@ from trirast.poster import _command, _draw_list, _index, _journal, _part, _png, 
 from trirast.poster._dask import draw_by_dask
 
 from .common import DRAW_LIST, FILE, VERTICES
+from .poster_common import Files, as_list, random_scene
 
 SHEET = poster.Sheet(3, 3)
 
 
 def list_of(**more: Any) -> bytes:
     return json.dumps({**DRAW_LIST, **more}).encode()
-
-
-def random_scene(seed: int, width: int = 300, height: int = 200, triangles: int = 200, reach: int = 20000) -> poster.Scene:
-    """Triangles all over a sheet and past it, whose corners lie up to `reach` from their middles."""
-    pick = np.random.default_rng(seed)
-    middles = pick.integers(-5000, 256 * width + 5000, (triangles, 1, 2))
-    places = (middles + pick.integers(-reach, reach, (triangles, 3, 2))).reshape(-1, 2)
-    vertices = np.concatenate((places, pick.integers(0, 256, (3 * triangles, 5))), 1)
-    indices = np.arange(3 * triangles).reshape(-1, 3)
-    draws = [{"triangles": triangles // 4, "blend": "over"}, {"triangles": 0}, {"triangles": triangles - triangles // 4, "scissor": [3, 5, 290, 111]}]
-    return poster.scene_of_arrays(vertices, indices, {"width": width, "height": height, "samples": 4, "draws": draws})
-
-
-def as_list(scene: poster.Scene) -> Dict[str, Any]:
-    """A scene as a draw list."""
-    draws: List[Dict[str, Any]] = []
-    first = 0
-    for draw in scene.draws:
-        triangles = scene.triangles[first : first + draw.triangles]
-        first += draw.triangles
-        draws.append({**draw.state, "vertices": scene.vertices.tolist(), "triangles": triangles.tolist()})
-    return {"width": scene.sheet.width, "height": scene.sheet.height, "samples": scene.sheet.samples, "draws": draws}
-
-
-class Files(unittest.TestCase):
-    def setUp(self) -> None:
-        folder = tempfile.TemporaryDirectory()
-        self.addCleanup(folder.cleanup)
-        self.folder = folder.name
-
-    def path(self, name: str) -> str:
-        return os.path.join(self.folder, name)
-
-    def content(self, name: str) -> bytes:
-        with open(self.path(name), "rb") as file:
-            return file.read()
-
-    def write(self, name: str, data: bytes) -> str:
-        with open(self.path(name), "wb") as file:
-            file.write(data)
-        return self.path(name)
 
 
 class Lists(unittest.TestCase):
@@ -144,7 +103,7 @@ class Windows(unittest.TestCase):
         for place in ((96, 32), (224, 96), (32, 160), (160, 224)):
             first = -((np.array(place) - low) // 256) * 256 + place
             has_sample |= (first <= high).all(1)
-        for side, threads in ((37, 1), (64, 2), (100, 3), (192, 1)):
+        for side, threads in ((71, 1), (64, 2), (100, 3), (192, 1)):
             windows = _windows.Windows(scene.sheet, side)
             with mock.patch.object(_index, "CHUNK", 150):
                 index = _index.Index.of(scene, windows, threads)
@@ -234,7 +193,7 @@ class Pictures(Files):
     def test_are_the_lists(self) -> None:
         scene = random_scene(3)
         wanted = trirast.draw_file(as_list(scene))
-        for workers, side in ((1, 64), (3, 50), (2, 512), (2, 100)):
+        for workers, side in ((1, 64), (3, 65), (2, 512), (2, 100)):
             for weight in (_threads.WEIGHT, 200):
                 with mock.patch.object(_threads, "WEIGHT", weight):
                     poster.draw_poster(scene, self.path("a.ppm"), window=side, workers=workers)
@@ -244,11 +203,12 @@ class Pictures(Files):
     def test_small_triangles_at_samples_are_the_lists(self) -> None:
         pick = np.random.default_rng(4)
         for samples, places in ((1, [(128, 128)]), (4, [(96, 32), (224, 96), (32, 160), (160, 224)])):
-            scene = random_scene(9, 70, 70, 70 * 70, 2)
             pixels = np.stack(np.meshgrid(np.arange(70), np.arange(70)), 2).reshape(-1, 1, 2) * 256
             at = pick.choice(np.array(places), (70 * 70, 1)) + pick.integers(-3, 4, (70 * 70, 1, 2))
-            scene.vertices[:, :2] = (pixels + at + pick.integers(-2, 3, (70 * 70, 3, 2))).reshape(-1, 2)
-            scene = poster.Scene(poster.Sheet(70, 70, samples), scene.vertices, scene.triangles, [poster.PosterDraw(70 * 70)])
+            corners = (pixels + at + pick.integers(-2, 3, (70 * 70, 3, 2))).reshape(-1, 2)
+            vertices = np.concatenate((corners, pick.integers(0, 256, (len(corners), 5))), 1)
+            triangles = np.arange(len(corners)).reshape(-1, 3)
+            scene = poster.Scene(poster.Sheet(70, 70, samples), vertices, triangles, [poster.PosterDraw(70 * 70)])
             poster.draw_poster(scene, self.path("a.ppm"), window=70)
             self.assertEqual(self.content("a.ppm"), trirast.draw_file(as_list(scene)))
             self.assertGreater(len(self.content("a.ppm")) - self.content("a.ppm").count(0), 99)
@@ -256,15 +216,16 @@ class Pictures(Files):
     def test_more_samples_are_those_of_a_canvas(self) -> None:
         pick = np.random.default_rng(4)
         for samples, places in _scene.SAMPLES.items():
-            scene = random_scene(9, 70, 70, 70 * 70, 2)
             pixels = np.stack(np.meshgrid(np.arange(70), np.arange(70)), 2).reshape(-1, 1, 2) * 256
             at = pick.choice(np.array(places), (70 * 70, 1)) + pick.integers(-3, 4, (70 * 70, 1, 2))
-            scene.vertices[:, :2] = (pixels + at + pick.integers(-2, 3, (70 * 70, 3, 2))).reshape(-1, 2)
+            corners = (pixels + at + pick.integers(-2, 3, (70 * 70, 3, 2))).reshape(-1, 2)
+            vertices = np.concatenate((corners, pick.integers(0, 256, (len(corners), 5))), 1).astype(np.int32)
+            triangles = np.arange(len(corners), dtype=np.int32).reshape(-1, 3)
             canvas = trirast.Canvas(70, 70, samples=samples)
             canvas.clear()
-            canvas.draw(scene.vertices, scene.triangles)
-            scene = poster.Scene(poster.Sheet(70, 70), scene.vertices, scene.triangles, [poster.PosterDraw(70 * 70)])
-            for window in (70, 16):
+            canvas.draw(vertices, triangles)
+            scene = poster.Scene(poster.Sheet(70, 70), vertices, triangles, [poster.PosterDraw(70 * 70)])
+            for window in (70, 64):
                 poster.draw_poster(scene, self.path("a.ppm"), samples=samples, window=window)
                 self.assertEqual(self.content("a.ppm")[-3 * 70 * 70 :], canvas.rgb().tobytes(), (samples, window))
             self.assertGreater(np.count_nonzero(canvas.rgb()), 99)
@@ -289,16 +250,16 @@ class Pictures(Files):
 
     def test_arrays_that_are_kept_from_writing_are_drawn(self) -> None:
         scene = random_scene(8)
-        wanted = trirast.draw_file(as_list(scene))
-        for array in (scene.vertices, scene.triangles):
+        vertices, triangles = scene.vertices.copy(), scene.triangles.copy()
+        for array in (vertices, triangles):
             array.flags.writeable = False
-        poster.draw_poster(scene, self.path("a.ppm"), window=100)
-        self.assertEqual(self.content("a.ppm"), wanted)
+        poster.draw_poster(poster.Scene(scene.sheet, vertices, triangles, scene.draws, copy=False), self.path("a.ppm"), window=100)
+        self.assertEqual(self.content("a.ppm"), trirast.draw_file(as_list(scene)))
 
     def test_go_to_one_place_at_least(self) -> None:
         with self.assertRaises(ValueError):
             poster.draw_poster(random_scene(5))
-        for side in (0, 4097):
+        for side in (0, 2, 63, 4097):
             with self.assertRaises(ValueError):
                 poster.draw_poster(random_scene(5), self.path("a.ppm"), window=side)
 
@@ -325,7 +286,8 @@ class Tiles(Files):
         sheet = poster.Sheet(300, 700)
         pixels = np.random.default_rng(2).integers(0, 256, (700, 300, 3)).astype(np.uint8)
         for name, height in (("whole", 700), ("rows", 100), ("other", 300)):
-            writer = _tiles_writer.TilesWriter(self.path(name), sheet, False, 2)
+            writer = _tiles_writer.TilesWriter(self.path(name), sheet, "sum", False, 2)
+            writer.begin()
             memory = sheet.blank(height, 300)
             for first in range(0, 700, height):
                 rows = memory[: min(height, 700 - first)]
@@ -363,31 +325,33 @@ class Stopped(Files):
 
         lines: List[str] = []
         with mock.patch.object(_journal.Journal, "kept", kept_then_full), self.assertRaises(OSError):
-            poster.draw_poster(random_scene(6), self.path(out), window=32, **how)
+            poster.draw_poster(random_scene(6), self.path(out), window=64, **how)
 
     def test_runs_are_resumed(self) -> None:
         scene = random_scene(6)
         for out in ("a.ppm", "a.png"):
-            poster.draw_poster(scene, self.path("whole" + out), window=32)
+            poster.draw_poster(scene, self.path("whole" + out), window=64)
             self.stop(out, 3)
             self.assertFalse(os.path.exists(self.path(out)))
-            poster.draw_poster(scene, self.path(out), window=32, resume=True)
+            poster.draw_poster(scene, self.path(out), window=64, resume=True)
             self.assertEqual(self.content(out), self.content("whole" + out))
         self.assertEqual(len(os.listdir(self.folder)), 4)
 
     def test_another_run_is_not_resumed(self) -> None:
         self.stop("a.ppm", 3)
-        for scene, side in ((random_scene(7), 32), (random_scene(6), 33)):
+        for scene, side in ((random_scene(7), 64), (random_scene(6), 65)):
             with self.assertRaises(poster.ResumeError):
                 poster.draw_poster(scene, self.path("a.ppm"), window=side, resume=True)
-        poster.draw_poster(random_scene(6), self.path("a.ppm"), window=32, resume=True)
+        poster.draw_poster(random_scene(6), self.path("a.ppm"), window=64, resume=True)
         self.assertEqual(self.content("a.ppm"), trirast.draw_file(as_list(random_scene(6))))
 
     def test_a_journal_that_was_cut_is_read_as_far_as_it_goes(self) -> None:
-        path = self.write("journal", b'{"list": "a"}\n{"row": "b"}\n{"ro')
-        journal = _journal.Journal(path, {"list": "a"}, resume=True)
-        self.addCleanup(journal.close)
-        self.assertEqual(journal.rows, ["b"])
+        begun = _journal.MARK + b'{"list": "a"}\n{"row": "b"}\n'
+        for number, cut in enumerate((b'{"ro', b'{"row": 3}\n{"row": "c"}\n', b'{}\n', b"3\n", b"[" * 9999 + b"\n", b"\xff\n")):
+            journal = _journal.Journal(self.write(f"journal{number}", begun + cut))
+            self.addCleanup(journal.close)
+            journal.begin({"list": "a"}, resume=True)
+            self.assertEqual(journal.rows, ["b"], cut)
 
 
 class Command(Files):

@@ -9,6 +9,7 @@
 #include "trirast.hpp"
 
 using trirast::Canvas;
+using trirast::Span;
 using trirast::TileRows;
 
 static bool has_failed = false;
@@ -110,6 +111,7 @@ static void compare_errors() {
         report(false, "a batch with an index past the vertices is refused");
     } catch (const trirast::BatchError &error) {
         report(error.list_error() == TRIRAST_LIST_BAD_INDEX && error.draw() == 0, "a batch with an index past the vertices is refused");
+        report(std::string(error.what()) == "trirast: list fault 6 BadIndex in draw 0", "its text says what is wrong, and where");
     }
     try {
         canvas.draw(trirast::Batch{{}, CORNERS, {}});
@@ -120,13 +122,39 @@ static void compare_errors() {
     report(canvas.pixels(TRIRAST_FORMAT_RGBA8) == before, "nothing of them is drawn");
 }
 
+// A struct of another size, whose pointer is a pointer to a vertex.
+struct Labelled : trirast_vertex {
+    int label;
+};
+
+template <class From>
+constexpr bool is_vertices = std::is_constructible_v<Span<const trirast_vertex>, From>;
+
+static void compare_spans() {
+    static_assert(is_vertices<std::vector<trirast_vertex> &> && is_vertices<const std::array<trirast_vertex, 3> &> &&
+                      is_vertices<const trirast_vertex (&)[3]> && is_vertices<Span<trirast_vertex>>, "vertices one after another are a span");
+    static_assert(!is_vertices<std::vector<Labelled> &> && !is_vertices<std::array<Labelled, 3>> && !is_vertices<Labelled (&)[3]> &&
+                      !is_vertices<Span<Labelled>>, "elements of another size are none");
+    static_assert(std::is_constructible_v<Span<const trirast_vertex>, trirast_vertex *, std::size_t> &&
+                      !std::is_constructible_v<Span<const trirast_vertex>, Labelled *, std::size_t>, "and no pointer to them");
+    static_assert(!std::is_constructible_v<Span<std::uint8_t>, const std::vector<std::uint8_t> &>, "what is const is not written to");
+    const Span<const trirast_vertex> span = CORNERS;
+    report(span.data() == CORNERS.data() && span.size() == 3 && Span<int>().size() == 0, "an array is a span");
+}
+
 static void compare_moves() {
     static_assert(!std::is_copy_constructible_v<Canvas> && !std::is_copy_assignable_v<Canvas>, "one canvas owns its memory");
+    static_assert(!std::is_constructible_v<TileRows, const Canvas &> && !std::is_constructible_v<TileRows, const TileRows &> &&
+                      !std::is_assignable_v<TileRows &, const Canvas &> && !std::is_constructible_v<TileRows, const Canvas>,
+                  "a const canvas has no tile rows that can be written to");
     Canvas first = cleared();
     const void *memory = first.in_c().memory;
     Canvas second = std::move(first);
     report(second.in_c().memory == memory && second.ids().front() == 16777215, "a canvas is moved with its memory");
     report(throws(TRIRAST_STATUS_BAD_CANVAS, [&] { first.clear({}); }), "one that was moved from has no samples");
+    TileRows rows = second.rows(1, 3);
+    TileRows later = std::move(rows);
+    report(later.first() == 1 && later.end() == 3 && rows.first() == rows.end(), "tile rows are moved");
     second = Canvas(1, 1);
     report(second.width() == 1 && second.height() == 1, "a canvas is assigned");
 }
@@ -137,6 +165,7 @@ int main() {
     compare_entries();
     compare_samples();
     compare_errors();
+    compare_spans();
     compare_moves();
     return has_failed ? 1 : 0;
 }

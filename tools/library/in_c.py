@@ -8,6 +8,7 @@ import subprocess
 from typing import Sequence
 
 from tools import places
+from tools.library import sanitized
 from tools.library.commands import OUT, SHARED, WARNINGS, must_be_silent, need, run
 from tools.library.tally import MAX_SECONDS, Tally, must
 from tools.places import INCLUDE, LEVEL, LIB, SECOND_LEVEL, SHARED_LIBRARY, STATIC_LIBRARY, TOP
@@ -39,7 +40,7 @@ OF_THE_C_LIBRARY = {"malloc", "realloc", "free", "memcpy", "memmove", "memset", 
 
 def check_header(compiler: str, language: str, standard: str, header: str = "trirast.h") -> None:
     """A header compiles without a warning, also if it is included twice."""
-    command = [need(compiler), f"-std={standard}", *WARNINGS, "-fsyntax-only", "-I", INCLUDE, "-x", language, "-"]
+    command = [need(compiler), f"-std={standard}", *WARNINGS, "-Wconversion", "-fsyntax-only", "-I", INCLUDE, "-x", language, "-"]
     run(command, input=2 * f"#include <{header}>\n".encode())
 
 
@@ -73,8 +74,9 @@ def check_libraries(tally: Tally) -> None:
         tally.run(f"header as {standard}", check_header, "gcc", "c", standard)
     for standard in ("c++11", "c++20"):
         tally.run(f"header as {standard}", check_header, "g++", "c++", standard)
-    for standard in ("c++17", "c++20"):
-        tally.run(f"trirast.hpp as {standard}", check_header, "g++", "c++", standard, "trirast.hpp")
+    for compiler in ("g++", "clang++"):
+        for standard in ("c++17", "c++20"):
+            tally.run(f"trirast.hpp as {standard} by {compiler}", check_header, compiler, "c++", standard, "trirast.hpp")
     for path, flags in ((SHARED_LIBRARY, ("-D",)), (STATIC_LIBRARY, ()), (SECOND_LEVEL, ("-D",))):
         name = os.path.relpath(path, LIB)
         tally.run(f"{name} shows the calls of the header alone", check_exports, path, *flags)
@@ -116,7 +118,7 @@ def check_by_cpp(tally: Tally) -> None:
     """Runs the test of trirast.hpp, each line of which is a check, and once more under memcheck."""
     program = os.path.join(OUT, "test_cpp")
     source = os.path.join(SOURCES, "canvases.cpp")
-    flags = ["-std=c++17", "-O2", "-g", *WARNINGS, "-I", INCLUDE]
+    flags = ["-std=c++17", "-O2", "-g", *WARNINGS, "-Wconversion", "-I", INCLUDE]
 
     def build() -> None:
         run([need("g++"), *flags, "-o", program, source, STATIC_LIBRARY])
@@ -124,6 +126,8 @@ def check_by_cpp(tally: Tally) -> None:
     if tally.run("trirast.hpp: its test builds", build):
         check_in_c(tally, [program], "trirast.hpp", "canvases", "few.txt")
         tally.run("memcheck finds nothing in trirast.hpp", check_watched, "memcheck", "canvases", program)
+    tally.run("trirast.hpp by random calls under sanitizers", sanitized.check_fuzz)
+    tally.run("a piece without tile rows under sanitizers", sanitized.check_no_rows)
 
 
 def check_second_level(tally: Tally, program: Sequence[str]) -> None:

@@ -2,11 +2,16 @@
 
 from __future__ import annotations
 
+import email
 import hashlib
+import importlib
 import importlib.util
 import json
 import os
+import re
 import sys
+import zipfile
+from typing import Any
 
 from tools import places
 from tools.library import arm64
@@ -50,6 +55,35 @@ def check_build(processor: str) -> str:
     first = places.bytes_of(wheel.build(processor))
     must(first == places.bytes_of(wheel.build(processor)), "a second build has other bytes")
     return f"{os.path.basename(wheel.path_of(processor))}, {len(first) // 1000} KB"
+
+
+def pyproject() -> Any:
+    """What python/pyproject.toml says. Raises `MissingError` if this Python cannot read it."""
+    if importlib.util.find_spec("tomllib") is None:
+        raise MissingError("tomllib, of Python 3.11")
+    return importlib.import_module("tomllib").loads(places.text_of("python", "pyproject.toml"))
+
+
+def check_metadata(processor: str) -> str:
+    """The wheel says of the package what pyproject.toml says: its extras too, each with all that it needs."""
+    project = pyproject()["project"]
+    with zipfile.ZipFile(wheel.path_of(processor)) as file:
+        found = email.message_from_bytes(file.read(f"trirast-{release()}.dist-info/METADATA"))
+        form = email.message_from_bytes(file.read(f"trirast-{release()}.dist-info/WHEEL"))
+    wanted = {
+        "Name": project["name"], "Version": release(), "Summary": project["description"],
+        "Requires-Python": project["requires-python"], "License": project["license"]["text"],
+    }
+    must({key: found[key] for key in wanted} == wanted, f"{dict(found.items())}")
+    must(sorted(found.get_all("License-File", ())) == sorted(wheel.LICENSES), "other licences")
+    extras = project["optional-dependencies"]
+    must(sorted(found.get_all("Provides-Extra", [])) == sorted(extras), f"the extras {found.get_all('Provides-Extra')}")
+    needs = {(extra, need.replace(" ", "")) for extra, all_needs in extras.items() for need in all_needs}
+    written = [re.fullmatch(r"""(.*?) *; *extra *== *['"](.*)['"]""", line) for line in found.get_all("Requires-Dist", ())]
+    got = {(each[2], re.sub("[ ()]", "", each[1])) for each in written if each}
+    must(got == needs and None not in written, f"{sorted(got ^ needs)} in one of the wheel and pyproject.toml alone")
+    must(form.get_all("Tag") == [f"py3-none-{tag}" for tag in wheel.tags(processor)] and form["Root-Is-Purelib"] == "false", f"{form}")
+    return f"{len(extras)} extras"
 
 
 def check_install() -> None:
@@ -125,7 +159,9 @@ def check(tally: Tally) -> None:
         if tally.run("wheel: pip installs it in a fresh environment, without an index", check_install):
             tally.run("wheel: import trirast draws", check_draws)
             tally.run("wheel: the first level draws", check_first_level)
+        tally.run("wheel: x86-64 says what pyproject.toml says", check_metadata, "x86_64")
         tally.run("wheel: docs/library.md lists the files for x86-64", check_files, "x86_64")
     if tally.run("wheel: ARM64, built twice the same", check_build, "aarch64"):
         tally.run("wheel: pip takes the one for ARM64, and qemu draws", check_arm64)
+        tally.run("wheel: ARM64 says what pyproject.toml says", check_metadata, "aarch64")
         tally.run("wheel: docs/library.md lists the files for ARM64", check_files, "aarch64")

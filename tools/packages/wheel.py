@@ -2,25 +2,23 @@
 
     python3 -m tools.packages.wheel x86_64|aarch64 ..
 
-`make wheel` builds the libraries first. A wheel is a zip file of a fixed form (PEP 427), written here by the standard library.
-Two runs over the same files give the same bytes. It needs readelf.
+`make wheel` builds the libraries first. setuptools builds a wheel of a copy of python/ in which the library lies, by what
+python/pyproject.toml says. Two runs over the same files give the same bytes. It needs readelf, and setuptools and wheel (Debian's
+python3-setuptools and python3-wheel) of the Python that runs it or of /usr/bin/python3.
 """
 
 from __future__ import annotations
 
 import argparse
-import base64
 import glob
-import hashlib
 import os
 import re
+import shutil
 import sys
-import time
-import zipfile
 from dataclasses import dataclass
 
-from tools import places
-from tools.packages.common import DIST, FILE_MODE, PROGRAM_MODE, files_below, release, release_time, run
+from tools.library.commands import python_with
+from tools.packages.common import DIST, OUT, PROGRAM_MODE, files_below, make_anew, put, release, release_time, run, write
 from tools.places import LIB, PYTHON_SOURCES, TOP
 
 SHARED = "libtrirast.so.1"
@@ -31,6 +29,26 @@ FOLDER, LOADED = "lib", "load.so"
 # The oldest glibc on which the wheels run, as their names say: it is that of the tags manylinux2014.
 GLIBC = (2, 17)
 LICENSES = ("LICENSE", "LICENSE-MIT", "LICENSE-APACHE")
+# Its code is in Python, and its library for one processor.
+SETUP = """\
+from setuptools import Distribution, setup
+from wheel.bdist_wheel import bdist_wheel
+
+
+class Package(Distribution):
+    def has_ext_modules(self):
+        return True
+
+
+class Wheel(bdist_wheel):
+    def get_tag(self):
+        return "py3", "none", "{machines}"
+
+
+setup(distclass=Package, cmdclass={{"bdist_wheel": Wheel}})
+"""
+# What pip calls (PEP 517). It prints what it does.
+BUILD = "import sys, setuptools.build_meta as made_by; made_by.build_wheel(sys.argv[1])"
 
 
 @dataclass(frozen=True)
@@ -68,49 +86,24 @@ def check_glibc(path: str) -> None:
         raise SystemExit(f"{path} needs glibc {later[-1]}")
 
 
-def field(key: str) -> str:
-    """A string of the package's pyproject.toml, of which each stands on a line of its own."""
-    found = re.search(rf'^{key} = (?:\{{text = )?"(.*?)"\}}?$', places.text_of("python", "pyproject.toml"), re.MULTILINE)
-    if found is None:
-        raise SystemExit(f"python/pyproject.toml has no {key}")
-    return found[1]
-
-
-def metadata() -> str:
-    lines = ["Metadata-Version: 2.1", f"Name: {field('name')}", f"Version: {release()}", f"Summary: {field('description')}"]
-    lines += [f"License: {field('license')}", f"Requires-Python: {field('requires-python')}"]
-    lines += [f"License-File: {name}" for name in LICENSES]
-    lines += ["Provides-Extra: numpy", 'Requires-Dist: numpy; extra == "numpy"']
-    return "\n".join(lines) + "\n"
-
-
-def form(processor: str) -> str:
-    """The member WHEEL: the form of the file, and the machines on which it runs."""
-    lines = ["Wheel-Version: 1.0", f"Generator: trirast {release()}", "Root-Is-Purelib: false"]
-    return "\n".join(lines + [f"Tag: py3-none-{tag}" for tag in tags(processor)]) + "\n"
-
-
-def sum_of(data: bytes) -> str:
-    return base64.urlsafe_b64encode(hashlib.sha256(data).digest()).rstrip(b"=").decode()
-
-
-def members(processor: str) -> dict[str, bytes]:
-    """The files of a wheel by their names, without the list of them."""
-    package = os.path.join(PYTHON_SOURCES, "trirast")
-    names = [name for name in files_below(package) if name.endswith((".py", ".html", "py.typed"))]
-    found = {f"trirast/{name}": places.bytes_of(package, name) for name in names}
-    chosen = PROCESSORS[processor]
-    for name, path in chosen.libraries.items():
+def make_copy(processor: str) -> str:
+    """Makes a copy of the folder python/ with the library in the package, and the licences. Returns its path."""
+    copy = make_anew(os.path.join(OUT, f"wheel-{processor}"))
+    package, chosen = os.path.join("src", "trirast"), PROCESSORS[processor]
+    for name in files_below(os.path.join(PYTHON_SOURCES, "trirast")):
+        if name.endswith((".py", ".html", "py.typed")):
+            put(os.path.join(PYTHON_SOURCES, "trirast", name), os.path.join(copy, package, name))
+    libraries = {**chosen.libraries, LOADED: os.path.join(os.path.dirname(chosen.libraries[SHARED]), LOADED)}
+    for name, path in libraries.items():
         check_glibc(path)
-        found[f"trirast/{FOLDER}/{name}"] = places.bytes_of(path)
-    found[f"trirast/{FOLDER}/{LOADED}"] = places.bytes_of(os.path.dirname(chosen.libraries[SHARED]), LOADED)
-    about = f"trirast-{release()}.dist-info"
+        # The file itself, where a name of the library is a link.
+        put(os.path.realpath(path), os.path.join(copy, package, FOLDER, name), PROGRAM_MODE)
+    put(os.path.join(TOP, "python", "pyproject.toml"), os.path.join(copy, "pyproject.toml"))
     for name in LICENSES:
-        found[f"{about}/{name}"] = places.bytes_of(name)
-    found[f"{about}/METADATA"] = metadata().encode()
-    found[f"{about}/WHEEL"] = form(processor).encode()
-    record = [f"{name},sha256={sum_of(data)},{len(data)}" for name, data in found.items()] + [f"{about}/RECORD,,"]
-    return {**found, f"{about}/RECORD": "".join(f"{line}\n" for line in record).encode()}
+        put(os.path.join(TOP, name), os.path.join(copy, name))
+    write(os.path.join(copy, "MANIFEST.in"), f"recursive-include {package}/{FOLDER} *\n".encode())
+    write(os.path.join(copy, "setup.py"), SETUP.format(machines=".".join(tags(processor))).encode())
+    return copy
 
 
 def build(processor: str) -> str:
@@ -118,16 +111,11 @@ def build(processor: str) -> str:
     os.makedirs(DIST, exist_ok=True)
     for older in glob.glob(os.path.join(DIST, f"*_{processor}.whl")):
         os.remove(older)
-    path = path_of(processor)
-    when = time.gmtime(release_time())[:6]
-    with zipfile.ZipFile(path, "w", zipfile.ZIP_DEFLATED) as file:
-        for name, data in members(processor).items():
-            member = zipfile.ZipInfo(name, when)
-            member.compress_type = zipfile.ZIP_DEFLATED
-            # A regular file with its mode, in the form of Unix.
-            member.external_attr = (0o100000 | (PROGRAM_MODE if ".so" in name else FILE_MODE)) << 16
-            file.writestr(member, data)
-    return path
+    copy = make_copy(processor)
+    environment = {**os.environ, "SOURCE_DATE_EPOCH": str(release_time()), "PYTHONDONTWRITEBYTECODE": "1"}
+    run([python_with("setuptools", "wheel"), "-W", "ignore", "-c", BUILD, DIST], cwd=copy, env=environment, umask=0o022)
+    shutil.rmtree(copy)
+    return path_of(processor)
 
 
 def main() -> int:

@@ -25,6 +25,7 @@ def arguments() -> argparse.Namespace:
     parser.add_argument("--lists", type=int, default=60)
     parser.add_argument("--dask-lists", type=int, default=16)
     parser.add_argument("--kills", type=int, default=1)
+    parser.add_argument("--rounds", type=int, default=4)
     parser.add_argument("--only", nargs="+", default=[])
     return parser.parse_args()
 

@@ -395,7 +395,12 @@ pub unsafe fn trirast_canvas_piece(whole: *const trirast_canvas, first: u32, end
     if whole.plane_count != (whole.end - whole.first) as usize * planes {
         return TRIRAST_STATUS_BAD_MEMORY;
     }
-    let memory = whole.memory.cast::<u8>().add((first - whole.first) as usize * row).cast();
+    if whole.plane_count != 0 && (whole.memory.is_null() || whole.memory as usize % 2 != 0) {
+        return TRIRAST_STATUS_BAD_MEMORY;
+    }
+    // Without tile rows the memory may be null, to which nothing is added.
+    let above = (first - whole.first) as usize * row;
+    let memory = if above == 0 { whole.memory } else { whole.memory.cast::<u8>().add(above).cast() };
     *piece = trirast_canvas { first, end, memory, plane_count: (end - first) as usize * planes, ..*whole };
     TRIRAST_STATUS_OK
 }

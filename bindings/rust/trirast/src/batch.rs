@@ -2,6 +2,7 @@
 
 use std::borrow::Cow;
 use std::mem::size_of;
+use std::ops::RangeInclusive;
 
 use trirast_sys as sys;
 
@@ -68,7 +69,7 @@ pub struct State {
     /// Bit s is 1 if sample s is drawn. Bits past a pixel's samples are not looked at. The default draws every sample.
     pub sample_mask: u16,
     /// The pixels that are drawn: left, top, right, bottom, the last two outside; 0 to 4096 each, and on a canvas, where they
-    /// are pixels of the screen, 0 to 32,768. `None` is all of them.
+    /// are pixels of the screen, 0 to 32,768. `None` is all of them, also left of the screen and above it.
     pub scissor: Option<[u32; 4]>,
 }
 
@@ -96,11 +97,11 @@ pub struct Draw<'a> {
 }
 
 impl Draw<'_> {
-    /// The draw as C takes it. `farthest` is the edge of a scissor that leaves nothing out.
-    fn raw(&self, farthest: u32) -> sys::trirast_batch_draw {
+    /// The draw as C takes it, moved by whole pixels. `farthest` is the edge of a scissor that leaves nothing out.
+    fn raw(&self, farthest: u32, by: Move) -> sys::trirast_batch_draw {
         let [write_red, write_green, write_blue] = self.state.write.map(u32::from);
         let [scissor_left, scissor_top, scissor_right, scissor_bottom] =
-            self.state.scissor.unwrap_or([0, 0, farthest, farthest]);
+            self.state.scissor.map_or([0, 0, farthest, farthest], |edges| by.scissor(edges, farthest));
         sys::trirast_batch_draw {
             vertex_count: count(self.vertices.len()),
             index_count: count(self.indices.len()),
@@ -121,6 +122,39 @@ impl Draw<'_> {
     }
 }
 
+/// The greatest and the least coordinate of a vertex.
+const GUARD_BAND: RangeInclusive<i32> = -8_388_608..=8_388_607;
+/// The parts of a pixel in which coordinates are.
+const UNIT: i64 = 256;
+
+/// By how many pixels everything is moved to the right and downwards: to where the edges of scissors reach.
+#[derive(Clone, Copy, Debug, Default, PartialEq, Eq)]
+pub(crate) struct Move {
+    pub(crate) x: u32,
+    pub(crate) y: u32,
+}
+
+impl Move {
+    fn vertex(self, vertex: &Vertex) -> Vertex {
+        Vertex { x: moved(vertex.x, self.x), y: moved(vertex.y, self.y), ..*vertex }
+    }
+
+    /// An edge past `farthest` stays, as the library refuses it, and none is moved there.
+    fn scissor(self, [left, top, right, bottom]: [u32; 4], farthest: u32) -> [u32; 4] {
+        let edge = |edge: u32, by: u32| if edge > farthest { edge } else { edge.saturating_add(by).min(farthest) };
+        [edge(left, self.x), edge(top, self.y), edge(right, self.x), edge(bottom, self.y)]
+    }
+}
+
+/// A coordinate moved by pixels. One that is or comes to lie outside of the guard band is outside, as the library refuses it.
+fn moved(coordinate: i32, by: u32) -> i32 {
+    if GUARD_BAND.contains(&coordinate) {
+        i32::try_from(i64::from(coordinate) + UNIT * i64::from(by)).unwrap_or(i32::MAX)
+    } else {
+        coordinate
+    }
+}
+
 /// A length as C takes it. One past 32 bits becomes the greatest, which is past every limit too.
 fn count(length: usize) -> u32 {
     u32::try_from(length).unwrap_or(u32::MAX)
@@ -136,9 +170,15 @@ pub(crate) struct Batch<'a> {
 impl<'a> Batch<'a> {
     /// The arrays of a single draw are not copied. If memory cannot be allocated, returns the error of that.
     pub(crate) fn of_draws(draws: &[Draw<'a>], farthest: u32) -> Result<Batch<'a>, Error> {
+        Batch::moved(draws, farthest, Move::default())
+    }
+
+    /// The same, moved by pixels. Vertices are copied if they are moved.
+    pub(crate) fn moved(draws: &[Draw<'a>], farthest: u32, by: Move) -> Result<Batch<'a>, Error> {
+        let vertices = joined(draws, |draw| draw.vertices)?;
         Ok(Batch {
-            draws: draws.iter().map(|draw| draw.raw(farthest)).collect(),
-            vertices: joined(draws, |draw| draw.vertices)?,
+            draws: draws.iter().map(|draw| draw.raw(farthest, by)).collect(),
+            vertices: if by == Move::default() { vertices } else { copied(&vertices, |vertex| by.vertex(vertex))? },
             indices: joined(draws, |draw| draw.indices)?,
         })
     }
@@ -158,6 +198,14 @@ impl<'a> Batch<'a> {
             index_count: self.indices.len(),
         }
     }
+}
+
+/// What a call makes of each element. If the memory cannot be allocated, returns the error of that.
+fn copied<T: Clone>(array: &[T], of: impl Fn(&T) -> T) -> Result<Cow<'static, [T]>, Error> {
+    let mut all = Vec::new();
+    all.try_reserve_exact(array.len()).map_err(|_| Error::out_of_memory())?;
+    all.extend(array.iter().map(of));
+    Ok(Cow::Owned(all))
 }
 
 /// The arrays of all draws, one draw's after another's. If the memory cannot be allocated, returns the error of that.

@@ -6,7 +6,7 @@ use std::thread;
 
 use trirast_sys as sys;
 
-use crate::batch::Batch;
+use crate::batch::{Batch, Move};
 use crate::error::{checked, done};
 use crate::memory::Memory;
 use crate::picture::zeros;
@@ -225,7 +225,7 @@ impl TileRows<'_> {
     }
 
     /// Draws over what is stored, one draw after another. A picture does not depend on the calls among which its draws are
-    /// split.
+    /// split. If the origin is negative and a draw has no scissor, vertices are copied.
     ///
     /// # Errors
     ///
@@ -233,15 +233,18 @@ impl TileRows<'_> {
     /// its range, or a vertex that an index names is, also as seen from the origin; `WrongKind` if the indices make no whole
     /// triangles or quads; `BadIndex` if an index is not less than the number of its draw's vertices; or `NotConvex`.
     pub fn draw(&mut self, draws: &[Draw<'_>]) -> Result<(), Error> {
-        let batch = Batch::of_draws(draws, FARTHEST)?;
+        let by = self.move_of(draws);
+        let batch = Batch::moved(draws, FARTHEST, by)?;
         by_threads(self.shared(), |mut part| {
             let batch = batch.raw();
+            part.move_by(by);
             // SAFETY: the struct has the memory of its tile rows, each array its count, and the library keeps none of them.
             checked(|error| unsafe { sys::trirast_canvas_draw(&mut part.raw, &batch, error) })
         })
     }
 
-    /// Draws triangles of one state, by the indices of their vertices. The arrays are not copied.
+    /// Draws triangles of one state, by the indices of their vertices. The arrays are not copied, unless [`draw`](TileRows::draw)
+    /// says so.
     ///
     /// # Errors
     ///
@@ -259,9 +262,11 @@ impl TileRows<'_> {
     /// Those of [`draw`](TileRows::draw), and `BadList` with `TooMany` if the id of a triangle would be greater than
     /// 16,777,215.
     pub fn draw_ids(&mut self, draws: &[Draw<'_>], first_id: u32) -> Result<(), Error> {
-        let batch = Batch::of_draws(draws, FARTHEST)?;
+        let by = self.move_of(draws);
+        let batch = Batch::moved(draws, FARTHEST, by)?;
         by_threads(self.shared(), |mut part| {
             let batch = batch.raw();
+            part.move_by(by);
             // SAFETY: as for draw.
             checked(|error| unsafe { sys::trirast_canvas_draw_ids(&mut part.raw, &batch, first_id, error) })
         })
@@ -356,6 +361,25 @@ impl TileRows<'_> {
         let place = (row - piece.top()) as usize * self.raw.width as usize + column as usize;
         let [red, green, blue, _] = piece.ids(sample)?[place].to_le_bytes();
         Ok(Sample { color: [red, green, blue], depth: piece.depths(sample)?[place] })
+    }
+
+    // ---- Draws without a scissor on a canvas that begins left of the screen or above it, where no edge of a scissor can be
+
+    /// By how much draws and the canvas are moved to the screen, if one of the draws has no scissor.
+    fn move_of(&self, draws: &[Draw<'_>]) -> Move {
+        if draws.iter().all(|draw| draw.state.scissor.is_some()) {
+            return Move::default();
+        }
+        let to_screen = |origin: i32| origin.min(0).unsigned_abs();
+        Move { x: to_screen(self.raw.origin_x), y: to_screen(self.raw.origin_y) }
+    }
+
+    /// Moves the origin as [`move_of`](TileRows::move_of) says. Samples have no place on the screen, and so stay.
+    fn move_by(&mut self, by: Move) {
+        if by != Move::default() {
+            self.raw.origin_x = self.raw.origin_x.max(0);
+            self.raw.origin_y = self.raw.origin_y.max(0);
+        }
     }
 
     // ---- Parts, which only calls that read may use beside each other and these

@@ -26,12 +26,24 @@ pub enum ErrorKind {
     BufferTooSmall,
     /// The first tile row is not before the end, or the picture has fewer than the end.
     BadTileRows,
+    /// The tile size is none of 8, 16, 32 and 64. No function of this crate passes another.
+    BadTileSize,
+    /// The library has structs of other sizes than this crate: it is of another version.
+    BadStructSize,
     /// A side of the canvas is not 1 to 4096 pixels.
     BadCanvas,
+    /// The memory of the samples has another size. No function of this crate passes such memory.
+    BadMemory,
+    /// There is no such format. No function of this crate passes another.
+    BadFormat,
     /// The canvas has no such sample.
     BadSample,
     /// A position is outside of -8388608 to 8388607.
     BadPosition,
+    /// The picture has no such pixel.
+    BadPixel,
+    /// The list has no such draw, or the draw no such triangle.
+    BadTriangle,
     /// A status that this crate does not know: the library is a later one.
     Other(u32),
 }
@@ -88,10 +100,16 @@ impl Error {
             sys::TRIRAST_STATUS_INPUT_TOO_LONG => ErrorKind::InputTooLong,
             sys::TRIRAST_STATUS_OUT_OF_MEMORY => ErrorKind::OutOfMemory,
             sys::TRIRAST_STATUS_BUFFER_TOO_SMALL => ErrorKind::BufferTooSmall,
+            sys::TRIRAST_STATUS_BAD_TILE_SIZE => ErrorKind::BadTileSize,
             sys::TRIRAST_STATUS_BAD_TILE_ROWS => ErrorKind::BadTileRows,
+            sys::TRIRAST_STATUS_BAD_STRUCT_SIZE => ErrorKind::BadStructSize,
             sys::TRIRAST_STATUS_BAD_CANVAS => ErrorKind::BadCanvas,
+            sys::TRIRAST_STATUS_BAD_MEMORY => ErrorKind::BadMemory,
+            sys::TRIRAST_STATUS_BAD_FORMAT => ErrorKind::BadFormat,
             sys::TRIRAST_STATUS_BAD_SAMPLE => ErrorKind::BadSample,
             sys::TRIRAST_STATUS_BAD_POSITION => ErrorKind::BadPosition,
+            sys::TRIRAST_STATUS_BAD_PIXEL => ErrorKind::BadPixel,
+            sys::TRIRAST_STATUS_BAD_TRIANGLE => ErrorKind::BadTriangle,
             other => ErrorKind::Other(other),
         }
     }
@@ -132,5 +150,24 @@ pub(crate) fn done(status: u32) -> Result<(), Error> {
     match status {
         sys::TRIRAST_STATUS_OK => Ok(()),
         other => Err(Error::of_status(other)),
+    }
+}
+
+#[cfg(test)]
+mod tests {
+    use super::{Error, ErrorKind};
+    use trirast_sys as sys;
+
+    /// Each status that has a string has a kind, and no two have one.
+    #[test]
+    fn each_status_has_a_kind_of_its_own() {
+        let statuses = (1..1000).filter(|&status| sys::trirast_status_string(status) != "unknown status");
+        let kinds: Vec<ErrorKind> = statuses.map(|status| Error::of_status(status).kind()).collect();
+        assert!(kinds.len() >= 14);
+        for (number, kind) in kinds.iter().enumerate() {
+            assert!(!matches!(kind, ErrorKind::Other(_)), "{kind:?}");
+            assert!(!kinds[..number].contains(kind), "{kind:?} twice");
+        }
+        assert_eq!(Error::of_status(999).kind(), ErrorKind::Other(999));
     }
 }

@@ -224,6 +224,69 @@ fn stands_anywhere_on_the_screen() {
     assert_eq!((ids[20 * 40], ids[20 * 40 + 9], ids[19 * 40], ids[29 * 40]), (5, 16_777_215, 16_777_215, 16_777_215));
 }
 
+/// Without a scissor nothing is cut, also left of the screen and above it; with one only the screen is drawn.
+#[test]
+fn is_drawn_left_of_the_screen() {
+    let scissor = Some([0, 0, 32_768, 32_768]);
+    for origin in [Origin { x: -20, y: 0 }, Origin { x: 0, y: -20 }, Origin { x: -20, y: -20 }, Origin { x: -20, y: 7 }] {
+        let vertices =
+            triangle(5, 0, 10).map(|vertex| Vertex { x: vertex.x + 256 * origin.x, y: vertex.y + 256 * origin.y, ..vertex });
+        for threads in THREADS {
+            let mut window = Canvas::new(40, 130, Samples::Four).unwrap().with_origin(origin);
+            window.set_threads(threads);
+            let draw =
+                |scissor| Draw { vertices: &vertices, indices: &[0, 1, 2], state: State { scissor, ..State::default() } };
+            window.clear([255; 3], 9).unwrap();
+            window.draw_ids(&[draw(None)], 5).unwrap();
+            let ids = window.ids(0).unwrap();
+            let wanted: Vec<u32> =
+                (0..40 * 130).map(|place| if place % 40 + place / 40 < 10 { 5 } else { 16_777_215 }).collect();
+            assert_eq!(ids, wanted, "{origin:?}");
+            window.clear([255; 3], 9).unwrap();
+            window.draw(&[draw(None)]).unwrap();
+            assert_eq!(window.ids(0).unwrap(), wanted, "{origin:?}");
+            // A draw with a scissor beside one without is cut as it is by itself.
+            for draws in [vec![draw(scissor)], vec![Draw { indices: &[], ..draw(None) }, draw(scissor)]] {
+                window.clear([255; 3], 9).unwrap();
+                window.draw_ids(&draws, 5).unwrap();
+                let is_on_screen = |place: u32| (place % 40) as i32 + origin.x >= 0 && (place / 40) as i32 + origin.y >= 0;
+                let cut = |(place, &id): (u32, &u32)| if is_on_screen(place) { id } else { 16_777_215 };
+                assert_eq!(window.ids(0).unwrap(), (0..).zip(&wanted).map(cut).collect::<Vec<_>>(), "{origin:?}");
+            }
+            assert_eq!(window.origin(), origin);
+        }
+    }
+}
+
+/// A vertex outside of the guard band, or seen from the origin outside of it, is refused with a scissor and without one.
+#[test]
+fn refuses_the_same_left_of_the_screen() {
+    let scissor = Some([0, 0, 32_768, 32_768]);
+    let low = i32::MIN;
+    for (x, place, is_drawn) in [
+        (-20, 8_388_607, false),
+        (-20, 8_383_487, true),
+        (-20, -8_388_608, true),
+        (-20, -8_388_609, false),
+        (low, 0, false),
+        (-20, i32::MAX, false),
+    ] {
+        let mut window = Canvas::new(4, 4, Samples::One).unwrap().with_origin(Origin { x, y: 0 });
+        window.clear([1, 2, 3], 9).unwrap();
+        for scissor in [scissor, None] {
+            let vertices = triangle(5, 0, 10).map(|vertex| Vertex { x: place, ..vertex });
+            let state = State { scissor, ..State::default() };
+            let drawn = window.draw_indexed(&vertices, &[0, 1, 2], &state);
+            assert_eq!(drawn.is_ok(), is_drawn, "{x} {place}");
+            assert!(is_drawn || refused(drawn) == (ErrorKind::BadList(ListError::OutOfRange), Some(0)));
+        }
+        let both = [None, Some([0, 0, 32_769, 1])].map(|scissor| State { scissor, ..State::default() });
+        let vertices = triangle(5, 0, 10);
+        let draws = both.map(|state| Draw { vertices: &vertices, indices: &[], state });
+        assert_eq!(refused(window.draw(&draws)), (ErrorKind::BadList(ListError::OutOfRange), Some(1)));
+    }
+}
+
 // ---- Parts
 
 #[test]

@@ -13,18 +13,21 @@ from ._arrays import save_arrays, scene_of, scene_of_arrays
 from ._draw_list import scene_of_list
 from ._errors import (
     ArraysError,
+    BusyError,
     EngineMissingError,
     GuardBandError,
+    OutputError,
     PosterError,
     ResumeError,
     SchedulerLostError,
+    ThreadError,
     WorkerLostError,
 )
 from ._poster import draw_poster
 from ._scene import PosterDraw, Scene, Sheet
 
 __all__ = [
-    "ArraysError", "EngineMissingError", "GuardBandError", "PosterDraw", "PosterError", "ResumeError", "Scene",
-    "SchedulerLostError", "Sheet", "WorkerLostError", "draw_poster", "save_arrays", "scene_of", "scene_of_arrays",
-    "scene_of_list",
+    "ArraysError", "BusyError", "EngineMissingError", "GuardBandError", "OutputError", "PosterDraw", "PosterError",
+    "ResumeError", "Scene", "SchedulerLostError", "Sheet", "ThreadError", "WorkerLostError", "draw_poster", "save_arrays",
+    "scene_of", "scene_of_arrays", "scene_of_list",
 ]

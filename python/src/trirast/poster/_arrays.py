@@ -1,42 +1,54 @@
 """Scenes in files of numpy, .npz: arrays without the limits of a draw list.
 
 A file has `vertices`, (n, 7) integers; `triangles`, (m, 3) integers; and `draws`, a text: a draw list as JSON, in whose draws
-`triangles` is a number, and `vertices` is absent. Members that are stored and not deflated, as numpy.savez leaves them, are
-mapped, so that scenes larger than memory can be drawn.
+`triangles` is a number, and `vertices` is absent. Members that are stored and not deflated, as numpy.savez leaves them, are copied to
+files without a name, which are mapped, so that scenes larger than memory can be drawn. The file itself is not mapped: to read what
+somebody cuts off from it would end the process.
 """
 
 from __future__ import annotations
 
 import json
 import os
+import secrets
 import struct
+import tempfile
 import zipfile
-from typing import Any, IO, Mapping, Sequence
+from typing import Any, IO, Mapping, Optional
 
 import numpy as np
 from numpy.lib import format as numpy_format
 from numpy.typing import NDArray
 
-from ._draw_list import check_states, sheet_of
+from ._draw_list import MAX_LIST, check_states, scene_of_list, sheet_of
 from ._errors import ArraysError
-from ._scene import PosterDraw, Scene, check_arrays
+from ._places import check_file
+from ._scene import PosterDraw, Scene
 
-# Members begin at multiples of this in files that `save_arrays` writes, so that mapped integers are aligned.
+# Members begin at multiples of this in files that `save_arrays` writes, so that others can map them as integers.
 ALIGNMENT = 64
 LOCAL_HEADER = 30
+# Bytes that are copied together.
+BLOCK = 1 << 20
+# How a name ends that is of arrays, in small or capital letters.
+NPZ = ".npz"
 # Its functions have no types.
 npy: Any = numpy_format
 
 
-def scene_of_arrays(vertices: NDArray[Any], triangles: NDArray[Any], value: Any) -> Scene:
+def scene_of_arrays(vertices: NDArray[Any], triangles: NDArray[Any], value: Any, *, copy: bool = True) -> Scene:
     """A scene of arrays. `value` is a draw list in whose draws `triangles` is a number, and `vertices` is absent.
 
-    Raises ArraysError if an array does not fit, and trirast.Error if `value` is wrong.
+    The scene has copies of the arrays, unless `copy` is false: then nobody may change them as long as the scene is used. Raises
+    ArraysError if an array does not fit, and trirast.Error if `value` is wrong.
     """
+    return of_members(vertices, triangles, value, None, copy)
+
+
+def of_members(vertices: NDArray[Any], triangles: NDArray[Any], value: Any, source: Optional[str], copy: bool) -> Scene:
     check_states(value)
     draws = [draw_of(draw) for draw in value["draws"]]
-    check_arrays(vertices, triangles, draws)
-    return Scene(sheet_of(value), as_int32(vertices), as_int32(triangles), draws)
+    return Scene(sheet_of(value), vertices, triangles, draws, source, copy)
 
 
 def draw_of(draw: Mapping[str, Any]) -> PosterDraw:
@@ -46,40 +58,54 @@ def draw_of(draw: Mapping[str, Any]) -> PosterDraw:
     return PosterDraw(count, {key: value for key, value in draw.items() if key != "triangles"})
 
 
-def as_int32(array: NDArray[Any]) -> NDArray[np.int32]:
-    """The array itself if the library can take it as it is, with the machine's 32-bit integers row after row, else a copy."""
-    return np.require(array, np.int32, ("C", "W"))
-
-
 def scene_of_file(path: str) -> Scene:
     """The scene of a .npz file. Raises ArraysError if it is none."""
+    with open(path, "rb") as file:
+        vertices, triangles, value = read_file(path, file)
+    return of_members(vertices, triangles, value, path, copy=False)
+
+
+def read_file(path: str, file: IO[bytes]) -> tuple[NDArray[Any], NDArray[Any], Any]:
+    """The members of a .npz file. Raises ArraysError if it has not these members, in any of the ways in which zipfile and numpy say so."""
     try:
-        with zipfile.ZipFile(path) as archive:
-            vertices, triangles, draws = (member(path, archive, name) for name in ("vertices", "triangles", "draws"))
-    except (zipfile.BadZipFile, KeyError, ValueError, struct.error) as error:
-        raise ArraysError(f"{path}: {error}") from error
-    return scene_of_arrays(vertices, triangles, value_of(draws))
+        with zipfile.ZipFile(file) as archive:
+            vertices, triangles, draws = (member(file, archive, name) for name in ("vertices", "triangles", "draws"))
+        return vertices, triangles, json.loads(draws.item() if draws.ndim == 0 else draws.tobytes())
+    except (OSError, MemoryError):
+        raise
+    except Exception as error:
+        # A file may have any bytes. These modules raise errors of ten classes for them, of which they document few.
+        raise ArraysError(f"{path}: no arrays of a poster: {type(error).__name__}: {error}") from error
 
 
-def value_of(draws: NDArray[Any]) -> Any:
-    text = draws.item() if draws.ndim == 0 else draws.tobytes()
-    try:
-        return json.loads(text)
-    except (TypeError, ValueError) as error:
-        raise ArraysError(f"draws: a text of JSON: {error}") from error
-
-
-def member(path: str, archive: zipfile.ZipFile, name: str) -> NDArray[Any]:
-    """An array of a .npz file: mapped if it is stored and aligned, else read."""
+def member(file: IO[bytes], archive: zipfile.ZipFile, name: str) -> NDArray[Any]:
+    """An array of a .npz file: a mapped copy if it is stored and has integers, else read."""
     info = archive.getinfo(name + ".npy")
-    with archive.open(info) as file:
-        shape, fortran, dtype = header_of(file)
-        header = file.tell()
-        start = data_offset(path, info) + header
-        if info.compress_type != zipfile.ZIP_STORED or fortran or not shape or start % dtype.itemsize or dtype.kind not in "iu":
-            file.seek(0)
-            return np.asarray(npy.read_array(file, allow_pickle=False))
-    return np.memmap(path, dtype, "c", start, shape) if np.prod(shape) else np.zeros(shape, dtype)
+    with archive.open(info) as opened:
+        shape, fortran, dtype = header_of(opened)
+        header = opened.tell()
+        if info.compress_type != zipfile.ZIP_STORED or fortran or not shape or not all(shape) or dtype.kind not in "iu":
+            opened.seek(0)
+            return np.asarray(npy.read_array(opened, allow_pickle=False))
+    size = int(np.prod(shape, dtype=object)) * dtype.itemsize
+    if header + size > info.file_size:
+        raise ValueError(f"{name} has {info.file_size - header} bytes, and not {size}")
+    # A mapping stays when its file is closed.
+    with tempfile.TemporaryFile(dir=os.environ.get("TMPDIR", "/var/tmp")) as copy:
+        copy_part(file, name, data_offset(file, info) + header, size, copy)
+        return np.memmap(copy, dtype, "c", 0, shape)
+
+
+def copy_part(file: IO[bytes], name: str, start: int, size: int, copy: IO[bytes]) -> None:
+    """Copies a part of a file to a file without a name, which nobody else can change. Raises ValueError if the file ends before."""
+    file.seek(start)
+    while size:
+        block = file.read(min(size, BLOCK))
+        if not block:
+            raise ValueError(f"{name} ends too soon, by {size} bytes")
+        copy.write(block)
+        size -= len(block)
+    copy.flush()
 
 
 def header_of(file: IO[bytes]) -> tuple[tuple[int, ...], bool, np.dtype[Any]]:
@@ -90,33 +116,45 @@ def header_of(file: IO[bytes]) -> tuple[tuple[int, ...], bool, np.dtype[Any]]:
     return shape, fortran, dtype
 
 
-def data_offset(path: str, info: zipfile.ZipInfo) -> int:
+def data_offset(file: IO[bytes], info: zipfile.ZipInfo) -> int:
     """Where the bytes of a stored member begin in the file (APPNOTE.TXT of PKWARE, 4.3.7: lengths of name and extra field)."""
-    with open(path, "rb") as file:
-        file.seek(info.header_offset)
-        name, extra = struct.unpack("<HH", file.read(LOCAL_HEADER)[26:30])
+    file.seek(info.header_offset)
+    name, extra = struct.unpack("<HH", file.read(LOCAL_HEADER)[26:30])
     return int(info.header_offset + LOCAL_HEADER + name + extra)
 
 
-def save_arrays(path: str, vertices: NDArray[Any], triangles: NDArray[Any], value: Any) -> None:
-    """Writes a .npz file that `scene_of_file` maps: members stored, and aligned."""
+def save_arrays(path: "str | os.PathLike[str]", vertices: NDArray[Any], triangles: NDArray[Any], value: Any) -> None:
+    """Writes a .npz file for `scene_of`: members stored, and aligned. It gets its name when it is whole, so the arrays may be those of a
+    file of that name."""
     arrays = {"vertices": vertices, "triangles": triangles, "draws": np.array(json.dumps(value))}
-    with zipfile.ZipFile(path, "w", zipfile.ZIP_STORED) as archive:
+    name = os.fspath(path)
+    check_file(name)
+    new = f"{name}.{secrets.token_hex(8)}"
+    try:
+        with open(new, "xb") as file:
+            write_members(file, arrays)
+        os.replace(new, name)
+    except BaseException:
+        os.remove(new)
+        raise
+
+
+def write_members(file: IO[bytes], arrays: Mapping[str, NDArray[Any]]) -> None:
+    with zipfile.ZipFile(file, "w", zipfile.ZIP_STORED) as archive:
         for name, array in arrays.items():
             info = zipfile.ZipInfo(name + ".npy")
             # An extra field of an unknown kind pads the header (APPNOTE.TXT, 4.5.1).
             at = archive.start_dir + LOCAL_HEADER + len(info.filename) + 4 + 20
             info.extra = struct.pack("<HH", 0x7472, -at % ALIGNMENT) + bytes(-at % ALIGNMENT)
-            with archive.open(info, "w", force_zip64=True) as file:
-                npy.write_array(file, np.ascontiguousarray(array), allow_pickle=False)
+            with archive.open(info, "w", force_zip64=True) as member_file:
+                npy.write_array(member_file, np.ascontiguousarray(array), allow_pickle=False)
 
 
 def scene_of(path: "str | os.PathLike[str]") -> Scene:
-    """The scene of a file: arrays if its name ends in .npz, else a draw list."""
-    from ._draw_list import scene_of_list
-
+    """The scene of a file: arrays if its name ends in .npz, in small or capital letters, else a draw list."""
     name = os.fspath(path)
-    if name.endswith(".npz"):
+    if name.lower().endswith(NPZ):
         return scene_of_file(name)
     with open(name, "rb") as file:
-        return scene_of_list(file.read())
+        # The library refuses a longer one, of which no more is read.
+        return scene_of_list(file.read(MAX_LIST + 1), name)

@@ -47,8 +47,11 @@ def main(words: Optional[List[str]] = None) -> int:
             scene, options.out, tiles=options.tiles, samples=options.samples, window=options.window, workers=options.workers,
             scheduler=options.scheduler, resume=options.resume, show_progress=True,
         )
-    except (Error, PosterError, OSError, ValueError, MemoryError) as error:
-        print(f"poster: {type(error).__name__}: {error}", file=sys.stderr)
+    except Exception as error:
+        # Also one that nobody thought of: a user reads one line. python3 -X dev shows where it came from.
+        if sys.flags.dev_mode and not isinstance(error, (Error, PosterError, OSError, ValueError, MemoryError)):
+            raise
+        print(f"poster: {type(error).__name__}: {' '.join(str(error).split())}", file=sys.stderr)
         return 1
     except KeyboardInterrupt:
         print("poster: stopped; --resume goes on", file=sys.stderr)

@@ -3,7 +3,8 @@
 from __future__ import annotations
 
 import json
-from typing import Any
+import re
+from typing import Any, Optional
 
 import numpy as np
 from numpy.typing import NDArray
@@ -12,17 +13,25 @@ from .._draw_list import image_info
 from .._scene import EVERY_SAMPLE
 from ._scene import MAX_SIDE, SAMPLES, PosterDraw, Scene, Sheet
 
-# The library reads lists of at most this many pixels a side, and this many draws.
+# The library reads lists of at most this many pixels a side, this many draws, and this many bytes.
 LIST_SIDE = 4096
 LIST_DRAWS = 1024
 # The greatest sample mask of a list.
 LIST_MASK = 15
+MAX_LIST = 67_108_864
 PRIMITIVES = ("triangles", "strip", "quads")
 SHEET_KEYS = ("width", "height", "samples", "clear_depth", "output")
+# Of a text: a side's key and its digits, a scissor's key and its numbers, and the digits of a number that has nothing else.
+SIDES = re.compile(rb'("(?:width|height)"[ \t\r\n]*:[ \t\r\n]*)([1-9][0-9]*)(?![0-9.eE])')
+SCISSOR = re.compile(rb'("scissor"[ \t\r\n]*:[ \t\r\n]*\[)([-+0-9.eE, \t\r\n]*)')
+NUMBER = re.compile(rb"(?<![-+0-9.eE])[1-9][0-9]*(?![0-9.eE])")
 
 
-def scene_of_list(data: bytes) -> Scene:
-    """The scene of a draw list. Raises trirast.Error as the library does for the same list with sides of at most 4096."""
+def scene_of_list(data: bytes, source: Optional[str] = None) -> Scene:
+    """The scene of a draw list, which is a JSON text, read from the file `source`.
+
+    Raises trirast.Error as the library does for the same list with sides of at most 4096.
+    """
     value = checked(data)
     draws, vertices, triangles = [], [np.zeros((0, 7), np.int32)], [np.zeros((0, 3), np.int32)]
     base = 0
@@ -32,43 +41,27 @@ def scene_of_list(data: bytes) -> Scene:
         triangles.append(mine + np.int32(base))
         base += len(draw["vertices"])
         draws.append(PosterDraw(len(mine), state_of(draw)))
-    return Scene(sheet_of(value), np.concatenate(vertices), np.concatenate(triangles), draws)
+    return Scene(sheet_of(value), np.concatenate(vertices), np.concatenate(triangles), draws, source, copy=False)
 
 
 def checked(data: bytes) -> Any:
-    """The value of a list. The library makes all checks; sides past 4096 are cut in a copy that it reads in place of the list."""
-    try:
-        value = json.loads(data.decode(), parse_constant=refuse)
-    except (ValueError, RecursionError):
-        image_info(data)
-        raise
-    within = cut(value)
-    image_info(data if within == value else within)
-    return value
+    """The value of a list. The library makes all checks, of the same text with smaller numbers where a poster may have greater ones."""
+    image_info(cut(data))
+    return json.loads(data)
 
 
-def refuse(name: str) -> Any:
-    raise ValueError(f"{name} is no number of JSON")
+def cut(data: bytes) -> bytes:
+    """A text as long as a list's, in which each side and each edge of a scissor from 4097 to 32,768 is 4096.
+
+    It looks for keys as they are written. Where such a key is part of a text, the list is refused with this change and without it.
+    """
+    within = SIDES.sub(lambda found: found[1] + cut_number(found[2]), data)
+    return SCISSOR.sub(lambda found: found[1] + NUMBER.sub(lambda number: cut_number(number[0]), found[2]), within)
 
 
-def cut(value: Any) -> Any:
-    """A list with each side and each edge of a scissor from 4097 to 32,768 lowered to 4096."""
-    if not isinstance(value, dict):
-        return value
-    within = {key: cut_number(number) if key in ("width", "height") else number for key, number in value.items()}
-    if isinstance(value.get("draws"), list):
-        within["draws"] = [cut_scissor(draw) for draw in value["draws"]]
-    return within
-
-
-def cut_scissor(draw: Any) -> Any:
-    if isinstance(draw, dict) and isinstance(draw.get("scissor"), list):
-        return {**draw, "scissor": [cut_number(edge) for edge in draw["scissor"]]}
-    return draw
-
-
-def cut_number(number: Any) -> Any:
-    return LIST_SIDE if type(number) is int and LIST_SIDE < number <= MAX_SIDE else number
+def cut_number(digits: bytes) -> bytes:
+    """A number in its digits. It is lowered if it is more than a list has and not more than a poster has."""
+    return b"%d" % LIST_SIDE + b" " * (len(digits) - 4) if len(digits) < 6 and LIST_SIDE < int(digits) <= MAX_SIDE else digits
 
 
 def sheet_of(value: Any) -> Sheet:
@@ -101,11 +94,11 @@ def check_states(value: Any) -> None:
     may have 2, 8 or 16 samples, and its sample masks 16 bits."""
     draws = value.get("draws") if isinstance(value, dict) else None
     if not isinstance(draws, list):
-        image_info(value)
+        image_info(json.dumps(value).encode())
         return
     for first in range(0, max(1, len(draws)), LIST_DRAWS):
         bare = [bare_draw(draw) if isinstance(draw, dict) else draw for draw in draws[first : first + LIST_DRAWS]]
-        image_info(cut({**value, **listed_samples(value), "draws": bare}))
+        image_info(cut(json.dumps({**value, **listed_samples(value), "draws": bare}).encode()))
 
 
 def bare_draw(draw: Any) -> Any:

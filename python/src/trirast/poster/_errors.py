@@ -8,7 +8,7 @@ class PosterError(Exception):
 
 
 class ArraysError(PosterError, ValueError):
-    """The arrays are no scene: a shape, a type, a number or an index is wrong. The text says which."""
+    """What was given is no scene: a shape, a type, a number, an index or a state is wrong. The text says which."""
 
 
 class GuardBandError(PosterError, ValueError):
@@ -37,3 +37,15 @@ class EngineMissingError(PosterError, ImportError):
 
 class ResumeError(PosterError, ValueError):
     """What a stopped run left belongs to another list, to other arguments or to another file."""
+
+
+class OutputError(PosterError, FileExistsError):
+    """What is under a name that the run needs would be lost: no regular file, the list itself, or what no poster left."""
+
+
+class BusyError(PosterError, BlockingIOError):
+    """Another run is drawing to the same file or folder."""
+
+
+class ThreadError(PosterError, RuntimeError):
+    """A thread cannot be started. Fewer workers need fewer."""

@@ -9,9 +9,9 @@ from typing import Optional
 
 import numpy as np
 
+from ._part_file import PartFile
 from ._png import ZLIB_HEADER, adler_of_both, chunk, deflated, head_of, inflated, stream_end, unfiltered
 from ._scene import Pixels, Sheet
-from ._writers import open_part, put_in_place
 
 # Rows of a piece. Each piece is a chunk of the file.
 PIECE = 64
@@ -23,23 +23,20 @@ LONGEST = 1 << 31
 class PngWriter:
     """A PNG file of colours or depths."""
 
-    def __init__(self, path: str, sheet: Sheet, resume: bool, threads: int) -> None:
-        self._path = path
+    def __init__(self, path: str, sheet: Sheet, is_whole: bool, threads: int) -> None:
         self._sheet = sheet
-        self._file = open_part(path, resume)
+        start = head_of(sheet.width, sheet.height, sheet) + chunk(b"IDAT", ZLIB_HEADER)
+        self._part = PartFile(path, start, is_whole)
+        self._file = self._part.file
         self._pool = ThreadPoolExecutor(threads)
         self._adler = zlib.adler32(b"")
         self._read_adler, self._read_end = self._adler, 0
-        start = head_of(sheet.width, sheet.height, sheet) + chunk(b"IDAT", ZLIB_HEADER)
-        self._is_start_there = self._file.read(len(start)) == start
-        if not self._is_start_there:
-            self._file.seek(0)
-            self._file.write(start)
         self._end = len(start)
 
+    def begin(self) -> None:
+        self._part.begin()
+
     def read(self, height: int) -> Optional[Pixels]:
-        if not self._is_start_there:
-            return None
         self._read_adler, self._read_end = self._adler, self._end
         pieces = []
         for first in range(0, height, PIECE):
@@ -83,10 +80,8 @@ class PngWriter:
     def finish(self) -> None:
         self._file.seek(self._end)
         self._file.write(chunk(b"IDAT", stream_end(self._adler)) + chunk(b"IEND", b""))
-        self._file.truncate()
-        self._file.close()
-        put_in_place(self._path)
+        self._part.finish(self._file.tell())
 
     def close(self) -> None:
         self._pool.shutdown()
-        self._file.close()
+        self._part.close()

@@ -7,25 +7,28 @@ import os
 import zlib
 from concurrent.futures import Future, ThreadPoolExecutor
 from functools import partial
-from typing import Callable, Iterable, Iterator, List, Optional, Union
+from typing import Callable, Iterable, Iterator, List, Optional
 
 import numpy as np
 
 from ._dask import Drawn, draw_by_dask
+from ._errors import ThreadError
 from ._index import Index
-from ._journal import Journal, path_of
+from ._journal import Journal
 from ._part import part_of
+from ._places import Path, Places, places_of
 from ._png_writer import PngWriter
 from ._ppm_writer import PpmWriter
 from ._progress import Step, progress
 from ._scene import Pixels, Scene, Sheet, with_samples
 from ._threads import rows_by_threads
-from ._tiles_writer import TilesWriter
+from ._tiles_writer import TilesWriter, are_whole
 from ._windows import Windows
 from ._writers import Writer
 
-Path = Union[str, "os.PathLike[str]"]
 SIDE = 512
+# How a name ends that is of a PNG file, in small or capital letters.
+PNG = ".png"
 
 
 def draw_poster(
@@ -42,27 +45,34 @@ def draw_poster(
 ) -> None:
     """Draws a scene, up to 32,768 pixels wide and high, to a file or to a folder of tiles or to both.
 
-    `out` is a PNG file if its name ends in .png, else a PPM file (of depths a PGM file); `tiles` is a new folder. `samples` is the
-    number of samples of a pixel in place of the scene's: 1, 2, 4, 8 or 16. `window` is the side in pixels of the squares that are
-    drawn by themselves, 1 to 4096; `workers` how many draw at once (one a core). These two do not change a byte. Without `scheduler` threads of this process draw; with "local" Dask's processes, and with an
-    address the workers of that cluster. `resume` goes on with what a stopped run left. Under the final names are whole files
-    alone. Raises PosterError and trirast.Error, and OSError if a file cannot be written.
+    `out` is a PNG file if its name ends in .png, in small or capital letters, else a PPM file (of depths a PGM file); `tiles` is a new
+    folder. `samples` is the number of samples of a pixel in place of the scene's: 1, 2, 4, 8 or 16. `window` is the side in pixels of the
+    squares that are drawn by themselves, 64 to 4096; `workers` how many draw at once (one a core). These two do not change a byte. Without
+    `scheduler` threads of this process draw; with "local" Dask's processes, and with an address the workers of that cluster. `resume` goes
+    on with what a stopped run left. Under the final names are whole files alone. Raises PosterError and trirast.Error, and OSError if a
+    file cannot be written.
     """
-    if out is None and tiles is None:
-        raise ValueError("a poster goes to a file, to a folder of tiles, or to both")
+    places = places_of(out, tiles, scene.source)
     if samples is not None:
         scene = with_samples(scene, samples)
-    count = workers or os.cpu_count() or 1
-    # Without a last slash, so that what is beside a folder is not put into it.
-    file, folder = (os.path.normpath(os.fspath(each)) if each is not None else None for each in (out, tiles))
+    count = os.cpu_count() or 1 if workers is None else workers
+    if count < 1:
+        raise ValueError(f"workers: at least 1, and not {count}")
     windows = Windows(scene.sheet, window)
-    with contextlib.ExitStack() as stack:
+    with contextlib.ExitStack() as stack, thread_errors():
         summing = stack.enter_context(ThreadPoolExecutor(1)).submit(scene.checksum, count)
         index = Index.of(scene, windows, count)
-        run = {"list": summing.result(), "window": window, "out": file is not None, "tiles": folder is not None}
-        journal = Journal(path_of(file, folder), run, resume)
+        checksum = summing.result()
+        journal = Journal(places.journal)
         stack.callback(journal.close)
-        writers = list(writers_of(scene.sheet, file, folder, resume, count, stack))
+        writers = list(writers_of(scene.sheet, checksum, places, journal.is_whole, resume, count, stack))
+        run = {"list": checksum, "window": window, "out": places.file is not None, "tiles": places.folder is not None}
+        journal.begin(run, resume)
+        if not writers:
+            journal.remove()
+            return
+        for writer in writers:
+            writer.begin()
         first = kept_rows(journal, windows, writers)
         step = stack.enter_context(progress(len(windows), first * windows.columns, show_progress))
         if scheduler is None:
@@ -71,26 +81,43 @@ def draw_poster(
             rows = rows_of(draw_by_dask(windows.from_row(first), partial(part_of, scene, index), count, scheduler), windows, scene.sheet, step)
         stack.callback(rows.close)  # type: ignore[attr-defined]
         write_rows(rows, journal, writers)
-        for writer in writers:
-            writer.finish()
-        journal.remove()
+        finish(journal, writers)
+
+
+@contextlib.contextmanager
+def thread_errors() -> Iterator[None]:
+    """Makes a ThreadError of the error that Python raises if it cannot start a thread."""
+    try:
+        yield
+    except RuntimeError as error:
+        if "start new thread" not in str(error):
+            raise
+        raise ThreadError(f"a thread cannot be started; --workers with a smaller number needs fewer: {error}") from error
 
 
 def writers_of(
-    sheet: Sheet, out: Optional[str], tiles: Optional[str], resume: bool, threads: int, stack: contextlib.ExitStack
+    sheet: Sheet, checksum: str, places: Places, is_whole: bool, resume: bool, threads: int, stack: contextlib.ExitStack
 ) -> Iterator[Writer]:
-    """The writers of a poster, which the stack closes."""
+    """The writers of a poster, which the stack closes. There is none of tiles that a resumed run left whole."""
     makers: List[Callable[[], Writer]] = []
-    if tiles is not None:
-        makers.append(partial(TilesWriter, tiles, sheet, resume, threads))
-    if out is not None and out.endswith(".png"):
-        makers.append(partial(PngWriter, out, sheet, resume, threads))
-    elif out is not None:
-        makers.append(partial(PpmWriter, out, sheet, resume))
+    if places.folder is not None and not (resume and are_whole(places.folder, sheet, checksum)):
+        makers.append(partial(TilesWriter, places.folder, sheet, checksum, resume, threads))
+    if places.file is not None and places.file.lower().endswith(PNG):
+        makers.append(partial(PngWriter, places.file, sheet, is_whole, threads))
+    elif places.file is not None:
+        makers.append(partial(PpmWriter, places.file, sheet, is_whole))
     for maker in makers:
         writer = maker()
         stack.callback(writer.close)
         yield writer
+
+
+def finish(journal: Journal, writers: List[Writer]) -> None:
+    """Gives whole pictures their names, and removes the journal."""
+    journal.whole()
+    for writer in writers:
+        writer.finish()
+    journal.remove()
 
 
 def kept_rows(journal: Journal, windows: Windows, writers: List[Writer]) -> int:

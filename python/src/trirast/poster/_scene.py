@@ -4,11 +4,12 @@ from __future__ import annotations
 
 import hashlib
 import json
+import operator
 from concurrent.futures import ThreadPoolExecutor
-from dataclasses import dataclass, field, replace
+from dataclasses import InitVar, dataclass, field, replace
 from functools import cached_property
 from itertools import accumulate
-from typing import TYPE_CHECKING, Any, Mapping, Sequence
+from typing import TYPE_CHECKING, Any, Mapping, Optional, Sequence
 
 import numpy as np
 from numpy.typing import NDArray
@@ -34,9 +35,14 @@ SAMPLES: dict[int, Sequence[tuple[int, int]]] = {
 }
 # Sides of a poster, in pixels: what the guard band reaches.
 MAX_SIDE = 32768
+# Indices of triangles have 32 bits.
+MAX_TRIANGLES = (1 << 31) - 1
 VERTEX_NUMBERS = 7
 LIMITS = ((LOW, HIGH), (LOW, HIGH), (0, 65535), (0, 255), (0, 255), (0, 255), (0, 255))
 NAMES = ("x", "y", "depth", "red", "green", "blue", "alpha")
+OUTPUTS = ("color", "depth")
+# Keys of a draw that say what is drawn, and not how.
+CONTENTS = ("vertices", "triangles", "strip", "quads")
 # How many rows of an array are looked at together, so that a mapped array is never whole in memory.
 CHUNK = 1 << 20
 
@@ -49,7 +55,10 @@ Boxes: TypeAlias = "NDArray[np.int16]"
 
 @dataclass(frozen=True)
 class Sheet:
-    """What a list says once: the size in pixels, the samples, and with what each sample begins."""
+    """What a list says once: the size in pixels, the samples, and with what each sample begins.
+
+    Raises ArraysError if a value is none of docs/draw-list.md, with sides of up to 32,768.
+    """
 
     width: int
     height: int
@@ -57,6 +66,22 @@ class Sheet:
     clear: tuple[int, int, int] = (0, 0, 0)
     clear_depth: int = 65535
     output: str = "color"
+
+    def __post_init__(self) -> None:
+        red, green, blue = three("clear", self.clear)
+        checked = {
+            "width": integer("width", self.width, 1, MAX_SIDE),
+            "height": integer("height", self.height, 1, MAX_SIDE),
+            "samples": integer("samples", self.samples, min(SAMPLES), max(SAMPLES)),
+            "clear": (integer("clear", red, 0, 255), integer("clear", green, 0, 255), integer("clear", blue, 0, 255)),
+            "clear_depth": integer("clear_depth", self.clear_depth, 0, 65535),
+        }
+        if checked["samples"] not in SAMPLES:
+            raise ArraysError(f"samples: one of {', '.join(map(str, SAMPLES))}, and not {self.samples!r}")
+        if self.output not in OUTPUTS:
+            raise ArraysError(f"output: one of {', '.join(OUTPUTS)}, and not {self.output!r}")
+        for name, value in checked.items():
+            object.__setattr__(self, name, value)
 
     @property
     def is_depth(self) -> bool:
@@ -78,10 +103,23 @@ class Sheet:
 
 @dataclass(frozen=True)
 class PosterDraw:
-    """A draw of a scene: its number of triangles, and the keys of docs/draw-list.md with their values (`cull`, `blend`, ..)."""
+    """A draw of a scene: its number of triangles, and the keys of docs/draw-list.md with their values (`cull`, `blend`, ..).
+
+    Raises ArraysError if these are none. A scene looks at the values.
+    """
 
     triangles: int
     state: Mapping[str, Any] = field(default_factory=dict)
+
+    def __post_init__(self) -> None:
+        object.__setattr__(self, "triangles", integer("triangles", self.triangles, 0, MAX_TRIANGLES))
+        if not isinstance(self.state, Mapping) or not set(self.state).isdisjoint(CONTENTS):
+            raise ArraysError(f"state: keys of a draw and their values, without {', '.join(CONTENTS)}, and not {self.state!r}")
+        try:
+            # A copy of its own, which nobody else changes.
+            object.__setattr__(self, "state", json.loads(json.dumps(dict(self.state))))
+        except (TypeError, ValueError, RecursionError) as error:
+            raise ArraysError(f"state: values of a draw list, and not {self.state!r}: {error}") from error
 
 
 @dataclass(frozen=True)
@@ -89,13 +127,27 @@ class Scene:
     """Triangles over vertices, draw after draw.
 
     `vertices` has rows of x, y, depth, red, green, blue and alpha; `triangles` rows of three indices of vertices. The first
-    draw has the first triangles, and so on. Both may be mapped files.
+    draw has the first triangles, and so on. The scene keeps copies of both, which cannot be written to, unless `copy` is false. Then it
+    may keep the arrays themselves, as those of mapped files, and nobody may change them as long as the scene is used. `source` is the
+    file that it was read from, which no poster replaces. Raises ArraysError if something does not fit, and trirast.Error if a state is
+    wrong.
     """
 
     sheet: Sheet
     vertices: Vertices
     triangles: Triangles
     draws: Sequence[PosterDraw]
+    source: Optional[str] = field(default=None, compare=False)
+    copy: InitVar[bool] = True
+
+    def __post_init__(self, copy: bool) -> None:
+        if not isinstance(self.sheet, Sheet) or not all(isinstance(draw, PosterDraw) for draw in self.draws):
+            raise ArraysError("a scene has a Sheet, and a sequence of PosterDraw")
+        object.__setattr__(self, "draws", tuple(self.draws))
+        for name, columns in (("vertices", VERTEX_NUMBERS), ("triangles", 3)):
+            object.__setattr__(self, name, own(name, getattr(self, name), columns, copy))
+        check_arrays(self.vertices, self.triangles, self.draws)
+        check_states(self.draws)
 
     @cached_property
     def ends(self) -> list[int]:
@@ -122,7 +174,7 @@ def with_samples(scene: Scene, samples: int) -> Scene:
         return scene
     every = (1 << scene.sheet.samples) - 1
     draws = [without_mask(draw) if ~draw.state.get("sample_mask", every) & every == 0 else draw for draw in scene.draws]
-    return replace(scene, sheet=replace(scene.sheet, samples=samples), draws=draws)
+    return Scene(replace(scene.sheet, samples=samples), scene.vertices, scene.triangles, draws, scene.source, copy=False)
 
 
 def without_mask(draw: PosterDraw) -> PosterDraw:
@@ -137,12 +189,26 @@ def digest_of(array: NDArray[np.int32]) -> bytes:
     return found.digest()
 
 
-def check_arrays(vertices: NDArray[Any], triangles: NDArray[Any], draws: Sequence[PosterDraw]) -> None:
-    """Raises ArraysError unless the shapes fit, each number is in its range and each index names a vertex."""
-    check_shape("vertices", vertices, VERTEX_NUMBERS)
-    check_shape("triangles", triangles, 3)
+def own(name: str, array: Any, columns: int, copy: bool) -> NDArray[np.int32]:
+    """Rows of the machine's 32-bit integers one after another, which cannot be written to. They are the array itself only if it has
+    such rows and `copy` is false. Raises ArraysError if it has no integers of 32 bits in rows of so many columns."""
+    check_shape(name, array, columns)
+    if array.dtype == np.int32 and array.dtype.isnative:
+        found: NDArray[np.int32] = np.array(array, order="C") if copy else np.require(array, None, ("C", "A")).view()
+    else:
+        found = np.empty(array.shape, np.int32)
+        for first in range(0, len(array), CHUNK):
+            part = np.array(array[first : first + CHUNK])
+            check_range(name, part, -(1 << 31), (1 << 31) - 1)
+            found[first : first + CHUNK] = part
+    found.flags.writeable = False
+    return found
+
+
+def check_arrays(vertices: NDArray[np.int32], triangles: NDArray[np.int32], draws: Sequence[PosterDraw]) -> None:
+    """Raises ArraysError unless the draws have all triangles, each number is in its range and each index names a vertex."""
     counted = sum(draw.triangles for draw in draws)
-    if counted != len(triangles) or any(draw.triangles < 0 for draw in draws):
+    if counted != len(triangles):
         raise ArraysError(f"the draws have {counted} triangles, and the array has {len(triangles)}")
     for first in range(0, len(vertices), CHUNK):
         part = vertices[first : first + CHUNK]
@@ -152,11 +218,43 @@ def check_arrays(vertices: NDArray[Any], triangles: NDArray[Any], draws: Sequenc
         check_range("an index", triangles[first : first + CHUNK], 0, len(vertices) - 1)
 
 
-def check_shape(name: str, array: NDArray[Any], columns: int) -> None:
+def check_states(draws: Sequence[PosterDraw]) -> None:
+    """Raises trirast.Error if a state is none of a draw list, as the library does."""
+    # The format of lists stands on scenes.
+    from ._draw_list import check_states as check_list
+
+    states = {json.dumps(draw.state, sort_keys=True): draw.state for draw in draws}
+    check_list({"width": 1, "height": 1, "draws": list(states.values())})
+
+
+def check_shape(name: str, array: Any, columns: int) -> None:
+    """Raises ArraysError if something is no array of rows of integers."""
+    if not isinstance(array, np.ndarray) or isinstance(array, np.ma.MaskedArray):
+        raise ArraysError(f"{name}: an array of numpy, without a mask, and not {type(array).__name__}")
     if array.ndim != 2 or array.shape[1] != columns or array.dtype.kind not in "iu":
         raise ArraysError(f"{name}: rows of {columns} integers, and not {array.dtype} of the shape {array.shape}")
 
 
 def check_range(name: str, numbers: NDArray[Any], least: int, most: int) -> None:
-    if numbers.size and not (least <= numbers.min() and numbers.max() <= most):
+    if numbers.size and not (least <= int(numbers.min()) and int(numbers.max()) <= most):
         raise ArraysError(f"{name}: {least} to {most}, and not {numbers.min()} to {numbers.max()}")
+
+
+def integer(name: str, value: Any, least: int, most: int) -> int:
+    """A value as an integer. Raises ArraysError if it is none from `least` to `most`."""
+    try:
+        found = None if isinstance(value, (bool, np.bool_)) else operator.index(value)
+    except TypeError:
+        found = None
+    if found is None or not least <= found <= most:
+        raise ArraysError(f"{name}: an integer from {least} to {most}, and not {value!r}")
+    return found
+
+
+def three(name: str, values: Any) -> tuple[Any, Any, Any]:
+    """Three values. Raises ArraysError if there are not three."""
+    try:
+        first, second, third = values
+    except (TypeError, ValueError):
+        raise ArraysError(f"{name}: three integers, and not {values!r}") from None
+    return first, second, third

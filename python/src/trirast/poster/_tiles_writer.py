@@ -8,7 +8,6 @@ missing.
 from __future__ import annotations
 
 import os
-import shutil
 import struct
 import zlib
 from concurrent.futures import ThreadPoolExecutor
@@ -18,10 +17,9 @@ import numpy as np
 
 from ._png import pixels_of, png_of
 from ._scene import Pixels, Sheet
-from ._writers import PART, put_in_place
+from ._tile_folder import PAGE, TileFolder, page_in
 
 TILE = 256
-PAGE = "index.html"
 
 
 def halved(pixels: Pixels) -> Pixels:
@@ -45,6 +43,20 @@ def levels_of(sheet: Sheet) -> int:
     while TILE << level < max(sheet.width, sheet.height):
         level += 1
     return level
+
+
+def are_whole(path: str, sheet: Sheet, checksum: str) -> bool:
+    """Whether a folder has all tiles of a list: its page has the list's checksum, and the folder its name."""
+    return page_in(path) == page_of(sheet, checksum)
+
+
+def page_of(sheet: Sheet, checksum: str) -> bytes:
+    """The page of a poster's tiles, which begins with the mark of such pages and has the checksum of the list."""
+    with open(os.path.join(os.path.dirname(__file__), PAGE), encoding="utf-8") as file:
+        page = file.read()
+    for word, value in (("CHECKSUM", checksum), ("WIDTH", sheet.width), ("HEIGHT", sheet.height), ("ZOOM", levels_of(sheet))):
+        page = page.replace(word, str(value))
+    return page.encode()
 
 
 class Level:
@@ -83,29 +95,31 @@ class Level:
 
 
 class TilesWriter:
-    """A folder of tiles. Raises FileExistsError if it is there."""
+    """A folder of tiles."""
 
-    def __init__(self, path: str, sheet: Sheet, resume: bool, threads: int) -> None:
-        if os.path.exists(path):
-            raise FileExistsError(f"{path}: tiles go to a new folder")
-        self._path = path
+    def __init__(self, path: str, sheet: Sheet, checksum: str, resume: bool, threads: int) -> None:
+        """Opens what is there. `checksum` is that of the list. Raises OutputError if there is something that the run may not replace,
+        and BusyError if another run draws it."""
         self._sheet = sheet
         self._is_resumed = resume
         self._finest = levels_of(sheet)
         self._level = Level(self, self._finest)
+        self._page = page_of(sheet, checksum)
+        self._folder = TileFolder(path)
         self._pool = ThreadPoolExecutor(threads)
         self._read_tile_rows = 0
         self._read_rows: List[Pixels] = []
-        if not resume:
-            shutil.rmtree(path + PART, ignore_errors=True)
-        os.makedirs(path + PART, exist_ok=True)
+
+    def begin(self) -> None:
+        self._folder.begin(self._page, self._is_resumed)
 
     def read(self, height: int) -> Optional[Pixels]:
         while sum(map(len, self._read_rows)) < height:
             tiles = [self._read(os.path.join(str(self._finest), str(column), f"{self._read_tile_rows}.png"))
                      for column in range(-(-self._sheet.width // TILE))]
             there = [tile for tile in tiles if tile is not None]
-            if len(there) < len(tiles) or sum(tile.shape[1] for tile in there) != self._sheet.width:
+            heights = {tile.shape[0] for tile in there}
+            if len(there) < len(tiles) or len(heights) > 1 or sum(tile.shape[1] for tile in there) != self._sheet.width:
                 return None
             self._read_rows.append(np.concatenate(there, 1))
             self._read_tile_rows += 1
@@ -116,7 +130,7 @@ class TilesWriter:
     def _read(self, name: str) -> Optional[Pixels]:
         """The pixels of a tile, or `None` if it is not there or damaged."""
         try:
-            with open(os.path.join(self._path + PART, name), "rb") as file:
+            with open(self._folder.file(name), "rb") as file:
                 return pixels_of(file.read(), self._sheet)
         except (OSError, ValueError, zlib.error, struct.error):
             return None
@@ -130,7 +144,7 @@ class TilesWriter:
     def put(self, names: List[str], tiles: List[Pixels]) -> None:
         """Writes some tiles by several threads. One that a stopped run left with the same pixels is kept."""
         for name in names:
-            os.makedirs(os.path.dirname(os.path.join(self._path + PART, name)), exist_ok=True)
+            os.makedirs(os.path.dirname(self._folder.file(name)), exist_ok=True)
         for _ in self._pool.map(self._put_tile, names, tiles):
             pass
 
@@ -139,18 +153,13 @@ class TilesWriter:
             there = self._read(name)
             if there is not None and np.array_equal(there, pixels):
                 return
-        with open(os.path.join(self._path + PART, name), "wb") as file:
+        with open(self._folder.file(name), "wb") as file:
             file.write(png_of(pixels, self._sheet))
 
     def finish(self) -> None:
         self._level.finish()
-        with open(os.path.join(os.path.dirname(__file__), PAGE), encoding="utf-8") as file:
-            page = file.read()
-        for word, number in (("WIDTH", self._sheet.width), ("HEIGHT", self._sheet.height), ("ZOOM", self._finest)):
-            page = page.replace(word, str(number))
-        with open(os.path.join(self._path + PART, PAGE), "w", encoding="utf-8") as file:
-            file.write(page)
-        put_in_place(self._path)
+        self._folder.finish()
 
     def close(self) -> None:
         self._pool.shutdown()
+        self._folder.close()

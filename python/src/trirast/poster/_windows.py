@@ -69,11 +69,14 @@ class Span(NamedTuple):
 
 
 class Windows:
-    """The windows of a sheet, `side` pixels wide and high. Raises ValueError if the side is not 1 to 4096."""
+    """The windows of a sheet, `side` pixels wide and high. Raises ValueError if the side is not 64 to 4096.
+
+    The index of triangles has numbers for each tile row of each window. Windows that are smaller than a tile would take gigabytes there.
+    """
 
     def __init__(self, sheet: Sheet, side: int) -> None:
-        if not 1 <= side <= LIST_SIDE:
-            raise ValueError(f"window: 1 to {LIST_SIDE} pixels, and not {side}")
+        if not TILE <= side <= LIST_SIDE:
+            raise ValueError(f"window: {TILE} to {LIST_SIDE} pixels, and not {side}")
         self.width, self.height, self.side = sheet.width, sheet.height, side
         self.columns, self.rows = -(-sheet.width // side), -(-sheet.height // side)
         # The tile rows of a window, and the last one of the sheet.

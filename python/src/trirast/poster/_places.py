@@ -1,0 +1,79 @@
+"""Where a poster goes: the names that a run uses, which are looked at before the first pixel."""
+
+from __future__ import annotations
+
+import os
+import stat
+from typing import NamedTuple, Optional, Union
+
+from ._errors import OutputError
+
+Path = Union[str, "os.PathLike[str]"]
+# What a picture or a folder of tiles is before it is whole, and the journal of its run.
+PART, JOURNAL = ".part", ".resume"
+
+
+class Places(NamedTuple):
+    """The file and the folder to which a poster goes, of which one may be `None`."""
+
+    file: Optional[str]
+    folder: Optional[str]
+
+    @property
+    def journal(self) -> str:
+        """Where the journal of the run lies."""
+        return f"{self.file or self.folder}{JOURNAL}"
+
+
+def places_of(out: Optional[Path], tiles: Optional[Path], source: Optional[str]) -> Places:
+    """The places of a run that reads the file `source`. Raises OutputError if what is there would be lost or is in the way."""
+    places = Places(*(None if path is None else without_slash(os.fspath(path)) for path in (out, tiles)))
+    if places.file is None and places.folder is None:
+        raise ValueError("a poster goes to a file, to a folder of tiles, or to both")
+    if "" in places:
+        raise OutputError("a file or a folder without a name")
+    check_names(places)
+    if places.file is not None:
+        check_file(places.file)
+        if source is not None and is_same(places.file, source):
+            raise OutputError(f"{places.file}: the list itself, which stays")
+    for path in (places.journal, *([places.file + PART] if places.file else ())):
+        check_file(path)
+    return places
+
+
+def without_slash(path: str) -> str:
+    """A path without a last slash, so that what is beside a folder is not put into it."""
+    return path.rstrip("/") or path
+
+
+def check_names(places: Places) -> None:
+    """Raises OutputError if two names of a run are one, or the file lies in the folder."""
+    used = [places.journal, *(name for path in places if path for name in (path, path + PART))]
+    real = [os.path.join(os.path.realpath(os.path.dirname(path)), os.path.basename(path)) for path in used]
+    for number, name in enumerate(real):
+        if name in real[:number]:
+            raise OutputError(f"{used[number]}: two files of the run would have this name")
+    if places.file and places.folder:
+        folder = os.path.realpath(os.path.dirname(places.file))
+        for name in (places.folder, places.folder + PART):
+            if os.path.commonpath([folder, os.path.realpath(name)]) == os.path.realpath(name):
+                raise OutputError(f"{places.file}: lies in the folder of tiles {name}")
+
+
+def check_file(path: str) -> None:
+    """Raises OutputError if there is something under a name, and it is no regular file. A link is none."""
+    try:
+        mode = os.lstat(path).st_mode
+    except FileNotFoundError:
+        return
+    if not stat.S_ISREG(mode):
+        raise OutputError(f"{path}: is there and is no regular file")
+
+
+def is_same(path: str, other: str) -> bool:
+    """Whether two names are of one file."""
+    try:
+        return os.path.samefile(path, other)
+    except FileNotFoundError:
+        return False

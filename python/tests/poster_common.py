@@ -1,0 +1,57 @@
+"""What the tests of posters share."""
+
+import importlib.util
+import os
+import tempfile
+import unittest
+from typing import Any, Dict, List
+
+if importlib.util.find_spec("numpy") is None:
+    raise unittest.SkipTest("posters need numpy")
+
+import numpy as np
+
+from trirast import poster
+
+
+def random_scene(seed: int, width: int = 300, height: int = 200, triangles: int = 200, reach: int = 20000) -> poster.Scene:
+    """Triangles all over a sheet and past it, whose corners lie up to `reach` from their middles."""
+    pick = np.random.default_rng(seed)
+    middles = pick.integers(-5000, 256 * width + 5000, (triangles, 1, 2))
+    places = (middles + pick.integers(-reach, reach, (triangles, 3, 2))).reshape(-1, 2)
+    vertices = np.concatenate((places, pick.integers(0, 256, (3 * triangles, 5))), 1)
+    indices = np.arange(3 * triangles).reshape(-1, 3)
+    draws = [{"triangles": triangles // 4, "blend": "over"}, {"triangles": 0}, {"triangles": triangles - triangles // 4, "scissor": [3, 5, 290, 111]}]
+    return poster.scene_of_arrays(vertices, indices, {"width": width, "height": height, "samples": 4, "draws": draws})
+
+
+def as_list(scene: poster.Scene) -> Dict[str, Any]:
+    """A scene as a draw list."""
+    draws: List[Dict[str, Any]] = []
+    first = 0
+    for draw in scene.draws:
+        triangles = scene.triangles[first : first + draw.triangles]
+        first += draw.triangles
+        draws.append({**draw.state, "vertices": scene.vertices.tolist(), "triangles": triangles.tolist()})
+    return {"width": scene.sheet.width, "height": scene.sheet.height, "samples": scene.sheet.samples, "draws": draws}
+
+
+class Files(unittest.TestCase):
+    """Tests with a folder of their own."""
+
+    def setUp(self) -> None:
+        folder = tempfile.TemporaryDirectory()
+        self.addCleanup(folder.cleanup)
+        self.folder = folder.name
+
+    def path(self, name: str) -> str:
+        return os.path.join(self.folder, name)
+
+    def content(self, name: str) -> bytes:
+        with open(self.path(name), "rb") as file:
+            return file.read()
+
+    def write(self, name: str, data: bytes) -> str:
+        with open(self.path(name), "wb") as file:
+            file.write(data)
+        return self.path(name)

@@ -1,0 +1,31 @@
+"""Calls include/trirast.hpp with random arguments under AddressSanitizer and UndefinedBehaviorSanitizer, and compares its pictures.
+
+    python3 -m tools.fuzz_header [--seconds 60] [--seed N]
+
+Each picture is compared with the one that trirast_draw_scene draws. It needs the library of `make library`, and clang++ or g++ with
+their sanitizers. Prints how many scenes there were. Exit status 1 if one was wrong; the line that says so has its seed.
+"""
+
+from __future__ import annotations
+
+import argparse
+import sys
+import time
+
+from tools.library.sanitized import check_fuzz
+from tools.library.tally import Tally
+
+
+def main() -> int:
+    parser = argparse.ArgumentParser(description="Calls trirast.hpp with random arguments under sanitizers.")
+    parser.add_argument("--seconds", type=int, default=60, help="how long (default 60)")
+    parser.add_argument("--seed", type=int, default=time.time_ns() // 1000, help="of the first scene (default: by the clock)")
+    options = parser.parse_args()
+    tally = Tally()
+    tally.run(f"trirast.hpp for {options.seconds} seconds from seed {options.seed}", check_fuzz, options.seconds, options.seed)
+    print(tally.counts, flush=True)
+    return 1 if tally.counts.failed else 0
+
+
+if __name__ == "__main__":
+    sys.exit(main())

@@ -1,0 +1,133 @@
+"""Runs that are killed at any moment, once or twice: each --resume ends well, with the bytes of a run that was not stopped.
+
+    PYTHONPATH=python/src python3 -m tools.poster.kills --folder FOLDER [--rounds 4]
+
+Only processes that these checks started are ended, each by its number.
+"""
+
+from __future__ import annotations
+
+import argparse
+import json
+import os
+import random
+import shutil
+import signal
+import subprocess
+import sys
+import time
+from typing import Any, Dict, List
+
+from trirast import poster
+
+from tools.library.tally import Tally, must
+from tools.poster.common import content, folder_files, run_checks
+from tools.poster.stopped import SECONDS, write_scene
+
+SIDE, TRIANGLES, WINDOW = 3000, 30_000, 128
+# Each kind of output, by the names below a folder to which it goes: a file, a folder of tiles, or both.
+KINDS = (("a.ppm", None), ("a.pgm", None), ("a.png", None), (None, "tiles"), ("a.ppm", "tiles"), ("a.png", "tiles"))
+# Of four rounds one kills a run as it gives its files their names.
+LATE = 4
+
+
+class Kills:
+    """Runs of one kind of output, below a folder of their own."""
+
+    def __init__(self, folder: str, number: int) -> None:
+        out, tiles = KINDS[number]
+        self.folder = os.path.join(folder, "kills", str(number))
+        shutil.rmtree(self.folder, ignore_errors=True)
+        os.makedirs(self.folder)
+        scene = os.path.join(self.folder, "scene.npz")
+        write_scene(scene, side=SIDE, triangles=TRIANGLES)
+        if out and out.endswith(".pgm"):
+            self.of_depths(scene)
+        self.to = os.path.join(self.folder, "to")
+        names = [word for option, name in (("-o", out), ("--tiles", tiles)) if name for word in (option, os.path.join(self.to, name))]
+        self.command = [sys.executable, "-m", "trirast.poster", scene, "--window", str(WINDOW), "--workers", "2", *names]
+        self.journal = f"{os.path.join(self.to, out or tiles or '')}.resume"
+        self.pick = random.Random(f"kills {number}")
+        self.stages: Dict[str, int] = {}
+        self.make_anew()
+        begun = time.monotonic()
+        must(self.ended() == 0, "a run failed")
+        self.seconds, self.wanted = time.monotonic() - begun, folder_files(self.to)
+
+    def of_depths(self, path: str) -> None:
+        """Makes of a file of arrays one that shows depths."""
+        scene = poster.scene_of(path)
+        value: Dict[str, Any] = {"width": SIDE, "height": SIDE, "output": "depth", "samples": 4}
+        value["draws"] = [{**draw.state, "depth_write": True, "triangles": draw.triangles} for draw in scene.draws]
+        poster.save_arrays(path, scene.vertices, scene.triangles, value)
+
+    def make_anew(self) -> None:
+        shutil.rmtree(self.to, ignore_errors=True)
+        os.makedirs(self.to)
+
+    def ended(self, *words: str) -> int:
+        done = subprocess.run([*self.command, *words], stdout=subprocess.DEVNULL, stderr=subprocess.PIPE, timeout=SECONDS)
+        must(done.returncode == 0, f"status {done.returncode}: {done.stderr.decode()[-400:]}")
+        return done.returncode
+
+    def kill(self, is_late: bool, *words: str) -> None:
+        """Starts a run, and kills it: at any time, or as it gives its files their names."""
+        child = subprocess.Popen([*self.command, *words], stdout=subprocess.DEVNULL, stderr=subprocess.DEVNULL)
+        try:
+            if is_late:
+                end = time.monotonic() + SECONDS
+                while child.poll() is None and not self.is_late() and time.monotonic() < end:
+                    pass
+            else:
+                time.sleep(self.pick.random() * 1.1 * self.seconds)
+        finally:
+            child.kill()
+            child.wait()
+        self.count(child.returncode)
+
+    def is_late(self) -> bool:
+        try:
+            return b'"whole"' in content(self.journal)
+        except FileNotFoundError:
+            return False
+
+    def count(self, status: int) -> None:
+        """Counts how far a killed run had come."""
+        there = sorted(os.listdir(self.to))
+        if status != -signal.SIGKILL:
+            stage = "ended"
+        elif not there:
+            stage = "nothing"
+        elif all("." in name and name.rsplit(".", 1)[1] in ("part", "resume") for name in there):
+            stage = "parts"
+        else:
+            stage = "named"
+        self.stages[stage] = self.stages.get(stage, 0) + 1
+
+    def round(self, number: int) -> None:
+        self.make_anew()
+        self.kill(number % LATE == LATE - 1)
+        if self.pick.random() < 0.5:
+            self.kill(self.pick.random() < 0.2, "--resume")
+        self.ended("--resume")
+        found = folder_files(self.to)
+        names: List[str] = sorted(found.keys() ^ self.wanted.keys())
+        must(found == self.wanted, f"round {number}: other files {names[:5]}, or bytes")
+
+
+def check_kills(options: argparse.Namespace, number: int) -> str:
+    kills = Kills(options.folder, number)
+    for each in range(options.rounds):
+        kills.round(each)
+    shutil.rmtree(kills.folder)
+    return f"{options.rounds} rounds; killed with {', '.join(f'{stage}: {count}' for stage, count in sorted(kills.stages.items()))}"
+
+
+def check_all(tally: Tally, options: argparse.Namespace) -> None:
+    for number, (out, tiles) in enumerate(KINDS):
+        name = " and ".join(filter(None, (out and os.path.splitext(out)[1][1:], tiles)))
+        tally.run(f"runs killed at any moment, {name}", check_kills, options, number)
+
+
+if __name__ == "__main__":
+    run_checks(check_all)
