@@ -44,9 +44,9 @@ def draw_poster(
 
     `out` is a PNG file if its name ends in .png, else a PPM file (of depths a PGM file); `tiles` is a new folder. `samples` is the
     number of samples of a pixel in place of the scene's: 1, 2, 4, 8 or 16. `window` is the side in pixels of the squares that are
-    drawn by themselves, 1 to 4096; `workers` how many draw at once (one a core). These two do not change a byte. Without `scheduler` threads of this process draw; with "local" Dask's processes, and with an
-    address the workers of that cluster. `resume` goes on with what a stopped run left. Under the final names are whole files
-    alone. Raises PosterError and trirast.Error, and OSError if a file cannot be written.
+    drawn by themselves, 1 to 4096; `workers` how many draw at once (one a core). These two do not change a byte. Without
+    `scheduler` threads of this process draw; with "local" Dask's processes, and with an address the workers of that cluster.
+    `resume` goes on with what a stopped run left. Under the final names are whole files alone. Raises PosterError and trirast.Error, and OSError if a file cannot be written.
     """
     if out is None and tiles is None:
         raise ValueError("a poster goes to a file, to a folder of tiles, or to both")
