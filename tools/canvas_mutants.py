@@ -56,7 +56,7 @@ MUTANTS: list[tuple[str, Sequence[int], str, str]] = [
     ("the mean of sixteen samples by eight", (16,), MEAN, "out.append(min(255, sum(sample[channel] for sample in pixel) // 8))"),
     ("the mean of the first four samples", (8, 16), MEAN, "out.append((sum(sample[channel] for sample in pixel[:4]) + 2) // 4)"),
     ("positions seen from a window's corner", (1, 2, 4, 8, 16), POSITION, "p = (256 * (i - scene.origin[0]) + ox, 256 * j + oy)"),
-    ("a scissor seen from a window's corner", (1, 2, 4, 8, 16), SCISSOR, "(edge + scene.origin[k % 2] for k, edge in enumerate(" + SCISSOR + "))"),
+    ("a scissor seen from a window's corner", (1, 2, 4, 8, 16), SCISSOR, f"(edge + scene.origin[k % 2] for k, edge in enumerate({SCISSOR}))"),
 ]
 
 

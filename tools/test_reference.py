@@ -168,9 +168,9 @@ class OnCanvases(unittest.TestCase):
             self.assertEqual(self.canvas_pixels(samples, 1, half), [f"{grey} {grey} {grey}"])
 
     def test_samples_on_the_left_and_the_upper_border_belong_to_their_pixel(self) -> None:
-        left, right = (draw([vertex(x, 0), vertex(x + 256, 0), vertex(x, 256), vertex(x + 256, 256)], [(0, 1, 2), (2, 1, 3)]) for x in (0, 256))
-        self.assertEqual(self.canvas_pixels(16, 2, left), [WHITE, BLACK])
-        self.assertEqual(self.canvas_pixels(16, 2, right), [BLACK, WHITE])
+        for left, wanted in ((0, [WHITE, BLACK]), (256, [BLACK, WHITE])):
+            corners = [vertex(x, y) for y in (0, 256) for x in (left, left + 256)]
+            self.assertEqual(self.canvas_pixels(16, 2, draw(corners, [(0, 1, 2), (2, 1, 3)])), wanted)
 
     def test_each_bit_of_a_mask_is_a_sixteenth(self) -> None:
         wide = [vertex(0, 0), vertex(512, 0), vertex(0, 512)]

@@ -283,7 +283,8 @@ class Given(unittest.TestCase):
         for samples, shares in ((1, 2), (2, 3), (4, 5), (8, 9), (16, 17)):
             with mock.patch.object(RendererTrirast, "samples", samples):
                 rights = [10 + sixteenth / 16 for sixteenth in range(17)]
-                grays = {int(pixels_with([[(0, 0), (right, 0), (0, 30)], [(right, 0), (right, 30), (0, 30)]], [BLACK, BLACK])[15, 10, 0]) for right in rights}
+                two = ([[(0, 0), (right, 0), (0, 30)], [(right, 0), (right, 30), (0, 30)]] for right in rights)
+                grays = {int(pixels_with(corners, [BLACK, BLACK])[15, 10, 0]) for corners in two}
             self.assertEqual(len(grays), shares)
 
     def test_more_samples_have_smaller_windows(self) -> None:

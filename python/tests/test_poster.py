@@ -366,6 +366,17 @@ class Command(Files):
         self.assertEqual(self.run_command(name, "-o", self.path("a.ppm")), (0, ""))
         self.assertEqual(self.content("a.ppm"), FILE)
 
+    def test_takes_a_number_of_samples(self) -> None:
+        name = self.write("a.json", list_of())
+        for samples in (1, 2, 4, 8, 16):
+            canvas = trirast.Canvas(3, 3, samples=samples)
+            canvas.clear()
+            canvas.draw(VERTICES, [[0, 1, 2]])
+            self.assertEqual(self.run_command(name, "--samples", str(samples), "-o", self.path("a.ppm")), (0, ""))
+            self.assertEqual(self.content("a.ppm")[-27:], memoryview(canvas.rgb()).tobytes())
+        with self.assertRaises(SystemExit), redirect_stderr(io.StringIO()):
+            _command.main([name, "--samples", "3", "-o", self.path("a.ppm")])
+
     def test_names_errors(self) -> None:
         name = self.write("a.json", list_of(width=0))
         self.assertEqual(self.run_command(name, "-o", self.path("a.ppm")), (1, "poster: DrawListError: trirast: list fault 5 OutOfRange\n"))
