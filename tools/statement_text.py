@@ -80,10 +80,10 @@ What the page uses of the toolchain's crates, in one line each. What counts is t
 GROUPS = (
     Group(
         "Positions and samples",
-        "x runs to the right and y downwards, in 1/256 pixel. A pixel has one sample in its centre, or four in the standard pattern. "
-        "Each coordinate of a vertex lies in the guard band.",
-        "Direct3D 11, positions with 8 fractional bits, pixel centres and the standard pattern for four samples; the guard band is "
-        "this project's limit.",
+        "x runs to the right and y downwards, in 1/256 pixel. A pixel has one sample in its centre, or two, four, eight or sixteen in "
+        "a standard pattern; a draw list has one or four. Each coordinate of a vertex lies in the guard band.",
+        "Direct3D 11, positions with 8 fractional bits, pixel centres and the standard patterns; the guard band is this project's "
+        "limit.",
         (
             "crates/grid/specs/Position.antt",
             "crates/grid/src/point.rt",
@@ -159,7 +159,7 @@ GROUPS = (
     ),
     Group(
         "Resolve",
-        "With one sample, a pixel's channel is that sample's. With four, it is their mean, with halves rounded up.",
+        "With one sample, a pixel's channel is that sample's. With more, it is their mean, with halves rounded up.",
         "Direct3D 11 leaves the filter of a resolve open; the plain mean and its rounding are this project's rule.",
         ("crates/shade/specs/Resolve.antt",),
     ),
@@ -242,6 +242,8 @@ GLOSSARY: dict[str, tuple[tuple[str, str, str], ...]] = {
         ("◌⊎◌", "P ⊎ Q", "P or Q, or both"),
         ("ℕ", "ℕ", "the integers from 0, without bound"),
         ("ℤ", "ℤ", "the integers, without bound"),
+        ("zero", "zero", "0, in a definition by cases"),
+        ("suc", "suc n", "n + 1, in a definition by cases"),
         ("pos", "pos n", "n as a `ℤ`"),
         ("negsuc", "negsuc n", "-(n + 1) as a `ℤ`"),
         ("unsigned_abs", "unsigned_abs z", "the absolute value of z, an `ℕ`"),

@@ -1,5 +1,5 @@
 -- The checks of a batch, in their order: those of a scene's arrays, but that there is no limit on vertices and triangles, that only
--- vertices which an index names are looked at, that a scissor may be as far as the guard band, and that a sample mask has 16 bits.
+-- vertices which an index names are looked at, and that a scissor may be as far as the guard band.
 use Rattle.std.specs.Prelude.{◌≡◌, ◌⊎◌, ℕ, ℤ, ◌+◌, ◌%◌, ◌<◌, ◌≤◌, ⊤, Option, None, Some, List, [], ◌∷◌, length, map, take, drop}
 use Rattle.std.specs.List.{All}
 use Rattle.model.specs.declared.fault.ReadKind.TheVariants.{WrongKind, OutOfRange, BadIndex, TooMany, NotConvex}
@@ -37,7 +37,7 @@ primitives_checks x y ids vertices kind indices =
 -- A draw, whose vertices and indices are the first of these.
 abbrev pub draw_checks : ℤ → ℤ → Option ℕ → SceneDraw → List SceneVertex → List ℕ → Checks
 draw_checks x y ids d vertices indices =
-    followed_by (opening_checks 32768 65535 d vertices indices)
+    followed_by (opening_checks 32768 d vertices indices)
     (primitives_checks x y ids (take d.vertices vertices) d.primitives (take d.indices indices))
 
 -- Each draw passes its checks, and no vertex and no index is left over.

@@ -14,9 +14,6 @@ use scene::{SceneDraw, SceneVertex, corners, triangle_count};
 /// The farthest edge of a scissor, in pixels: the guard band ends there.
 const FARTHEST: u32 = 32_768;
 
-/// The sample mask of all samples of a pixel that has sixteen, and so the greatest.
-const ALL_SAMPLES: u16 = 65_535;
-
 /// Whether the vertices of quads can be seen and each quad is strictly convex, if the primitives are quads.
 fn are_convex(kind: u32, vertices: &[SceneVertex], indices: &[u32], origin: &Origin) -> bool
     ensures { IsTrue result ↔ AreQuadsSeen origin.now.x origin.now.y vertices.now (primitives_listed kind indices.now) }
@@ -70,7 +67,7 @@ fn check_draw(
     if own_vertices > vertices.len() || own_indices > indices.len() {
         return Err(ReadKind::WrongKind);
     }
-    if !draw.is_in_range(FARTHEST, ALL_SAMPLES) {
+    if !draw.is_in_range(FARTHEST) {
         return Err(ReadKind::OutOfRange);
     }
     check_primitives(

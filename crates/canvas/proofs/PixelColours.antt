@@ -4,15 +4,13 @@ use Rattle.std.proofs.Math.Nat.{mul_comm}
 use Rattle.std.proofs.lemmas.Nat.{mul-add-lt}
 use Rattle.grid.specs.Samples.{count_of}
 use Rattle.grid.specs.declared.sample_count.SampleCount.{SampleCount}
-use Rattle.grid.specs.declared.sample_count.SampleCount.TheVariants.{One, Two, Four, Eight, Sixteen}
 use Rattle.shade.specs.declared.sample.Sample.{Sample}
 use Rattle.lanes.specs.declared.block_samples.BlockSamples.{BlockSamples}
-use Rattle.shade.specs.Quotient.{IsQuotient}
 use Rattle.shade.specs.Resolve.{IsResolved}
+use Rattle.shade.proofs.Resolved.{resolved_same}
 use Rattle.raster.specs.declared.tile.Tile.{Tile}
 use Rattle.raster.specs.Samples.{stored as in_tile}
 use Rattle.raster.specs.Colours.{IsColourAt, AreColoursAt}
-use Rattle.raster.proofs.PixelRow.{total_same}
 use Rattle.canvas.specs.declared.canvas.Canvas.{Canvas}
 use Rattle.canvas.specs.declared.format.Format.{Format}
 use Rattle.canvas.specs.Layout.{stored, stored_in_tile}
@@ -20,25 +18,6 @@ use Rattle.canvas.specs.Pixels.{pixel_bytes}
 use Rattle.canvas.specs.Colours.{IsColourOfPixel, IsColourIn, IsPixelOf, IsPixelIn, IsTilePixel, AreBytesOfColour, AreArranged}
 
 -- ---- colours of the same samples
-resolved_same : (count : SampleCount) (f g : ℕ → ℕ) (q : ℕ) → ((s : ℕ) → s < count_of count → f s ≡ g s) → IsResolved count f q → IsResolved count g q
-resolved_same One f g q same h = h ∙ same 0 (omega arith)
-resolved_same Two f g q same h =
-    let first : f 0 ≡ g 0 = same 0 (omega arith) in
-    let second : f 1 ≡ g 1 = same 1 (omega arith) in
-    let low = h.low in
-    let high = h.high in
-    record { low = omega arith; high = omega arith }
-resolved_same Eight f g q same h = subst (λ n. IsQuotient (n + 4) 8 q) (total_same 8 f g same) h
-resolved_same Sixteen f g q same h = subst (λ n. IsQuotient (n + 8) 16 q) (total_same 16 f g same) h
-resolved_same Four f g q same h =
-    let first : f 0 ≡ g 0 = same 0 (omega arith) in
-    let second : f 1 ≡ g 1 = same 1 (omega arith) in
-    let third : f 2 ≡ g 2 = same 2 (omega arith) in
-    let fourth : f 3 ≡ g 3 = same 3 (omega arith) in
-    let low = h.low in
-    let high = h.high in
-    record { low = omega arith; high = omega arith }
-
 -- from raster's tile to the planes of a tile
 pub colour_in_tile : (count : SampleCount) (i j r g b : ℕ) (tile : Tile) (xs part : List BlockSamples) (row column : ℕ) → tile.count ≡ count
     → ((s : ℕ) → s < count_of count → in_tile tile part row column s ≡ stored_in_tile count xs i j s)

@@ -8,6 +8,7 @@ use Rattle.grid.specs.Samples.{count_of}
 use Rattle.grid.specs.declared.sample_count.SampleCount.{SampleCount}
 use Rattle.grid.specs.declared.sample_count.SampleCount.TheVariants.{One, Two, Four, Eight, Sixteen}
 use Rattle.shade.specs.declared.sample.Sample.{Sample}
+use Rattle.shade.proofs.Resolved.{some_samples}
 use Rattle.lanes.specs.declared.block_samples.BlockSamples.{BlockSamples}
 use Rattle.lanes.specs.Block.{stored_at}
 use Rattle.canvas.specs.Layout.{planes_of_tile, block_of, stored_in_tile}
@@ -91,20 +92,13 @@ one_filled count old xs place plane from room is before k h l =
       | inl less ↦ get_or-set_other xs place k plane none (λ e. omega (arith, e, less)) ∙ before k h less
       | inr more ↦
           let here : k ≡ place = omega (arith, l, more) in
-          let some : 1 ≤ count_of count = some_samples count in
+          let some : 0 < count_of count = some_samples count in
           ap (λ p. slice_index_or (slice_set xs place plane) p none) here
           ∙ get_or-set_same xs place plane none room
           ∙ is
           ∙ before (place - count_of count) (omega (arith, from)) (omega (arith, from, some))
           ∙ ap (λ m. slice_index_or old (1 + m) none) (one_before count place from ∙ ap (λ p. (p - 1) % count_of count) (sym here))
     ]
-  where
-    some_samples : (count : SampleCount) → 1 ≤ count_of count
-    some_samples One = omega arith
-    some_samples Two = omega arith
-    some_samples Four = omega arith
-    some_samples Eight = omega arith
-    some_samples Sixteen = omega arith
 
 pub tile_filled : (count : SampleCount) (old new : List BlockSamples) → slice_index (slice_index_or old 0 none).r 0 ≡ 1 → slice_index (slice_index_or new 0 none).r 0 ≢ 1
     → AreFilled count old (planes_of_tile count) new → (i j s : ℕ) → s < count_of count → stored_in_tile count new i j s ≡ stored_in_tile count old i j s

@@ -1,11 +1,9 @@
 -- The picture of depths of a canvas that was drawn in batches.
 use Rattle.std.proofs.Common.{◌≡◌, ◌∙◌, refl, sym, ap, subst, ℕ, ◌+◌, ◌-◌, ◌*◌, ◌/◌, ◌%◌, ◌<◌, ◌≤◌, List, [], ◌∷◌, length, take, drop, slice_index, length-drop, arith}
 use Rattle.std.proofs.lemmas.List.{get_or-drop}
-use Rattle.grid.specs.Samples.{count_of}
-use Rattle.grid.specs.declared.sample_count.SampleCount.{SampleCount}
-use Rattle.grid.specs.declared.sample_count.SampleCount.TheVariants.{One, Four}
 use Rattle.lanes.specs.declared.block_samples.BlockSamples.{BlockSamples}
 use Rattle.shade.specs.declared.placed.Placed.{Placed}
+use Rattle.shade.proofs.Resolved.{some_samples}
 use Rattle.model.specs.declared.output.Output.TheVariants.{Depth}
 use Rattle.model.specs.Scene.{Scene}
 use Rattle.model.specs.Picture.{IsDepthPixel, PixelOf, IsPixel, IsPicture, pixel_at, pixel_bytes}
@@ -29,10 +27,6 @@ two_at bytes n a b room first second =
     first_two (drop n bytes) (omega (arith, room, length-drop n bytes))
     ∙ two_same _ _ a b (get_or-drop n bytes 0 0 ∙ first) (get_or-drop n bytes 1 0 ∙ second)
 
-some_sample : (count : SampleCount) → 0 < count_of count
-some_sample One = omega arith
-some_sample Four = omega arith
-
 module _ (l : Scene) (c : Canvas) (batches : List (List Placed)) (samples : List BlockSamples) (of : IsCanvasOf l c) (listed : AreListed l batches) (made : AreMade l c batches samples) (old depths bytes : List ℕ)
     (shows : l.output ≡ Depth) (size : length depths ≡ l.height * l.width) (written : AreDepths c 0 (rows_of c) samples 0 c.width old depths) (pairs : ArePairsOf depths bytes) where
   module _ (i j : ℕ) (wide : i < l.width) (high : j < l.height) where
@@ -55,7 +49,7 @@ module _ (l : Scene) (c : Canvas) (batches : List (List Placed)) (samples : List
     depth_pixel =
         let first : 2 * number + 0 ≡ 2 * number = omega arith in record {
           end = stored c 0 samples i j 0;
-          is_end = sample_end l c batches samples of listed made i j wide high 0 (some_sample l.count);
+          is_end = sample_end l c batches samples of listed made i j wide high 0 (some_samples l.count);
           high = slice_index depths number / 256;
           low = slice_index depths number % 256;
           value = sym depth ∙ (let parts : slice_index depths number ≡ 256 * (slice_index depths number / 256) + slice_index depths number % 256 = omega arith in parts);

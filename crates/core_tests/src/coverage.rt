@@ -1,5 +1,6 @@
 //! Masks, classes and squares, by worked values and compared with the reference test on generated triangles and quads.
-ghost use Rattle.std.specs.Prelude.{◌<◌, ◌^◌};
+ghost use Rattle.std.specs.Prelude.{◌<◌, ◌^◌, IsTrue};
+ghost use Rattle.grid.specs.Samples.{IsPart};
 
 use crate::support::{point, triangle};
 use cover::{Class, Masks, Pair, Setup, pair_masks, quad_masks};
@@ -205,17 +206,36 @@ fn cuts_squares(rt: HostRuntime) {
     assert_eq!(rt; whole.quarter(0).class(), Class::All);
 }
 
-/// The reference cover test at each sample of a block.
-fn plain_masks(t: &Tri, bx: u32, by: u32, count: SampleCount) -> Masks
+/// Each number of samples of a pixel.
+const COUNTS: [SampleCount; 5] = [
+    SampleCount::One,
+    SampleCount::Two,
+    SampleCount::Four,
+    SampleCount::Eight,
+    SampleCount::Sixteen,
+];
+
+/// Whether a part of a pixel's samples begins with this one.
+fn is_part(count: SampleCount, from: u32) -> bool
+    ensures { IsTrue result → IsPart count from }
+{
+    let (all, part) = (count.count(), count.part_size());
+    from % 4 == 0 && part <= all && from <= all - part
+}
+
+/// The reference cover test at each sample of a part of a block's samples.
+fn plain_masks(t: &Tri, bx: u32, by: u32, from: u32, count: SampleCount) -> Masks
     requires column { bx < 512 }
     requires row { by < 512 }
 {
     let mut plane = [0u64; 4];
-    for s in 0..count.count() {
+    for s in from..count.count() {
+        let word = (s - from) as usize;
         for row in 0..8u32 {
             for column in 0..8u32 {
-                if t.covers(sample_at(8 * bx + column, 8 * by + row, s, count)) {
-                    plane[s as usize] |= 1 << (8 * row + column);
+                let covered = t.covers(sample_at(8 * bx + column, 8 * by + row, s, count));
+                if word < 4 && covered {
+                    plane[word] |= 1 << (8 * row + column);
                 }
             }
         }
@@ -223,34 +243,59 @@ fn plain_masks(t: &Tri, bx: u32, by: u32, count: SampleCount) -> Masks
     Masks { plane }
 }
 
-/// Compares a block's masks and class, and those of the square round it by its quarters, with the reference test.
+/// The masks of a part of a block all of whose samples are covered.
+fn full_masks(count: SampleCount) -> Masks {
+    Masks {
+        plane: match count {
+            SampleCount::One => [u64::MAX, 0, 0, 0],
+            SampleCount::Two => [u64::MAX, u64::MAX, 0, 0],
+            SampleCount::Four | SampleCount::Eight | SampleCount::Sixteen => [u64::MAX; 4],
+        },
+    }
+}
+
+/// Compares the masks of a part of a block, and its class, and those of the square round it by its quarters, with the reference test.
+fn compare_part(
+    rt: &impl Abort,
+    t: &Tri,
+    setup: &Setup,
+    bx: u32,
+    by: u32,
+    from: u32,
+    count: SampleCount,
+)
+    requires column { bx < 512 }
+    requires row { by < 512 }
+    requires part { IsPart count from }
+{
+    let plain = plain_masks(t, bx, by, from, count);
+    assert_eq!(rt; setup.masks(bx, by, from, count), plain, "block {bx}, {by}");
+    let block = setup.square(bx, by, TileSide::T8, count);
+    assert_eq!(rt; block.masks(from), plain, "square {bx}, {by}");
+    let class = setup.classify(bx, by, TileSide::T8, count);
+    let (bx16, by16) = (bx / 2 * 2, by / 2 * 2);
+    let around = setup.square(bx16, by16, TileSide::T16, count);
+    let quarter = around.quarter(bx % 2 + by % 2 * 2);
+    assert_eq!(rt; (quarter.bx(), quarter.by()), (bx, by));
+    assert_eq!(rt; quarter.class(), class, "quarter {bx}, {by}");
+    assert_eq!(rt; quarter.masks(from), plain, "quarter {bx}, {by}");
+    match class {
+        Class::Out => assert_eq!(rt; plain, one(0), "block {bx}, {by}"),
+        Class::All => assert_eq!(rt; plain, full_masks(count), "block {bx}, {by}"),
+        Class::Mixed => {}
+    }
+}
+
+/// Compares each part of a block with the reference test.
 fn compare(rt: &impl Abort, t: &Tri, setup: &Setup, bx: u32, by: u32)
     requires column { bx < 512 }
     requires row { by < 512 }
 {
-    for count in [SampleCount::One, SampleCount::Four] {
-        let plain = plain_masks(t, bx, by, count);
-        assert_eq!(rt; setup.masks(bx, by, 0, count), plain, "block {bx}, {by}");
-        let block = setup.square(bx, by, TileSide::T8, count);
-        assert_eq!(rt; block.masks(0), plain, "square {bx}, {by}");
-        let class = setup.classify(bx, by, TileSide::T8, count);
-        let (bx16, by16) = (bx / 2 * 2, by / 2 * 2);
-        let around = setup.square(bx16, by16, TileSide::T16, count);
-        let quarter = around.quarter(bx % 2 + by % 2 * 2);
-        assert_eq!(rt; (quarter.bx(), quarter.by()), (bx, by));
-        assert_eq!(rt; quarter.class(), class, "quarter {bx}, {by}");
-        assert_eq!(rt; quarter.masks(0), plain, "quarter {bx}, {by}");
-        let full = Masks {
-            plane: match count {
-                SampleCount::One => [u64::MAX, 0, 0, 0],
-                SampleCount::Two => [u64::MAX, u64::MAX, 0, 0],
-                SampleCount::Four | SampleCount::Eight | SampleCount::Sixteen => [u64::MAX; 4],
-            },
-        };
-        match class {
-            Class::Out => assert_eq!(rt; plain, one(0), "block {bx}, {by}"),
-            Class::All => assert_eq!(rt; plain, full, "block {bx}, {by}"),
-            Class::Mixed => {}
+    for count in COUNTS {
+        for from in 0..16u32 {
+            if is_part(count, from) {
+                compare_part(rt, t, setup, bx, by, from, count);
+            }
         }
     }
 }
@@ -313,8 +358,8 @@ impl Random {
 #[test]
 fn agrees_with_the_plain_test(rt: HostRuntime) {
     let mut random = Random(1);
-    for step in [1u32, 32, 128] {
-        for _ in 0..800u32 {
+    for step in [1u32, 16, 32, 128] {
+        for _ in 0..150u32 {
             let t = random.triangle(&rt, step);
             if let Some(setup) = Setup::new(&t, Cull::None) {
                 for block in 0..9u32 {
@@ -362,17 +407,19 @@ fn covers_the_guard_band(rt: HostRuntime) {
     }
 }
 
-/// The reference cover test of a quad at each sample of a block.
-fn plain_quad_masks(quad: &Quad, bx: u32, by: u32, count: SampleCount) -> Masks
+/// The reference cover test of a quad at each sample of a part of a block's samples.
+fn plain_quad_masks(quad: &Quad, bx: u32, by: u32, from: u32, count: SampleCount) -> Masks
     requires column { bx < 512 }
     requires row { by < 512 }
 {
     let mut plane = [0u64; 4];
-    for s in 0..count.count() {
+    for s in from..count.count() {
+        let word = (s - from) as usize;
         for row in 0..8u32 {
             for column in 0..8u32 {
-                if quad.covers(sample_at(8 * bx + column, 8 * by + row, s, count)) {
-                    plane[s as usize] |= 1 << (8 * row + column);
+                let covered = quad.covers(sample_at(8 * bx + column, 8 * by + row, s, count));
+                if word < 4 && covered {
+                    plane[word] |= 1 << (8 * row + column);
                 }
             }
         }
@@ -380,33 +427,53 @@ fn plain_quad_masks(quad: &Quad, bx: u32, by: u32, count: SampleCount) -> Masks
     Masks { plane }
 }
 
-/// Compares a quad's masks with the reference test, and with those of the triangles of both diagonals.
+/// Compares a quad's masks of a part with the reference test, and with those of the triangles of both diagonals.
+fn compare_quad_part(
+    rt: &impl Abort,
+    quad: &Quad,
+    bx: u32,
+    by: u32,
+    from: u32,
+    count: SampleCount,
+)
+    requires column { bx < 512 }
+    requires row { by < 512 }
+    requires part { IsPart count from }
+{
+    let (a, b, c, d) = (quad.a(), quad.b(), quad.c(), quad.d());
+    let masks = quad_masks(quad, bx, by, from, count);
+    assert_eq!(rt;
+        masks,
+        plain_quad_masks(quad, bx, by, from, count),
+        "block {bx}, {by}"
+    );
+    for (first, second) in [
+        (Tri::new(a, b, c), Tri::new(c, d, a)),
+        (Tri::new(b, c, d), Tri::new(d, a, b)),
+    ] {
+        let first = Setup::new(&first, Cull::None).expect(rt, "an area");
+        let second = Setup::new(&second, Cull::None).expect(rt, "an area");
+        let [e, f, g, h] = first.masks(bx, by, from, count).plane;
+        let [i, j, k, l] = second.masks(bx, by, from, count).plane;
+        assert_eq!(rt; [e & i, f & j, g & k, h & l], [0; 4], "block {bx}, {by}");
+        assert_eq!(rt;
+            [e | i, f | j, g | k, h | l],
+            masks.plane,
+            "block {bx}, {by}"
+        );
+    }
+}
+
+/// Compares a quad's masks of each part of a block.
 fn compare_quad(rt: &impl Abort, quad: &Quad, bx: u32, by: u32)
     requires column { bx < 512 }
     requires row { by < 512 }
 {
-    let (a, b, c, d) = (quad.a(), quad.b(), quad.c(), quad.d());
-    for count in [SampleCount::One, SampleCount::Four] {
-        let masks = quad_masks(quad, bx, by, 0, count);
-        assert_eq!(rt;
-            masks,
-            plain_quad_masks(quad, bx, by, count),
-            "block {bx}, {by}"
-        );
-        for (first, second) in [
-            (Tri::new(a, b, c), Tri::new(c, d, a)),
-            (Tri::new(b, c, d), Tri::new(d, a, b)),
-        ] {
-            let first = Setup::new(&first, Cull::None).expect(rt, "an area");
-            let second = Setup::new(&second, Cull::None).expect(rt, "an area");
-            let [e, f, g, h] = first.masks(bx, by, 0, count).plane;
-            let [i, j, k, l] = second.masks(bx, by, 0, count).plane;
-            assert_eq!(rt; [e & i, f & j, g & k, h & l], [0; 4], "block {bx}, {by}");
-            assert_eq!(rt;
-                [e | i, f | j, g | k, h | l],
-                masks.plane,
-                "block {bx}, {by}"
-            );
+    for count in COUNTS {
+        for from in 0..16u32 {
+            if is_part(count, from) {
+                compare_quad_part(rt, quad, bx, by, from, count);
+            }
         }
     }
 }
@@ -434,8 +501,8 @@ impl Random {
 fn quads_agree_with_the_plain_test(rt: HostRuntime) {
     let mut random = Random(2);
     let mut quads = 0u32;
-    for step in [1u32, 32, 128] {
-        for _ in 0..1500u32 {
+    for step in [1u32, 16, 32, 128] {
+        for _ in 0..300u32 {
             if let Some(q) = random.quad(&rt, step) {
                 quads = quads.wrapping_add(1);
                 for block in 0..9u32 {
@@ -446,5 +513,5 @@ fn quads_agree_with_the_plain_test(rt: HostRuntime) {
             }
         }
     }
-    assert!(rt; quads > 500, "{quads} quads");
+    assert!(rt; quads > 130, "{quads} quads");
 }

@@ -1,8 +1,9 @@
 //! Values, depth tests, blending, merging and resolve at one sample, by worked values.
 use crate::support::{GREATEST, point, triangle};
-use grid::Tri;
+use grid::{SampleCount, Tri};
 use shade::{
-    DepthTest, Merge, Sample, Shaded, Weights, apply, floor_at, mean_of_four, over, passes,
+    DepthTest, MAX_SAMPLES, Merge, Sample, Shaded, Weights, apply, floor_at, over, passes,
+    resolved_colour,
 };
 use std::process::Abort;
 
@@ -122,11 +123,36 @@ fn blends(rt: HostRuntime) {
 
 #[test]
 fn resolves_four_samples(rt: HostRuntime) {
-    assert_eq!(rt; mean_of_four(255, 0, 255, 0), 128);
-    assert_eq!(rt; mean_of_four(255, 255, 0, 255), 191);
-    assert_eq!(rt; mean_of_four(0, 255, 0, 0), 64);
-    assert_eq!(rt; mean_of_four(95, 0, 31, 0), 32);
-    assert_eq!(rt; mean_of_four(255, 255, 255, 255), 255);
+    for ([first, second, third, fourth], mean) in [
+        ([255, 0, 255, 0], 128),
+        ([255, 255, 0, 255], 191),
+        ([0, 255, 0, 0], 64),
+        ([95, 0, 31, 0], 32),
+        ([255, 255, 255, 255], 255),
+    ] {
+        let samples = [
+            sample(first, 0, 255, 0),
+            sample(second, 0, 255, 0),
+            sample(third, 0, 255, 0),
+            sample(fourth, 0, 255, 0),
+        ];
+        assert_eq!(rt; resolved_colour(&samples, SampleCount::Four), [mean, 0, 255]);
+    }
+}
+
+#[test]
+fn resolves_the_first_samples(rt: HostRuntime) {
+    let mut samples = [sample(7, 0, 255, 0); MAX_SAMPLES];
+    samples[0] = sample(0, 255, 0, 0);
+    for (count, colour) in [
+        (SampleCount::One, [0, 255, 0]),
+        (SampleCount::Two, [4, 128, 128]),
+        (SampleCount::Four, [5, 64, 191]),
+        (SampleCount::Eight, [6, 32, 223]),
+        (SampleCount::Sixteen, [7, 16, 239]),
+    ] {
+        assert_eq!(rt; resolved_colour(&samples, count), colour);
+    }
 }
 
 fn sample(r: u8, g: u8, b: u8, z: u16) -> Sample {

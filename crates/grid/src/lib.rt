@@ -1,7 +1,7 @@
 //! Points, sample positions, the edge function, and the reference cover test of triangles and quads.
 //!
 //! The screen has x to the right and y downwards, and positions are integers in units of 1/256 pixel. Coverage is that of Direct3D
-//! 11: 8 fractional position bits, the top-left rule, and the standard pattern of four samples. No call allocates.
+//! 11: 8 fractional position bits, the top-left rule, and the standard sample patterns. No call allocates.
 #![tactic(auto)]
 
 mod cull;

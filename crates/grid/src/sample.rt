@@ -1,9 +1,25 @@
 ghost use Rattle.std.specs.Prelude.{◌≡◌, ◌<◌, slice_index};
-ghost use Rattle.grid.specs.declared.sample_count.SampleCount.TheVariants.{Four, Eight, Sixteen};
+ghost use Rattle.grid.specs.declared.sample_count.SampleCount.TheVariants.{Two, Four, Eight, Sixteen};
 ghost use Rattle.grid.specs.Samples.{count_of, offsets_x, offsets_y, sample_position};
 
 use crate::point::Point;
 use crate::sample_count::SampleCount;
+
+/// How far right of a pixel's upper left corner and below it sample `s` of two lies.
+#[cold]
+#[inline(never)]
+fn offset_of_two(s: u32) -> (u32, u32)
+    requires { s < 2 }
+    ensures right { result.0 ≡ slice_index (offsets_x Two) s }
+    ensures below { result.1 ≡ slice_index (offsets_y Two) s }
+    ensures right_small { result.0 < 256 }
+    ensures below_small { result.1 < 256 }
+{
+    match s {
+        0 => (192, 192),
+        _ => (64, 64),
+    }
+}
 
 /// How far right of a pixel's upper left corner and below it sample `s` of four lies.
 #[inline(always)]
@@ -23,6 +39,8 @@ fn offset_of_four(s: u32) -> (u32, u32)
 }
 
 /// How far right of a pixel's upper left corner and below it sample `s` of eight lies.
+#[cold]
+#[inline(never)]
 fn offset_of_eight(s: u32) -> (u32, u32)
     requires { s < 8 }
     ensures right { result.0 ≡ slice_index (offsets_x Eight) s }
@@ -44,6 +62,8 @@ fn offset_of_eight(s: u32) -> (u32, u32)
 
 /// How far right of a pixel's upper left corner and below it sample `s` of sixteen lies. Sample 12 lies on the left border of the
 /// pixel, and sample 15 on the upper one.
+#[cold]
+#[inline(never)]
 fn offset_of_sixteen(s: u32) -> (u32, u32)
     requires { s < 16 }
     ensures right { result.0 ≡ slice_index (offsets_x Sixteen) s }
@@ -71,28 +91,6 @@ fn offset_of_sixteen(s: u32) -> (u32, u32)
     }
 }
 
-/// How far right of a pixel's upper left corner and below it sample `s` lies.
-#[cold]
-#[inline(never)]
-fn offset(s: u32, count: SampleCount) -> (u32, u32)
-    requires { s < count_of count }
-    ensures right { result.0 ≡ slice_index (offsets_x count) s }
-    ensures below { result.1 ≡ slice_index (offsets_y count) s }
-    ensures right_small { result.0 < 256 }
-    ensures below_small { result.1 < 256 }
-{
-    match count {
-        SampleCount::One => (128, 128),
-        SampleCount::Two => match s {
-            0 => (192, 192),
-            _ => (64, 64),
-        },
-        SampleCount::Four => offset_of_four(s),
-        SampleCount::Eight => offset_of_eight(s),
-        SampleCount::Sixteen => offset_of_sixteen(s),
-    }
-}
-
 /// The position of sample `s` of the pixel in column `px` and row `py`, in 1/256 pixel. Pixel (px, py) is the unit square with
 /// its upper left corner at (px, py) pixels. One sample lies in its centre. Two, four, eight and sixteen lie in the standard
 /// patterns, a number of 1/16 pixel from the centre (Direct3D 11, standard multisample patterns).
@@ -104,8 +102,10 @@ pub fn sample_at(px: u32, py: u32, s: u32, count: SampleCount) -> Point
 {
     let (x, y) = match count {
         SampleCount::One => (128, 128),
+        SampleCount::Two => offset_of_two(s),
         SampleCount::Four => offset_of_four(s),
-        SampleCount::Two | SampleCount::Eight | SampleCount::Sixteen => offset(s, count),
+        SampleCount::Eight => offset_of_eight(s),
+        SampleCount::Sixteen => offset_of_sixteen(s),
     };
     Point::on_screen(256 * px + x, 256 * py + y)
 }

@@ -4,3 +4,4 @@ pub mod Complete
 pub mod Chained
 pub mod Exact
 pub mod Following
+pub mod Counted

@@ -7,9 +7,9 @@
 --   AreDrawn: Of the n samples from k on those in the mask are drawn, and all other samples are unchanged.
 --
 -- BlockMask.antt
---   first_of: Where sample s of the first pixel of the block lies.
---   plane_of: The samples s of a block, as they are stored.
---   CoversBlock: The triangle covers the samples in the masks of a block, of all sample indices.
+--   first_of: Where sample s of the part, of the first pixel of the block, lies.
+--   plane_of: The samples s of a part of a block, as they are stored.
+--   CoversBlock: The triangle covers the samples in the masks of a block.
 --   IsBlockDrawn: The samples in the masks of a block are drawn, and the others are unchanged.
 --
 -- Lanes.antt
@@ -36,6 +36,9 @@
 --
 -- Merging.antt
 --   IsTested: What the depth test makes of a stored depth, and the lane of its result: all ones if it passed, else 0.
+--
+-- Sums.antt
+--   AreSums: Lane i is the sum of what f is of n samples at pixel i.
 
 pub mod Block
 pub mod BlockMask

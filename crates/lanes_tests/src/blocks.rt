@@ -1,7 +1,7 @@
 //! Blocks drawn sixteen samples at once, compared with the same samples drawn one by one.
 ghost use Rattle.std.specs.Prelude.{◌≡◌, ◌<◌, ℕ, IsTrue, IsBitSet, slice_index, pos, ◌<ℤ◌};
 ghost use Rattle.grid.specs.Triangle.{Covers};
-ghost use Rattle.grid.specs.Samples.{count_of};
+ghost use Rattle.grid.specs.Samples.{part_size, IsPart};
 ghost use Rattle.planes.specs.Group.{position_in};
 ghost use Rattle.lanes.specs.Block.{IsOnScreen};
 ghost use Rattle.lanes.specs.BlockMask.{first_of};
@@ -28,9 +28,9 @@ fn covers_plane(t: &Tri, p: Point, mask: u64) -> bool
 
 /// Whether the triangle covers the samples in the mask.
 fn covers_mask(t: &Tri, mask: &BlockMask) -> bool
-    ensures { IsTrue result → (s : ℕ) → s < count_of mask.now.count → (k : ℕ) → k < 64 → IsBitSet (slice_index mask.now.plane s) k → Covers t.now.a t.now.b t.now.c (position_in (first_of mask.now s) k) }
+    ensures { IsTrue result → (s : ℕ) → s < part_size mask.now.count → (k : ℕ) → k < 64 → IsBitSet (slice_index mask.now.plane s) k → Covers t.now.a t.now.b t.now.c (position_in (first_of mask.now s) k) }
 {
-    for s in 0..mask.count.count() {
+    for s in 0..mask.count.part_size() {
         if !covers_plane(t, mask.first(s), mask.plane[s as usize]) {
             return false;
         }
@@ -51,24 +51,26 @@ fn plane_of(t: &Tri, p: Point) -> u64
     plane
 }
 
-/// The samples of block (10, 15) that the triangle covers, of the pixels in `wanted`.
-fn mask_of(t: &Tri, count: SampleCount, wanted: u64) -> BlockMask {
+/// The samples of block (10, 15) that the triangle covers, of the pixels in `wanted` and of the part that begins with sample `from`.
+fn mask_of(t: &Tri, count: SampleCount, from: u32, wanted: u64) -> BlockMask
+    requires { IsPart count from }
+{
     let empty = BlockMask {
         bx: 10,
         by: 15,
         count,
-        from: 0,
+        from,
         plane: [0; 4],
     };
     let mut plane = [0; 4];
-    for s in 0..count.count() {
+    for s in 0..count.part_size() {
         plane[s as usize] = plane_of(t, empty.first(s)) & wanted;
     }
     BlockMask {
         bx: 10,
         by: 15,
         count,
-        from: 0,
+        from,
         plane,
     }
 }
@@ -179,11 +181,20 @@ impl Random {
 
 /// Draws the triangle at the samples that it covers of the pixels in `wanted`, and again with whole values searched for, and compares
 /// each sample with the one that it becomes by itself.
-fn compare(rt: &impl Abort, t: &Placed, count: SampleCount, wanted: u64, old: &[BlockSamples]) {
-    let mask = mask_of(&t.tri, count, wanted);
+fn compare(
+    rt: &impl Abort,
+    t: &Placed,
+    count: SampleCount,
+    from: u32,
+    wanted: u64,
+    old: &[BlockSamples],
+)
+    requires { IsPart count from }
+{
+    let mask = mask_of(&t.tri, count, from, wanted);
     assert!(rt; covers_mask(&t.tri, &mask));
     assert!(rt; t.tri.area2() != 0);
-    assert!(rt; old.len() == mask.count.count() as usize);
+    assert!(rt; old.len() == mask.count.part_size() as usize);
     let (mut new, mut raised) = ([old[0]; 4], [old[0]; 4]);
     let (new, raised) = (&mut new[..old.len()], &mut raised[..old.len()]);
     new.copy_from_slice(old);
@@ -193,7 +204,7 @@ fn compare(rt: &impl Abort, t: &Placed, count: SampleCount, wanted: u64, old: &[
     interpolants.raise();
     interpolants.draw(&mask, raised, &mut Corrections::none());
     assert!(rt; &*raised == &*new);
-    for s in 0..mask.count.count() {
+    for s in 0..mask.count.part_size() {
         let plane = mask.plane[s as usize];
         compare_plane(
             rt,
@@ -259,8 +270,16 @@ fn placed(rt: &impl Abort, random: &mut Random, merge: Merge, flat: [bool; 3]) -
     }
 }
 
-/// Generated triangles, drawn by this merge, with `count` samples a pixel.
-fn compare_all(rt: &impl Abort, random: &mut Random, merge: Merge, count: SampleCount) {
+/// Generated triangles, drawn by this merge, with `count` samples a pixel, at the part that begins with sample `from`.
+fn compare_all(
+    rt: &impl Abort,
+    random: &mut Random,
+    merge: Merge,
+    count: SampleCount,
+    from: u32,
+)
+    requires { IsPart count from }
+{
     for flat in [
         [true, true, true],
         [true, true, false],
@@ -278,7 +297,7 @@ fn compare_all(rt: &impl Abort, random: &mut Random, merge: Merge, count: Sample
                 random.samples(),
             ];
             if t.tri.area2() != 0 {
-                compare(rt, &t, count, wanted, &old[..count.count() as usize]);
+                compare(rt, &t, count, from, wanted, &old[..count.part_size() as usize]);
             }
         }
     }
@@ -302,7 +321,7 @@ fn draws_colours_that_differ_only_where_they_are_not_written(rt: HostRuntime) {
                 t.rgba[2] = random.same_where_written(write, first);
                 let old = [random.samples()];
                 if t.tri.area2() != 0 {
-                    compare(&rt, &t, SampleCount::One, u64::MAX, &old);
+                    compare(&rt, &t, SampleCount::One, 0, u64::MAX, &old);
                 }
             }
         }
@@ -328,12 +347,12 @@ fn corrects_nothing_after_the_planes_are_raised(rt: HostRuntime) {
         rgba: [[7, 8, 9, 255]; 3],
         state: everywhere(merge),
     };
-    let mask = mask_of(&t.tri, SampleCount::One, u64::MAX);
+    let mask = mask_of(&t.tri, SampleCount::One, 0, u64::MAX);
     assert!(rt; covers_mask(&t.tri, &mask));
     assert!(rt; t.tri.area2() != 0);
     let mut stored = [Random(2).samples()];
     let samples = &mut stored[..];
-    assert!(rt; samples.len() == mask.count.count() as usize);
+    assert!(rt; samples.len() == mask.count.part_size() as usize);
     let (mut before, mut after) = (Corrections::none(), Corrections::none());
     let mut interpolants = Interpolants::new(&t);
     interpolants.draw(&mask, samples, &mut before);
@@ -356,8 +375,11 @@ fn draws_blocks_as_samples_one_by_one(rt: HostRuntime) {
                         write,
                         over,
                     };
-                    compare_all(&rt, &mut random, merge, SampleCount::One);
-                    compare_all(&rt, &mut random, merge, SampleCount::Four);
+                    compare_all(&rt, &mut random, merge, SampleCount::One, 0);
+                    compare_all(&rt, &mut random, merge, SampleCount::Two, 0);
+                    compare_all(&rt, &mut random, merge, SampleCount::Four, 0);
+                    compare_all(&rt, &mut random, merge, SampleCount::Eight, 4);
+                    compare_all(&rt, &mut random, merge, SampleCount::Sixteen, 12);
                 }
             }
         }

@@ -19,7 +19,7 @@ pub struct SampleCounts {
 }
 
 /// The most samples that a picture has.
-const MOST_SAMPLES: u32 = 4 * 4096 * 4096;
+const MOST_SAMPLES: u32 = 16 * 4096 * 4096;
 
 impl SampleCounts {
     /// No samples.
@@ -71,7 +71,7 @@ fn counts_of_row(
     requires number { number < length list.now.triangles }
     requires row { py < 4096 }
     ensures sums { IfOk result (AreSums (λ s c. AreSums (λ i d. AreCountsAt list.now number i py s d) list.now.width c) (count_of list.now.count)) }
-    ensures at_most { IfOk result (AreAtMost 16384) }
+    ensures at_most { IfOk result (AreAtMost 65536) }
 {
     let mut counts = SampleCounts::none();
     let picture = Columns {

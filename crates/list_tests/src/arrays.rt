@@ -202,3 +202,27 @@ fn reports_faults_of_draws(rt: HostRuntime) {
     let deep = build(alloc, &HEAD, &[QUAD], &[vertex(0, 0, 65_536); 4], &[0; 4]).err();
     assert_eq!(&rt; deep, in_draw(OutOfRange, 0));
 }
+
+#[test]
+fn keeps_a_sample_mask_of_sixteen_bits(rt: HostRuntime) {
+    let alloc = rt.alloc();
+    let vertices = [
+        vertex(0, 0, 40),
+        vertex(256, 0, 50),
+        vertex(0, 256, 60),
+        vertex(256, 256, 70),
+    ];
+    let most = SceneDraw {
+        sample_mask: 65_535,
+        ..STRIP
+    };
+    let list = build(alloc, &HEAD, &[most], &vertices, &[0, 1, 2, 3]).expect(&rt, "a list");
+    assert!(rt; list.triangles() == 2);
+    assert_eq!(rt; list.triangle(0).state.sample_mask, 65_535);
+    let more = SceneDraw {
+        sample_mask: 65_536,
+        ..STRIP
+    };
+    let refused = build(alloc, &HEAD, &[more], &vertices, &[0, 1, 2, 3]).err();
+    assert_eq!(rt; refused, in_draw(OutOfRange, 0));
+}

@@ -1,41 +1,47 @@
 -- The colour of a pixel from the final values of its samples.
-use Rattle.std.proofs.Common.{◌≡◌, refl, ℕ, zero, suc, ◌+◌, ◌<◌, arith}
-use Rattle.grid.specs.declared.sample_count.SampleCount.TheVariants.{One, Four}
+use Rattle.std.proofs.Common.{◌≡◌, ◌≢◌, ◌∙◌, sym, subst, inl, inr, ℕ, ◌+◌, ◌<◌, List, length, slice_set, arith}
+use Rattle.std.proofs.lemmas.Bool.{cases_lt}
+use Rattle.std.proofs.lemmas.List.{get_or-set_same, get_or-set_other, length-set}
+use Rattle.grid.specs.Samples.{count_of}
 use Rattle.shade.specs.declared.sample.Sample.{Sample}
-use Rattle.shade.specs.Quotient.{IsQuotient}
+use Rattle.shade.specs.Mean.{sample_of}
+use Rattle.shade.specs.Resolve.{IsResolved}
 use Rattle.model.specs.Scene.{Scene}
 use Rattle.model.specs.Picture.{IsEnd, IsColour}
 
-pub colour_of_one : (l : Scene) (i j : ℕ) (a : Sample) → l.count ≡ One → IsEnd l i j 0 a → IsColour l i j a.r a.g a.b
-colour_of_one l i j a e h = record {
-  end = λ _. a;
-  ends = λ s k. let first : s ≡ 0 = (let below : s < 1 = rw e at k in omega arith) in rw first h;
-  red = rw e refl;
-  green = rw e refl;
-  blue = rw e refl;
+-- the first n of these are the final values of the pixel's first n samples
+pub record AreEnds (l : Scene) (i j n : ℕ) (samples : List Sample) : Type 0 where
+  pub long : length samples ≡ 16
+  pub end : (s : ℕ) → s < n → IsEnd l i j s (sample_of samples s)
+
+pub no_ends : (l : Scene) (i j : ℕ) (samples : List Sample) → length samples ≡ 16 → AreEnds l i j 0 samples
+no_ends l i j samples long = record { long = long; end = λ s below. absurd (omega (arith, below)) }
+
+pub one_end_more : (l : Scene) (i j n : ℕ) (samples : List Sample) (x : Sample) → n < 16 → AreEnds l i j n samples → IsEnd l i j n x → AreEnds l i j (n + 1) (slice_set samples n x)
+one_end_more l i j n samples x room h is = record {
+  long = length-set samples n x ∙ h.long;
+  end = λ s below.
+      elim (cases_lt s n) [
+        | inl before ↦ subst (IsEnd l i j s) (sym (elsewhere s (λ e. omega arith))) (h.end s before)
+        | inr from ↦
+            let same : n ≡ s = omega arith in
+            subst (λ k. IsEnd l i j k (sample_of (slice_set samples n x) k)) same (subst (IsEnd l i j n) (sym here) is)
+      ];
 }
+  where
+    here : sample_of (slice_set samples n x) n ≡ x
+    here = get_or-set_same samples n x _ (omega (arith, h.long))
 
-of_four : Sample → Sample → Sample → Sample → ℕ → Sample
-of_four a b c d zero = a
-of_four a b c d (suc zero) = b
-of_four a b c d (suc (suc zero)) = c
-of_four a b c d (suc (suc (suc n))) = d
+    elsewhere : (s : ℕ) → s ≢ n → sample_of (slice_set samples n x) s ≡ sample_of samples s
+    elsewhere s other = get_or-set_other samples n s x _ other
 
-ends_of_four : (l : Scene) (i j : ℕ) (a b c d : Sample) → IsEnd l i j 0 a → IsEnd l i j 1 b → IsEnd l i j 2 c → IsEnd l i j 3 d → (s : ℕ) → s < 4 → IsEnd l i j s (of_four a b c d s)
-unfolding of_four
-ends_of_four l i j a b c d ha hb hc hd zero h = ha
-ends_of_four l i j a b c d ha hb hc hd (suc zero) h = hb
-ends_of_four l i j a b c d ha hb hc hd (suc (suc zero)) h = hc
-ends_of_four l i j a b c d ha hb hc hd (suc (suc (suc zero))) h = hd
-ends_of_four l i j a b c d ha hb hc hd (suc (suc (suc (suc n)))) h = absurd (omega arith)
-
-pub colour_of_four : (l : Scene) (i j : ℕ) (a b c d : Sample) (red green blue : ℕ) → l.count ≡ Four → IsEnd l i j 0 a → IsEnd l i j 1 b → IsEnd l i j 2 c → IsEnd l i j 3 d
-    → IsQuotient (a.r + b.r + c.r + d.r + 2) 4 red → IsQuotient (a.g + b.g + c.g + d.g + 2) 4 green → IsQuotient (a.b + b.b + c.b + d.b + 2) 4 blue → IsColour l i j red green blue
-unfolding of_four
-colour_of_four l i j a b c d red green blue e ha hb hc hd r g bl = record {
-  end = of_four a b c d;
-  ends = λ s k. ends_of_four l i j a b c d ha hb hc hd s (rw e at k);
-  red = rw e r;
-  green = rw e g;
-  blue = rw e bl;
+pub colour_of_ends : (l : Scene) (i j n : ℕ) (samples : List Sample) (r g b : ℕ) → AreEnds l i j n samples → n ≡ count_of l.count
+    → IsResolved l.count (λ s. (sample_of samples s).r) r → IsResolved l.count (λ s. (sample_of samples s).g) g → IsResolved l.count (λ s. (sample_of samples s).b) b
+    → IsColour l i j r g b
+colour_of_ends l i j n samples r g b h all red green blue = record {
+  end = sample_of samples;
+  ends = λ s below. h.end s (rw (← all) at below);
+  red = red;
+  green = green;
+  blue = blue;
 }

@@ -1,11 +1,11 @@
 -- Each draw list has a picture.
 use Rattle.std.proofs.Common.{◌≡◌, refl, ℕ, zero, suc, ◌+◌, ◌*◌, ◌/◌, ◌%◌, ◌<◌, List, [], ◌++◌, add-one, arith}
 use Rattle.std.proofs.Math.Nat.{mod-lt, div-add-mod'}
+use Rattle.grid.specs.Samples.{count_of}
 use Rattle.grid.specs.declared.sample_count.SampleCount.{SampleCount}
-use Rattle.grid.specs.declared.sample_count.SampleCount.TheVariants.{One, Two, Four, Eight, Sixteen}
 use Rattle.shade.specs.declared.sample.Sample.{Sample}
-use Rattle.shade.specs.Resolve.{IsResolved, total}
-use Rattle.shade.proofs.Values.{quotient}
+use Rattle.shade.specs.Mean.{mean_of}
+use Rattle.shade.specs.Resolve.{IsResolved}
 use Rattle.model.specs.declared.output.Output.{Output}
 use Rattle.model.specs.declared.output.Output.TheVariants.{Color, Depth}
 use Rattle.model.specs.PixelPrefix.{IsPixelPrefix}
@@ -13,13 +13,10 @@ use Rattle.model.specs.Scene.{Scene}
 use Rattle.model.specs.Picture.{IsEnd, IsColour, IsPixel, PixelOf, IsPart}
 use Rattle.model.proofs.PixelPrefix.{empty_prefix, run_of_one, prefix_run, part_of_rows}
 use Rattle.shade.proofs.Endings.{ends}
+use Rattle.shade.proofs.Resolved.{by_mean_of}
 
 resolved : (count : SampleCount) (channel : ℕ → ℕ) → (q : ℕ) × IsResolved count channel q
-resolved One channel = (channel 0, refl)
-resolved Two channel = (_, quotient (channel 0 + channel 1 + 1) 2 (omega arith))
-resolved Eight channel = (_, quotient (total 8 channel + 4) 8 (omega arith))
-resolved Sixteen channel = (_, quotient (total 16 channel + 8) 16 (omega arith))
-resolved Four channel = (_, quotient (channel 0 + channel 1 + channel 2 + channel 3 + 2) 4 (omega arith))
+resolved count channel = (_, by_mean_of count channel (mean_of (count_of count) channel) refl)
 
 end_of : (l : Scene) (i j s : ℕ) → (end : Sample) × IsEnd l i j s end
 end_of l i j s = ends l.count i j s l.triangles l.clear

@@ -1,38 +1,18 @@
 -- A draw list has exactly one picture.
-use Rattle.std.proofs.Common.{◌≡◌, refl, sym, ap, ap₂, ◌∙◌, subst, ℕ, zero, suc, ◌+◌, ◌*◌, ◌/◌, ◌%◌, ◌<◌, List, [], ◌∷◌, arith}
+use Rattle.std.proofs.Common.{◌≡◌, refl, sym, ap, ◌∙◌, subst, ℕ, zero, suc, ◌+◌, ◌*◌, ◌/◌, ◌%◌, ◌<◌, List, [], ◌∷◌, arith}
 use Rattle.std.proofs.Math.Nat.{mod-lt, div-lt_iff_lt-mul, div-add-mod'}
 use Rattle.grid.specs.Samples.{count_of}
-use Rattle.grid.specs.declared.sample_count.SampleCount.{SampleCount}
-use Rattle.grid.specs.declared.sample_count.SampleCount.TheVariants.{One, Two, Four, Eight, Sixteen}
 use Rattle.shade.specs.declared.sample.Sample.{Sample}
-use Rattle.shade.specs.Resolve.{IsResolved, total}
-use Rattle.shade.specs.Quotient.{IsQuotient}
-use Rattle.shade.proofs.Values.{quotient-unique}
 use Rattle.model.specs.Scene.{Scene}
 use Rattle.model.specs.declared.output.Output.{Output}
 use Rattle.model.specs.declared.output.Output.TheVariants.{Color, Depth}
 use Rattle.model.specs.Picture.{IsEnd, IsColour, IsPixel, PixelOf, IsPart, pixel_at}
 use Rattle.model.proofs.Pixels.{same_pixels}
 use Rattle.shade.proofs.Endings.{ends-unique}
+use Rattle.shade.proofs.Resolved.{resolved-unique}
 
 pub end-unique : (l : Scene) (i j s : ℕ) (x y : Sample) → IsEnd l i j s x → IsEnd l i j s y → x ≡ y
 end-unique l i j s x y h k = ends-unique l.count i j s l.triangles l.clear x y h k
-
-same_sum : (a b c d a' b' c' d' : ℕ) → a ≡ a' → b ≡ b' → c ≡ c' → d ≡ d' → a' + b' + c' + d' + 2 ≡ a + b + c + d + 2
-same_sum a b c d a' b' c' d' e f g h = cc
-
-same_total : (n : ℕ) (f g : ℕ → ℕ) → ((s : ℕ) → s < n → f s ≡ g s) → total n f ≡ total n g
-same_total zero f g same = refl
-same_total (suc n) f g same = ap₂ (λ x y. x + y) (same_total n f g (λ s l. same s (omega (arith, l)))) (same n (omega arith))
-
-resolved-unique : (count : SampleCount) (x y : ℕ → ℕ) (q r : ℕ) → ((s : ℕ) → s < count_of count → x s ≡ y s) → IsResolved count x q → IsResolved count y r → q ≡ r
-resolved-unique One x y q r same h k = h ∙ same 0 (omega arith) ∙ sym k
-resolved-unique Two x y q r same h k = quotient-unique _ _ _ _ h (subst (λ n. IsQuotient (n + 1) 2 r) (sym (ap₂ (λ a b. a + b) (same 0 (omega arith)) (same 1 (omega arith)))) k)
-resolved-unique Eight x y q r same h k = quotient-unique _ _ _ _ h (subst (λ n. IsQuotient (n + 4) 8 r) (sym (same_total 8 x y same)) k)
-resolved-unique Sixteen x y q r same h k = quotient-unique _ _ _ _ h (subst (λ n. IsQuotient (n + 8) 16 r) (sym (same_total 16 x y same)) k)
-resolved-unique Four x y q r same h k =
-    let sums = same_sum _ _ _ _ _ _ _ _ (same 0 (omega arith)) (same 1 (omega arith)) (same 2 (omega arith)) (same 3 (omega arith)) in
-    quotient-unique _ _ _ _ h (subst (λ n. IsQuotient n 4 r) sums k)
 
 colour-unique : (l : Scene) (i j r g b r' g' b' : ℕ) → IsColour l i j r g b → IsColour l i j r' g' b' → (r ≡ r') × (g ≡ g') × (b ≡ b')
 colour-unique l i j r g b r' g' b' h k =

@@ -198,7 +198,8 @@
 --   IsState: The state of the draw that the value is, on a picture of these pixels.
 --   IsDraw: The value is this draw, on a picture of these pixels.
 --   IsOutput: The value is the word for what the picture shows.
---   IsSampleCount: The value is this number of samples of a pixel.
+--   IsOneOrFour: A draw list may have this number of samples of a pixel: 1 or 4.
+--   IsSampleCount: The value is this number of samples of a pixel: 1 or 4.
 --   IsClearColour: The value is this clear colour: [red, green, blue], each from 0 to 255.
 --   picture_box: All pixels of a picture of this size.
 --   IsListing: The value is this draw list, draw by draw.

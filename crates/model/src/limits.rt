@@ -24,7 +24,7 @@ pub const MOST_STRIP_INDICES: usize = 65_538;
 /// The most quads, which have two triangles each.
 pub const MOST_QUADS: usize = 32_768;
 
-/// The sample mask of all samples, and so the greatest.
+/// The sample mask of all samples of a pixel of a draw list, and so the greatest there.
 pub const ALL_SAMPLES: u16 = 15;
 
 /// Whether a number of pixels is within the limits of a picture's width and height.

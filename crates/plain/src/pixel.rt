@@ -4,9 +4,8 @@ ghost use Rattle.shade.specs.declared.sample.Sample.{Sample};
 ghost use Rattle.model.specs.Picture.{IsEnd, IsColour};
 
 use crate::triangle_sample::draw;
-use grid::SampleCount;
 use model::DrawList;
-use shade::{Sample, mean_of_four};
+use shade::{MAX_SAMPLES, Sample, resolved_colour};
 
 /// The colour of a pixel.
 #[derive(Clone, Copy, Debug, PartialEq, Eq)]
@@ -37,22 +36,11 @@ pub fn colour_at(list: &DrawList, px: u32, py: u32) -> Colour
     requires row { py < 4096 }
     ensures { IsColour list.now px py result.r result.g result.b }
 {
-    let first = end_at(list, px, py, 0);
-    match list.count() {
-        SampleCount::One => Colour {
-            r: first.r,
-            g: first.g,
-            b: first.b,
-        },
-        SampleCount::Four => {
-            let second = end_at(list, px, py, 1);
-            let third = end_at(list, px, py, 2);
-            let fourth = end_at(list, px, py, 3);
-            Colour {
-                r: mean_of_four(first.r, second.r, third.r, fourth.r),
-                g: mean_of_four(first.g, second.g, third.g, fourth.g),
-                b: mean_of_four(first.b, second.b, third.b, fourth.b),
-            }
-        }
+    let count = list.count();
+    let mut ends = [list.clear(); MAX_SAMPLES];
+    for s in 0..count.count() {
+        ends[s as usize] = end_at(list, px, py, s);
     }
+    let [r, g, b] = resolved_colour(&ends, count);
+    Colour { r, g, b }
 }

@@ -1,15 +1,16 @@
 -- The colours of eight pixels in a row of a block.
-use Rattle.std.proofs.Common.{◌≡◌, zero, suc, refl, sym, subst, ap, ap₂, ◌∙◌, ◌≤◌, take, drop, length, ℕ, ◌+◌, ◌-◌, ◌*◌, ◌/◌, ◌%◌, ◌^◌, ◌<◌, List, [], ◌∷◌, slice_index, slice_index_or, arith}
+use Rattle.std.proofs.Common.{◌≡◌, zero, suc, refl, sym, subst, ap, ◌∙◌, ◌≤◌, take, drop, length, ℕ, ◌+◌, ◌-◌, ◌*◌, ◌/◌, ◌%◌, ◌^◌, ◌<◌, List, [], ◌∷◌, slice_index, slice_index_or, arith}
 use Rattle.std.proofs.lemmas.List.{length-take, length-drop}
 use Rattle.grid.specs.Samples.{count_of}
-use Rattle.grid.specs.declared.sample_count.SampleCount.{SampleCount}
-use Rattle.grid.specs.declared.sample_count.SampleCount.TheVariants.{One, Two, Four, Eight, Sixteen}
+use Rattle.grid.specs.declared.sample_count.SampleCount.TheVariants.{One, Four}
 use Rattle.lanes.specs.declared.block_samples.BlockSamples.{BlockSamples}
 use Rattle.shade.specs.Quotient.{IsQuotient}
-use Rattle.shade.specs.Resolve.{IsResolved, total}
+use Rattle.shade.specs.Mean.{mean_of}
+use Rattle.shade.specs.Resolve.{IsResolved}
+use Rattle.shade.proofs.Resolved.{total_same, by_mean_of, some_samples}
 use Rattle.raster.specs.declared.tile.Tile.{Tile}
 use Rattle.raster.specs.Samples.{place_of, planes_of, stored}
-use Rattle.raster.specs.Colours.{IsColourAt, AreMeansAt, mean_of}
+use Rattle.raster.specs.Colours.{IsColourAt, AreMeansAt}
 use Rattle.lanes.specs.BlockMask.{plane_of}
 use Rattle.lanes.specs.Sums.{AreSums}
 use Rattle.grid.specs.Pixels.{side_of}
@@ -64,54 +65,15 @@ module _ (tile : Tile) (samples : List BlockSamples) (row column : ℕ) where
     }
 
     -- by the mean of the samples
-    pub by_mean : (count : SampleCount) → tile.count ≡ count → ((f : ℕ → ℕ) (q : ℕ) → q ≡ mean_of (count_of count) f → IsResolved count f q) → (r g b : ℕ)
-        → r ≡ mean_of (count_of count) (λ s. slice_index (plane s).r k) → g ≡ mean_of (count_of count) (λ s. slice_index (plane s).g k) → b ≡ mean_of (count_of count) (λ s. slice_index (plane s).b k)
-        → IsColourAt tile samples row (8 * column + i) r g b
-    by_mean count e is r g b red green blue = record {
-      red = subst (λ n. IsResolved n (λ s. (stored tile samples row (8 * column + i) s).r) r) (sym e) (is (λ s. (stored tile samples row (8 * column + i) s).r) r (rw (block, pixel) red));
-      green = subst (λ n. IsResolved n (λ s. (stored tile samples row (8 * column + i) s).g) g) (sym e) (is (λ s. (stored tile samples row (8 * column + i) s).g) g (rw (block, pixel) green));
-      blue = subst (λ n. IsResolved n (λ s. (stored tile samples row (8 * column + i) s).b) b) (sym e) (is (λ s. (stored tile samples row (8 * column + i) s).b) b (rw (block, pixel) blue));
+    pub by_mean : (r g b : ℕ) → r ≡ mean_of (count_of tile.count) (λ s. slice_index (plane s).r k) → g ≡ mean_of (count_of tile.count) (λ s. slice_index (plane s).g k)
+        → b ≡ mean_of (count_of tile.count) (λ s. slice_index (plane s).b k) → IsColourAt tile samples row (8 * column + i) r g b
+    by_mean r g b red green blue = record {
+      red = by_mean_of tile.count (λ s. (stored tile samples row (8 * column + i) s).r) r (rw (block, pixel) red);
+      green = by_mean_of tile.count (λ s. (stored tile samples row (8 * column + i) s).g) g (rw (block, pixel) green);
+      blue = by_mean_of tile.count (λ s. (stored tile samples row (8 * column + i) s).b) b (rw (block, pixel) blue);
     }
 
--- ---- means of two, eight and sixteen
-quotient_by_two : (n : ℕ) → IsQuotient n 2 (n / 2)
-quotient_by_two n = record { low = omega arith; high = omega arith }
-
-quotient_by_eight : (n : ℕ) → IsQuotient n 8 (n / 8)
-quotient_by_eight n = record { low = omega arith; high = omega arith }
-
-quotient_by_sixteen : (n : ℕ) → IsQuotient n 16 (n / 16)
-quotient_by_sixteen n = record { low = omega arith; high = omega arith }
-
-pub two_mean : (f : ℕ → ℕ) (q : ℕ) → q ≡ mean_of 2 f → IsResolved Two f q
-two_mean f q e =
-    let same : 0 + f 0 + f 1 + 1 ≡ f 0 + f 1 + 1 = omega arith in
-    subst (λ x. IsQuotient (f 0 + f 1 + 1) 2 x) (sym (e ∙ ap (λ n. n / 2) same)) (quotient_by_two (f 0 + f 1 + 1))
-
-quotient_by_one : (f : ℕ → ℕ) → (total 1 f + 0) / 1 ≡ f 0
-quotient_by_one f = omega arith
-
-quotient_by_four : (n : ℕ) → IsQuotient n 4 (n / 4)
-quotient_by_four n = record { low = omega arith; high = omega arith }
-
-pub one_mean : (f : ℕ → ℕ) (q : ℕ) → q ≡ mean_of 1 f → IsResolved One f q
-one_mean f q e = e ∙ quotient_by_one f
-
-pub four_mean : (f : ℕ → ℕ) (q : ℕ) → q ≡ mean_of 4 f → IsResolved Four f q
-four_mean f q e =
-    let same : 0 + f 0 + f 1 + f 2 + f 3 + 2 ≡ f 0 + f 1 + f 2 + f 3 + 2 = omega arith in
-    subst (λ x. IsQuotient (f 0 + f 1 + f 2 + f 3 + 2) 4 x) (sym (e ∙ ap (λ n. n / 4) same)) (quotient_by_four (f 0 + f 1 + f 2 + f 3 + 2))
-
-pub eight_mean : (f : ℕ → ℕ) (q : ℕ) → q ≡ mean_of 8 f → IsResolved Eight f q
-eight_mean f q e = subst (λ x. IsQuotient (total 8 f + 4) 8 x) (sym e) (quotient_by_eight (total 8 f + 4))
-
-pub sixteen_mean : (f : ℕ → ℕ) (q : ℕ) → q ≡ mean_of 16 f → IsResolved Sixteen f q
-sixteen_mean f q e = subst (λ x. IsQuotient (total 16 f + 8) 16 x) (sym e) (quotient_by_sixteen (total 16 f + 8))
-
-pub total_same : (n : ℕ) (f g : ℕ → ℕ) → ((s : ℕ) → s < n → f s ≡ g s) → total n f ≡ total n g
-total_same zero f g same = refl
-total_same (suc n) f g same = ap₂ (λ x y. x + y) (total_same n f g (λ s l. same s (omega (arith, l)))) (same n (omega arith))
-
+-- ---- means
 -- the planes of a block, cut out of the samples
 pub mean_moved : (xs : List BlockSamples) (at n : ℕ) (tile : Tile) (row column : ℕ) (value : BlockSamples → ℕ) → at + n ≤ length xs → at ≡ place_of tile row column 0
     → mean_of (length (take n (drop at xs))) (λ s. value (plane_of (take n (drop at xs)) s)) ≡ mean_of n (λ s. value (slice_index_or xs (place_of tile row column s) (record { z = []; r = []; g = []; b = [] })))
@@ -147,39 +109,21 @@ lane_mean bits half n lanes means f i l is is_half h e =
     let halves : half ≡ n / 2 = is_half ∙ ap (λ k. k / 2) (sym is) in
     e ∙ (λ j. (h.each i l j + halves j) / sym is j)
 
-pub by_mean_of : (count : SampleCount) (f : ℕ → ℕ) (q : ℕ) → q ≡ mean_of (count_of count) f → IsResolved count f q
-by_mean_of One = one_mean
-by_mean_of Two = two_mean
-by_mean_of Four = four_mean
-by_mean_of Eight = eight_mean
-by_mean_of Sixteen = sixteen_mean
-
--- any number of samples
-pub some_samples : (count : SampleCount) → 0 < count_of count
-some_samples One = omega arith
-some_samples Two = omega arith
-some_samples Four = omega arith
-some_samples Eight = omega arith
-some_samples Sixteen = omega arith
-
-pub by_sums : (tile : Tile) (xs : List BlockSamples) (row column i at n : ℕ) (count : SampleCount) (bytes : List ℕ) → i < 8 → tile.count ≡ count → ((f : ℕ → ℕ) (q : ℕ) → q ≡ mean_of (count_of count) f → IsResolved count f q)
-    → length xs ≡ planes_of tile.side tile.count → row < side_of tile.side → column < side_of tile.side / 8 → at ≡ place_of tile (row / 8) column 0 → n ≡ count_of count
-    → AreMeansAt (take n (drop at xs)) (8 * (row % 8)) bytes
-    → IsColourAt tile xs row (8 * column + i) (slice_index bytes (3 * i)) (slice_index bytes (3 * i + 1)) (slice_index bytes (3 * i + 2))
-by_sums tile xs row column i at n count bytes h e is long high wide place many means =
-    let all : n ≡ count_of tile.count = many ∙ ap count_of (sym e) in
-    let last = within tile (row / 8) column (count_of tile.count - 1) (omega (arith, high, whole_blocks tile.side)) wide (omega (arith, some_samples tile.count)) in
-    let room : at + n ≤ length xs = omega (arith, place, all, long, last, some_samples tile.count) in
-    let k : ℕ = 8 * (row % 8) + i in
-    let mean = means i h in
-    by_mean tile xs row column i h count e is _ _ _
-    (mean.0 ∙ mean_moved xs at n tile (row / 8) column (λ b. slice_index b.r k) room place ∙ (λ j. mean_of (many j) (λ s. slice_index (plane_of xs (place_of tile (row / 8) column s)).r k)))
-    (mean.1 ∙ mean_moved xs at n tile (row / 8) column (λ b. slice_index b.g k) room place ∙ (λ j. mean_of (many j) (λ s. slice_index (plane_of xs (place_of tile (row / 8) column s)).g k)))
-    (mean.2 ∙ mean_moved xs at n tile (row / 8) column (λ b. slice_index b.b k) room place ∙ (λ j. mean_of (many j) (λ s. slice_index (plane_of xs (place_of tile (row / 8) column s)).b k)))
-
 -- the planes of a block are within the tile's
 pub planes_within : (tile : Tile) (xs : List BlockSamples) (row column at : ℕ) → length xs ≡ planes_of tile.side tile.count → row < side_of tile.side → column < side_of tile.side / 8 → at ≡ place_of tile (row / 8) column 0
     → at + count_of tile.count ≤ length xs
 planes_within tile xs row column at long high wide place =
     let last = within tile (row / 8) column (count_of tile.count - 1) (omega (arith, high, whole_blocks tile.side)) wide (omega (arith, some_samples tile.count)) in
     omega (arith, place, long, last, some_samples tile.count)
+
+pub by_sums : (tile : Tile) (xs : List BlockSamples) (row column i at n : ℕ) (bytes : List ℕ) → i < 8 → length xs ≡ planes_of tile.side tile.count → row < side_of tile.side → column < side_of tile.side / 8
+    → at ≡ place_of tile (row / 8) column 0 → n ≡ count_of tile.count → AreMeansAt (take n (drop at xs)) (8 * (row % 8)) bytes
+    → IsColourAt tile xs row (8 * column + i) (slice_index bytes (3 * i)) (slice_index bytes (3 * i + 1)) (slice_index bytes (3 * i + 2))
+by_sums tile xs row column i at n bytes h long high wide place many means =
+    let room : at + n ≤ length xs = omega (arith, many, planes_within tile xs row column at long high wide place) in
+    let k : ℕ = 8 * (row % 8) + i in
+    let mean = means i h in
+    by_mean tile xs row column i h _ _ _
+    (mean.0 ∙ mean_moved xs at n tile (row / 8) column (λ b. slice_index b.r k) room place ∙ (λ j. mean_of (many j) (λ s. slice_index (plane_of xs (place_of tile (row / 8) column s)).r k)))
+    (mean.1 ∙ mean_moved xs at n tile (row / 8) column (λ b. slice_index b.g k) room place ∙ (λ j. mean_of (many j) (λ s. slice_index (plane_of xs (place_of tile (row / 8) column s)).g k)))
+    (mean.2 ∙ mean_moved xs at n tile (row / 8) column (λ b. slice_index b.b k) room place ∙ (λ j. mean_of (many j) (λ s. slice_index (plane_of xs (place_of tile (row / 8) column s)).b k)))

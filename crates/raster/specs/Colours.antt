@@ -1,8 +1,9 @@
 -- The colours of a tile's pixels.
-use Rattle.std.specs.Prelude.{◌≡◌, ℕ, ◌+◌, ◌*◌, ◌/◌, ◌<◌, List, length, slice_index}
+use Rattle.std.specs.Prelude.{◌≡◌, ℕ, ◌+◌, ◌*◌, ◌<◌, List, length, slice_index}
 use Rattle.lanes.specs.declared.block_samples.BlockSamples.{BlockSamples}
 use Rattle.lanes.specs.BlockMask.{plane_of}
-use Rattle.shade.specs.Resolve.{IsResolved, total}
+use Rattle.shade.specs.Mean.{mean_of}
+use Rattle.shade.specs.Resolve.{IsResolved}
 use Rattle.raster.specs.declared.tile.Tile.{Tile}
 use Rattle.raster.specs.Samples.{stored}
 
@@ -17,11 +18,7 @@ abbrev pub AreColoursAt : Tile → List BlockSamples → ℕ → ℕ → List �
 AreColoursAt tile samples row column bytes =
     (i : ℕ) → i < 8 → IsColourAt tile samples row (8 * column + i) (slice_index bytes (3 * i)) (slice_index bytes (3 * i + 1)) (slice_index bytes (3 * i + 2))
 
--- The mean of what f is from 0 to before n, rounded to nearest with halves up.
-abbrev pub mean_of : ℕ → (ℕ → ℕ) → ℕ
-mean_of n f = (total n f + n / 2) / n
-
--- The bytes of eight pixels of a block from pixel `from` on: red, green and blue of each, the means of these planes of samples.
+-- The bytes of eight pixels of a block from pixel `from` on: red, green and blue of each, the means of these planes.
 abbrev pub AreMeansAt : List BlockSamples → ℕ → List ℕ → Type 0
 AreMeansAt planes from bytes =
     (i : ℕ) → i < 8

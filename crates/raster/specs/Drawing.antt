@@ -50,8 +50,8 @@ pub record IsInPart (count : SampleCount) (from s : ℕ) : Type 0 where
 abbrev pub IsOfPart : SampleCount → ℕ → ℕ → ℕ → ℕ → Type 0
 IsOfPart count from row column s = IsInPart count from s
 
--- Sample s, of a part that begins with sample `from`, of the pixel in a row and a column of the tile is in the square of this size
--- that begins at pixel (8 bx, 8 by).
+-- Sample s of the pixel in a row and a column of the tile is in a square and in the part that begins with sample `from`. The square has
+-- this size and begins at pixel (8 bx, 8 by).
 pub record IsInSquarePart (tile : Tile) (bx by side from : ℕ) (row column s : ℕ) : Type 0 where
   pub square : IsInSquare tile bx by side row column s
   pub samples : IsInPart tile.count from s

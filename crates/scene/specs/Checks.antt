@@ -33,24 +33,23 @@ primitives_checks earlier vertices kind indices =
     check (AreOver vertices (primitives_listed kind indices)) NotConvex
     done)))
 
--- The checks of a draw that come before its vertices and primitives. The edges of its scissor are at most `farthest` pixels away,
--- and its sample mask is at most `all`.
-abbrev pub opening_checks : ℕ → ℕ → SceneDraw → List SceneVertex → List ℕ → Checks
-opening_checks farthest all d vertices indices =
+-- The checks of a draw that come before its vertices and primitives. The edges of its scissor are at most `farthest` pixels away.
+abbrev pub opening_checks : ℕ → SceneDraw → List SceneVertex → List ℕ → Checks
+opening_checks farthest d vertices indices =
     check ((d.vertices ≤ length vertices) × (d.indices ≤ length indices)) WrongKind (
-    check (IsDrawInRange farthest all d) OutOfRange
+    check (IsDrawInRange farthest d) OutOfRange
     done)
 
 -- The checks of a draw, whose vertices and indices are the first of these. The draws before have `earlier` triangles.
 abbrev pub draw_checks : ℕ → SceneDraw → List SceneVertex → List ℕ → Checks
 draw_checks earlier d vertices indices =
-    followed_by (opening_checks 4096 15 d vertices indices) (
+    followed_by (opening_checks 4096 d vertices indices) (
     followed_by (vertices_checks (take d.vertices vertices))
     (primitives_checks earlier (map vertex_listed (take d.vertices vertices)) d.primitives (take d.indices indices)))
 
 -- The checks of a draw that come before those of its single vertices.
 abbrev pub checks_before_vertices : SceneDraw → List SceneVertex → List ℕ → Checks
-checks_before_vertices d vertices indices = followed_by (opening_checks 4096 15 d vertices indices) (number_checks (take d.vertices vertices))
+checks_before_vertices d vertices indices = followed_by (opening_checks 4096 d vertices indices) (number_checks (take d.vertices vertices))
 
 -- How many triangles a draw has, whose indices are the first of these.
 abbrev pub triangles_listed : SceneDraw → List ℕ → ℕ

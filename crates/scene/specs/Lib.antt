@@ -1,7 +1,7 @@
 -- The definitions of this crate, each file behind those that it uses; `python3 -m tools.definitions` writes these lines.
 --
 -- Listed.antt
---   samples_listed: The samples of a pixel by their number, 1 or 4.
+--   samples_listed: The samples of a pixel by their number: 1, 2, 4, 8 or 16.
 --   output_listed: What a picture shows, by its number: 0 is colour, and 1 is depth.
 --   truth_listed: A boolean by its number: 0 is false, and 1 is true.
 --   cull_listed: A culling by its number: 0 is none, 1 is front, and 2 is back.

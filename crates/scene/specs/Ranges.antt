@@ -29,8 +29,8 @@ pub record IsVertexInRange (v : SceneVertex) : Type 0 where
   pub alpha : v.a ≤ 255
 
 -- The numbers are in range that say what primitives a draw has, and its state.
--- The edges of its scissor are at most `farthest` pixels away, and its sample mask is at most `all`.
-pub record IsDrawInRange (farthest all : ℕ) (d : SceneDraw) : Type 0 where
+-- The edges of its scissor are at most `farthest` pixels away. Its sample mask has a bit for each of sixteen samples.
+pub record IsDrawInRange (farthest : ℕ) (d : SceneDraw) : Type 0 where
   pub primitives : d.primitives ≤ 2
   pub cull : d.cull ≤ 2
   pub depth_test : d.depth_test ≤ 7
@@ -39,7 +39,7 @@ pub record IsDrawInRange (farthest all : ℕ) (d : SceneDraw) : Type 0 where
   pub write_red : d.write_red ≤ 1
   pub write_green : d.write_green ≤ 1
   pub write_blue : d.write_blue ≤ 1
-  pub sample_mask : d.sample_mask ≤ all
+  pub sample_mask : d.sample_mask ≤ 65535
   pub left : d.scissor_left ≤ farthest
   pub top : d.scissor_top ≤ farthest
   pub right : d.scissor_right ≤ farthest

@@ -9,7 +9,7 @@ ghost use Rattle.scene.specs.Checks.{draw_checks, checks_before_vertices};
 use crate::primitives::primitives_of;
 use crate::vertex::{SceneVertex, vertices_of};
 use grid::{Cull, PixelBox};
-use model::{ALL_SAMPLES, Draw, MOST_PIXELS, ReadKind, State};
+use model::{Draw, MOST_PIXELS, ReadKind, State};
 use shade::{DepthTest, Merge};
 use std::alloc::Global;
 
@@ -38,7 +38,7 @@ pub struct SceneDraw {
     pub write_green: u32,
     /// 1 if blue is written, else 0.
     pub write_blue: u32,
-    /// Bit s says whether sample s is drawn: 0 to 15 in a scene, and 0 to 65,535 in a batch.
+    /// Bit s says whether sample s is drawn: 0 to 65,535. Bits of samples that a pixel does not have are ignored.
     pub sample_mask: u32,
     /// The first column of pixels that is drawn: 0 to 4096.
     pub scissor_left: u32,
@@ -78,14 +78,14 @@ fn depth_test(number: u32) -> DepthTest
 }
 
 impl SceneDraw {
-    /// Whether each number of the state is in its range, the edges of the scissor up to `farthest`, and the sample mask up to `all`.
-    pub fn is_in_range(&self, farthest: u32, all: u16) -> bool
-        ensures { IsTrue result ↔ IsDrawInRange farthest all self.now }
+    /// Whether each number of the state is in its range, the edges of the scissor up to `farthest`.
+    pub fn is_in_range(&self, farthest: u32) -> bool
+        ensures { IsTrue result ↔ IsDrawInRange farthest self.now }
     {
         let tests = self.primitives <= 2 && self.cull <= 2 && self.depth_test <= 7;
         let merge = self.depth_write <= 1 && self.blend <= 1;
         let write = self.write_red <= 1 && self.write_green <= 1 && self.write_blue <= 1;
-        let samples = self.sample_mask <= u32::from(all);
+        let samples = self.sample_mask <= u32::from(u16::MAX);
         let upper_left = self.scissor_left <= farthest && self.scissor_top <= farthest;
         let lower_right = self.scissor_right <= farthest && self.scissor_bottom <= farthest;
         tests && merge && write && samples && upper_left && lower_right
@@ -140,7 +140,7 @@ impl SceneDraw {
         if own_vertices > vertices.len() || own_indices > indices.len() {
             return Err(ReadKind::WrongKind);
         }
-        if !self.is_in_range(MOST_PIXELS, ALL_SAMPLES) {
+        if !self.is_in_range(MOST_PIXELS) {
             return Err(ReadKind::OutOfRange);
         }
         let vertices = vertices_of(alloc, &vertices[..own_vertices])?;

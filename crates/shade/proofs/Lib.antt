@@ -4,3 +4,4 @@ pub mod Decided
 pub mod Drawn
 pub mod Endings
 pub mod Merged
+pub mod Resolved

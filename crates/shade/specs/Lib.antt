@@ -35,7 +35,12 @@
 --   IsApplied: The sample after a fragment: if the depth test fails, nothing changes (Direct3D 11, output merger).
 --
 -- Resolve.antt
---   IsResolved: A channel of a pixel, resolved from that channel of its samples: the one sample's, or the mean of four.
+--   total: The sum of what f is from 0 to before n.
+--   IsResolved: A channel of a pixel, resolved from that channel of its samples: the one sample's, or the mean of several.
+--
+-- Mean.antt
+--   mean_of: The mean of what f is from 0 to before n, rounded to nearest with halves up.
+--   sample_of: Sample s of a pixel's samples.
 --
 -- Placed.antt
 --   rgba_of: Red, green, blue and alpha of a vertex.
@@ -59,5 +64,6 @@ pub mod Row
 pub mod Blend
 pub mod Merging
 pub mod Resolve
+pub mod Mean
 pub mod Placed
 pub mod Ending

@@ -19,7 +19,7 @@ pub use depth::DepthTest;
 pub use gradient::Gradient;
 pub use merging::{apply, passes};
 pub use placed::Placed;
-pub use resolve::mean_of_four;
+pub use resolve::{MAX_SAMPLES, resolved_colour};
 pub use row::Row;
 pub use sample::{Merge, Sample, Shaded};
 pub use state::State;

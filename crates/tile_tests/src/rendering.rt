@@ -226,7 +226,7 @@ impl Numbers {
                 1 => Cull::Back,
                 _ => Cull::None,
             },
-            sample_mask: self.below(16) as u8,
+            sample_mask: self.below(65_536) as u16,
             scissor: self.scissor(),
         }
     }

@@ -391,7 +391,7 @@ fn refuses_scenes_with_bad_numbers(rt: HostRuntime) {
         (SceneDraw { blend: 2, ..DRAW }, 5),
         (
             SceneDraw {
-                sample_mask: 16,
+                sample_mask: 65_536,
                 ..DRAW
             },
             5,

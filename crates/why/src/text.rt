@@ -4,9 +4,8 @@ ghost use Rattle.why.specs.Report.{HasSample, IsShownAt};
 
 use crate::arguments::{Asked, Form};
 use crate::asked_sample::AskedSample;
-use grid::SampleCount;
 use model::{DrawList, Output};
-use shade::mean_of_four;
+use shade::{MAX_SAMPLES, resolved_colour};
 use std::alloc::{AllocError, Global};
 use std::fmt::Write as _;
 
@@ -46,25 +45,15 @@ fn push_samples(list: &DrawList, asked: &Asked, out: &mut String) -> Result<Pixe
     requires row { asked.now.y < 4096 }
     ensures { IfOk result (IsShownAt list.now asked.now.x asked.now.y) }
 {
-    let first = AskedSample { list, asked, s: 0 }.push(out)?;
-    match list.count() {
-        SampleCount::One => Ok(Pixel {
-            colour: [first.r, first.g, first.b],
-            depth: first.z,
-        }),
-        SampleCount::Four => {
-            let second = AskedSample { list, asked, s: 1 }.push(out)?;
-            let third = AskedSample { list, asked, s: 2 }.push(out)?;
-            let fourth = AskedSample { list, asked, s: 3 }.push(out)?;
-            let r = mean_of_four(first.r, second.r, third.r, fourth.r);
-            let g = mean_of_four(first.g, second.g, third.g, fourth.g);
-            let b = mean_of_four(first.b, second.b, third.b, fourth.b);
-            Ok(Pixel {
-                colour: [r, g, b],
-                depth: first.z,
-            })
-        }
+    let count = list.count();
+    let mut ends = [list.clear(); MAX_SAMPLES];
+    for s in 0..count.count() {
+        ends[s as usize] = AskedSample { list, asked, s }.push(out)?;
     }
+    Ok(Pixel {
+        colour: resolved_colour(&ends, count),
+        depth: ends[0].z,
+    })
 }
 
 /// The text in this form of a pixel, with the histories of its samples.

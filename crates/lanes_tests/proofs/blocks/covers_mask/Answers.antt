@@ -5,4 +5,4 @@ pub loop-s-preserved : goal.loop-s-preserved
 loop-s-preserved c = below_more _ _ c.loop-s.invariant (rw c.first.ensures.value at (c.covers_plane.ensures c.if-not-covers_plane.false))
 
 pub returns : goal.returns
-returns c reported s l = c.loop-s.invariant s (omega (arith, c.count-s-end.ensures, c.loop-s-test.false))
+returns c reported s l = c.loop-s.invariant s (omega (arith, c.part_size-s-end.ensures, c.loop-s-test.false))

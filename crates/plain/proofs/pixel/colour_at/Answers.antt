@@ -1,10 +1,19 @@
-use Rattle.std.proofs.Common.{sym, ◌∙◌}
-use Rattle.model.proofs.Colours.{colour_of_one, colour_of_four}
+use Rattle.std.proofs.Common.{◌≡◌, refl, arith}
+use Rattle.grid.specs.Samples.{count_of}
+use Rattle.shade.proofs.Resolved.{few_samples}
+use Rattle.model.proofs.Colours.{no_ends, one_end_more, colour_of_ends}
 use Rattle.plain.proofs.pixel.colour_at.Goals as goal
 
-pub returns-in-One : goal.returns-in-One
-returns-in-One c = colour_of_one _ _ _ c.end_at-first.result (sym c.count.ensures ∙ c.in-One.is) c.end_at-first.ensures.end
+pub loop-s-init : goal.loop-s-init
+loop-s-init c = no_ends c.args.list.now _ _ _ refl
 
-pub returns-in-Four : goal.returns-in-Four
-returns-in-Four c =
-    colour_of_four _ _ _ c.end_at-first.result c.end_at-second.result c.end_at-third.result c.end_at-fourth.result _ _ _ (sym c.count.ensures ∙ c.in-Four.is) c.end_at-first.ensures.end c.end_at-second.ensures.end c.end_at-third.ensures.end c.end_at-fourth.ensures.end c.mean_of_four.ensures c.mean_of_four-in-Four.ensures c.mean_of_four-in-Four-2.ensures
+pub loop-s-preserved : goal.loop-s-preserved
+loop-s-preserved c =
+    one_end_more c.args.list.now _ _ c.loop-s.s c.loop-s.ends _ (omega (arith, few_samples c.count-count.result, c.count-s-end.ensures, c.loop-s-test.true)) c.loop-s.invariant c.end_at.ensures.end
+
+pub returns : goal.returns
+returns c =
+    let count = rw c.count-count.ensures at c.count-s-end.ensures in
+    let all : c.loop-s.s ≡ count_of c.args.list.now.count = omega (arith, c.loop-s-test.false, c.loop-s.auto.s-end, count) in
+    colour_of_ends c.args.list.now _ _ c.loop-s.s c.loop-s.ends _ _ _ c.loop-s.invariant all
+    (rw c.count-count.ensures at c.resolved_colour.ensures.red) (rw c.count-count.ensures at c.resolved_colour.ensures.green) (rw c.count-count.ensures at c.resolved_colour.ensures.blue)

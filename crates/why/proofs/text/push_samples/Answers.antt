@@ -1,21 +1,27 @@
-use Rattle.std.proofs.Common.{refl, sym, ◌∙◌}
-use Rattle.model.proofs.Colours.{colour_of_one, colour_of_four}
+use Rattle.std.proofs.Common.{◌≡◌, refl, arith}
+use Rattle.grid.specs.Samples.{count_of}
+use Rattle.shade.specs.Mean.{sample_of}
+use Rattle.shade.proofs.Resolved.{few_samples, some_samples}
+use Rattle.model.proofs.Colours.{no_ends, one_end_more, colour_of_ends}
 use Rattle.why.proofs.text.push_samples.Goals as goal
 
-pub returns-in-One : goal.returns-in-One
-returns-in-One c = record {
-  colour = colour_of_one _ _ _ c.in_ok-first.first (sym c.count.ensures ∙ c.in-One.is) c.in_ok-first.ensures;
-  first = c.in_ok-first.first;
-  is_end = c.in_ok-first.ensures;
-  depth = refl;
-}
+pub loop-s-init : goal.loop-s-init
+loop-s-init c = no_ends c.args.list.now _ _ _ refl
 
-pub returns-in_ok-fourth-in-Four : goal.returns-in_ok-fourth-in-Four
-returns-in_ok-fourth-in-Four c = record {
-  colour = colour_of_four _ _ _ c.in_ok-first.first c.in_ok-second-in-Four.second c.in_ok-third-in-Four.third c.in_ok-fourth-in-Four.fourth _ _ _
-      (sym c.count.ensures ∙ c.in-Four.is) c.in_ok-first.ensures c.in_ok-second-in-Four.ensures c.in_ok-third-in-Four.ensures c.in_ok-fourth-in-Four.ensures
-      c.mean_of_four-r.ensures c.mean_of_four-g.ensures c.mean_of_four-b.ensures;
-  first = c.in_ok-first.first;
-  is_end = c.in_ok-first.ensures;
-  depth = refl;
-}
+pub loop-s-preserved : goal.loop-s-preserved
+loop-s-preserved c =
+    one_end_more c.args.list.now _ _ c.loop-s.s c.loop-s.ends _ (omega (arith, few_samples c.count-count.result, c.count-s-end.ensures, c.loop-s-test.true)) c.loop-s.invariant c.in_ok-ends.ensures
+
+pub returns : goal.returns
+returns c =
+    let list = c.args.list.now in
+    let count = rw c.count-count.ensures at c.count-s-end.ensures in
+    let all : c.loop-s.s ≡ count_of list.count = omega (arith, c.loop-s-test.false, c.loop-s.auto.s-end, count) in
+    record {
+      colour =
+          colour_of_ends list _ _ c.loop-s.s c.loop-s.ends _ _ _ c.loop-s.invariant all
+          (rw c.count-count.ensures at c.resolved_colour.ensures.red) (rw c.count-count.ensures at c.resolved_colour.ensures.green) (rw c.count-count.ensures at c.resolved_colour.ensures.blue);
+      first = sample_of c.loop-s.ends 0;
+      is_end = c.loop-s.invariant.end 0 (omega (arith, all, some_samples list.count));
+      depth = refl;
+    }
