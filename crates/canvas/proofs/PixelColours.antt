@@ -20,7 +20,7 @@ use Rattle.canvas.specs.Pixels.{pixel_bytes}
 use Rattle.canvas.specs.Colours.{IsColourOfPixel, IsColourIn, IsPixelOf, IsPixelIn, IsTilePixel, AreBytesOfColour, AreArranged}
 
 -- ---- colours of the same samples
-resolved_same : (count : SampleCount) (f g : ℕ → ℕ) (q : ℕ) → ((s : ℕ) → s < count_of count → f s ≡ g s) → IsResolved count f q → IsResolved count g q
+pub resolved_same : (count : SampleCount) (f g : ℕ → ℕ) (q : ℕ) → ((s : ℕ) → s < count_of count → f s ≡ g s) → IsResolved count f q → IsResolved count g q
 resolved_same One f g q same h = h ∙ same 0 (omega arith)
 resolved_same Two f g q same h =
     let first : f 0 ≡ g 0 = same 0 (omega arith) in

@@ -9,3 +9,4 @@
 --   ArePairsOf: Two bytes for each number, of which the more significant comes first.
 
 pub mod Batches
+pub mod Parts
