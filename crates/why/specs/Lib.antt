@@ -8,3 +8,5 @@
 --   AreCountsOfAsked: The counts are those of the triangle that is asked for.
 
 pub mod Report
+pub mod Text
+pub mod Answer
