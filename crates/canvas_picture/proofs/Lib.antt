@@ -1,3 +1,4 @@
 pub mod Batched
 pub mod Pictures
 pub mod Depths
+pub mod Parts

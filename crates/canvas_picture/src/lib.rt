@@ -3,4 +3,4 @@
 
 mod laws;
 
-pub use laws::{draws_depths, draws_pictures};
+pub use laws::{draws_depths, draws_pictures, joins_parts};

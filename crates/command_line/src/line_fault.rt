@@ -1,6 +1,6 @@
 //! Why arguments give no options.
-ghost use Rattle.std.specs.Prelude.{◌≡◌};
-ghost use Rattle.command_line.specs.declared.line_fault.LineFault.TheVariants.{OutOfMemory};
+ghost use Rattle.std.specs.Prelude.{◌≡◌, ◌≢◌};
+ghost use Rattle.command_line.specs.declared.line_fault.LineFault.TheVariants.{Help, OutOfMemory};
 
 use std::alloc::{AllocError, AllocFailed};
 use std::io;
@@ -36,6 +36,8 @@ impl<T: Drop> From<AllocFailed<T>> for LineFault {
 /// The arguments of the program could not be read. If memory did not run out, one of them is not UTF-8: the program has no such
 /// arguments.
 impl From<io::Error> for LineFault {
+    ghost from_gives = { λ _ fault. fault ≢ Help };
+
     fn from(error: io::Error) -> LineFault {
         match error.kind() {
             ErrorKind::OutOfMemory => LineFault::OutOfMemory,

@@ -1,7 +1,7 @@
 //! What a program writes if its arguments do not say what to do, or its run fails.
-ghost use Rattle.std.specs.Prelude.{◌≡◌, ◌<◌, ℕ, List};
+ghost use Rattle.std.specs.Prelude.{◌≡◌, ◌<◌};
 ghost use Rattle.command_line.specs.Args.{status_of};
-ghost use Rattle.program_input.specs.Refusal.{WritesLine, refusal_line};
+ghost use Rattle.program_input.specs.Refusal.{WritesLine, WritesSomeLine, refusal_line};
 
 use crate::fault::Fault;
 use command_line::{LineFault, fault_line};
@@ -22,11 +22,12 @@ pub fn refuse_with<W: Write, E: Write>(
     requires output { output.old.failures < u64.MAX }
     requires errors { errors.old.failures < u64.MAX }
     ensures help { result ≡ 0 → fault ≡ LineFault.Help }
-    ensures usage { result ≡ 0 → WritesLine usage.now (W.contents output.old.inner) (W.contents output.new.inner) }
+    ensures usage { result ≡ 0 → WritesLine usage.now (W.contents output.old.inner) (W.contents output.new.inner) output.old.failures output.new.failures }
     ensures quiet { result ≡ 0 → errors.new ≡ errors.old }
     ensures failed { result ≡ 1 → output.new ≡ output.old }
+    ensures failure { result ≡ 1 → WritesSomeLine (E.contents errors.old.inner) (E.contents errors.new.inner) errors.old.failures errors.new.failures }
     ensures refused { result ≡ 2 → output.new ≡ output.old }
-    ensures refusal { result ≡ 2 → WritesLine refusal_line (E.contents errors.old.inner) (E.contents errors.new.inner) }
+    ensures refusal { result ≡ 2 → WritesLine refusal_line (E.contents errors.old.inner) (E.contents errors.new.inner) errors.old.failures errors.new.failures }
     ensures status { result ≡ status_of fault }
 {
     match fault {
@@ -46,7 +47,7 @@ pub fn refuse_with<W: Write, E: Write>(
 pub fn fail_with<E: Write>(fault: &Fault, errors: &mut Counted<E>) -> u8
     requires { errors.old.failures < u64.MAX }
     ensures status { result ≡ 1 }
-    ensures line { (line : List ℕ) × WritesLine line (E.contents errors.old.inner) (E.contents errors.new.inner) }
+    ensures line { WritesSomeLine (E.contents errors.old.inner) (E.contents errors.new.inner) errors.old.failures errors.new.failures }
 {
     write_line(fault_line(fault).as_str().as_bytes(), errors);
     1
@@ -56,7 +57,7 @@ pub fn fail_with<E: Write>(fault: &Fault, errors: &mut Counted<E>) -> u8
 #[tactic(auto, using(crate::proofs::Lines::writes_line))]
 fn write_line<W: Write>(line: &[u8], out: &mut Counted<W>)
     requires { out.old.failures < u64.MAX }
-    ensures { WritesLine line.now (W.contents out.old.inner) (W.contents out.new.inner) }
+    ensures { WritesLine line.now (W.contents out.old.inner) (W.contents out.new.inner) out.old.failures out.new.failures }
 {
     let _ = out.write_all(line, 0);
 }

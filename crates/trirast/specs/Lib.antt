@@ -9,7 +9,6 @@
 --   WritesPicture: The input's bytes, up to its end, denote a draw list, and what was written is the file of its picture.
 --   WritesBeginning: The input's bytes, up to its end, denote a draw list, and the first `count` bytes of its picture's file were written.
 --   WritesWholeTileRows: The input's bytes denote a draw list, and whole tile rows of its picture's file were written.
---   HasFault: The input's bytes, up to its end, have this first error.
 --   Explains: What each error says of the input's and the output's bytes, with tiles of this size.
 --   EndsAs: How a run ends: the picture's file was written, or the error explains what was.
 --

@@ -5,15 +5,11 @@ use Rattle.grid.specs.Pixels.{side_of}
 use Rattle.grid.specs.declared.pixels.TileSide.{TileSide}
 use Rattle.model.specs.Picture.{pixel_bytes}
 use Rattle.model.specs.Scene.{Scene}
-use Rattle.model.specs.declared.fault.ReadFault.{ReadFault}
 use Rattle.program_input.specs.declared.fault.Fault.{Fault}
 use Rattle.program_input.specs.declared.fault.Fault.TheVariants.{List as BadList, Pool, InputFailed, InputTooLong, WriteFailed, OutOfMemory}
-use Rattle.model.specs.Checks.{all_checks}
 use Rattle.model.specs.Denotes.{Denotes}
-use Rattle.model.specs.Json.{json_of}
-use Rattle.model.specs.FirstFault.{IsFirstFault}
 use Rattle.picture_file.specs.File.{header_of, IsPictureFile}
-use Rattle.program_input.specs.Input.{GivesAll, Gives}
+use Rattle.program_input.specs.Input.{GivesAll, Gives, HasFault}
 
 -- What was written is the file of the draw list's picture.
 pub record WritesFile (list : Scene) (held held_after : Option (List ℕ)) : Type 0 where
@@ -72,12 +68,6 @@ pub record WritesWholeTileRows (side : TileSide) (left left_after held held_afte
   pub denoted : Denotes bytes list
   pub row : ℕ
   pub output : WritesTileRows list side row held held_after
-
--- The input's bytes, up to its end, have this first error.
-pub record HasFault (left left_after : Option (List ℕ)) (fault : ReadFault) : Type 0 where
-  pub bytes : List ℕ
-  pub input : GivesAll left left_after bytes
-  pub first : IsFirstFault (all_checks (json_of bytes)) fault
 
 -- What each error says of the input's and the output's bytes, with tiles of this size. A run never ends in an error of the pool:
 -- what workers could not draw is drawn by the calling thread.

@@ -22,8 +22,8 @@ use tile_rows::{Beside, TileRows, rows_together};
 pub enum PictureFault {
     /// The bytes of tile rows could not be allocated. Nothing was written.
     NotBegun,
-    /// An allocation failed for the tile row of this number, counted from the top. The header and all tile rows before it were
-    /// written, each whole, and nothing else.
+    /// Memory ran out. The header and all tile rows before the one of this number, counted from the top, were written, each whole, and
+    /// nothing else.
     OutOfMemory(u32),
     /// The writer failed after this many bytes of the file.
     WriteFailed(u64),

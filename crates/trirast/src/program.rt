@@ -1,7 +1,7 @@
 //! The command line program, over arguments and streams.
 ghost use Rattle.std.specs.Prelude.{◌≡◌, ◌<◌, ◌⊎◌, map};
 ghost use Rattle.command_line.specs.Args.{AsksForHelp};
-ghost use Rattle.program_input.specs.Refusal.{WritesLine, refusal_line};
+ghost use Rattle.program_input.specs.Refusal.{WritesLine, WritesSomeLine, refusal_line};
 ghost use Rattle.trirast.specs.Program.{EndsByFault, usage_line};
 ghost use Rattle.trirast.specs.Runs.{WritesPicture};
 
@@ -34,14 +34,15 @@ pub fn command<'a, Rt: Threads + Wait + Sync, R: Read, W: Write, E: Write>(
     requires output { output.old.failures < u64.MAX }
     requires errors { errors.old.failures < u64.MAX }
     ensures status { (result ≡ 0) ⊎ (result ≡ 1) ⊎ (result ≡ 2) }
-    ensures drawn { result ≡ 0 → (AsksForHelp (map (λ word. word.now) arguments.entry.now) × WritesLine usage_line (W.contents output.old.inner) (W.contents output.new.inner))
+    ensures drawn { result ≡ 0 → (AsksForHelp (map (λ word. word.now) arguments.entry.now) × WritesLine usage_line (W.contents output.old.inner) (W.contents output.new.inner) output.old.failures output.new.failures)
         ⊎ WritesPicture (R.remaining input.old.inner) (R.remaining input.new.inner) (W.contents output.old.inner) (W.contents output.new.inner) }
     ensures quiet { result ≡ 0 → errors.new ≡ errors.old }
     // What is on the output is what a fault of the run explains, and nothing behind it.
     ensures failed { result ≡ 1 → EndsByFault (R.remaining input.old.inner) (R.remaining input.new.inner) (W.contents output.old.inner) (W.contents output.new.inner)
         (input.old.failures < input.new.failures) (output.old.failures < output.new.failures) }
+    ensures failure { result ≡ 1 → WritesSomeLine (E.contents errors.old.inner) (E.contents errors.new.inner) errors.old.failures errors.new.failures }
     ensures refused { result ≡ 2 → (input.new ≡ input.old) × (output.new ≡ output.old) }
-    ensures refusal { result ≡ 2 → WritesLine refusal_line (E.contents errors.old.inner) (E.contents errors.new.inner) }
+    ensures refusal { result ≡ 2 → WritesLine refusal_line (E.contents errors.old.inner) (E.contents errors.new.inner) errors.old.failures errors.new.failures }
 {
     match options(alloc, arguments) {
         Ok(options) => match run(rt, alloc, input, output, options) {

@@ -2,11 +2,11 @@
 #![tactic(auto)]
 
 use std::process::ExitCode;
-use trirast::{USAGE, command, run_program};
+use trirast::{USAGE, command, own_arguments, run_program};
 
 fn main(rt: HostRuntime) -> ExitCode {
     let alloc = rt.alloc();
-    run_program(&rt, USAGE, |arguments, input, output, errors| {
+    run_program(&rt, USAGE, own_arguments(&rt), |arguments, input, output, errors| {
         command(&rt, alloc, arguments, input, output, errors)
     })
 }

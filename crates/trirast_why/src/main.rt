@@ -1,13 +1,14 @@
 //! The program `trirast_why`: its arguments and standard streams, given to `why::command`.
 #![tactic(auto)]
 
+use command_line::own_arguments;
 use program_input::run_program;
 use std::process::ExitCode;
 use why::{USAGE, command};
 
 fn main(rt: HostRuntime) -> ExitCode {
     let alloc = rt.alloc();
-    run_program(&rt, USAGE, |arguments, input, output, errors| {
+    run_program(&rt, USAGE, own_arguments(&rt), |arguments, input, output, errors| {
         command(alloc, arguments, input, output, errors)
     })
 }

@@ -6,5 +6,39 @@
 --   IsShownAt: What the picture shows at pixel (i, j), be it of colours or of depths: the resolved colour, and the final depth of sample 0.
 --   HasTriangle: The list has the triangle that is asked for.
 --   AreCountsOfAsked: The counts are those of the triangle that is asked for.
+--
+-- Text.antt
+--   place_json: The place of a triangle, as the first members of a JSON text.
+--   numbers_json: The numbers of its samples, as the last members.
+--   counts_json: The numbers of a triangle's samples, as a JSON text.
+--   line: A line of a table: words, a number in decimal digits at the right end of eight characters, and words.
+--   counts_table: The numbers of a triangle's samples, as a table.
+--   counts_in: The numbers of a triangle's samples, in this form.
+--   counts_text: The text of a report of a triangle with these numbers.
+--   value_json: What the picture shows at a pixel, in a JSON text.
+--   value_table: The same as the last line of a table.
+--   pixel_in: A report of a pixel in this form, with the histories of its samples.
+--   pixel_text: The text of a report of a pixel, with the histories of its samples.
+--
+-- Answer.antt
+--   usage_line: The line that the program writes if its arguments ask for help.
+--   ReportsPixel: The text reports this pixel, which the list has: with what the picture shows there, and some histories.
+--   ReportsTriangle: The text reports this triangle, which the list has: the numbers of its samples.
+--   IsReport: The text is the report that is asked for.
+--   Lacks: The picture has no such pixel, the pixel no such sample, or the list no such triangle.
+--   GivesList: The input's bytes, up to its end, denote a draw list of which `Holds` holds.
+--   GivesReport: The input gives a draw list, and this text is the report that is asked for.
+--   ExplainsUnread: What each error says of the input before anything is written.
+--   ExplainsFailure: Why there is no text of a report: what is asked for is not there, or an error.
+--   failure_of: What an error of a report means for the program.
+--   LacksAnswer: The input gives a draw list, which lacks what a question asks for.
+--   CutsText: The error is that of a writer which failed after a beginning of the text.
+--   WritesText: The text was written whole, or the error says how many bytes of it were.
+--   WritesReport: The report of a question was written whole.
+--   WritesBeginning: The first `count` bytes of the report of a question were written.
+--   Explains: What each error says of the input's and the output's bytes.
+--   EndsByFault: There is an error that explains what the input gave and what was written.
 
 pub mod Report
+pub mod Text
+pub mod Answer

@@ -6,6 +6,7 @@ mod arguments;
 mod asked_sample;
 mod counts;
 mod json;
+mod pixel_report;
 mod program;
 mod table;
 mod text;

@@ -1,6 +1,7 @@
 //! The command line program, over arguments and streams.
-ghost use Rattle.std.specs.Prelude.{◌≡◌, ◌<◌, ◌⊎◌};
-ghost use Rattle.program_input.specs.Refusal.{WritesLine, refusal_line};
+ghost use Rattle.std.specs.Prelude.{◌≡◌, ◌↔◌, ◌<◌, ◌⊎◌, ℕ, string_bytes, IfOk, IfErr, IsErrOf};
+ghost use Rattle.program_input.specs.Refusal.{WritesLine, WritesSomeLine, refusal_line};
+ghost use Rattle.why.specs.Answer.{IsReport, Lacks, LacksAnswer, GivesReport, ExplainsFailure, WritesText, WritesReport, EndsByFault, failure_of, usage_line};
 ghost use Rattle.why.specs.declared.program.Failure.TheVariants.{Run};
 
 use crate::arguments::{Question, read_arguments};
@@ -35,12 +36,22 @@ impl From<Fault> for Failure {
 }
 
 impl From<ReadFault> for Failure {
+    ghost use Rattle.std.specs.Prelude.{◌≡◌};
+    ghost use Rattle.program_input.specs.declared.fault.Fault.{Fault as RunFault};
+    ghost use Rattle.program_input.specs.Faults.{IsOfList};
+
+    ghost from_gives = { λ fault failure. (whole : RunFault) × IsOfList fault whole × (failure ≡ Run whole) };
+
     fn from(fault: ReadFault) -> Failure {
         Failure::Run(Fault::from(fault))
     }
 }
 
 impl From<ReportFault> for Failure {
+    ghost use Rattle.why.specs.Answer.{failure_of};
+
+    ghost from_gives = { λ fault failure. failure ≡ failure_of fault };
+
     fn from(fault: ReportFault) -> Failure {
         match fault {
             ReportFault::NoSuchSample | ReportFault::NoSuchTriangle => Failure::NotThere,
@@ -52,6 +63,7 @@ impl From<ReportFault> for Failure {
 /// Writes all of a text.
 fn write_text<W: Write>(text: &str, output: &mut Counted<W>) -> Result<(), Fault>
     requires { output.old.failures < u64.MAX }
+    ensures { WritesText text.now result (W.contents output.old.inner) (W.contents output.new.inner) output.old.failures output.new.failures }
 {
     let written = output.write_all(text.as_bytes(), 0)?;
     match output.flush() {
@@ -61,36 +73,38 @@ fn write_text<W: Write>(text: &str, output: &mut Counted<W>) -> Result<(), Fault
 }
 
 /// The text of the report that is asked for.
-fn text_of(alloc: Global, list: &DrawList, question: &Question) -> Result<String, ReportFault> {
+fn text_of(alloc: Global, list: &DrawList, question: &Question) -> Result<String, ReportFault>
+    ensures report { IfOk result (λ text. IsReport list.now question.now (string_bytes text)) }
+    ensures fault { IfErr result (λ e. (e ≡ ReportFault.OutOfMemory) ⊎ ((failure_of e ≡ Failure.NotThere) × Lacks list.now question.now)) }
+{
     match question {
-        Question::Pixel(asked) => {
-            let (text, _pixel) = report(alloc, list, asked)?;
-            Ok(text)
-        }
-        Question::Triangle(asked) => {
-            let (text, _counts) = report_triangle(alloc, list, asked)?;
-            Ok(text)
-        }
+        Question::Pixel(asked) => match report(alloc, list, asked) {
+            Ok((text, _pixel)) => Ok(text),
+            Err(fault) => Err(fault),
+        },
+        Question::Triangle(asked) => match report_triangle(alloc, list, asked) {
+            Ok((text, _counts)) => Ok(text),
+            Err(fault) => Err(fault),
+        },
     }
 }
 
-/// Reads a draw list from the input, and writes the report that is asked for.
-fn answer<R: Read, W: Write>(
+/// The text of the report that is asked for, of the draw list that the input gives.
+fn text_asked<R: Read>(
     alloc: Global,
     input: &mut Counted<R>,
-    output: &mut Counted<W>,
     question: &Question,
-) -> Result<(), Failure>
-    requires input { input.old.failures < u64.MAX }
-    requires output { output.old.failures < u64.MAX }
-    ensures { (result ≡ Err Failure.NotThere) → output.new ≡ output.old }
+) -> Result<String, Failure>
+    requires { input.old.failures < u64.MAX }
+    ensures given { IfOk result (λ text. GivesReport question.now (string_bytes text) (R.remaining input.old.inner) (R.remaining input.new.inner)) }
+    ensures failed { IfErr result (λ failure. ExplainsFailure question.now failure (R.remaining input.old.inner) (R.remaining input.new.inner)) }
+    ensures input_failed { IsErrOf result (Failure.Run Fault.InputFailed) ↔ (input.old.failures < input.new.failures) }
 {
     let bytes = read_input(alloc, input)?;
     let list = read(alloc, bytes.as_slice())?;
     // Nothing needs the JSON text any more.
     drop(bytes);
-    let text = text_of(alloc, &list, question)?;
-    Ok(write_text(text.as_str(), output)?)
+    Ok(text_of(alloc, &list, question)?)
 }
 
 /// Reads the arguments, of which the first is the program's name, and a draw list from the input, and writes the history of a pixel's
@@ -108,17 +122,28 @@ pub fn command<'a, R: Read, W: Write, E: Write>(
     requires output { output.old.failures < u64.MAX }
     requires errors { errors.old.failures < u64.MAX }
     ensures status { (result ≡ 0) ⊎ (result ≡ 1) ⊎ (result ≡ 2) }
+    ensures reported { result ≡ 0 → WritesLine usage_line (W.contents output.old.inner) (W.contents output.new.inner) output.old.failures output.new.failures
+        ⊎ WritesReport (R.remaining input.old.inner) (R.remaining input.new.inner) (W.contents output.old.inner) (W.contents output.new.inner) }
     ensures quiet { result ≡ 0 → errors.new ≡ errors.old }
+    // What is on the output is what a fault of the run explains, and nothing behind it.
+    ensures failed { result ≡ 1 → EndsByFault (R.remaining input.old.inner) (R.remaining input.new.inner) (W.contents output.old.inner) (W.contents output.new.inner)
+        (input.old.failures < input.new.failures) (output.old.failures < output.new.failures) }
+    ensures failure { result ≡ 1 → WritesSomeLine (E.contents errors.old.inner) (E.contents errors.new.inner) errors.old.failures errors.new.failures }
     ensures refused { result ≡ 2 → output.new ≡ output.old }
-    ensures refusal { result ≡ 2 → WritesLine refusal_line (E.contents errors.old.inner) (E.contents errors.new.inner) }
+    ensures lacking { result ≡ 2 → (input.new ≡ input.old) ⊎ LacksAnswer (R.remaining input.old.inner) (R.remaining input.new.inner) }
+    ensures refusal { result ≡ 2 → WritesLine refusal_line (E.contents errors.old.inner) (E.contents errors.new.inner) errors.old.failures errors.new.failures }
 {
     let question = match read_arguments(alloc, arguments) {
         Ok(question) => question,
         Err(fault) => return refuse_with(USAGE, fault, output, errors),
     };
-    match answer(alloc, input, output, &question) {
+    let text = match text_asked(alloc, input, &question) {
+        Ok(text) => text,
+        Err(Failure::NotThere) => return refuse_with(USAGE, LineFault::Refused, output, errors),
+        Err(Failure::Run(fault)) => return fail_with(&fault, errors),
+    };
+    match write_text(text.as_str(), output) {
         Ok(()) => 0,
-        Err(Failure::NotThere) => refuse_with(USAGE, LineFault::Refused, output, errors),
-        Err(Failure::Run(fault)) => fail_with(&fault, errors),
+        Err(fault) => fail_with(&fault, errors),
     }
 }

@@ -1,13 +1,14 @@
 //! The history of a pixel's samples, as text.
-ghost use Rattle.std.specs.Prelude.{◌≡◌, ◌↔◌, ◌<◌, IsTrue, IfOk};
+ghost use Rattle.std.specs.Prelude.{◌≡◌, ◌↔◌, ◌<◌, ◌⊎◌, ℕ, List, string_bytes, IsTrue, IfOk, IfErr, OnOk};
 ghost use Rattle.why.specs.Report.{HasSample, IsShownAt};
+ghost use Rattle.why.specs.Text.{pixel_text};
 
-use crate::arguments::{Asked, Form};
+use crate::arguments::Asked;
 use crate::asked_sample::AskedSample;
-use model::{DrawList, Output};
+use crate::pixel_report::push_pixel;
+use model::DrawList;
 use shade::{MAX_SAMPLES, resolved_colour};
 use std::alloc::{AllocError, Global};
-use std::fmt::Write as _;
 
 /// Why there is no report.
 #[derive(Clone, Copy, Debug, PartialEq, Eq)]
@@ -56,40 +57,6 @@ fn push_samples(list: &DrawList, asked: &Asked, out: &mut String) -> Result<Pixe
     })
 }
 
-/// The text in this form of a pixel, with the histories of its samples.
-fn whole(
-    alloc: Global,
-    list: &DrawList,
-    asked: &Asked,
-    pixel: &Pixel,
-    histories: &str,
-) -> Result<String, AllocError> {
-    let mut out = String::new(alloc);
-    let (x, y, depth) = (asked.x, asked.y, pixel.depth);
-    let [r, g, b] = pixel.colour;
-    match (asked.form, list.output()) {
-        (Form::Json, Output::Color) => {
-            write!(
-                out,
-                "{{\"x\":{x},\"y\":{y},\"color\":[{r},{g},{b}],\"samples\":[{histories}]}}\n"
-            )?;
-        }
-        (Form::Json, Output::Depth) => {
-            write!(
-                out,
-                "{{\"x\":{x},\"y\":{y},\"depth\":{depth},\"samples\":[{histories}]}}\n"
-            )?;
-        }
-        (Form::Table, Output::Color) => {
-            write!(out, "pixel ({x}, {y})\n{histories}colour ({r}, {g}, {b})\n")?;
-        }
-        (Form::Table, Output::Depth) => {
-            write!(out, "pixel ({x}, {y})\n{histories}depth {depth}\n")?;
-        }
-    }
-    Ok(out)
-}
-
 /// Whether the picture has the pixel, and the pixel the sample, if one is named.
 fn has_sample(list: &DrawList, asked: &Asked) -> bool
     ensures has { IsTrue result ↔ HasSample list.now asked.now }
@@ -106,6 +73,10 @@ fn has_sample(list: &DrawList, asked: &Asked) -> bool
 /// the pixel. Fails with `NoSuchSample` if and only if the picture has no such pixel, or the pixel no such sample.
 pub fn report(alloc: Global, list: &DrawList, asked: &Asked) -> Result<(String, Pixel), ReportFault>
     ensures shown { IfOk result (λ r. IsShownAt list.now asked.now.x asked.now.y r.1) }
+    ensures there { OnOk result (HasSample list.now asked.now) }
+    // The text has these numbers, and histories of which nothing is said.
+    ensures text { IfOk result (λ r. (histories : List ℕ) × (string_bytes r.0 ≡ pixel_text list.now.output asked.now r.1 histories)) }
+    ensures faults { IfErr result (λ e. (e ≡ ReportFault.NoSuchSample) ⊎ (e ≡ ReportFault.OutOfMemory)) }
     ensures no_sample { (result ≡ Err ReportFault.NoSuchSample) ↔ ¬ HasSample list.now asked.now }
 {
     if !has_sample(list, asked) {
@@ -113,6 +84,7 @@ pub fn report(alloc: Global, list: &DrawList, asked: &Asked) -> Result<(String, 
     }
     let mut histories = String::new(alloc);
     let pixel = push_samples(list, asked, &mut histories)?;
-    let text = whole(alloc, list, asked, &pixel, histories.as_str())?;
+    let mut text = String::new(alloc);
+    push_pixel(list.output(), asked, &pixel, histories.as_str(), &mut text)?;
     Ok((text, pixel))
 }
