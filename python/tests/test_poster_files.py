@@ -433,6 +433,11 @@ class Threads(Runs):
         for workers in (0, -1):
             with self.assertRaises(ValueError):
                 poster.draw_poster(random_scene(1), self.path("a.ppm"), workers=workers)
+        wrong: List[Dict[str, Any]] = [{"workers": 1.5}, {"workers": "2"}, {"window": 64.0}, {"window": None}]
+        for more in wrong:
+            with self.assertRaises(TypeError):
+                poster.draw_poster(random_scene(1), self.path("a.ppm"), **more)
+        self.assertEqual(self.there(), self.before)
 
 
 if __name__ == "__main__":
