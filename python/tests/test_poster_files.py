@@ -261,7 +261,7 @@ class Stops(Files):
                 self.draw(scene, kind, resume=True)
                 self.assertTrue(self.there() == wanted, (kind, stopped))
                 stopped += 1
-            self.assertGreater(stopped, 9, kind)
+            self.assertGreater(stopped, 7, kind)
 
     def is_stopped(self, scene: poster.Scene, kind: Any, calls: int) -> bool:
         """Draws anew, and stops at a call. Returns whether the run made so many calls."""

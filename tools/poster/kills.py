@@ -24,7 +24,7 @@ from tools.library.tally import Tally, must
 from tools.poster.common import content, folder_files, run_checks
 from tools.poster.stopped import SECONDS, write_scene
 
-SIDE, TRIANGLES, WINDOW = 3000, 30_000, 128
+SIDE, TRIANGLES, WINDOW = 1500, 10_000, 64
 # Each kind of output, by the names below a folder to which it goes: a file, a folder of tiles, or both.
 KINDS = (("a.ppm", None), ("a.pgm", None), ("a.png", None), (None, "tiles"), ("a.ppm", "tiles"), ("a.png", "tiles"))
 # Of four rounds one kills a run as it gives its files their names.
