@@ -214,7 +214,8 @@ class Locks(Runs):
             self.assertEqual(len(second), 1)
             for name in set(self.there()) - set(self.before):
                 self.assertTrue(name == "a.ppm" or name.startswith("tiles"), name)
-            os.system(f"rm -r {out} {tiles} 2> /dev/null")
+            for name in ("a.ppm", "tiles"):
+                self.remove(name)
 
     def test_a_run_to_one_of_two_places_ends_with_a_line(self) -> None:
         os.mkdir(self.path("tiles.part"))
@@ -254,6 +255,7 @@ class Stops(Files):
     def test_each_call_may_be_the_last(self) -> None:
         scene = random_scene(6, 270, 200, 50)
         for kind in self.KINDS:
+            self.remove_all()
             self.draw(scene, kind)
             wanted = self.there()
             stopped = 0
@@ -265,7 +267,7 @@ class Stops(Files):
 
     def is_stopped(self, scene: poster.Scene, kind: Any, calls: int) -> bool:
         """Draws anew, and stops at a call. Returns whether the run made so many calls."""
-        os.system(f"rm -r {self.folder}/*")
+        self.remove_all()
         left = [calls]
 
         def stopping(call: Any) -> Any:
@@ -305,7 +307,7 @@ class Stops(Files):
                 self.draw(scene if resume else other, (name, None), resume=resume)
                 self.draw(scene if resume else other, ("wanted" + name, None))
                 self.assertTrue(self.content(name) == self.content("wanted" + name), name)
-                os.system(f"rm -r {self.folder}/*")
+                self.remove_all()
 
 
 class Journals(Runs):
