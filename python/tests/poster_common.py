@@ -2,6 +2,7 @@
 
 import importlib.util
 import os
+import shutil
 import tempfile
 import unittest
 from typing import Any, Dict, List
@@ -50,6 +51,19 @@ class Files(unittest.TestCase):
     def content(self, name: str) -> bytes:
         with open(self.path(name), "rb") as file:
             return file.read()
+
+    def remove(self, name: str) -> None:
+        """Removes a file or a folder, if it is there."""
+        path = self.path(name)
+        if os.path.isdir(path) and not os.path.islink(path):
+            shutil.rmtree(path)
+        elif os.path.lexists(path):
+            os.remove(path)
+
+    def remove_all(self) -> None:
+        """Removes all that is in the folder."""
+        for name in os.listdir(self.folder):
+            self.remove(name)
 
     def write(self, name: str, data: bytes) -> str:
         with open(self.path(name), "wb") as file:

@@ -214,7 +214,8 @@ class Locks(Runs):
             self.assertEqual(len(second), 1)
             for name in set(self.there()) - set(self.before):
                 self.assertTrue(name == "a.ppm" or name.startswith("tiles"), name)
-            os.system(f"rm -r {out} {tiles} 2> /dev/null")
+            for name in ("a.ppm", "tiles"):
+                self.remove(name)
 
     def test_a_run_to_one_of_two_places_ends_with_a_line(self) -> None:
         os.mkdir(self.path("tiles.part"))
@@ -254,6 +255,7 @@ class Stops(Files):
     def test_each_call_may_be_the_last(self) -> None:
         scene = random_scene(6, 270, 200, 50)
         for kind in self.KINDS:
+            self.remove_all()
             self.draw(scene, kind)
             wanted = self.there()
             stopped = 0
@@ -261,11 +263,11 @@ class Stops(Files):
                 self.draw(scene, kind, resume=True)
                 self.assertTrue(self.there() == wanted, (kind, stopped))
                 stopped += 1
-            self.assertGreater(stopped, 9, kind)
+            self.assertGreater(stopped, 7, kind)
 
     def is_stopped(self, scene: poster.Scene, kind: Any, calls: int) -> bool:
         """Draws anew, and stops at a call. Returns whether the run made so many calls."""
-        os.system(f"rm -r {self.folder}/*")
+        self.remove_all()
         left = [calls]
 
         def stopping(call: Any) -> Any:
@@ -305,7 +307,7 @@ class Stops(Files):
                 self.draw(scene if resume else other, (name, None), resume=resume)
                 self.draw(scene if resume else other, ("wanted" + name, None))
                 self.assertTrue(self.content(name) == self.content("wanted" + name), name)
-                os.system(f"rm -r {self.folder}/*")
+                self.remove_all()
 
 
 class Journals(Runs):
@@ -433,6 +435,11 @@ class Threads(Runs):
         for workers in (0, -1):
             with self.assertRaises(ValueError):
                 poster.draw_poster(random_scene(1), self.path("a.ppm"), workers=workers)
+        wrong: List[Dict[str, Any]] = [{"workers": 1.5}, {"workers": "2"}, {"window": 64.0}, {"window": None}]
+        for more in wrong:
+            with self.assertRaises(TypeError):
+                poster.draw_poster(random_scene(1), self.path("a.ppm"), **more)
+        self.assertEqual(self.there(), self.before)
 
 
 if __name__ == "__main__":

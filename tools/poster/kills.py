@@ -8,6 +8,7 @@ Only processes that these checks started are ended, each by its number.
 from __future__ import annotations
 
 import argparse
+import contextlib
 import json
 import os
 import random
@@ -24,7 +25,7 @@ from tools.library.tally import Tally, must
 from tools.poster.common import content, folder_files, run_checks
 from tools.poster.stopped import SECONDS, write_scene
 
-SIDE, TRIANGLES, WINDOW = 3000, 30_000, 128
+SIDE, TRIANGLES, WINDOW = 1500, 10_000, 64
 # Each kind of output, by the names below a folder to which it goes: a file, a folder of tiles, or both.
 KINDS = (("a.ppm", None), ("a.pgm", None), ("a.png", None), (None, "tiles"), ("a.ppm", "tiles"), ("a.png", "tiles"))
 # Of four rounds one kills a run as it gives its files their names.
@@ -51,8 +52,11 @@ class Kills:
         self.stages: Dict[str, int] = {}
         self.make_anew()
         begun = time.monotonic()
-        must(self.ended() == 0, "a run failed")
-        self.seconds, self.wanted = time.monotonic() - begun, folder_files(self.to)
+        child = self.start()
+        self.wait_for(self.journal, child)
+        drawing = time.monotonic()
+        must(child.wait(SECONDS) == 0, "a run failed")
+        self.seconds, self.drawing, self.wanted = time.monotonic() - begun, time.monotonic() - drawing, folder_files(self.to)
 
     def of_depths(self, path: str) -> None:
         """Makes of a file of arrays one that shows depths."""
@@ -65,31 +69,36 @@ class Kills:
         shutil.rmtree(self.to, ignore_errors=True)
         os.makedirs(self.to)
 
-    def ended(self, *words: str) -> int:
-        done = subprocess.run([*self.command, *words], stdout=subprocess.DEVNULL, stderr=subprocess.PIPE, timeout=SECONDS)
+    def resume(self) -> None:
+        done = subprocess.run([*self.command, "--resume"], stdout=subprocess.DEVNULL, stderr=subprocess.PIPE, timeout=SECONDS)
         must(done.returncode == 0, f"status {done.returncode}: {done.stderr.decode()[-400:]}")
-        return done.returncode
+
+    def start(self, *words: str) -> subprocess.Popen[bytes]:
+        return subprocess.Popen([*self.command, *words], stdout=subprocess.DEVNULL, stderr=subprocess.DEVNULL)
+
+    def wait_for(self, path: str, child: subprocess.Popen[bytes], text: bytes = b"") -> None:
+        """Waits until a file is there and has a text, or a run ends."""
+        end = time.monotonic() + SECONDS
+        while child.poll() is None and time.monotonic() < end:
+            with contextlib.suppress(FileNotFoundError):
+                if text in content(path):
+                    return
 
     def kill(self, is_late: bool, *words: str) -> None:
-        """Starts a run, and kills it: at any time, or as it gives its files their names."""
-        child = subprocess.Popen([*self.command, *words], stdout=subprocess.DEVNULL, stderr=subprocess.DEVNULL)
+        """Starts a run, and kills it: at any time, most often as it draws; or as it gives its files their names."""
+        child = self.start(*words)
         try:
             if is_late:
-                end = time.monotonic() + SECONDS
-                while child.poll() is None and not self.is_late() and time.monotonic() < end:
-                    pass
+                self.wait_for(self.journal, child, b'"whole"')
+            elif self.pick.random() < 0.2:
+                time.sleep(self.pick.random() * self.seconds)
             else:
-                time.sleep(self.pick.random() * 1.1 * self.seconds)
+                self.wait_for(self.journal, child)
+                time.sleep(self.pick.random() * 1.2 * self.drawing)
         finally:
             child.kill()
             child.wait()
         self.count(child.returncode)
-
-    def is_late(self) -> bool:
-        try:
-            return b'"whole"' in content(self.journal)
-        except FileNotFoundError:
-            return False
 
     def count(self, status: int) -> None:
         """Counts how far a killed run had come."""
@@ -109,7 +118,7 @@ class Kills:
         self.kill(number % LATE == LATE - 1)
         if self.pick.random() < 0.5:
             self.kill(self.pick.random() < 0.2, "--resume")
-        self.ended("--resume")
+        self.resume()
         found = folder_files(self.to)
         names: List[str] = sorted(found.keys() ^ self.wanted.keys())
         must(found == self.wanted, f"round {number}: other files {names[:5]}, or bytes")

@@ -241,17 +241,17 @@ fn is_drawn_left_of_the_screen() {
             let ids = window.ids(0).unwrap();
             let wanted: Vec<u32> =
                 (0..40 * 130).map(|place| if place % 40 + place / 40 < 10 { 5 } else { 16_777_215 }).collect();
-            assert_eq!(ids, wanted, "{origin:?}");
+            assert!(ids == wanted, "{origin:?}");
             window.clear([255; 3], 9).unwrap();
             window.draw(&[draw(None)]).unwrap();
-            assert_eq!(window.ids(0).unwrap(), wanted, "{origin:?}");
+            assert!(window.ids(0).unwrap() == wanted, "{origin:?}");
             // A draw with a scissor beside one without is cut as it is by itself.
             for draws in [vec![draw(scissor)], vec![Draw { indices: &[], ..draw(None) }, draw(scissor)]] {
                 window.clear([255; 3], 9).unwrap();
                 window.draw_ids(&draws, 5).unwrap();
                 let is_on_screen = |place: u32| (place % 40) as i32 + origin.x >= 0 && (place / 40) as i32 + origin.y >= 0;
                 let cut = |(place, &id): (u32, &u32)| if is_on_screen(place) { id } else { 16_777_215 };
-                assert_eq!(window.ids(0).unwrap(), (0..).zip(&wanted).map(cut).collect::<Vec<_>>(), "{origin:?}");
+                assert!(window.ids(0).unwrap() == (0..).zip(&wanted).map(cut).collect::<Vec<_>>(), "{origin:?}");
             }
             assert_eq!(window.origin(), origin);
         }

@@ -28,6 +28,8 @@ from ._scene import PosterDraw, Scene
 # Members begin at multiples of this in files that `save_arrays` writes, so that others can map them as integers.
 ALIGNMENT = 64
 LOCAL_HEADER = 30
+# Where temporary files may be large: where others go may be memory.
+LARGE = "/var/tmp"
 # Bytes that are copied together.
 BLOCK = 1 << 20
 # How a name ends that is of arrays, in small or capital letters.
@@ -91,7 +93,7 @@ def member(file: IO[bytes], archive: zipfile.ZipFile, name: str) -> NDArray[Any]
     if header + size > info.file_size:
         raise ValueError(f"{name} has {info.file_size - header} bytes, and not {size}")
     # A mapping stays when its file is closed.
-    with tempfile.TemporaryFile(dir=os.environ.get("TMPDIR", "/var/tmp")) as copy:
+    with tempfile.TemporaryFile(dir=os.environ.get("TMPDIR") or (LARGE if os.path.isdir(LARGE) else None)) as copy:
         copy_part(file, name, data_offset(file, info) + header, size, copy)
         return np.memmap(copy, dtype, "c", 0, shape)
 

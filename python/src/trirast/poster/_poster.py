@@ -3,6 +3,7 @@
 from __future__ import annotations
 
 import contextlib
+import operator
 import os
 import zlib
 from concurrent.futures import Future, ThreadPoolExecutor
@@ -55,10 +56,10 @@ def draw_poster(
     places = places_of(out, tiles, scene.source)
     if samples is not None:
         scene = with_samples(scene, samples)
-    count = os.cpu_count() or 1 if workers is None else workers
+    count = os.cpu_count() or 1 if workers is None else operator.index(workers)
     if count < 1:
         raise ValueError(f"workers: at least 1, and not {count}")
-    windows = Windows(scene.sheet, window)
+    windows = Windows(scene.sheet, operator.index(window))
     with contextlib.ExitStack() as stack, thread_errors():
         summing = stack.enter_context(ThreadPoolExecutor(1)).submit(scene.checksum, count)
         index = Index.of(scene, windows, count)
@@ -66,7 +67,7 @@ def draw_poster(
         journal = Journal(places.journal)
         stack.callback(journal.close)
         writers = list(writers_of(scene.sheet, checksum, places, journal.is_whole, resume, count, stack))
-        run = {"list": checksum, "window": window, "out": places.file is not None, "tiles": places.folder is not None}
+        run = {"list": checksum, "window": windows.side, "out": places.file is not None, "tiles": places.folder is not None}
         journal.begin(run, resume)
         if not writers:
             journal.remove()
