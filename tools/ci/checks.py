@@ -43,12 +43,14 @@ class Check:
     long_seconds: int = 0
     # What it runs of what make builds.
     runs: tuple[str, ...] = ()
+    # Whether its short form is left out where what it runs is not built, since that would take too long.
+    only_if_built: bool = False
     # Commands of the system and modules of Python (as `python:NAME`) without which it is skipped.
     needs: tuple[str, ...] = ()
 
     def words(self, is_long: bool = False) -> list[str]:
         """The command, in its short or its long form."""
-        head = [sys.executable, "-m"] if "." in self.command[0] or self.command[0] == "pytest" else []
+        head = [sys.executable, "-m"] if self.command[0].startswith(("tools.", "pytest")) else []
         return [*head, *self.command, *(self.long if is_long else ())]
 
     def missing(self) -> list[str]:
@@ -105,8 +107,13 @@ CHECKS = (
     ),
     Check(name="injection", about="mistakes after failed allocations, by mutants", command=("pytest", "tools/test_injection.py"), seconds=60, needs=COMPILER),
     Check(
-        name="allocation-failures", about="the program where allocations fail", command=("pytest", "tools/allocation_failures.py"), seconds=120,
-        runs=("program", "readers"), needs=COMPILER,
+        name="allocation-failures", about="the program where allocations fail",
+        command=("pytest", "tools/allocation_failures.py", "-k", "not Draws and not Tiles"), seconds=120, runs=("program",), needs=COMPILER,
+    ),
+    Check(
+        name="allocation-failures-inside", about="tiles and readers by themselves where allocations fail",
+        command=("pytest", "tools/allocation_failures.py", "-k", "Draws or Tiles"), seconds=60, runs=("readers",), needs=COMPILER,
+        only_if_built=True,
     ),
     Check(
         name="fault-injection", about="readers, writers, devices and threads that fail, and lists at their limits",
