@@ -21,7 +21,7 @@ from functools import partial
 from typing import Sequence
 
 from tools.ci.checks import BUILDS, CHECKS, Check, by_name
-from tools.ci.schedule import Ended, Outcome, Schedule, Task
+from tools.ci.schedule import Ended, Outcome, Schedule, Task, clock
 from tools.ci.toolchain import Ran, run, stop_all
 from tools.counts import MISSING, Counts
 from tools.places import TOP
@@ -83,8 +83,7 @@ class Tests:
         self.counts += outcome.number()
         self.seconds += outcome.seconds
         if outcome.number() != Counts():
-            minutes, seconds = divmod(int(ended.at), 60)
-            print(f"{minutes:4}:{seconds:02} {outcome.seconds:7.1f}  {ended.task.name}: {outcome.remark}", flush=True)
+            print(f"{clock(ended.at)} {outcome.seconds:7.1f}  {ended.task.name}: {outcome.remark}", flush=True)
         if not outcome.has_passed:
             self.failures.append(ended)
 
