@@ -71,44 +71,44 @@ EVERYTHING = ("program", "library")
 CHECKS = (
     Check(name="check-ci", about="what `make prove` and `make test` count and refuse", command=("pytest", "tools/ci"), seconds=20),
     Check(name="types", about="types of the Python sources, by mypy in its strict form", command=("mypy",), seconds=40, needs=("mypy",)),
-    Check(name="reference", about="worked values of the second renderer", command=("pytest", "tools/test_reference.py"), seconds=20),
-    Check(name="documents", about="what documents name", command=("pytest", "tools/test_documents.py"), seconds=10),
-    Check(name="statement", about="docs/statement.md against the sources", command=("pytest", "tools/test_statement.py"), seconds=10),
-    Check(name="edits", about="must-fail edits by name", command=("pytest", "tools/test_edits.py"), seconds=10),
-    Check(name="schema", about="the JSON Schema on examples and refused lists", command=("tools.check_schema",), seconds=60, needs=("python:jsonschema",)),
+    Check(name="reference", about="worked values of the second renderer", command=("pytest", "tools/test_reference.py"), seconds=5),
+    Check(name="documents", about="what documents name", command=("pytest", "tools/test_documents.py"), seconds=3),
+    Check(name="statement", about="docs/statement.md against the sources", command=("pytest", "tools/test_statement.py"), seconds=3),
+    Check(name="edits", about="must-fail edits by name", command=("pytest", "tools/test_edits.py"), seconds=2),
+    Check(name="schema", about="the JSON Schema on examples and refused lists", command=("tools.check_schema",), seconds=25, needs=("python:jsonschema",)),
     Check(
         name="acceptance", about="the program's pictures, lines and statuses, by lists and lines", command=("pytest", "tests/acceptance"), seconds=60,
         runs=("program", "why"),
     ),
-    Check(name="check-compare", about="what generated lists cover", command=("pytest", "tools/test_compare.py"), seconds=60),
-    Check(name="compare", about="generated lists, every byte against a second renderer", command=("tools.compare",), seconds=200, runs=("program",)),
+    Check(name="check-compare", about="what generated lists cover", command=("pytest", "tools/test_compare.py"), seconds=15),
+    Check(name="compare", about="generated lists, every byte against a second renderer", command=("tools.compare", "--lists", "600", "--refused", "300"), seconds=50, long=("--lists", "4000", "--refused", "2000"), long_seconds=300, runs=("program",)),
     Check(
         name="compare-history", about="histories of trirast_why against the second renderer, reason by reason, and the pictures",
-        command=("tools.compare_history",), seconds=100, runs=("program", "why"),
+        command=("tools.compare_history", "--lists", "100", "--counted", "100"), seconds=30, long=("--lists", "500", "--counted", "500"), long_seconds=130, runs=("program", "why"),
     ),
     Check(
-        name="compare-library-history", about="histories of the library against those of trirast_why", command=("tools.compare_library_history",), seconds=100,
+        name="compare-library-history", about="histories of the library against those of trirast_why", command=("tools.compare_library_history", "--lists", "60", "--counted", "60"), seconds=10, long=("--lists", "500", "--counted", "500"), long_seconds=80,
         runs=("program", "why", "library"), needs=COMPILER,
     ),
     Check(
         name="compare-canvas", about="generated lists on canvases, split into batches, against program and second renderer",
-        command=("tools.compare_canvas",), seconds=100, runs=EVERYTHING, needs=COMPILER,
+        command=("tools.compare_canvas", "--lists", "200"), seconds=20, long=("--lists", "1000"), long_seconds=60, runs=EVERYTHING, needs=COMPILER,
     ),
     Check(
         name="canvas-mutants", about="mutants of the second renderer's canvases", command=("tools.canvas_mutants",), seconds=60,
         runs=EVERYTHING, needs=COMPILER,
     ),
-    Check(name="check-golden", about="how pictures are compared and recorded", command=("pytest", "tools/test_golden.py"), seconds=30),
-    Check(name="golden", about="pictures of examples/ and tests/regressions/ by their checksums", command=("tools.golden",), seconds=90, runs=("program",)),
-    Check(name="mutants", about="mutants of the second renderer, which the comparison has to find", command=("tools.mutants",), seconds=120, runs=("program",)),
+    Check(name="check-golden", about="how pictures are compared and recorded", command=("pytest", "tools/test_golden.py"), seconds=3),
+    Check(name="golden", about="pictures of examples/ and tests/regressions/ by their checksums", command=("tools.golden",), seconds=40, runs=("program",)),
+    Check(name="mutants", about="mutants of the second renderer, which the comparison has to find", command=("tools.mutants",), seconds=30, runs=("program",)),
     Check(
         name="check-conformance", about="the comparison with drivers, by mutants and by recorded answers",
         command=("pytest", "conformance/test_conformance.py", "conformance/d3d11/test_direct3d.py"), seconds=60,
     ),
-    Check(name="injection", about="mistakes after failed allocations, by mutants", command=("pytest", "tools/test_injection.py"), seconds=60, needs=COMPILER),
+    Check(name="injection", about="mistakes after failed allocations, by mutants", command=("pytest", "tools/test_injection.py"), seconds=20, needs=COMPILER),
     Check(
         name="allocation-failures", about="the program where allocations fail",
-        command=("pytest", "tools/allocation_failures.py", "-k", "not Draws and not Tiles"), seconds=120, runs=("program",), needs=COMPILER,
+        command=("pytest", "tools/allocation_failures.py", "-k", "not Draws and not Tiles"), seconds=25, runs=("program",), needs=COMPILER,
     ),
     Check(
         name="allocation-failures-inside", about="tiles and readers by themselves where allocations fail",
@@ -117,7 +117,7 @@ CHECKS = (
     ),
     Check(
         name="fault-injection", about="readers, writers, devices and threads that fail, and lists at their limits",
-        command=("pytest", "tools/fault_injection.py"), seconds=120, runs=("program",), needs=COMPILER,
+        command=("pytest", "tools/fault_injection.py"), seconds=85, runs=("program",), needs=COMPILER,
     ),
     Check(
         name="check-library", about="library, header, packages in Python and Rust and examples against the program", command=("tools.check_library",), seconds=400,
