@@ -4,6 +4,7 @@ from __future__ import annotations
 
 import importlib.util
 import os
+import shlex
 import sys
 from pathlib import Path
 
@@ -17,7 +18,7 @@ from tools.places import TOP, text_of
 
 def check(text: str, name: str = "a-check", **more: object) -> Check:
     """A check that runs this text of Python."""
-    return Check(name=name, about="", command=(sys.executable, "-c", text), seconds=1, **more)  # type: ignore[arg-type]
+    return Check(name=name, about="", command=shlex.join((sys.executable, "-c", text)), seconds=1, **more)  # type: ignore[arg-type]
 
 
 PASSES = check("print('all is well')")
@@ -71,7 +72,7 @@ def test_a_check_that_does_not_end_is_stopped(
 
 
 def test_long_forms(tmp_path: Path, capsys: pytest.CaptureFixture[str]) -> None:
-    counts = check("import sys; print(f'{len(sys.argv)} passed, 0 failed')", long=("more",))
+    counts = check("import sys; print(f'{len(sys.argv)} passed, 0 failed')", long="more")
     assert CheckRun(tmp_path, capsys, counts).counts == Counts(1)
     assert CheckRun(tmp_path, capsys, counts, is_long=True).counts == Counts(2)
 
@@ -108,13 +109,14 @@ def test_the_list_names_what_is_there() -> None:
     for one in CHECKS:
         assert one.seconds > 0 and set(one.runs) <= set(checks.BUILDS), one.name
         assert bool(one.long) == bool(one.long_seconds), one.name
-        if one.command[0] == "pytest":
-            paths = [word for word in one.command[1:] if "/" in word]
+        first, *words = shlex.split(one.command)
+        if first == "pytest":
+            paths = [word for word in words if "/" in word]
             assert paths and all(os.path.exists(os.path.join(TOP, path)) for path in paths), one.name
-        elif "." in one.command[0]:
-            assert importlib.util.find_spec(one.command[0]), one.name
+        elif one.is_module():
+            assert importlib.util.find_spec(first), one.name
         else:
-            assert one.command[0] in one.needs, one.name
+            assert first in one.needs, one.name
 
 
 def test_contributing_has_the_table_of_the_list() -> None:
