@@ -40,8 +40,10 @@ def pairs_of(edit: str) -> list[tuple[str, str, str]]:
 
 
 def tests() -> set[str]:
-    """The tests of all crates, as crate::function."""
+    """The tests of all crates, as crate::function, and those of the whole program in Python, as acceptance::function without `test_`."""
     found: set[str] = set()
+    for path in places.files("tests", "acceptance", "*.py"):
+        found.update(f"acceptance::{name}" for name in re.findall(r"^def test_(\w+)", text_of(path), re.MULTILINE))
     for path in places.files("crates", "*", "src", "**", "*.rt"):
         crate = path.split(os.sep)[1]
         found.update(f"{crate}::{name}" for name in re.findall(r"#\[test\]\s+fn (\w+)", text_of(path)))

@@ -11,6 +11,7 @@ import argparse
 import importlib.util
 import os
 import re
+import shlex
 import shutil
 import sys
 from dataclasses import dataclass
@@ -34,26 +35,31 @@ class Check:
     name: str
     # What it looks at, as a part of a sentence.
     about: str
-    # What it runs, without Python itself if that is a module.
-    command: tuple[str, ...]
+    # What it runs: a command of the system, or a module that Python runs, with its words.
+    command: str
     # About how many seconds of a processor it takes.
     seconds: int
     # Words for the longer form that `make test-long` runs, and its seconds.
-    long: tuple[str, ...] = ()
+    long: str = ""
     long_seconds: int = 0
     # What it runs of what make builds.
     runs: tuple[str, ...] = ()
+    # Whether its short form is left out where what it runs is not built, since that would take too long.
+    only_if_built: bool = False
     # Commands of the system and modules of Python (as `python:NAME`) without which it is skipped.
     needs: tuple[str, ...] = ()
 
     def words(self, is_long: bool = False) -> list[str]:
         """The command, in its short or its long form."""
-        head = [sys.executable, "-m"] if "." in self.command[0] or self.command[0] == "pytest" else []
-        return [*head, *self.command, *(self.long if is_long else ())]
+        words = shlex.split(f"{self.command} {self.long}" if is_long else self.command)
+        return [sys.executable, "-m", *words] if self.is_module() else words
+
+    def is_module(self) -> bool:
+        return self.command.startswith(("tools.", "pytest "))
 
     def missing(self) -> list[str]:
         """What it needs of the system and is not there."""
-        needs = (*self.needs, *(("python:pytest",) if self.command[0] == "pytest" else ()))
+        needs = (*self.needs, *(("python:pytest",) if self.command.startswith("pytest ") else ()))
         return [name for name in needs if not is_there(name)]
 
 
@@ -67,61 +73,158 @@ def is_there(need: str) -> bool:
 COMPILER = ("cc", "gcc")
 EVERYTHING = ("program", "library")
 CHECKS = (
-    Check(name="check-ci", about="what `make prove` and `make test` count and refuse", command=("pytest", "tools/ci"), seconds=20),
-    Check(name="types", about="types of the Python sources, by mypy in its strict form", command=("mypy",), seconds=40, needs=("mypy",)),
-    Check(name="reference", about="worked values of the second renderer", command=("pytest", "tools/test_reference.py"), seconds=20),
-    Check(name="documents", about="what documents name", command=("pytest", "tools/test_documents.py"), seconds=10),
-    Check(name="statement", about="docs/statement.md against the sources", command=("pytest", "tools/test_statement.py"), seconds=10),
-    Check(name="edits", about="must-fail edits by name", command=("pytest", "tools/test_edits.py"), seconds=10),
-    Check(name="schema", about="the JSON Schema on examples and refused lists", command=("tools.check_schema",), seconds=60, needs=("python:jsonschema",)),
     Check(
-        name="acceptance", about="the program's pictures, lines and statuses, by lists and lines", command=("pytest", "tests/acceptance"), seconds=60,
+        name="check-ci",
+        about="what `make prove` and `make test` count and refuse",
+        command="pytest tools/ci", seconds=20,
+    ),
+    Check(
+        name="types",
+        about="types of the Python sources, by mypy in its strict form",
+        command="mypy", seconds=40,
+        needs=("mypy",),
+    ),
+    Check(
+        name="reference",
+        about="worked values of the second renderer",
+        command="pytest tools/test_reference.py", seconds=5,
+    ),
+    Check(
+        name="documents",
+        about="what documents name",
+        command="pytest tools/test_documents.py", seconds=3,
+    ),
+    Check(
+        name="statement",
+        about="docs/statement.md against the sources",
+        command="pytest tools/test_statement.py", seconds=3,
+    ),
+    Check(
+        name="edits",
+        about="must-fail edits by name",
+        command="pytest tools/test_edits.py", seconds=2,
+    ),
+    Check(
+        name="schema",
+        about="the JSON Schema on examples and refused lists",
+        command="tools.check_schema", seconds=25,
+        needs=("python:jsonschema",),
+    ),
+    Check(
+        name="acceptance",
+        about="the program's pictures, lines and statuses, by lists and lines",
+        command="pytest tests/acceptance", seconds=60,
         runs=("program", "why"),
     ),
-    Check(name="check-compare", about="what generated lists cover", command=("pytest", "tools/test_compare.py"), seconds=60),
-    Check(name="compare", about="generated lists, every byte against a second renderer", command=("tools.compare",), seconds=200, runs=("program",)),
     Check(
-        name="compare-history", about="histories of trirast_why against the second renderer, reason by reason, and the pictures",
-        command=("tools.compare_history",), seconds=100, runs=("program", "why"),
+        name="check-compare",
+        about="what generated lists cover",
+        command="pytest tools/test_compare.py", seconds=15,
     ),
     Check(
-        name="compare-library-history", about="histories of the library against those of trirast_why", command=("tools.compare_library_history",), seconds=100,
+        name="compare",
+        about="generated lists, every byte against a second renderer",
+        command="tools.compare --lists 600 --refused 300", seconds=50,
+        long="--lists 4000 --refused 2000", long_seconds=300,
+        runs=("program",),
+    ),
+    Check(
+        name="compare-history",
+        about="histories of trirast_why against the second renderer, reason by reason, and the pictures",
+        command="tools.compare_history --lists 100 --counted 100", seconds=30,
+        long="--lists 500 --counted 500", long_seconds=130,
+        runs=("program", "why"),
+    ),
+    Check(
+        name="compare-library-history",
+        about="histories of the library against those of trirast_why",
+        command="tools.compare_library_history --lists 60 --counted 60", seconds=10,
+        long="--lists 500 --counted 500", long_seconds=80,
         runs=("program", "why", "library"), needs=COMPILER,
     ),
     Check(
-        name="compare-canvas", about="generated lists on canvases, split into batches, against program and second renderer",
-        command=("tools.compare_canvas",), seconds=100, runs=EVERYTHING, needs=COMPILER,
-    ),
-    Check(
-        name="canvas-mutants", about="mutants of the second renderer's canvases", command=("tools.canvas_mutants",), seconds=60,
-        runs=EVERYTHING, needs=COMPILER,
-    ),
-    Check(name="check-golden", about="how pictures are compared and recorded", command=("pytest", "tools/test_golden.py"), seconds=30),
-    Check(name="golden", about="pictures of examples/ and tests/regressions/ by their checksums", command=("tools.golden",), seconds=90, runs=("program",)),
-    Check(name="mutants", about="mutants of the second renderer, which the comparison has to find", command=("tools.mutants",), seconds=120, runs=("program",)),
-    Check(
-        name="check-conformance", about="the comparison with drivers, by mutants and by recorded answers",
-        command=("pytest", "conformance/test_conformance.py", "conformance/d3d11/test_direct3d.py"), seconds=60,
-    ),
-    Check(name="injection", about="mistakes after failed allocations, by mutants", command=("pytest", "tools/test_injection.py"), seconds=60, needs=COMPILER),
-    Check(
-        name="allocation-failures", about="the program where allocations fail", command=("pytest", "tools/allocation_failures.py"), seconds=120,
-        runs=("program", "readers"), needs=COMPILER,
-    ),
-    Check(
-        name="fault-injection", about="readers, writers, devices and threads that fail, and lists at their limits",
-        command=("pytest", "tools/fault_injection.py"), seconds=120, runs=("program",), needs=COMPILER,
-    ),
-    Check(
-        name="check-library", about="library, header, packages in Python and Rust and examples against the program", command=("tools.check_library",), seconds=400,
+        name="compare-canvas",
+        about="generated lists on canvases, split into batches, against program and second renderer",
+        command="tools.compare_canvas --lists 200", seconds=20,
+        long="--lists 1000", long_seconds=60,
         runs=EVERYTHING, needs=COMPILER,
     ),
     Check(
-        name="check-packages", about="Debian packages, wheels and CMake files, each installed in a clean folder", command=("tools.check_packages",), seconds=120,
+        name="canvas-mutants",
+        about="mutants of the second renderer's canvases",
+        command="tools.canvas_mutants", seconds=60,
         runs=EVERYTHING, needs=COMPILER,
     ),
-    Check(name="check-poster", about="posters against the program, stopped and resumed", command=("tools.check_poster",), seconds=200, runs=EVERYTHING, needs=COMPILER),
-    Check(name="check-web", about="the page in Chromium, each sample against the program", command=("tools.check_web",), seconds=120, runs=EVERYTHING, needs=COMPILER),
+    Check(
+        name="check-golden",
+        about="how pictures are compared and recorded",
+        command="pytest tools/test_golden.py", seconds=3,
+    ),
+    Check(
+        name="golden",
+        about="pictures of examples/ and tests/regressions/ by their checksums",
+        command="tools.golden", seconds=40,
+        runs=("program",),
+    ),
+    Check(
+        name="mutants",
+        about="mutants of the second renderer, which the comparison has to find",
+        command="tools.mutants", seconds=30,
+        runs=("program",),
+    ),
+    Check(
+        name="check-conformance",
+        about="the comparison with drivers, by mutants and by recorded answers",
+        command="pytest conformance/test_conformance.py conformance/d3d11/test_direct3d.py", seconds=60,
+    ),
+    Check(
+        name="injection",
+        about="mistakes after failed allocations, by mutants",
+        command="pytest tools/test_injection.py", seconds=20,
+        needs=COMPILER,
+    ),
+    Check(
+        name="allocation-failures",
+        about="the program where allocations fail",
+        command="pytest tools/allocation_failures.py -k 'not Draws and not Tiles'", seconds=25,
+        runs=("program",), needs=COMPILER,
+    ),
+    Check(
+        name="allocation-failures-inside",
+        about="tiles and readers by themselves where allocations fail",
+        command="pytest tools/allocation_failures.py -k 'Draws or Tiles'", seconds=60,
+        runs=("readers",), needs=COMPILER, only_if_built=True,
+    ),
+    Check(
+        name="fault-injection",
+        about="readers, writers, devices and threads that fail, and lists at their limits",
+        command="pytest tools/fault_injection.py", seconds=85,
+        runs=("program",), needs=COMPILER,
+    ),
+    Check(
+        name="check-library",
+        about="library, header, packages in Python and Rust and examples against the program",
+        command="tools.check_library", seconds=400,
+        runs=EVERYTHING, needs=COMPILER,
+    ),
+    Check(
+        name="check-packages",
+        about="Debian packages, wheels and CMake files, each installed in a clean folder",
+        command="tools.check_packages", seconds=120,
+        runs=EVERYTHING, needs=COMPILER,
+    ),
+    Check(
+        name="check-poster",
+        about="posters against the program, stopped and resumed",
+        command="tools.check_poster", seconds=200,
+        runs=EVERYTHING, needs=COMPILER,
+    ),
+    Check(
+        name="check-web",
+        about="the page in Chromium, each sample against the program",
+        command="tools.check_web", seconds=120,
+        runs=EVERYTHING, needs=COMPILER,
+    ),
 )
 
 
@@ -133,7 +236,7 @@ def table() -> str:
     """The table of the checks in CONTRIBUTING."""
     rows = ["| `make ..` | What it looks at | Seconds | Long form | Needs |", "|---|---|---|---|---|"]
     for check in CHECKS:
-        long = f"{check.long_seconds}, `{' '.join(check.long)}`" if check.long else ""
+        long = f"{check.long_seconds}, `{check.long}`" if check.long else ""
         needs = ", ".join(f"`{name.rpartition(':')[2]}`" for name in check.needs)
         rows.append(f"| `{check.name}` | {check.about} | {check.seconds} | {long} | {needs} |")
     return "\n".join(rows)

@@ -28,7 +28,7 @@ from dataclasses import dataclass
 from functools import lru_cache
 from typing import Iterator, Sequence
 
-from tools.ci import tried
+from tools.ci import seconds, tried
 from tools.ci.edit import applied
 from tools.ci.sources import normal, sources_in
 from tools.crates import PARTS, Tree, text_of
@@ -156,6 +156,7 @@ def main() -> int:
     tree = Tree(options.top)
     sums = Checksums(tree)
     if options.verb == "record":
+        seconds.record(options.top)
         return tried.record(options.top, {crate: sums.of_crate(crate) for crate in tree.uses}, {
             crate: {edit: sums.of_edit(crate, edit) for edit in tree.edits(crate)} for crate in tree.uses if tree.edits(crate)
         })

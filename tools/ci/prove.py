@@ -23,10 +23,10 @@ import sys
 import time
 from typing import Sequence
 
-from tools.ci import edits, rt_ci, tried
+from tools.ci import edits, rt_ci, seconds, tried
 from tools.ci.passed import Passed
 from tools.ci.rooms import Rooms
-from tools.ci.schedule import Ended, Schedule, Task
+from tools.ci.schedule import Ended, Schedule, Task, clock
 from tools.ci.steps import Steps
 from tools.ci.tasks import tasks_of
 from tools.ci.toolchain import Toolchain, stop_all
@@ -56,18 +56,20 @@ class Run:
         self.counts = Counts()
         self.failures: list[Ended] = []
         self.refused: dict[str, dict[str, tried.Tried]] = {}
+        self.took: dict[str, int] = {}
         self.seconds = 0.0
 
     def tell(self, ended: Ended) -> None:
         """Prints and counts what came of a task."""
         outcome, name = ended.outcome, ended.task.name
-        minutes, seconds = divmod(int(ended.at), 60)
-        print(f"{minutes:4}:{seconds:02} {outcome.seconds:7.1f}  {name}: {outcome.remark}", flush=True)
+        print(f"{clock(ended.at)} {outcome.seconds:7.1f}  {name}: {outcome.remark}", flush=True)
         self.seconds += outcome.seconds
         self.counts += outcome.number()
         if not outcome.has_passed:
             self.failures.append(ended)
-        elif "/" in name:
+        elif "/" not in name:
+            self.took[name] = round(outcome.seconds)
+        else:
             crate, edit = name.split("/")
             made = tried.Tried(self.sums.of_edit(crate, edit), round(outcome.seconds))
             self.refused.setdefault(crate, {})[edit] = made
@@ -78,8 +80,9 @@ class Run:
         of = {crate: [name.split("/")[1] for name in names if name.startswith(f"{crate}/")] for crate in order}
         return [task for crate in order for task in tasks_of(crate, self.steps, of[crate], known)]
 
-    def keep_refused(self) -> None:
-        """Leaves for `record` which edits were refused."""
+    def keep_what_was_seen(self) -> None:
+        """Leaves for `record` which edits were refused, and how long the steps took."""
+        seconds.write_file(os.path.join(self.tree.top, seconds.SEEN), self.took)
         record = {crate: tried.Entry(self.sums.of_crate(crate), names) for crate, names in self.refused.items()}
         tried.write_file(os.path.join(self.tree.top, tried.REFUSED), record)
 
@@ -100,15 +103,18 @@ class Run:
         print(f"{minutes:.1f} minutes, {self.seconds / 60:.1f} of a processor", flush=True)
 
 
-def known_seconds(record: tried.Record) -> dict[str, int]:
-    return {f"{crate}/{name}": it.seconds for crate, entry in record.items() for name, it in entry.edits.items()}
+def known_seconds(top: str) -> dict[str, int]:
+    """What tasks are known to take, by their names."""
+    record = tried.read_file(os.path.join(top, tried.RECORD))
+    of_edits = {f"{crate}/{name}": it.seconds for crate, entry in record.items() for name, it in entry.edits.items()}
+    return {**seconds.read_file(os.path.join(top, seconds.KNOWN)), **of_edits}
 
 
 def chosen(run: Run, options: argparse.Namespace, has_refused: frozenset[str]) -> tuple[list[str], list[str], dict[str, int]]:
     """The crates to prove, the edits to try, and what these are known to take. Edits that cannot be applied are counted as failed."""
     base = tried.base_of(options.top, options.base)
     plan = edits.make_plan(run.sums, base.record, tried.number_of_commits(options.top))
-    known = known_seconds(tried.read_file(os.path.join(options.top, tried.RECORD)))
+    known = known_seconds(options.top)
     every = edits.all_edits(run.tree)
     print(f"what was tried: {base.why}")
     edits.say_plan(plan, len(every))
@@ -138,7 +144,7 @@ def prove(options: argparse.Namespace) -> Counts:
     try:
         Schedule(run.tasks(crates, names, known), options.processors, run.tell).run()
     finally:
-        run.keep_refused()
+        run.keep_what_was_seen()
         shutil.rmtree(run.steps.rooms.place, ignore_errors=True)
     run.take_programs()
     run.summarize(begun)

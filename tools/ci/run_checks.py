@@ -21,7 +21,7 @@ from functools import partial
 from typing import Sequence
 
 from tools.ci.checks import BUILDS, CHECKS, Check, by_name
-from tools.ci.schedule import Ended, Outcome, Schedule, Task
+from tools.ci.schedule import Ended, Outcome, Schedule, Task, clock
 from tools.ci.toolchain import Ran, run, stop_all
 from tools.counts import MISSING, Counts
 from tools.places import TOP
@@ -83,10 +83,19 @@ class Tests:
         self.counts += outcome.number()
         self.seconds += outcome.seconds
         if outcome.number() != Counts():
-            minutes, seconds = divmod(int(ended.at), 60)
-            print(f"{minutes:4}:{seconds:02} {outcome.seconds:7.1f}  {ended.task.name}: {outcome.remark}", flush=True)
+            print(f"{clock(ended.at)} {outcome.seconds:7.1f}  {ended.task.name}: {outcome.remark}", flush=True)
         if not outcome.has_passed:
             self.failures.append(ended)
+
+    def lacks(self, check: Check) -> str:
+        """Why a check is skipped, or nothing."""
+        if check.missing():
+            return f"there is no {' and no '.join(check.missing())}"
+        if check.only_if_built and not self.is_long:
+            goals = [goal for name in check.runs for goal in BUILDS[name]]
+            old = [goal for goal in goals if run(["make", "-q", goal], self.top, MINUTE).status != 0]
+            return f"{' and '.join(old)} is not built, or old; make test-long builds it" if old else ""
+        return ""
 
     def tasks(self, checks: Sequence[Check]) -> list[Task]:
         """The builds that are needed, one after the other, and the checks behind them."""
@@ -104,11 +113,13 @@ class Tests:
         begun = time.monotonic()
         shutil.rmtree(os.path.join(self.top, LOGS), ignore_errors=True)
         os.makedirs(os.path.join(self.top, LOGS))
-        able = [check for check in checks if not check.missing()]
+        able: list[Check] = []
         for check in checks:
-            if check.missing():
-                self.skipped.append(f"{check.name}: there is no {' and no '.join(check.missing())}")
+            if why := self.lacks(check):
+                self.skipped.append(f"{check.name}: {why}")
                 self.counts += Counts(skipped=1)
+            else:
+                able.append(check)
         Schedule(self.tasks(able), processors, self.tell).run()
         self.summarize(begun)
         return self.counts

@@ -11,6 +11,11 @@ from typing import Callable, Iterable
 from tools.counts import Counts
 
 
+def clock(at: float) -> str:
+    """A time in minutes and seconds."""
+    return f"{int(at) // 60:4}:{int(at) % 60:02}"
+
+
 @dataclass(frozen=True)
 class Outcome:
     """How a task ended: whether it passed, what is printed of it, and the seconds of a processor that it took."""

@@ -4,7 +4,7 @@ from __future__ import annotations
 
 import os
 from functools import partial
-from typing import Mapping, Sequence
+from typing import Callable, Mapping, Sequence
 
 from tools.ci.edit_trial import try_edit
 from tools.ci.schedule import Outcome, Task
@@ -28,14 +28,14 @@ def tried(steps: Steps, crate: str, edit: str, _jobs: int) -> Outcome:
     return try_edit(steps.rooms, steps.rt, crate, edit)
 
 
-def steps_of(crate: str, steps: Steps, has_edits: bool) -> list[Task]:
+def steps_of(crate: str, steps: Steps, has_edits: bool, known: Mapping[str, int]) -> list[Task]:
     """The steps of a crate. Only one of them works in the crate at a time."""
     tree, seconds = steps.tree, likely_seconds(steps.tree, crate)
     made: list[Task] = []
 
-    def add(name: str, run: "partial[Outcome]", expected: float) -> None:
-        below = tuple(f"{name}: proof" for name in tree.below(crate))
-        made.append(Task(f"{crate}: {name}", run, (*below, *(task.name for task in made[-1:])), expected, is_wide=True))
+    def add(step: str, run: Callable[[int], Outcome], likely: float) -> None:
+        name, below = f"{crate}: {step}", tuple(f"{name}: proof" for name in tree.below(crate))
+        made.append(Task(name, run, (*below, *(task.name for task in made[-1:])), known.get(name, likely), is_wide=True))
 
     if tree.is_program(crate):
         add("program", partial(steps.run, crate), seconds + BUILD_SECONDS)
@@ -52,7 +52,7 @@ def steps_of(crate: str, steps: Steps, has_edits: bool) -> list[Task]:
 
 def tasks_of(crate: str, steps: Steps, edits: Sequence[str], known: Mapping[str, int]) -> list[Task]:
     """The tasks of a crate, each behind those that it needs. Its edits are tried once it stands, beside its tests."""
-    made = steps_of(crate, steps, has_edits=bool(edits))
+    made = steps_of(crate, steps, bool(edits), known)
     for edit in edits:
         name = f"{crate}/{edit}"
         seconds = known.get(name, EDIT_SECONDS)

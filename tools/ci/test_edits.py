@@ -7,7 +7,7 @@ import sys
 
 import pytest
 
-from tools.ci import edits, tried
+from tools.ci import edits, seconds, tried
 from tools.ci.small_tree import EDIT, FUNCTIONS, SmallTree
 from tools.ci.sources import words_of
 from tools.crates import Tree
@@ -177,3 +177,10 @@ def test_records_are_read_as_they_are_written(tree: SmallTree) -> None:
     record = all_as_tried(tree)
     assert tried.read(tried.written(record)) == record
     assert tried.read(tried.written({})) == {}
+
+
+def test_record_keeps_the_most_that_a_step_took(tree: SmallTree) -> None:
+    seconds.write_file(f"{tree.top}/{seconds.KNOWN}", {"low: proof": 60, "high: proof": 5})
+    seconds.write_file(f"{tree.top}/{seconds.SEEN}", {"low: proof": 2, "high: proof": 9, "app: program": 100})
+    seconds.record(tree.top)
+    assert seconds.read_file(f"{tree.top}/{seconds.KNOWN}") == {"low: proof": 60, "high: proof": 9, "app: program": 100}

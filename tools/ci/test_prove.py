@@ -33,7 +33,7 @@ def test_a_tree_that_is_proved_passes(tree: SmallTree, capsys: pytest.CaptureFix
         assert re.search(rf" {re.escape(line)}: ", ran.said), line
     # Proofs of two libraries, three crates as they stand, the program, the tests of one, and the edits.
     assert ran.counts == Counts(2 + 3 + 1 + 1 + 2 + FUNCTIONS)
-    assert os.listdir(os.path.join(tree.top, "out", "prove")) == ["refused.json"]
+    assert sorted(os.listdir(os.path.join(tree.top, "out", "prove"))) == ["refused.json", "seconds.json"]
 
 
 @pytest.mark.parametrize(("path", "old", "new", "failed"), [

@@ -71,8 +71,11 @@ def write_file(path: str, record: Record) -> None:
 
 
 def git(top: str, *words: str) -> str | None:
-    """What git prints, or `None` if it fails."""
-    ran = subprocess.run(["git", *words], cwd=top, capture_output=True, text=True)
+    """What git prints, or `None` if it fails or is not there."""
+    try:
+        ran = subprocess.run(["git", *words], cwd=top, capture_output=True, text=True)
+    except OSError:
+        return None
     return ran.stdout.strip() if ran.returncode == 0 else None
 
 
