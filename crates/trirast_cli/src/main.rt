@@ -6,7 +6,12 @@ use trirast::{USAGE, command, own_arguments, run_program};
 
 fn main(rt: HostRuntime) -> ExitCode {
     let alloc = rt.alloc();
-    run_program(&rt, USAGE, own_arguments(&rt), |arguments, input, output, errors| {
-        command(&rt, alloc, arguments, input, output, errors)
-    })
+    run_program(
+        &rt,
+        USAGE,
+        own_arguments(&rt),
+        |arguments, input, output, errors| {
+            command(&rt, alloc, arguments, input, output, errors)
+        },
+    )
 }
