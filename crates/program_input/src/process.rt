@@ -14,12 +14,7 @@ use std::process::ExitCode;
 /// `command` is not called.
 pub fn run_program<
     F: FnOnce(&[&str], &mut Counted<Stdin>, &mut Counted<Stdout>, &mut Counted<Stderr>) -> u8,
->(
-    rt: &HostRuntime,
-    usage: &[u8],
-    arguments: Result<Vec<String>, LineFault>,
-    command: F,
-) -> ExitCode
+>(rt: &HostRuntime, usage: &[u8], arguments: Result<Vec<String>, LineFault>, command: F) -> ExitCode
     requires { (words : _) (input : _) (output : _) (errors : _)
         → input.now.failures < u64.MAX → output.now.failures < u64.MAX → errors.now.failures < u64.MAX → F.pre command words input output errors }
     ensures unread { IfErr arguments (λ fault. exit_status result ≡ status_of fault) }

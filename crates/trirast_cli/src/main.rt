@@ -6,7 +6,8 @@ use trirast::{USAGE, command, own_arguments, run_program};
 
 fn main(rt: HostRuntime) -> ExitCode {
     let alloc = rt.alloc();
-    run_program(&rt, USAGE, own_arguments(&rt), |arguments, input, output, errors| {
+    let arguments = own_arguments(&rt);
+    run_program(&rt, USAGE, arguments, |arguments, input, output, errors| {
         command(&rt, alloc, arguments, input, output, errors)
     })
 }

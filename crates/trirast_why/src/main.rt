@@ -8,7 +8,8 @@ use why::{USAGE, command};
 
 fn main(rt: HostRuntime) -> ExitCode {
     let alloc = rt.alloc();
-    run_program(&rt, USAGE, own_arguments(&rt), |arguments, input, output, errors| {
+    let arguments = own_arguments(&rt);
+    run_program(&rt, USAGE, arguments, |arguments, input, output, errors| {
         command(alloc, arguments, input, output, errors)
     })
 }
