@@ -76,6 +76,9 @@ fn refuses_what_is_no_scene() {
     for (width, height) in [(0, 1), (1, 0), (4097, 1), (1, 4097), (u32::MAX, u32::MAX)] {
         assert_eq!(refused(Head::new(width, height), &[]).kind(), bad(ListError::OutOfRange));
     }
+    for samples in [Samples::Two, Samples::Eight, Samples::Sixteen] {
+        assert_eq!(refused(Head { samples, ..Head::new(1, 1) }, &[]).kind(), bad(ListError::OutOfRange));
+    }
     let error = refused(Head::new(1, 1), &draw_of(&[0, 0, 0], State::default()));
     assert_eq!((error.kind(), error.draw()), (bad(ListError::BadIndex), Some(0)));
     let error = refused(Head::new(1, 1), &draw_of(&[0, 0], State::default()));
