@@ -428,14 +428,7 @@ fn plain_quad_masks(quad: &Quad, bx: u32, by: u32, from: u32, count: SampleCount
 }
 
 /// Compares a quad's masks of a part with the reference test, and with those of the triangles of both diagonals.
-fn compare_quad_part(
-    rt: &impl Abort,
-    quad: &Quad,
-    bx: u32,
-    by: u32,
-    from: u32,
-    count: SampleCount,
-)
+fn compare_quad_part(rt: &impl Abort, quad: &Quad, bx: u32, by: u32, from: u32, count: SampleCount)
     requires column { bx < 512 }
     requires row { by < 512 }
     requires part { IsPart count from }

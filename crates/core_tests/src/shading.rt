@@ -136,7 +136,10 @@ fn resolves_four_samples(rt: HostRuntime) {
             sample(third, 0, 255, 0),
             sample(fourth, 0, 255, 0),
         ];
-        assert_eq!(rt; resolved_colour(&samples, SampleCount::Four), [mean, 0, 255]);
+        assert_eq!(rt;
+            resolved_colour(&samples, SampleCount::Four),
+            [mean, 0, 255]
+        );
     }
 }
 

@@ -271,13 +271,7 @@ fn placed(rt: &impl Abort, random: &mut Random, merge: Merge, flat: [bool; 3]) -
 }
 
 /// Generated triangles, drawn by this merge, with `count` samples a pixel, at the part that begins with sample `from`.
-fn compare_all(
-    rt: &impl Abort,
-    random: &mut Random,
-    merge: Merge,
-    count: SampleCount,
-    from: u32,
-)
+fn compare_all(rt: &impl Abort, random: &mut Random, merge: Merge, count: SampleCount, from: u32)
     requires { IsPart count from }
 {
     for flat in [
@@ -297,7 +291,14 @@ fn compare_all(
                 random.samples(),
             ];
             if t.tri.area2() != 0 {
-                compare(rt, &t, count, from, wanted, &old[..count.part_size() as usize]);
+                compare(
+                    rt,
+                    &t,
+                    count,
+                    from,
+                    wanted,
+                    &old[..count.part_size() as usize],
+                );
             }
         }
     }

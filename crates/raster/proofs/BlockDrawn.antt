@@ -18,7 +18,7 @@ use Rattle.lanes.specs.BlockMask.{CoversBlock, IsBlockDrawn, first_of, plane_of}
 use Rattle.shade.specs.Placed.{Meets}
 use Rattle.raster.specs.declared.tile.Tile.{Tile}
 use Rattle.raster.specs.Samples.{IsSampleOf, place_of, planes_of, stored}
-use Rattle.raster.specs.Drawing.{DrawsPart, DrawsAt, KeepsAt, IsInSquare, IsInPart, IsInSquarePart, AreMet, LiesIn}
+use Rattle.raster.specs.Drawing.{DrawsPart, DrawsAt, KeepsAt, IsInSquare, IsInSquarePart, AreMet, LiesIn}
 use Rattle.raster.proofs.Bits.{both_set}
 use Rattle.raster.proofs.Cut.{put, put_here, put_elsewhere, part_of}
 use Rattle.raster.proofs.Places.{within, same_place, whole_blocks}

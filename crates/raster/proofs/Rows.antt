@@ -21,7 +21,7 @@ use Rattle.raster.specs.declared.tile.Tile.{Tile}
 use Rattle.raster.specs.declared.region.Region.{Region}
 use Rattle.raster.specs.Region.{IsRegionIn, IsInRegion, HoldsCommon, HoldsTile}
 use Rattle.raster.specs.Samples.{IsSampleOf}
-use Rattle.raster.specs.Drawing.{DrawsPart, DrawsTile, DrawsAt, IsInSquare, IsInPart, IsOfPart, IsInSquarePart, CoversNoneOf, LiesIn, ArePlanesOf, square_of, block_of}
+use Rattle.raster.specs.Drawing.{DrawsPart, DrawsTile, DrawsAt, IsInPart, IsOfPart, IsInSquarePart, CoversNoneOf, LiesIn, ArePlanesOf, square_of, block_of}
 use Rattle.raster.proofs.BlockDrawn.{part_at_most}
 use Rattle.raster.proofs.Bits.{is_set}
 use Rattle.raster.proofs.Parts.{missed_part, joined, same_part}

@@ -21,11 +21,7 @@ fn in_sample_mask(mask: u16, s: u32) -> u64
     requires { s < 4 }
     ensures { (k : ℕ) → k < 64 → (IsBitSet result k ↔ (mask / 2 ^ s % 2 ≡ 1)) }
 {
-    if (mask >> s) % 2 == 1 {
-        u64::MAX
-    } else {
-        0
-    }
+    if (mask >> s) % 2 == 1 { u64::MAX } else { 0 }
 }
 
 /// Which samples of block (bx, by) the triangle meets, of those that it covers of the part that begins with sample `from`. `scissor`

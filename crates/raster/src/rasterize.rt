@@ -44,14 +44,7 @@ fn planes(block: &Square, from: u32) -> Option<[u64; 4]>
 /// Which samples of block (bx, by) of the tile the triangle covers, of the part that begins with sample `from`, or `None` if it
 /// covers none of them; `all` says that it covers all samples of the tile.
 #[inline]
-fn covered(
-    setup: &Setup,
-    tile: &Tile,
-    all: bool,
-    bx: u32,
-    by: u32,
-    from: u32,
-) -> Option<[u64; 4]>
+fn covered(setup: &Setup, tile: &Tile, all: bool, bx: u32, by: u32, from: u32) -> Option<[u64; 4]>
     requires block { LiesIn tile.now bx by 8 }
     requires part { IsPart tile.now.count from }
     requires all { IsTrue all → CoversAll (square_of setup.now tile.now) }

@@ -1,7 +1,7 @@
 use Rattle.std.proofs.Common.{ℕ, ◌≤◌, length}
 use Rattle.std.proofs.lemmas.Result.{err_from_is_err_and}
 use Rattle.canvas.specs.Pixels.{pixel_bytes}
-use Rattle.canvas_c.specs.Statuses.{done, check, followed_by, number_of}
+use Rattle.canvas_c.specs.Statuses.{done, check, followed_by}
 use Rattle.canvas_c.specs.Pieces.{HasRoom, format_of, piece_checks}
 use Rattle.canvas_c.proofs.Ended.{on_done, fails_before}
 use Rattle.canvas_c.proofs.images.load_into.Goals as goal

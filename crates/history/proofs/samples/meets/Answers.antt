@@ -1,4 +1,4 @@
-use Rattle.std.proofs.Common.{◌≡◌, sym, ◌∙◌, true, arith, w64, to_z, of_z}
+use Rattle.std.proofs.Common.{◌≡◌, true, arith, w64, to_z, of_z}
 use Rattle.std.proofs.lemmas.Int.{ints}
 use Rattle.grid.specs.Triangle.{doubled_area}
 use Rattle.history.proofs.Counted.{meets_by_mask}

@@ -1,4 +1,4 @@
-use Rattle.std.proofs.Common.{◌≡◌, ◌≤◌, ◌+◌, arith}
+use Rattle.std.proofs.Common.{arith}
 use Rattle.shade.specs.Placed.{Meets}
 use Rattle.shade.proofs.Resolved.{few_samples}
 use Rattle.history.specs.Samples.{IsOneIf}

@@ -1,6 +1,6 @@
-use Rattle.std.proofs.Common.{◌≡◌, ℕ, ◌+◌, ◌/◌, ◌<◌, ◌≤◌, List, length, get_or, replicate, sym, ap, subst, ◌∙◌, arith, w8, Fits}
-use Rattle.std.specs.Simd.Lanes.{zip2, chunk}
-use Rattle.std.proofs.lemmas.Simd.{length-chunk, get_or-chunk, length-zip2, get_or-zip2, get_or-replicate, length-replicate, Each1-from_get_or}
+use Rattle.std.proofs.Common.{ℕ, ◌+◌, ◌/◌, ◌<◌, ◌≤◌, List, get_or, replicate, sym, ap, subst, ◌∙◌}
+use Rattle.std.specs.Simd.Lanes.{zip2}
+use Rattle.std.proofs.lemmas.Simd.{Each1-from_get_or}
 use Rattle.shade.specs.Quotient.{IsQuotient}
 use Rattle.lanes.proofs.Blending.{plus, shifted}
 use Rattle.lanes.proofs.LaneNumbers.{lane_mean, mean-bound, mean_is}

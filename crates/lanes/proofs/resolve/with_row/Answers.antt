@@ -1,6 +1,6 @@
-use Rattle.std.proofs.Common.{◌≡◌, ℕ, ◌+◌, ◌∙◌, arith}
+use Rattle.std.proofs.Common.{◌+◌, ◌∙◌, arith}
 use Rattle.lanes.proofs.Blending.{plus}
-use Rattle.lanes.proofs.Rows.{IsRow, zipped, loaded, itself, byte, small_sum}
+use Rattle.lanes.proofs.Rows.{zipped, loaded, itself, byte, small_sum}
 use Rattle.lanes.proofs.resolve.with_row.Goals as goal
 
 pub returns-clause-whole : goal.returns-clause-whole

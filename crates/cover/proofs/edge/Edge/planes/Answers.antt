@@ -1,7 +1,6 @@
-use Rattle.std.proofs.Common.{◌≤ℤ◌, pos, subst, ℤ, [], ◌∷◌}
+use Rattle.std.proofs.Common.{subst, ℤ, [], ◌∷◌}
 use Rattle.std.proofs.lemmas.Int.{to_z-of_z}
-use Rattle.cover.specs.Edge.{grown}
-use Rattle.cover.specs.Masks.{AreWordsWhere, to_column, to_row}
+use Rattle.cover.specs.Masks.{AreWordsWhere}
 use Rattle.cover.proofs.Joined.{Passes, bits64, words_of_four}
 use Rattle.cover.proofs.edge.Edge.planes.Goals as goal
 
