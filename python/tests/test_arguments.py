@@ -40,6 +40,7 @@ class Numbers(Refusals):
     def test_of_a_canvas(self) -> None:
         make: Any = trirast.Canvas
         canvas: Any = cleared()
+        memory = f"memory: at least {make.size(3, 3)} bytes, contiguous and writable"
         self.must_say(
             (lambda: make(3, 3, origin=(1.9, "-2")), TypeError, "origin: an integer, and not 1.9"),
             (lambda: make(3, 3, origin=(1, "-2")), TypeError, "origin: an integer, and not '-2'"),
@@ -48,9 +49,8 @@ class Numbers(Refusals):
             (lambda: make(3.5, 3), TypeError, "width: an integer, and not 3.5"),
             (lambda: make(3, None), TypeError, "height: an integer, and not None"),
             (lambda: make(3, 3, samples="4"), TypeError, "samples: an integer, and not '4'"),
-            (lambda: make(3, 3, memory=b"123"), ValueError,
-             "memory: at least 41600 bytes, contiguous and writable, and not uint8 of the shape (3,), read-only"),
-            (lambda: make(3, 3, memory=5), TypeError, "memory: at least 41600 bytes, contiguous and writable, and not 5"),
+            (lambda: make(3, 3, memory=b"123"), ValueError, f"{memory}, and not uint8 of the shape (3,), read-only"),
+            (lambda: make(3, 3, memory=5), TypeError, f"{memory}, and not 5"),
             (lambda: canvas.clear((1, 2)), ValueError, "color: 3 values, and not 2"),
             (lambda: canvas.clear((0.1, 0.2, 0.3)), TypeError, "color: an integer, and not 0.1"),
             (lambda: canvas.clear((1, 2, 256)), ValueError, "color: 0 to 255, and not 256"),

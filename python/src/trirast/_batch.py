@@ -6,7 +6,7 @@ from array import array
 from typing import Any, List, Tuple
 
 from ._arguments import shown
-from ._buffers import HIGH, LOW
+from ._buffers import HIGH, LOW, Copy
 from ._draw import INDEX_BYTES, VERTEX_BYTES, Draw
 from ._ffi import CBatch, CBatchDraw
 
@@ -30,8 +30,8 @@ def batch_of(draws: List[Draw], farthest: int, by: Tuple[int, int] = (0, 0)) -> 
     """The draws as a batch, which keeps what it points to, moved by pixels to the right and down. A draw without a scissor is cut to
     0 to `farthest`."""
     in_c = (CBatchDraw * len(draws))(*(each._in_c(farthest, by) for each in draws))
-    vertices = moved(b"".join([each._vertices for each in draws]), by)
-    indices = b"".join([each._indices for each in draws])
+    vertices = moved(joined([each._vertices for each in draws]), by)
+    indices = joined([each._indices for each in draws])
     batch = CBatch(
         ctypes.sizeof(CBatch), ctypes.sizeof(CBatchDraw), VERTEX_BYTES, INDEX_BYTES,
         ctypes.addressof(in_c), len(draws),
@@ -42,25 +42,29 @@ def batch_of(draws: List[Draw], farthest: int, by: Tuple[int, int] = (0, 0)) -> 
     return batch
 
 
-def address_of(data: bytes) -> Any:
-    """Where the bytes lie, which no other object can change."""
-    return ctypes.cast(ctypes.c_char_p(data), ctypes.c_void_p).value
+def joined(parts: List[Copy]) -> Copy:
+    """The parts one after another. A single one is not copied."""
+    return parts[0] if len(parts) == 1 else b"".join(parts)
 
 
-def moved(vertices: bytes, by: Tuple[int, int]) -> bytes:
+def address_of(data: Copy) -> Any:
+    """Where the bytes lie. They stay there, since nobody else has them."""
+    if isinstance(data, bytes):
+        return ctypes.cast(ctypes.c_char_p(data), ctypes.c_void_p).value
+    return ctypes.addressof((ctypes.c_uint8 * len(data)).from_buffer(data))
+
+
+def moved(vertices: Copy, by: Tuple[int, int]) -> Copy:
     """Vertices moved by pixels to the right and down. One that leaves the guard band, or lies outside, is outside afterwards."""
     if by == (0, 0):
         return vertices
-    numpy = sys.modules.get("numpy")
-    if numpy is not None:
-        rows = numpy.frombuffer(vertices, numpy.int32).reshape(-1, COLUMNS).copy()
-        for axis, pixels in enumerate(by):
-            old = rows[:, axis].astype(numpy.int64)
-            new = numpy.minimum(old + UNIT * pixels, HIGH + 1)
-            rows[:, axis] = numpy.where((LOW <= old) & (old <= HIGH), new, old)
-        return bytes(rows.tobytes())
-    numbers = array("i", vertices)
+    made, numpy = bytearray(vertices), sys.modules.get("numpy")
     for axis, pixels in enumerate(by):
-        column = numbers[axis::COLUMNS]
-        numbers[axis::COLUMNS] = array("i", [min(z + UNIT * pixels, HIGH + 1) if LOW <= z <= HIGH else z for z in column])
-    return numbers.tobytes()
+        if numpy is not None:
+            column = numpy.frombuffer(made, numpy.int32)[axis::COLUMNS]
+            new = numpy.minimum(column + numpy.int64(UNIT * pixels), HIGH + 1)
+            column[:] = numpy.where((LOW <= column) & (column <= HIGH), new, column)
+            continue
+        column = memoryview(made).cast("i")[axis::COLUMNS]
+        column[:] = array("i", [min(z + UNIT * pixels, HIGH + 1) if LOW <= z <= HIGH else z for z in column])
+    return made

@@ -8,7 +8,7 @@ import operator
 import sys
 from array import array
 from math import prod
-from typing import Any, Iterable, Iterator, List, NamedTuple, Optional, Sequence, Tuple
+from typing import Any, Iterable, Iterator, List, NamedTuple, Optional, Sequence, Tuple, Union
 
 from ._arguments import NUMBERS, of_length, shown
 
@@ -16,6 +16,7 @@ from ._arguments import NUMBERS, of_length, shown
 FAMILIES = {**dict.fromkeys("bhilqn", "int"), **dict.fromkeys("cBHILQN", "uint"), **dict.fromkeys("efdg", "float"), "?": "bool"}
 ORDERS = ("", "@", "=", "<", ">", "!")
 OTHER_ORDER, OTHER_NAME = (">!", "big-endian") if sys.byteorder == "little" else ("<", "little-endian")
+ARRAY_PROTOCOLS = ("__array__", "__array_interface__")
 # The high byte first, as PGM has depths.
 HIGH_FIRST = "big-endian uint16" if sys.byteorder == "little" else "uint16"
 
@@ -34,10 +35,11 @@ def kind_of(view: memoryview) -> str:
     return f"{OTHER_NAME} {name}" if view.itemsize > 1 and view.format[0] in OTHER_ORDER else name
 
 
-def refusal(name: str, wanted: str, view: memoryview) -> ValueError:
+def refusal(name: str, wanted: str, view: memoryview, is_written: bool) -> ValueError:
     """The error of another buffer. The view is released, since who keeps the error keeps the frames that have it."""
     given = f"{kind_of(view)} of the shape {view.shape}"
-    given += ", read-only" * view.readonly + ", not contiguous" * (not view.c_contiguous)
+    if is_written:
+        given += ", read-only" * view.readonly + ", not contiguous" * (not view.c_contiguous)
     view.release()
     return ValueError(f"{name}: {wanted}, and not {given}")
 
@@ -51,7 +53,7 @@ def refuse_masked(name: str, value: Any) -> None:
 def buffer_of(value: Any) -> Optional[memoryview]:
     """The buffer of an object, or None if it has none, or one that cannot be read."""
     numpy = sys.modules.get("numpy")
-    if numpy is not None and hasattr(value, "__array__") and not isinstance(value, numpy.ndarray):
+    if numpy is not None and not isinstance(value, numpy.ndarray) and any(hasattr(value, name) for name in ARRAY_PROTOCOLS):
         value = numpy.asarray(value)
     try:
         return memoryview(value)
@@ -104,7 +106,7 @@ def check_writable(name: str, value: Any, *forms: Form) -> memoryview:
     wanted = f"{' or '.join(map(str, forms))}, contiguous and writable"
     view = view_of(name, value, wanted)
     if view.readonly or not view.c_contiguous or not any(form.fits(view) for form in forms):
-        raise refusal(name, wanted, view)
+        raise refusal(name, wanted, view, True)
     return view
 
 
@@ -127,7 +129,7 @@ def readable(name: str, value: Any, *forms: Form) -> Tuple[Form, Buffer]:
     for form in forms:
         if form.fits(view):
             return form, Buffer(view if view.c_contiguous else memoryview(view.tobytes()))
-    raise refusal(name, wanted, view)
+    raise refusal(name, wanted, view, False)
 
 
 def raw(name: str, value: Any, size: int) -> Buffer:
@@ -135,7 +137,7 @@ def raw(name: str, value: Any, size: int) -> Buffer:
     wanted = f"at least {size} bytes, contiguous and writable"
     view = view_of(name, value, wanted)
     if view.readonly or not view.c_contiguous or view.nbytes < size:
-        raise refusal(name, wanted, view)
+        raise refusal(name, wanted, view, True)
     return Buffer(view)
 
 
@@ -161,6 +163,8 @@ VERTEX = (
     *(Column(name, 0, 255) for name in ("red", "green", "blue", "alpha")),
 )
 Columns = Sequence[Column]
+# Memory that nobody else has.
+Copy = Union[bytes, bytearray]
 
 
 def index_columns(count: int) -> Columns:
@@ -168,7 +172,7 @@ def index_columns(count: int) -> Columns:
     return tuple(Column(f"index {number}", 0, NUMBERS - 1) for number in range(count))
 
 
-def rows_of(name: str, values: Any, columns: Columns) -> bytes:
+def rows_of(name: str, values: Any, columns: Columns) -> Copy:
     """Rows of integers as C has them, 32 bits each, in a copy that nobody else can change."""
     if isinstance(values, (bytes, bytearray)):
         if len(values) % (4 * len(columns)):
@@ -182,7 +186,7 @@ def rows_of(name: str, values: Any, columns: Columns) -> bytes:
         return of_view(name, view, columns)
 
 
-def of_view(name: str, view: memoryview, columns: Columns) -> bytes:
+def of_view(name: str, view: memoryview, columns: Columns) -> Copy:
     """The rows of a buffer."""
     check_shape(name, view, columns)
     if 0 in (view.shape or ()):
@@ -215,7 +219,7 @@ def flattened(name: str, values: Any, columns: Columns) -> Iterator[Any]:
         yield from of_length(f"{name}: row {number}", row, len(columns))
 
 
-def converted(name: str, view: memoryview, columns: Columns) -> bytes:
+def converted(name: str, view: memoryview, columns: Columns) -> Copy:
     """Integers of another type as integers of 32 bits."""
     numpy = sys.modules.get("numpy")
     if numpy is not None:
@@ -225,7 +229,10 @@ def converted(name: str, view: memoryview, columns: Columns) -> bytes:
         # Indices of 32 bits with a sign are taken as they are: the library refuses those that are negative, and names them.
         fits = integers.dtype.itemsize == 4 and columns is not VERTEX
         if fits or (limits.min <= integers.min() and integers.max() <= limits.max):
-            return bytes(integers.astype(kind).tobytes())
+            # New memory costs more than what is written to it, so there is no second copy.
+            made = bytearray(kind.itemsize * integers.size)
+            numpy.frombuffer(made, kind).reshape(integers.shape)[:] = integers
+            return made
         flat = integers.ravel().tolist()
         del integers  # It holds the view.
         return of_numbers(name, flat, columns)

@@ -68,7 +68,7 @@ class Picture:
     @property
     def pixels(self) -> memoryview:
         """The picture's own bytes, of the shape (height, width, 3), or (height, width, 2) of depths."""
-        return self._pixels
+        return memoryview(self._pixels)
 
     @property
     def header(self) -> bytes:

@@ -10,6 +10,8 @@ from ._buffers import Buffer
 
 Part = Tuple[Any, ...]
 Call = Callable[..., Any]
+# Two interrupts within a microsecond leave one level.
+LEVELS = 4
 
 
 def share(call: Call, split: Callable[[int], Sequence[Part]], threads: int, used: Sequence[Buffer] = ()) -> None:
@@ -44,6 +46,22 @@ class Work:
 
     def is_done_by_threads(self) -> bool:
         """Has threads do all parts, and returns whether there was a thread. An interrupt is raised after all parts."""
+        self._outlast(LEVELS)
+        return bool(self._started)
+
+    def _outlast(self, levels: int) -> None:
+        """Waits in a loop within some `try`. An interrupt that comes as the loop takes up another one leaves it, and meets the next."""
+        try:
+            if levels:
+                self._outlast(levels - 1)
+            else:
+                self._wait()
+        except BaseException:
+            self._wait()
+            raise
+
+    def _wait(self) -> None:
+        """Starts the threads, if there are none, and waits for all parts. Raises the last interrupt after that."""
         interrupt: Optional[BaseException] = None
         while True:
             try:
@@ -59,7 +77,6 @@ class Work:
         finally:
             # The interrupt has this frame, which would keep it.
             del interrupt
-        return bool(self._started)
 
     def _start(self) -> None:
         """Starts a thread for each part, as far as there are threads. One is enough for all parts."""
