@@ -187,7 +187,7 @@ def state_of(data: Data) -> Dict[str, Any]:
         "depth_write": st.booleans(),
         "blend": st.sampled_from(("none", "over")),
         "write": st.tuples(st.booleans(), st.booleans(), st.booleans()),
-        "sample_mask": st.integers(0, 15),
+        "sample_mask": st.integers(0, 15) | st.integers(0, 65535),
         "scissor": st.none() | st.tuples(side, side, side, side),
     }
     chosen = data.draw(st.sets(st.sampled_from(sorted(state))))
@@ -204,7 +204,7 @@ class Session:
         self.data, self.interrupts = data, interrupts
         size = data.draw(st.integers(1, 70)), data.draw(st.integers(1, 330))
         origin = data.draw(st.sampled_from(((0, 0), (-7, 0), (3, -70), (-100, -3), (40, 8))))
-        self.more: Dict[str, Any] = {"samples": data.draw(st.sampled_from((1, 4))), "origin": origin}
+        self.more: Dict[str, Any] = {"samples": data.draw(st.sampled_from((1, 2, 4, 8, 16))), "origin": origin}
         self.canvas = trirast.Canvas(size[0], size[1], **self.more, memory=self.memory(size))
         self.plain = trirast.Canvas(size[0], size[1], **self.more)
         self.canvas.clear()
@@ -361,8 +361,9 @@ class Session:
         """Draws of arrays and of a list have one picture, of any number of threads."""
         vertices, state = vertices_of(self.data), state_of(self.data)
         triangles = indices_of(self.data, len(vertices), 3)
-        state = {key: value for key, value in state.items() if key != "scissor"}
-        samples = self.more["samples"]
+        # What a list cannot say is left out.
+        state = {key: value for key, value in state.items() if key not in ("scissor", "sample_mask")}
+        samples = self.data.draw(st.sampled_from((1, 4)))
         draw_list = {
             "width": 40, "height": 130, "samples": samples, "draws": [{"vertices": vertices, "triangles": triangles, **state}],
         }

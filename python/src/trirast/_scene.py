@@ -5,6 +5,7 @@ from typing import Iterable, Sequence, SupportsIndex
 
 from ._arguments import named, number, of_length
 from ._batch import batch_of, draws_of
+from ._draw import EVERY_SAMPLE as EVERY_SAMPLE
 from ._draw import Draw as Draw
 from ._errors import DrawListError
 from ._ffi import CError, CSceneHead, library, memory_of
