@@ -4,7 +4,7 @@
 
 `make check-library` builds the program and the library first. It prints a line for each check, names what is not installed
 and so was skipped, and ends in `N passed, M failed`, or `N passed, M failed, K skipped`. Exit status 1 if a check failed.
-What it builds is left in out/check-library/. It needs gcc. g++, pkg-config, nm, valgrind, numpy, matplotlib, cargo, SDL with Xvfb and
+What it builds is left in out/check-library/. It needs gcc. g++, pkg-config, nm, valgrind, numpy, hypothesis, matplotlib, cargo, SDL with Xvfb and
 xdotool for windows, and for ARM64 aarch64-linux-gnu-gcc and qemu-aarch64-static are used if they are there.
 """
 

@@ -1,5 +1,11 @@
-"""What the tests share: a triangle as a draw list and as arrays, and its file."""
+"""What the tests share: a triangle as a draw list and as arrays, its file, numpy where it is, and programs that may crash."""
 
+import importlib
+import importlib.util
+import os
+import subprocess
+import sys
+import textwrap
 from typing import Any, List
 
 VERTICES: List[List[int]] = [
@@ -12,3 +18,17 @@ DRAW_LIST: Any = {"width": 3, "height": 3, "draws": [{"vertices": VERTICES, "tri
 # The other centres of the upper left half lie on the hypotenuse, which is a right edge.
 PIXELS = b"\xff\xff\xff" * 2 + b"\0\0\0" + b"\xff\xff\xff" + b"\0\0\0" * 5
 FILE = b"P6\n3 3\n255\n" + PIXELS
+
+NUMPY: Any = importlib.import_module("numpy") if importlib.util.find_spec("numpy") else None
+PYTHON = os.path.dirname(os.path.dirname(os.path.abspath(__file__)))
+SECONDS = 120
+
+
+def run(text: str, **more: str) -> "subprocess.CompletedProcess[bytes]":
+    """Runs a program over the package in a process of its own."""
+    environment = {**os.environ, "PYTHONPATH": os.path.join(PYTHON, "src"), **more}
+    return subprocess.run([sys.executable, "-c", textwrap.dedent(text)], env=environment, capture_output=True, timeout=SECONDS)
+
+
+def bytes_of(buffer: Any) -> bytes:
+    return memoryview(buffer).tobytes()

@@ -1,21 +1,19 @@
 """Canvases."""
 
+import sys
 import unittest
 from array import array
 from typing import Any, Callable, List
+from unittest import mock
 
 import trirast
 
-from .common import PIXELS, VERTICES
+from .common import PIXELS, VERTICES, bytes_of
 
 WHITE_ID = 16777215
 COUNTS = (1, 2, 4, 8, 16)
 # A triangle over all of a canvas of 3 by 3 pixels, in red 5.
 LARGE = [[-1000, -1000, 7, 5, 0, 0, 255], [6000, -1000, 7, 5, 0, 0, 255], [-1000, 6000, 7, 5, 0, 0, 255]]
-
-
-def bytes_of(buffer: Any) -> bytes:
-    return memoryview(buffer).tobytes()
 
 
 def cleared(width: int = 3, height: int = 3, **more: Any) -> trirast.Canvas:
@@ -62,6 +60,30 @@ class Pictures(unittest.TestCase):
         part = cleared(2, 2, origin=(1, 0))
         part.draw(VERTICES, [[0, 1, 2]])
         self.assertEqual(bytes_of(part.rgb()), rows[0][3:9] + rows[1][3:9])
+
+    def test_nothing_is_cut_left_of_the_screen_and_above_it(self) -> None:
+        def drawn(by: int, x: int, y: int, **state: Any) -> bytes:
+            canvas = cleared(40, 70, samples=4, origin=(x + by, y + by))
+            corners = ((-30, -5), (30, -5), (-30, 60), (4, 65))
+            vertices = [[256 * (x + by), 256 * (y + by), 0, 1 + k, 2, 3, 255] for k, (x, y) in enumerate(corners)]
+            canvas.draw_batch([trirast.Draw(vertices, [[0, 1, 2]]), trirast.Draw(vertices, [[1, 2, 3]], **state)], threads=2)
+            return bytes_of(canvas.rgb())
+
+        for numpy in (sys.modules.get("numpy"), None):
+            with mock.patch.dict(sys.modules, {"numpy": numpy}):
+                for x, y in ((-30, -5), (-30, 7), (3, -5)):
+                    self.assertEqual(drawn(0, x, y), drawn(100, x, y))
+                    for scissor in ((0, 0, 9, 50), (2, 1, 32768, 32768)):
+                        right = tuple(min(side + 100, 32768) for side in scissor)
+                        self.assertEqual(drawn(0, x, y, scissor=scissor), drawn(100, x, y, scissor=right))
+                self.assertEqual(set(drawn(0, -30, -5)[:3]), {1, 2, 3})
+                far = cleared(origin=(-30, 0))
+                for place in (8388607, 8388608, -8388609, (1 << 31) - 1):
+                    with self.assertRaises(trirast.DrawListError):
+                        far.draw([[place, 0, 0, 0, 0, 0, 0]], [[0, 0, 0]])
+                with self.assertRaises(trirast.DrawListError):
+                    far.draw(VERTICES, [], scissor=(0, 0, 32769, 1))
+                far.draw([[8388607 - 256 * 30, 0, 0, 0, 0, 0, 0]], [[0, 0, 0]])
 
     def test_an_image_is_loaded(self) -> None:
         image = bytes(range(27))

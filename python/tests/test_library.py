@@ -1,16 +1,15 @@
 """The library is loaded at the first call, and the package has the repository's version and the header's interface."""
 
+import ctypes.util
 import os
 import re
-import subprocess
-import sys
 import unittest
-from typing import Dict
 
 import trirast
 from trirast import _version
 
-PYTHON = os.path.dirname(os.path.dirname(os.path.abspath(__file__)))
+from .common import PYTHON, run
+
 TOP = os.path.dirname(PYTHON)
 
 
@@ -23,17 +22,21 @@ def text_of(*path: str) -> str:
         return file.read()
 
 
-def run(text: str, **more: str) -> "subprocess.CompletedProcess[bytes]":
-    environment: Dict[str, str] = {**os.environ, "PYTHONPATH": os.path.join(PYTHON, "src"), **more}
-    return subprocess.run([sys.executable, "-c", text], env=environment, capture_output=True)
-
-
 class Library(unittest.TestCase):
     def test_is_loaded_at_the_first_call(self) -> None:
         text = "import trirast\nprint('imported', flush=True)\ntrirast.image_info('{}')"
         done = run(text, TRIRAST_LIBRARY=os.path.join(PYTHON, "no-such-library.so"))
         self.assertEqual(done.stdout, b"imported\n")
-        self.assertIn(b"OSError", done.stderr)
+        self.assertIn(b"OSError: the library of trirast cannot be loaded: ", done.stderr)
+        self.assertIn(b"no-such-library.so", done.stderr)
+        self.assertIn(b"; run make library in the repository of trirast, then set TRIRAST_LIBRARY to its lib/libtrirast.so", done.stderr)
+
+    def test_another_library_is_named(self) -> None:
+        other = ctypes.util.find_library("c")
+        if other is None:
+            self.skipTest("there is no library of C to take for it")
+        done = run("import trirast\ntrirast.image_info('{}')", TRIRAST_LIBRARY=other)
+        self.assertRegex(done.stderr.decode(), f"ImportError: {other} is another library, or an older one: .*; run make library")
 
     def test_no_other_package_is_imported(self) -> None:
         done = run("import sys, trirast\nprint('numpy' in sys.modules)")

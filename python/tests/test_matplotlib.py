@@ -150,6 +150,37 @@ class Meshes(unittest.TestCase):
         self.assertEqual(off_color(np.frombuffer(file.getvalue(), np.uint8).reshape(240, 320, 4)), 0)
 
 
+class Filters(unittest.TestCase):
+    """Filters of pixels where matplotlib first measures what it will draw."""
+
+    def saved(self, canvas_class: Any, layout: Optional[str], bbox: Optional[str], draw: Draws) -> bytes:
+        figure = Figure(figsize=SIZE, layout=layout)
+        canvas = canvas_class(figure)
+        axes = figure.add_subplot(title="a title", xlabel="x", ylabel="y")
+        axes.plot([0, 1], [1, 0], agg_filter=lambda image, _dpi: (image, 3, 4))
+        draw(axes)
+        file = io.BytesIO()
+        canvas.print_figure(file, format="raw", bbox_inches=bbox)
+        return file.getvalue()
+
+    def test_are_those_of_agg(self) -> None:
+        for layout, bbox in ((None, "tight"), ("constrained", None), ("constrained", "tight"), ("tight", None)):
+            with self.subTest(layout=layout, bbox=bbox):
+                both = [self.saved(each, layout, bbox, lambda axes: None) for each in (FigureCanvasTrirast, FigureCanvasAgg)]
+                self.assertEqual(*both)
+
+    def test_leave_meshes_to_a_canvas(self) -> None:
+        meshes: Tuple[Draws, ...] = (
+            tripcolor(one_color), tripcolor(one_color, alpha=0.5, agg_filter=lambda image, _dpi: (image, 0, 0))
+        )
+        for draw in meshes:
+            for layout, bbox in ((None, None), (None, "tight"), ("constrained", None)):
+                with mock.patch("trirast.matplotlib.draw_triangles", wraps=_drawing.draw_triangles) as called:
+                    self.saved(FigureCanvasTrirast, layout, bbox, draw)
+                # Once by the drawing alone, and not where matplotlib measures.
+                self.assertEqual(called.call_count, 1, (layout, bbox))
+
+
 class Clips(unittest.TestCase):
     def test_nothing_is_drawn_outside_of_the_clip_rectangle(self) -> None:
         pixels = drawn(tripcolor(one_color))

@@ -1,17 +1,13 @@
 """Scenes from arrays."""
 
 import ctypes
-import importlib
-import importlib.util
 import unittest
 from array import array
 from typing import Any, Callable, Dict, List, Optional, Tuple
 
 import trirast
 
-from .common import FILE, NUMBERS, VERTICES
-
-NUMPY: Any = importlib.import_module("numpy") if importlib.util.find_spec("numpy") else None
+from .common import FILE, NUMBERS, NUMPY, VERTICES
 
 
 def file_of(picture: trirast.Picture) -> bytes:

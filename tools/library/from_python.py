@@ -59,7 +59,7 @@ def check_picture(text: bytes, wanted: bytes, tile_size: int, threads: int) -> N
         must(file_of(picture) == wanted, f"other bytes for {text[:200]!r}")
     must(trirast.draw_file(text, tile_size) == wanted, f"another file for {text[:200]!r}")
     must(scene_file(value, tile_size) == wanted, f"other bytes of arrays for {text[:200]!r}")
-    path = os.path.join(OUT, "picture")
+    path = os.path.join(OUT, "picture.pgm" if picture.is_depth else "picture.ppm")
     picture.save(path)
     must(bytes_of(path) == wanted, f"another file was saved for {text[:200]!r}")
     info = trirast.image_info(text)
@@ -143,6 +143,11 @@ def check_matplotlib() -> str:
     return run_package_tests(python_with("numpy", "matplotlib"), "-p", "test_matplotlib.py")
 
 
+def check_calls() -> str:
+    """The tests pass by a Python that has numpy and hypothesis, and so with arrays of numpy and calls that are made up."""
+    return run_package_tests(python_with("numpy", "hypothesis"))
+
+
 def check_page() -> None:
     """The program in Python of docs/library.md prints and writes what its text says."""
     text = "".join(blocks_of_the_page("python"))
@@ -205,6 +210,7 @@ def main() -> int:
     tally.run("Python raises the program's errors", check_errors, lists)
     tally.run("Python draws in four threads at the same time", check_threads, lists)
     tally.run("python/tests", check_package_tests)
+    tally.run("python/tests: numpy and calls that are made up", check_calls)
     tally.run("python/tests: matplotlib", check_matplotlib)
     tally.run("Python of docs/library.md", check_page)
     tally.run("Python offers numpy's array protocol", check_array_interface)

@@ -21,6 +21,7 @@ call. Python 3.9 or later, standard library alone; numpy's arrays are taken and 
 """
 
 from ._canvas import Canvas, edges
+from ._draw import Draw
 from ._draw_list import DrawList, draw, draw_file, image_info
 from ._errors import (
     BufferTooSmallError,
@@ -41,7 +42,7 @@ from ._errors import (
 )
 from ._history import Event, Fragment, PixelHistory, SampleHistory, Stored, TriangleSamples, triangle_samples, why
 from ._picture import ImageInfo, Picture
-from ._scene import Draw, draw_scene
+from ._scene import draw_scene
 from ._version import VERSION as __version__
 
 __all__ = [

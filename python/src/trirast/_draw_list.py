@@ -1,50 +1,48 @@
 """Draw lists, which are JSON texts, and their pictures."""
 
 import json
-from concurrent.futures import ThreadPoolExecutor
 from typing import Any, Dict, List, Optional, SupportsIndex, Tuple, Union
 
-from ._ffi import CError, CImageInfo, library, memory_of, number
+from ._arguments import number, thread_count
+from ._buffers import Buffer
+from ._ffi import CError, CImageInfo, library, memory_of
 from ._picture import ImageInfo, Picture, memory_for
+from ._threads import share
 
 DrawList = Union[bytes, bytearray, memoryview, str, Dict[str, Any], List[Any]]
 
 
-def draw(draw_list: DrawList, tile_size: SupportsIndex = 32, threads: int = 1, out: Optional[Any] = None) -> Picture:
+def draw(
+    draw_list: DrawList, tile_size: SupportsIndex = 32, threads: SupportsIndex = 1, out: Optional[Any] = None
+) -> Picture:
     """Draws a draw list: a text or its bytes, or a value that json writes as one.
 
     `tile_size` is the width and height of a tile in pixels, 8, 16, 32 or 64. `threads` is how many threads draw, each its own
     part of the picture; it is what the program calls workers. Neither changes a byte. Each thread reads the whole list, so
     several pay if drawing takes longer than reading. `out` is a buffer for the pixels, as a numpy array or a bytearray, of
-    exactly their size. Raises an Error, and ValueError if `threads` is less than 1 or `out` does not fit.
+    exactly their size and shape. An interrupt is raised when the threads have ended. Raises an Error, and ValueError if `threads` is less
+    than 1 or `out` does not fit.
     """
-    if threads < 1:
-        raise ValueError("threads: at least 1")
-    data, size = as_bytes(draw_list), number(tile_size, 0)
+    count = thread_count(threads)
+    data, size = as_bytes(draw_list), number("tile_size", tile_size, 0)
     info = read_image_info(data)
-    picture = Picture(info.width, info.height, info.is_depth, memory_for(info.file_bytes - info.header_bytes, out))
-    ranges = tile_row_ranges(-(-info.height // max(1, size)), threads)
-    row_bytes = info.width * info.pixel_bytes
+    rows, row_bytes = -(-info.height // max(1, size)), info.width * info.pixel_bytes
+    with memory_for(info, out) as pixels, Buffer(pixels) as memory:
+        start = memory.address
 
-    def draw_range(first: int, end: int) -> None:
-        begin, stop = (min(row * size, info.height) * row_bytes for row in (first, end))
-        part = memory_of(picture._memory[begin:stop])
-        library().trirast_draw_rows(data, len(data), size, first, end, part, stop - begin, CError())
+        def draw_range(first: int, end: int) -> None:
+            begin, stop = (min(row * size, info.height) * row_bytes for row in (first, end))
+            library().trirast_draw_rows(data, len(data), size, first, end, start + begin, stop - begin, CError())
 
-    if len(ranges) == 1:
-        draw_range(*ranges[0])
-        return picture
-    with ThreadPoolExecutor(len(ranges)) as pool:
-        for done in [pool.submit(draw_range, *each) for each in ranges]:
-            done.result()
-    return picture
+        share(draw_range, lambda parts: tile_row_ranges(rows, parts), count, [memory])
+        return Picture(info.width, info.height, info.is_depth, pixels)
 
 
 def draw_file(draw_list: DrawList, tile_size: SupportsIndex = 32) -> bytes:
     """The whole file of a draw list's picture, PPM or PGM, header and pixels, on the calling thread. Raises an Error."""
     data = as_bytes(draw_list)
     file = bytearray(read_image_info(data).file_bytes)
-    library().trirast_draw(data, len(data), number(tile_size, 0), memory_of(memoryview(file)), len(file), CError())
+    library().trirast_draw(data, len(data), number("tile_size", tile_size, 0), memory_of(memoryview(file)), len(file), CError())
     return bytes(file)
 
 

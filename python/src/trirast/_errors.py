@@ -1,6 +1,6 @@
 """The exceptions, one for each status of the library."""
 
-from typing import Dict, Optional, Type
+from typing import Any, Dict, Optional, Tuple, Type
 
 BAD_LIST = 1
 
@@ -12,16 +12,27 @@ class Error(Exception):
         super().__init__(line)
         self.status = status
 
+    def __reduce__(self) -> Tuple[Any, ...]:
+        return type(self), (self.status, *self.args)
+
 
 class DrawListError(Error, ValueError):
     """What was given is no draw list. `number` and `name` are those of docs/draw-list.md, as 6 and BadIndex. `draw` is the
-    index of the draw in which the error is, or None if it is in none."""
+    index of the draw in which the error is, or None if it is in none. If the draw is of arrays, the text has the parameter, the row and
+    the column too, as far as they are found."""
 
     def __init__(self, status: int, line: str, number: int, draw: Optional[int]) -> None:
         super().__init__(status, line)
         self.number = number
-        self.name = line.split(" ")[4]
+        self.name = line.split(" ")[4].rstrip(":")
         self.draw = draw
+
+    def because(self, reason: Optional[str]) -> "DrawListError":
+        """The same error with a reason in its text, if there is one."""
+        return DrawListError(self.status, f"{self}: {reason}", self.number, self.draw) if reason else self
+
+    def __reduce__(self) -> Tuple[Any, ...]:
+        return type(self), (self.status, *self.args, self.number, self.draw)
 
 
 class LimitError(Error, ValueError):

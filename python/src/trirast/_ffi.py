@@ -5,17 +5,16 @@ lib of this package, as a wheel has it, else the one in lib of the repository in
 """
 
 import ctypes
-import operator
 import os
 from functools import lru_cache
-from typing import Any, SupportsIndex, Tuple
+from typing import Any, Tuple
 
 from ._errors import BAD_LIST, BY_STATUS, TEXTS, DrawListError, Error
 from ._version import INTERFACE
 
 LINE_SIZE = 96
 PLANE_BYTES = 320
-NUMBERS = 1 << 32
+HOW_TO_GET_IT = "run make library in the repository of trirast, then set TRIRAST_LIBRARY to its lib/libtrirast.so"
 
 
 class CError(ctypes.Structure):
@@ -86,8 +85,9 @@ class CBatchDraw(ctypes.Structure):
 
 
 class CBatch(ctypes.Structure):
-    """trirast_batch of the header."""
+    """trirast_batch of the header. `kept` is what its pointers point to."""
 
+    kept: Tuple[Any, ...]
     _fields_ = [
         ("struct_size", ctypes.c_uint32),
         ("draw_size", ctypes.c_uint32),
@@ -103,8 +103,9 @@ class CBatch(ctypes.Structure):
 
 
 class CCanvas(ctypes.Structure):
-    """trirast_canvas of the header."""
+    """trirast_canvas of the header. `kept` is what its pointer points to."""
 
+    kept: Tuple[Any, ...]
     _fields_ = [
         ("struct_size", ctypes.c_uint32),
         ("width", ctypes.c_uint32),
@@ -277,19 +278,34 @@ def library_path() -> str:
 
 @lru_cache(maxsize=None)
 def library(kind: Any = ctypes.CDLL) -> Any:
-    """The library with the types of its calls. ctypes releases Python's lock during a call, and keeps it if the kind is ctypes.PyDLL."""
+    """The library with the types of its calls. ctypes releases Python's lock during a call, and keeps it if the kind is ctypes.PyDLL.
+
+    Raises OSError if it cannot be loaded, and ImportError if it is another or an older one.
+    """
     path = library_path()
-    loaded = kind(path)
-    for name, takes, gives in PROTOTYPES:
-        call = getattr(loaded, name)
-        call.argtypes, call.restype = takes, gives
-        if takes[-1:] == ERROR:
-            call.errcheck = raise_error
-        if name in STATUS:
-            call.errcheck = raise_status
-    if loaded.trirast_version() < INTERFACE:
-        raise ImportError(f"{path} has interface {loaded.trirast_version()}, and this package needs {INTERFACE}")
+    try:
+        loaded = kind(path)
+    except OSError as error:
+        raise OSError(f"the library of trirast cannot be loaded: {error}; {HOW_TO_GET_IT}") from None
+    try:
+        check_version(path, loaded)
+        for name, takes, gives in PROTOTYPES:
+            call = getattr(loaded, name)
+            call.argtypes, call.restype = takes, gives
+            if takes[-1:] == ERROR:
+                call.errcheck = raise_error
+            if name in STATUS:
+                call.errcheck = raise_status
+    except AttributeError as error:
+        raise ImportError(f"{path} is another library, or an older one: {error}; {HOW_TO_GET_IT}") from None
     return loaded
+
+
+def check_version(path: str, loaded: Any) -> None:
+    """Raises ImportError if the library has less than this package calls."""
+    version = loaded.trirast_version()
+    if version < INTERFACE:
+        raise ImportError(f"{path} has interface {version}, and this package needs {INTERFACE}; {HOW_TO_GET_IT}")
 
 
 def raise_error(status: int, _call: Any, arguments: Tuple[Any, ...]) -> int:
@@ -315,12 +331,6 @@ def line_of(error: CError) -> str:
     buffer = (ctypes.c_char * LINE_SIZE)()
     length = library().trirast_error_line(error, buffer, LINE_SIZE)
     return buffer.raw[:length].decode().rstrip("\n")
-
-
-def number(value: SupportsIndex, otherwise: int = NUMBERS - 1) -> int:
-    """An integer as C can take it: if it does not fit 32 bits, another that no range has. ctypes would cut it."""
-    given = operator.index(value)
-    return given if 0 <= given < NUMBERS else otherwise
 
 
 def memory_of(view: memoryview) -> Any:

@@ -3,8 +3,9 @@
 from ctypes import sizeof
 from typing import Any, List, NamedTuple, Optional, SupportsIndex, Tuple
 
+from ._arguments import flag, number
 from ._draw_list import DrawList, as_bytes
-from ._ffi import CError, CEvent, CFragment, CHistoryRequest, CSampleCounts, CSampleInfo, CStored, library, number
+from ._ffi import CError, CEvent, CFragment, CHistoryRequest, CSampleCounts, CSampleInfo, CStored, library
 
 Color = Tuple[int, int, int]
 
@@ -113,12 +114,13 @@ def why(
     Raises a PixelError or a SampleError, which are IndexErrors, if the picture has no such pixel or the pixel no such sample, and
     another Error, as `draw` does, of a list that is not drawn.
     """
-    data, column, row, chosen = as_bytes(draw_list), number(x), number(y), 0 if sample is None else number(sample)
-    found, info = sample_history(data, column, row, chosen, all_triangles)
+    data, column, row, is_all = as_bytes(draw_list), number("x", x), number("y", y), bool(flag("all_triangles", all_triangles))
+    chosen = 0 if sample is None else number("sample", sample)
+    found, info = sample_history(data, column, row, chosen, is_all)
     samples: Tuple[SampleHistory, ...] = (found,)
     others = [s for s in range(info.samples) if s != chosen]
     if sample is None:
-        samples += tuple(sample_history(data, column, row, s, all_triangles)[0] for s in others)
+        samples += tuple(sample_history(data, column, row, s, is_all)[0] for s in others)
         ends = {each.sample: each.end for each in samples}
     else:
         ends = {s: stored_of(read_events(data, column, row, s, False, 0)[1].end) for s in others}
@@ -135,7 +137,7 @@ def triangle_samples(draw_list: DrawList, draw: SupportsIndex, triangle: Support
     Raises a TriangleError, which is an IndexError, if the list has no such triangle, and another Error of a list that is not drawn.
     """
     data, counts = as_bytes(draw_list), CSampleCounts()
-    place = number(draw), number(triangle)
+    place = number("draw", draw), number("triangle", triangle)
     library().trirast_triangle_samples(data, len(data), *place, counts, CError())
     return TriangleSamples(*place, counts.covered, counts.changed, counts.shown)
 

@@ -3,6 +3,10 @@
 import os
 from typing import Any, Dict, NamedTuple, Optional, Tuple, Union
 
+from ._arguments import integer, shown
+from ._buffers import HIGH_FIRST, Form, check_writable
+from ._png import png_chunks
+
 Path = Union[str, "os.PathLike[str]"]
 
 
@@ -31,19 +35,40 @@ class Picture:
     """A picture: `width` and `height` in pixels, and `pixels`, row after row from the top.
 
     A pixel is three bytes, red, green and blue; or, if the picture shows depths (`is_depth`), two, the high one first.
-    numpy.asarray(picture) shares the bytes, with the shape (height, width, 3) of 8 bits, or (height, width) of 16.
+    numpy.asarray(picture) shares the bytes, with the shape (height, width, 3) of 8 bits, or (height, width) of 16. A copy, by copy or
+    pickle, has bytes of its own.
     """
 
     def __init__(self, width: int, height: int, is_depth: bool, memory: memoryview) -> None:
-        self.width = width
-        self.height = height
-        self.is_depth = is_depth
-        self._memory = memory
+        shape = [height, width, 2 if is_depth else 3]
+        if memory.nbytes != height * width * shape[2]:
+            raise ValueError(f"memory: {height * width * shape[2]} bytes, and not {memory.nbytes}")
+        # All that is said of the picture's size is the shape of the bytes that are there.
+        self._pixels = memory.cast("B", shape=shape)
+
+    @property
+    def width(self) -> int:
+        """The width in pixels."""
+        return self._shape[1]
+
+    @property
+    def height(self) -> int:
+        """The height in pixels."""
+        return self._shape[0]
+
+    @property
+    def is_depth(self) -> bool:
+        """Whether the picture shows depths."""
+        return self._shape[2] == 2
+
+    @property
+    def _shape(self) -> Tuple[int, ...]:
+        return self._pixels.shape or (0, 0, 0)
 
     @property
     def pixels(self) -> memoryview:
         """The picture's own bytes, of the shape (height, width, 3), or (height, width, 2) of depths."""
-        return self._memory.cast("B", shape=[self.height, self.width, 2 if self.is_depth else 3])
+        return memoryview(self._pixels)
 
     @property
     def header(self) -> bytes:
@@ -55,41 +80,59 @@ class Picture:
         picture of depths."""
         if self.is_depth:
             raise ValueError("a picture of depths has no colours: use depth")
-        first = 3 * self._index(column, row)
-        red, green, blue = self._memory[first : first + 3]
+        red, green, blue = self._at(column, row)
         return red, green, blue
 
     def depth(self, column: int, row: int) -> int:
         """The depth of a pixel's sample 0. Raises ValueError at a picture of colours."""
         if not self.is_depth:
             raise ValueError("a picture of colours has no depths: use pixel")
-        first = 2 * self._index(column, row)
-        return int.from_bytes(self._memory[first : first + 2], "big")
+        return int.from_bytes(self._at(column, row), "big")
 
-    def _index(self, column: int, row: int) -> int:
-        if not (0 <= column < self.width and 0 <= row < self.height):
-            raise IndexError(f"a picture of {self.width} by {self.height} pixels has no pixel {column}, {row}")
-        return row * self.width + column
+    def _at(self, column: int, row: int) -> bytes:
+        i, j = integer("column", column), integer("row", row)
+        if not (0 <= i < self.width and 0 <= j < self.height):
+            raise IndexError(f"a picture of {self.width} by {self.height} pixels has no pixel {i}, {j}")
+        length = self._shape[2]
+        first = length * (j * self.width + i)
+        return bytes(self._pixels.cast("B")[first : first + length])
 
     def save(self, path: Path) -> None:
-        """Writes the picture's file, as the program writes it: PPM (P6) of colours, PGM (P5) of depths."""
+        """Writes the picture's file. By the end of the path it is a PNG file (.png), or the file that the program writes: PPM (.ppm) of
+        colours, PGM (.pgm) of depths. Raises ValueError at any other."""
+        kinds = {".png": self._png, ".pgm" if self.is_depth else ".ppm": self._netpbm}
+        suffix = os.path.splitext(os.fsdecode(path))[1]
+        if suffix.lower() not in kinds:
+            shows = "depths" if self.is_depth else "colours"
+            raise ValueError(f"path: an end of {' or '.join(kinds)}, for a picture of {shows}, and not {shown(os.fsdecode(path))}")
+        parts = kinds[suffix.lower()]()
         with open(path, "wb") as file:
-            file.write(self.header)
-            file.write(self._memory)
+            for part in parts:
+                file.write(part)
 
     def save_ppm(self, path: Path) -> None:
-        """Writes a picture of colours as a PPM file. Raises ValueError at one of depths, which only a PGM file can hold."""
+        """Writes a picture of colours as a PPM file, whatever its name. Raises ValueError at one of depths, which only a PGM file can
+        hold."""
         if self.is_depth:
             raise ValueError("a picture of depths is no PPM file: use save, which writes PGM")
-        self.save(path)
+        with open(path, "wb") as file:
+            for part in self._netpbm():
+                file.write(part)
+
+    def _netpbm(self) -> "list[Any]":
+        return [self.header, self._pixels]
+
+    def _png(self) -> "list[Any]":
+        return list(png_chunks(self._pixels))
 
     @property
     def __array_interface__(self) -> Dict[str, Any]:
         """numpy's array protocol, version 3, over the picture's own bytes."""
-        shape: Tuple[int, ...] = (self.height, self.width)
-        if not self.is_depth:
-            shape += (3,)
-        return {"version": 3, "shape": shape, "typestr": ">u2" if self.is_depth else "|u1", "data": self._memory}
+        shape, kind = (self._shape[:2], ">u2") if self.is_depth else (self._shape, "|u1")
+        return {"version": 3, "shape": shape, "typestr": kind, "data": self._pixels}
+
+    def __reduce__(self) -> Tuple[Any, ...]:
+        return picture_of, (self.width, self.height, self.is_depth, self.bytes)
 
     def __repr__(self) -> str:
         return f"<Picture {self.width} by {self.height}, {'depths' if self.is_depth else 'colours'}>"
@@ -97,16 +140,18 @@ class Picture:
     @property
     def bytes(self) -> bytes:
         """The bytes of all pixels, as a copy."""
-        return bytes(self._memory)
+        return bytes(self._pixels)
 
 
-def memory_for(size: int, out: Optional[Any]) -> memoryview:
-    """New memory for a picture of this many bytes, or the caller's own."""
+def picture_of(width: int, height: int, is_depth: bool, pixels: bytes) -> Picture:
+    """A picture with memory of its own."""
+    return Picture(width, height, is_depth, memoryview(bytearray(pixels)))
+
+
+def memory_for(info: ImageInfo, out: Optional[Any]) -> memoryview:
+    """New memory for a picture, or the caller's own."""
     if out is None:
-        return memoryview(bytearray(size))
-    memory = memoryview(out)
-    if memory.readonly or not memory.c_contiguous:
-        raise ValueError("out: a buffer that can be written and is contiguous")
-    if memory.nbytes != size:
-        raise ValueError(f"out: a buffer of {size} bytes, and not of {memory.nbytes}")
-    return memory.cast("B")
+        return memoryview(bytearray(info.file_bytes - info.header_bytes))
+    size = (info.height, info.width)
+    forms = [Form((HIGH_FIRST,), size), Form(("uint8",), (*size, 2))] if info.is_depth else [Form(("uint8",), (*size, 3))]
+    return check_writable("out", out, *forms).cast("B")

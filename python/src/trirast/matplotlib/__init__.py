@@ -23,6 +23,8 @@ ma: Any = np.ma
 
 __all__ = ["FigureCanvas", "FigureCanvasTrirast", "RendererTrirast"]
 
+GOURAUD = ("draw_gouraud_triangle", "draw_gouraud_triangles")
+
 
 class RendererTrirast(RendererAgg):
     """Agg's renderer with Gouraud triangles of its own, drawn with 1, 2, 4, 8 or 16 `samples` a pixel. `threads` share the drawing of a
@@ -32,10 +34,13 @@ class RendererTrirast(RendererAgg):
     threads = 1
 
     def _update_methods(self) -> None:
+        # Where matplotlib only measures, as for a tight box, it has put calls into the instance that draw nothing, and takes them away.
+        measuring = {name: self.__dict__[name] for name in GOURAUD if name in self.__dict__}
         super()._update_methods()
-        # Agg's methods are put into the instance, where they hide those of this class.
-        for name in ("draw_gouraud_triangle", "draw_gouraud_triangles"):
+        # Agg's methods are put into the instance too, where they hide those of this class.
+        for name in GOURAUD:
             self.__dict__.pop(name, None)
+        self.__dict__.update(measuring)
 
     def draw_gouraud_triangle(self, gc: Any, points: Any, colors: Any, transform: Any) -> None:
         """Draws one triangle: a call of matplotlib before 3.9."""

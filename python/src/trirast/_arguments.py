@@ -1,0 +1,89 @@
+"""What callers pass, as numbers. `_buffers` does the same for arrays.
+
+Each function takes the name of the parameter. Its message is that name, what is wanted and what was passed: "threads: at least 1, and
+not 0". Nothing is rounded, cut or guessed.
+"""
+
+import operator
+import reprlib
+from typing import Any, Sequence, SupportsIndex, Tuple
+
+NUMBERS = 1 << 32
+LONGEST = 60
+SHORT = reprlib.Repr()
+SHORT.maxother = SHORT.maxstring = LONGEST
+
+
+def shown(value: Any) -> str:
+    """A value in a message: short, and on one line."""
+    return " ".join(SHORT.repr(value).split())
+
+
+def integer(name: str, value: SupportsIndex) -> int:
+    """An integer of Python or numpy. Raises TypeError at any other number."""
+    try:
+        return operator.index(value)
+    except TypeError:
+        raise TypeError(f"{name}: an integer, and not {shown(value)}") from None
+
+
+def number(name: str, value: SupportsIndex, otherwise: int = NUMBERS - 1) -> int:
+    """An integer that the library judges: if it does not fit 32 bits, another that no range has. ctypes would cut it."""
+    given = integer(name, value)
+    return given if 0 <= given < NUMBERS else otherwise
+
+
+def between(name: str, value: SupportsIndex, least: int, greatest: int) -> int:
+    """An integer in a range. Raises ValueError at any other."""
+    given = integer(name, value)
+    if not least <= given <= greatest:
+        raise ValueError(f"{name}: {least} to {greatest}, and not {given}")
+    return given
+
+
+def signed(name: str, value: SupportsIndex) -> int:
+    """An integer of 32 bits with a sign. Raises OverflowError at any other."""
+    given = integer(name, value)
+    if not -(NUMBERS >> 1) <= given < NUMBERS >> 1:
+        raise OverflowError(f"{name}: an integer of 32 bits, and not {given}")
+    return given
+
+
+def thread_count(threads: SupportsIndex) -> int:
+    """The number of threads of a call. Raises ValueError if it is less than 1."""
+    given = integer("threads", threads)
+    if given < 1:
+        raise ValueError(f"threads: at least 1, and not {given}")
+    return given
+
+
+def of_length(name: str, values: Any, length: int) -> Sequence[Any]:
+    """A sequence of as many values. Raises ValueError at one of another length, and TypeError at what is none."""
+    try:
+        count = len(values)
+    except TypeError:
+        raise TypeError(f"{name}: {length} values, and not {shown(values)}") from None
+    if count != length:
+        raise ValueError(f"{name}: {length} values, and not {count}")
+    return tuple(values)
+
+
+def color_of(name: str, values: Any) -> Tuple[int, ...]:
+    """Red, green and blue, 0 to 255 each. Raises ValueError at any other."""
+    return tuple(between(name, channel, 0, 255) for channel in of_length(name, values, 3))
+
+
+def flag(name: str, value: Any) -> int:
+    """1 of a truth value of Python or numpy that is true, else 0. 1 and 0 are such values too."""
+    if getattr(getattr(value, "dtype", None), "kind", "") == "b" and not value.shape:
+        return int(bool(value))
+    if isinstance(value, int) and value in (0, 1):
+        return int(value)
+    raise TypeError(f"{name}: True or False, and not {shown(value)}")
+
+
+def named(name: str, names: Sequence[str], value: Any) -> int:
+    """The index of a name among those that there are."""
+    if not isinstance(value, str) or value not in names:
+        raise ValueError(f"{name}: one of {', '.join(names)}, and not {shown(value)}")
+    return names.index(value)

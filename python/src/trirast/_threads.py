@@ -1,0 +1,115 @@
+"""Shares a call among threads. What the call uses is theirs until all have ended, whatever happens to the caller meanwhile."""
+
+from _thread import start_new_thread
+from collections import deque
+from itertools import repeat
+from queue import SimpleQueue
+from typing import Any, Callable, Deque, Dict, List, Optional, Sequence, Tuple
+
+from ._buffers import Buffer
+
+Part = Tuple[Any, ...]
+Call = Callable[..., Any]
+# Two interrupts within a microsecond leave one level.
+LEVELS = 4
+
+
+def share(call: Call, split: Callable[[int], Sequence[Part]], threads: int, used: Sequence[Buffer] = ()) -> None:
+    """Makes a call on each of the parts into which `split` cuts the work for this number of threads: at most as many.
+
+    All parts are done or, if the call is interrupted before they begin, none. An interrupt is raised after they have ended, and so is the
+    error of the first part that has one. If no thread can be started, the calling thread does the whole.
+    """
+    parts = split(threads)
+    if len(parts) > 1:
+        work = Work(call, parts, used)
+        if work.is_done_by_threads():
+            work.raise_error()
+            return
+        parts = split(1)
+    for part in parts:
+        call(*part)
+
+
+class Work:
+    """The parts of a call, which threads take one after another."""
+
+    def __init__(self, call: Call, parts: Sequence[Part], used: Sequence[Buffer]) -> None:
+        self._call: Optional[Call] = call
+        self._used = [buffer.memory for buffer in used]
+        self._count = len(parts)
+        self._left: Deque[Tuple[int, Part]] = deque(enumerate(parts))
+        self._started: List[int] = []
+        self._ended: List[int] = []
+        self._errors: Dict[int, BaseException] = {}
+        self._signals: "SimpleQueue[None]" = SimpleQueue()
+
+    def is_done_by_threads(self) -> bool:
+        """Has threads do all parts, and returns whether there was a thread. An interrupt is raised after all parts."""
+        self._outlast(LEVELS)
+        return bool(self._started)
+
+    def _outlast(self, levels: int) -> None:
+        """Waits in a loop within some `try`. An interrupt that comes as the loop takes up another one leaves it, and meets the next."""
+        try:
+            if levels:
+                self._outlast(levels - 1)
+            else:
+                self._wait()
+        except BaseException:
+            self._wait()
+            raise
+
+    def _wait(self) -> None:
+        """Starts the threads, if there are none, and waits for all parts. Raises the last interrupt after that."""
+        interrupt: Optional[BaseException] = None
+        while True:
+            try:
+                self._start()
+                while self._started and len(self._ended) < self._count:
+                    self._signals.get()
+                break
+            except BaseException as error:  # KeyboardInterrupt, or what a program's own handler of a signal raises
+                interrupt = error
+        try:
+            if interrupt is not None:
+                raise interrupt
+        finally:
+            # The interrupt has this frame, which would keep it.
+            del interrupt
+
+    def _start(self) -> None:
+        """Starts a thread for each part, as far as there are threads. One is enough for all parts."""
+        if self._started:
+            return
+        try:
+            # Nothing of Python runs within this line, so no interrupt comes between the start of a thread and its entry in the list.
+            self._started.extend(map(start_new_thread, repeat(self._run, self._count), repeat(())))
+        except RuntimeError:
+            pass  # There are no more threads.
+
+    def _run(self) -> None:
+        while True:
+            try:
+                number, part = self._left.popleft()
+            except IndexError:
+                return
+            try:
+                assert self._call is not None
+                self._call(*part)
+            except BaseException as error:  # of any class: the calling thread raises it again
+                self._errors[number] = error
+            self._ended.append(number)
+            if len(self._ended) == self._count:
+                self._call, self._used = None, []
+            self._signals.put(None)
+
+    def raise_error(self) -> None:
+        """Raises the error of the first part that has one."""
+        errors, self._errors = self._errors, {}
+        try:
+            if errors:
+                raise errors[min(errors)]
+        finally:
+            # The error has this frame, which would keep it, and what the frames of the threads keep.
+            del errors

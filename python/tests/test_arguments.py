@@ -1,0 +1,378 @@
+"""What callers pass: a message names the parameter, what is wanted and what was passed, and nothing is guessed."""
+
+import ctypes
+import os
+import struct
+import tempfile
+import unittest
+import zlib
+from array import array
+from typing import Any, Callable, List, Tuple, Type
+
+import trirast
+
+from .common import DRAW_LIST, FILE, NUMPY, PIXELS, VERTICES, bytes_of, run
+
+Case = Tuple[Callable[[], Any], Type[Exception], str]
+SNAP = "; use np.rint(256 * xy).astype(np.int32)"
+
+
+def cleared(width: int = 3, height: int = 3, **more: Any) -> trirast.Canvas:
+    canvas = trirast.Canvas(width, height, **more)
+    canvas.clear()
+    return canvas
+
+
+class Refusals(unittest.TestCase):
+    def must_say(self, *cases: Case) -> None:
+        for call, kind, message in cases:
+            with self.assertRaises(kind) as caught:
+                call()
+            self.assertEqual(str(caught.exception), message)
+
+    def need_numpy(self) -> Any:
+        if NUMPY is None:
+            self.skipTest("there is no numpy")
+        return NUMPY
+
+
+class Numbers(Refusals):
+    def test_of_a_canvas(self) -> None:
+        make: Any = trirast.Canvas
+        canvas: Any = cleared()
+        memory = f"memory: at least {make.size(3, 3)} bytes, contiguous and writable"
+        self.must_say(
+            (lambda: make(3, 3, origin=(1.9, "-2")), TypeError, "origin: an integer, and not 1.9"),
+            (lambda: make(3, 3, origin=(1, "-2")), TypeError, "origin: an integer, and not '-2'"),
+            (lambda: make(3, 3, origin=7), TypeError, "origin: 2 values, and not 7"),
+            (lambda: make(3, 3, origin=(1, 1 << 31)), OverflowError, "origin: an integer of 32 bits, and not 2147483648"),
+            (lambda: make(3.5, 3), TypeError, "width: an integer, and not 3.5"),
+            (lambda: make(3, None), TypeError, "height: an integer, and not None"),
+            (lambda: make(3, 3, samples="4"), TypeError, "samples: an integer, and not '4'"),
+            (lambda: make(3, 3, memory=b"123"), ValueError, f"{memory}, and not uint8 of the shape (3,), read-only"),
+            (lambda: make(3, 3, memory=5), TypeError, f"{memory}, and not 5"),
+            (lambda: canvas.clear((1, 2)), ValueError, "color: 3 values, and not 2"),
+            (lambda: canvas.clear((0.1, 0.2, 0.3)), TypeError, "color: an integer, and not 0.1"),
+            (lambda: canvas.clear((1, 2, 256)), ValueError, "color: 0 to 255, and not 256"),
+            (lambda: canvas.clear((1, 2, 3), -1), ValueError, "depth: 0 to 65535, and not -1"),
+            (lambda: canvas.clear((1, 2, 3), 0.5), TypeError, "depth: an integer, and not 0.5"),
+            (lambda: canvas.clear(threads=0), ValueError, "threads: at least 1, and not 0"),
+            (lambda: canvas.rgb(threads=2.0), TypeError, "threads: an integer, and not 2.0"),
+            (lambda: canvas.ids("0"), TypeError, "sample: an integer, and not '0'"),
+            (lambda: canvas.draw_ids(VERTICES, [], first_id=1.5), TypeError, "first_id: an integer, and not 1.5"),
+            (lambda: canvas.load(bytes(27), format="bgr"), ValueError, "format: one of rgb, rgba, bgra, and not 'bgr'"),
+            (lambda: canvas.draw_batch(5), TypeError, "draws: a sequence of trirast.Draw, and not 5"),
+            (lambda: canvas.draw_batch([5]), TypeError, "draws: draw 0: a trirast.Draw, and not 5"),
+        )
+        with self.assertRaisesRegex(trirast.CanvasError, "and not 5000 by 3 and 1; larger: trirast.poster$"):
+            make(5000, 3)
+
+    def test_of_a_draw(self) -> None:
+        def with_state(**state: Any) -> Callable[[], Any]:
+            return lambda: trirast.Draw(VERTICES, [], **state)
+
+        self.must_say(
+            (with_state(cull=2), ValueError, "cull: one of none, front, back, and not 2"),
+            (with_state(depth_write="no"), TypeError, "depth_write: True or False, and not 'no'"),
+            (with_state(write="rgb"), TypeError, "write: True or False, and not 'r'"),
+            (with_state(write=True), TypeError, "write: 3 values, and not True"),
+            (with_state(sample_mask=1.0), TypeError, "sample_mask: an integer, and not 1.0"),
+            (with_state(scissor=(0, 0, 1.5, 2)), TypeError, "scissor: an integer, and not 1.5"),
+            (with_state(scissor=(0, 0, 1)), ValueError, "scissor: 4 values, and not 3"),
+        )
+
+    def test_of_lists_and_edges(self) -> None:
+        draw: Any = trirast.draw
+        edges: Any = trirast.edges
+        why: Any = trirast.why
+        self.must_say(
+            (lambda: draw(DRAW_LIST, 32.0), TypeError, "tile_size: an integer, and not 32.0"),
+            (lambda: draw(DRAW_LIST, threads="4"), TypeError, "threads: an integer, and not '4'"),
+            (lambda: why(DRAW_LIST, 1.5, 0), TypeError, "x: an integer, and not 1.5"),
+            (lambda: why(DRAW_LIST, 1, 0, all_triangles="yes"), TypeError, "all_triangles: True or False, and not 'yes'"),
+            (lambda: edges((0, 0), (1, 0), (0, 1.5), (0, 0)), TypeError, "c: an integer, and not 1.5"),
+            (lambda: edges((0, 0), (1, 0), (0, 1), (0, 1 << 31)), OverflowError, "point: an integer of 32 bits, and not 2147483648"),
+            (lambda: edges((0, 0), (1, 0, 0), (0, 1), (0, 0)), ValueError, "b: 2 values, and not 3"),
+            (lambda: draw(DRAW_LIST).pixel(0.0, 1), TypeError, "column: an integer, and not 0.0"),
+        )
+
+    def test_of_numpy_are_numbers(self) -> None:
+        np = self.need_numpy()
+        canvas = trirast.Canvas(np.int64(3), np.uint8(100), samples=np.int32(4), origin=np.array([1, -2]))
+        self.assertEqual((canvas.width, canvas.height, canvas.samples, canvas.origin), (3, 100, 4, (1, -2)))
+        canvas.clear(np.array([24, 24, 32]), np.uint16(9), threads=np.int64(4))
+        self.assertEqual((canvas.rgb(threads=np.int64(2))[1, 1].tolist(), canvas.depth(np.int8(3))[2, 2]), ([24, 24, 32], 9))
+        canvas.draw(VERTICES, [[0, 1, 2]], depth_write=np.True_, write=np.array([True, False, True]), scissor=np.array([0, 0, 3, 3]))
+        self.assertEqual(trirast.draw(DRAW_LIST, np.int64(8), np.int64(2)).bytes, PIXELS)
+        with self.assertRaisesRegex(TypeError, r"depth_write: True or False, and not array\(\[ True, +True\]\)"):
+            trirast.Draw(VERTICES, [], depth_write=np.array([True, True]))
+
+
+class Rows(Refusals):
+    def test_without_numpy(self) -> None:
+        def draw(vertices: Any, triangles: Any = ((0, 0, 0),)) -> Callable[[], Any]:
+            return lambda: trirast.Draw(vertices, triangles)
+
+        self.must_say(
+            (draw([[0] * 7, [0, 0.5] + [0] * 5]), TypeError, "vertices: row 1, y: an integer in 1/256 pixel, and not 0.5" + SNAP),
+            (draw([[0] * 3 + [0.5] + [0] * 3]), TypeError, "vertices: row 0, red: an integer, and not 0.5"),
+            (draw([[0] * 7, [1 << 31] + [0] * 6]), OverflowError, "vertices: row 1, x: -8388608 to 8388607, and not 2147483648"),
+            (draw([[0] * 7, [0] * 6]), ValueError, "vertices: row 1: 7 values, and not 6"),
+            (draw([[0] * 7, 5]), TypeError, "vertices: row 1: 7 values, and not 5"),
+            (draw(5), TypeError, "vertices: rows of 7 integers, and not 5"),
+            (draw(array("d", [0] * 7)), TypeError, "vertices: integers in 1/256 pixel, and not float64" + SNAP),
+            (draw(array("i", [0] * 6)), ValueError, "vertices: rows of 7 integers, and not the shape (6,)"),
+            (draw(array("I", [0] * 6 + [1 << 31])), OverflowError, "vertices: row 0, alpha: 0 to 255, and not 2147483648"),
+            (draw(b"123"), ValueError, "vertices: rows of 7 integers of 4 bytes, and not 3 bytes"),
+            (draw(VERTICES, [[0, 1, "2"]]), TypeError, "triangles: row 0, index 2: an integer, and not '2'"),
+            (draw(VERTICES, [[0, 1, 2], [0, -1, 2]]), OverflowError, "triangles: row 1, index 1: 0 to 4294967295, and not -1"),
+            (draw(VERTICES, array("f", [0, 1, 2])), TypeError, "triangles: integers, and not float32"),
+            (lambda: trirast.Draw(VERTICES, strip=[0, 1.5, 2]), TypeError, "strip: row 1, index 0: an integer, and not 1.5"),
+        )
+
+    def test_of_numpy(self) -> None:
+        np = self.need_numpy()
+
+        def draw(vertices: Any, triangles: Any = ((0, 0, 0),)) -> Callable[[], Any]:
+            return lambda: trirast.Draw(vertices, triangles)
+
+        masked = np.ma.masked_array(VERTICES, mask=np.eye(3, 7))
+        self.must_say(
+            (draw(np.zeros((3, 7))), TypeError, "vertices: integers in 1/256 pixel, and not float64" + SNAP),
+            (draw(np.zeros((3, 7), bool)), TypeError, "vertices: integers in 1/256 pixel, and not bool"),
+            (draw(np.zeros((3, 7), object)), TypeError, "vertices: integers in 1/256 pixel, and not the format 'O'"),
+            (draw(masked), TypeError, "vertices: an array without a mask, and not a masked one; use filled"),
+            (draw(VERTICES, np.ma.masked_array([[0, 1, 2]])), TypeError, "triangles: an array without a mask, and not a masked one; use filled"),
+            (draw(np.zeros((7, 3), int)), ValueError, "vertices: rows of 7 integers, and not the shape (7, 3)"),
+            (draw(np.zeros((1, 1, 7), int)), ValueError, "vertices: rows of 7 integers, and not the shape (1, 1, 7)"),
+            (draw(np.array(5)), ValueError, "vertices: rows of 7 integers, and not the shape ()"),
+            (draw(VERTICES, np.array([[0, 1, 2], [0, 1, -2]])), OverflowError, "triangles: row 1, index 2: 0 to 4294967295, and not -2"),
+            (draw(np.array([[0] * 7, [0, 1 << 40] + [0] * 5])), OverflowError,
+             "vertices: row 1, y: -8388608 to 8388607, and not 1099511627776"),
+        )
+
+    def test_come_in_any_layout(self) -> None:
+        np = self.need_numpy()
+        wide = np.zeros((6, 20), np.int64)
+        wide[::2, 3:17:2] = VERTICES
+        flipped = np.array(VERTICES, np.int32)[::-1][::-1]
+        frozen = np.array(VERTICES, ">i8")
+        frozen.flags.writeable = False
+        for vertices in (wide[::2, 3:17:2], flipped, frozen, np.array(VERTICES).ravel(), np.array(VERTICES, order="F"), memoryview(frozen)):
+            for triangles in (np.array([[0, 1, 2]], np.uint64), np.array([[0, 9, 1, 9, 2, 9]], np.int16)[:, ::2], np.array([0, 1, 2], ">u2")):
+                self.assertEqual(trirast.draw_scene(3, 3, [trirast.Draw(vertices, triangles)]).bytes, PIXELS)
+
+    def test_that_are_none_draw_nothing(self) -> None:
+        empty: List[Tuple[Any, Any]] = [([], []), (VERTICES, []), (b"", b""), (array("i"), array("I")), (VERTICES, array("d"))]
+        if NUMPY is not None:
+            np = NUMPY
+            empty += [(np.empty((0, 7), np.int32), np.empty((0, 3), np.uint32)), (np.array([]), np.array([])), (VERTICES, np.empty((0, 3), int)),
+                      (VERTICES, np.empty((0, 3)))]
+        for vertices, triangles in empty:
+            canvas = cleared()
+            canvas.draw(vertices, triangles, threads=2)
+            canvas.draw_ids(vertices, triangles)
+            canvas.draw_batch([])
+            self.assertEqual(bytes_of(canvas.rgb()), bytes(27))
+            self.assertEqual(trirast.draw_scene(3, 3, [trirast.Draw(vertices, triangles)]).bytes, bytes(27))
+        if NUMPY is not None:
+            with self.assertRaisesRegex(ValueError, r"rows of 7 integers, and not the shape \(0, 3\)"):
+                trirast.Draw(NUMPY.empty((0, 3), int), [])
+
+    def test_that_the_library_refuses_are_named(self) -> None:
+        far = [row[:] for row in VERTICES]
+        far[2][0] = 1 << 23
+        red = [row[:] for row in VERTICES]
+        red[1][3] = 256
+        canvas = cleared()
+        window = cleared(origin=(40000, 0))
+        other = cleared(origin=(-5, 0))
+        triangle = [[0, 1, 2]]
+        cases: List[Tuple[Callable[[], Any], str]] = [
+            (lambda: canvas.draw(VERTICES, triangle * 5 + [[0, 3, 2]]), "6 BadIndex in draw 0: triangles: row 5, index 1: one of 3 vertices, and not 3"),
+            (lambda: canvas.draw(VERTICES, array("i", [0, 1, -7])), "6 BadIndex in draw 0: triangles: row 0, index 2: one of 3 vertices, and not -7"),
+            (lambda: canvas.draw(VERTICES, strip=[0, 1, 9]), "6 BadIndex in draw 0: strip: row 2, index 0: one of 3 vertices, and not 9"),
+            (lambda: canvas.draw(far, triangle), "5 OutOfRange in draw 0: vertices: row 2, x: -8388608 to 8388607, and not 8388608"),
+            (lambda: canvas.draw(red, triangle, threads=2), "5 OutOfRange in draw 0: vertices: row 1, red: 0 to 255, and not 256"),
+            (lambda: other.draw(far, triangle), "5 OutOfRange in draw 0: vertices: row 2, x: -8388608 to 8388607, and not 8388608"),
+            (lambda: window.draw(VERTICES, triangle), "5 OutOfRange in draw 0: vertices: row 0, x: -8388608 to 8388607, and not -10239872 "
+             "as seen from the origin (40000, 0)"),
+            (lambda: canvas.draw(VERTICES, [], scissor=(0, 0, 40000, 1)), "5 OutOfRange in draw 0: scissor: 0 to 32768, and not 40000"),
+            (lambda: trirast.draw_scene(3, 3, [trirast.Draw([], []), trirast.Draw(red, [])]),
+             "5 OutOfRange in draw 1: vertices: row 1, red: 0 to 255, and not 256"),
+            (lambda: trirast.draw_scene(5000, 3, []), "5 OutOfRange"),
+        ]
+        for call, line in cases:
+            with self.assertRaises(trirast.DrawListError) as caught:
+                call()
+            self.assertEqual(str(caught.exception), f"trirast: list fault {line}")
+            self.assertIn(f" {caught.exception.number} {caught.exception.name}", str(caught.exception))
+        self.assertEqual(bytes_of(canvas.rgb()), bytes(27))
+
+
+class Buffers(Refusals):
+    def test_of_another_kind_are_refused(self) -> None:
+        canvas = cleared()
+        wanted = "uint8 of the shape (3, 3, 3), contiguous and writable, and not"
+        depths = "uint16 of the shape (3, 3), contiguous and writable, and not"
+        bits = (ctypes.c_bool * 27)()
+        self.must_say(
+            (lambda: canvas.rgb(bytearray(26)), ValueError, f"out: {wanted} uint8 of the shape (26,)"),
+            (lambda: canvas.rgb(bytes(27)), ValueError, f"out: {wanted} uint8 of the shape (27,), read-only"),
+            (lambda: canvas.rgb(memoryview(bytearray(54))[::2]), ValueError, f"out: {wanted} uint8 of the shape (27,), not contiguous"),
+            (lambda: canvas.rgb(bits), ValueError, f"out: {wanted} bool of the shape (27,)"),
+            (lambda: canvas.rgb(array("b", bytes(27))), ValueError, f"out: {wanted} int8 of the shape (27,)"),
+            (lambda: canvas.rgb([0] * 27), TypeError, f"out: {wanted} [0, 0, 0, 0, 0, 0, ...]"),
+            (lambda: canvas.depth(0, bytearray(18)), ValueError, f"out: {depths} uint8 of the shape (18,)"),
+            (lambda: canvas.depth(0, array("h", bytes(18))), ValueError, f"out: {depths} int16 of the shape (9,)"),
+            (lambda: canvas.ids(0, array("f", bytes(36))), ValueError,
+             "out: uint32 of the shape (3, 3), contiguous and writable, and not float32 of the shape (9,)"),
+            (lambda: canvas.load(bytes(26)), ValueError,
+             "image: uint8 of the shape (3, 3, 3) or uint8 of the shape (3, 3, 4), and not uint8 of the shape (26,)"),
+            (lambda: canvas.load(bytes(27), format="bgra"), ValueError, "image: uint8 of the shape (3, 3, 4), and not uint8 of the shape (27,)"),
+            (lambda: canvas.load(array("b", bytes(27))), ValueError,
+             "image: uint8 of the shape (3, 3, 3) or uint8 of the shape (3, 3, 4), and not int8 of the shape (27,)"),
+            (lambda: trirast.draw(DRAW_LIST, out=array("h", bytes(54))), ValueError, f"out: {wanted} int16 of the shape (27,)"),
+        )
+
+    def test_of_numpy_of_another_kind_are_refused(self) -> None:
+        np = self.need_numpy()
+        canvas = trirast.Canvas(2, 3)
+        canvas.clear((1, 2, 3), 4)
+        wrong: List[Callable[[], Any]] = [
+            lambda: canvas.depth(out=np.empty((3, 2), ">u2")),
+            lambda: canvas.depth(out=np.empty((2, 3), np.uint16)),
+            lambda: canvas.depth(out=np.empty((3, 2, 1), np.uint16)),
+            lambda: canvas.ids(out=np.empty((3, 2), np.float32)),
+            lambda: canvas.ids(out=np.empty((3, 2), ">u4")),
+            lambda: canvas.rgb(out=np.empty((3, 2, 3), bool)),
+            lambda: canvas.rgb(out=np.empty((2, 3, 3), np.uint8)),
+            lambda: canvas.rgb(out=np.empty((3, 2, 3), np.uint8, order="F")),
+            lambda: canvas.rgba(out=np.empty((3, 2, 3), np.uint8)),
+            lambda: canvas.load(np.zeros((2, 3, 3), np.uint8)),
+            lambda: canvas.load(np.zeros((3, 2, 3), bool)),
+            lambda: canvas.load(np.zeros((3, 2, 4), np.uint8), format="rgb"),
+            lambda: trirast.draw(DRAW_LIST, out=np.empty((3, 9), np.uint8)),
+            lambda: trirast.draw({**DRAW_LIST, "output": "depth"}, out=np.empty((3, 3), np.uint16)),
+        ]
+        masked: List[Callable[[], Any]] = [
+            lambda: canvas.depth(out=np.ma.zeros((3, 2), np.uint16)),
+            lambda: canvas.load(np.ma.zeros((3, 2, 3), np.uint8)),
+            lambda: trirast.Canvas(2, 3, memory=np.ma.zeros(99999, np.uint8)),
+        ]
+        for call in wrong:
+            with self.assertRaisesRegex(ValueError, "^(out|image): .*, and not "):
+                call()
+        for call in masked:
+            with self.assertRaisesRegex(TypeError, "an array without a mask"):
+                call()
+        self.assertEqual(canvas.rgb().reshape(-1, 3).tolist(), [[1, 2, 3]] * 6)
+
+    def test_that_fit_are_filled(self) -> None:
+        canvas = cleared()
+        canvas.draw(VERTICES, [[0, 1, 2]])
+        view = memoryview(bytearray(27)).cast("B", shape=[3, 3, 3])
+        for out in (bytearray(27), array("B", bytes(27)), (ctypes.c_uint8 * 27)(), view):
+            self.assertIs(canvas.rgb(out), out)
+            self.assertEqual(bytes_of(out), PIXELS)
+            other = bytearray(27)
+            self.assertEqual(trirast.draw(DRAW_LIST, out=other).bytes, bytes(other))
+        depths = trirast.draw({**DRAW_LIST, "output": "depth"}).bytes
+        outs: List[Any] = [bytearray(18), memoryview(bytearray(18)).cast("B", shape=[3, 3, 2])]
+        outs += [] if NUMPY is None else [NUMPY.empty((3, 3), ">u2"), NUMPY.empty((3, 3, 2), NUMPY.uint8)]
+        for out in outs:
+            trirast.draw({**DRAW_LIST, "output": "depth"}, threads=2, out=out)
+            self.assertEqual(bytes_of(out), depths)
+
+    def test_of_images_come_in_any_layout(self) -> None:
+        np = self.need_numpy()
+        image = np.arange(27, dtype=np.uint8).reshape(3, 3, 3)
+        wide = np.zeros((3, 6, 4), np.uint8)
+        wide[:, ::2, :3] = image
+        frozen = image.copy()
+        frozen.flags.writeable = False
+        for each in (image, frozen, np.asfortranarray(image), image[::-1][::-1], wide[:, ::2, :3], image.tobytes(), trirast.draw(DRAW_LIST)):
+            canvas = cleared()
+            canvas.load(each, threads=2)
+            wanted = PIXELS if isinstance(each, trirast.Picture) else image.tobytes()
+            self.assertEqual(bytes_of(canvas.rgb()), wanted)
+
+    def test_lie_apart_from_the_samples(self) -> None:
+        memory = bytearray(trirast.Canvas.size(3, 3))
+        canvas = trirast.Canvas(3, 3, memory=memory)
+        canvas.clear()
+        inside = memoryview(memory)[100:127]
+        calls: List[Callable[[], Any]] = [lambda: canvas.rgb(inside), lambda: canvas.load(inside)]
+        for call in calls:
+            with self.assertRaisesRegex(ValueError, "^(out|image): memory apart from that of the canvas$"):
+                call()
+        self.assertEqual(bytes_of(canvas.rgb()), bytes(27))
+
+
+class Files(Refusals):
+    """Pictures are saved by the end of the name."""
+
+    def test_have_the_format_of_their_name(self) -> None:
+        picture, depths = trirast.draw(DRAW_LIST), trirast.draw({**DRAW_LIST, "output": "depth", "clear_depth": 258})
+        with tempfile.TemporaryDirectory() as folder:
+            for each, name, wanted in ((picture, "a.ppm", FILE), (picture, "A.PPM", FILE), (depths, "a.pgm", depths.header + depths.bytes)):
+                each.save(os.path.join(folder, name))
+                with open(os.path.join(folder, name), "rb") as file:
+                    self.assertEqual(file.read(), wanted)
+            for each, kind in ((picture, b"\x08\x02"), (depths, b"\x10\x00")):
+                path = os.path.join(folder, "a.Png")
+                each.save(path)
+                with open(path, "rb") as file:
+                    self.assertEqual(read_png(file.read()), (3, 3, kind, each.bytes))
+
+    def test_of_another_name_are_refused(self) -> None:
+        picture, depths = trirast.draw(DRAW_LIST), trirast.draw({**DRAW_LIST, "output": "depth"})
+        with tempfile.TemporaryDirectory() as folder:
+            for each, name, message in (
+                (picture, "x.tif", "an end of .png or .ppm, for a picture of colours"), (picture, "x", "an end of .png or .ppm"),
+                (picture, "x.pgm", "an end of .png or .ppm"), (depths, "x.ppm", "an end of .png or .pgm, for a picture of depths"),
+            ):
+                with self.assertRaisesRegex(ValueError, f"^path: {message}.*{name}'$"):
+                    each.save(os.path.join(folder, name))
+            self.assertEqual(os.listdir(folder), [])
+
+
+def read_png(file: bytes) -> Tuple[int, int, bytes, bytes]:
+    """Width, height, bits and colour type, and the pixels of a PNG file without filters. Each CRC must be right."""
+    at, chunks = 8, {}
+    while at < len(file):
+        (length,), kind = struct.unpack(">I", file[at : at + 4]), file[at + 4 : at + 8]
+        data, crc = file[at + 8 : at + 8 + length], file[at + 8 + length : at + 12 + length]
+        if zlib.crc32(kind + data) != int.from_bytes(crc, "big"):
+            raise ValueError(f"a wrong CRC of {kind!r}")
+        chunks[kind] = data
+        at += 12 + length
+    if list(chunks) != [b"IHDR", b"IDAT", b"IEND"] or file[:8] != b"\x89PNG\r\n\x1a\n":
+        raise ValueError("no PNG file")
+    width, height = struct.unpack(">II", chunks[b"IHDR"][:8])
+    rows, step = zlib.decompress(chunks[b"IDAT"]), len(zlib.decompress(chunks[b"IDAT"])) // height
+    return width, height, chunks[b"IHDR"][8:10], b"".join(rows[first + 1 : first + step] for first in range(0, len(rows), step))
+
+
+class WithoutNumpy(unittest.TestCase):
+    def test_all_is_drawn(self) -> None:
+        done = run(f"""
+            import sys
+            sys.modules["numpy"] = None
+            import trirast
+            from array import array
+            canvas = trirast.Canvas(3, 3, origin=(-1, 0))
+            canvas.clear()
+            canvas.draw([[x - 256, *more] for x, *more in {VERTICES}], array("H", [0, 1, 2]))
+            print(canvas.rgb().tobytes() == {PIXELS!r}, type(canvas.depth()).__name__, canvas.depth().shape)
+            try:
+                canvas.draw([[0.5] * 7], [])
+            except TypeError as error:
+                print(error)
+        """)
+        refused = f"vertices: row 0, x: an integer in 1/256 pixel, and not 0.5{SNAP}"
+        self.assertEqual((done.stdout.decode().splitlines(), done.stderr), (["True memoryview (3, 3)", refused], b""))
+
+
+if __name__ == "__main__":
+    unittest.main()

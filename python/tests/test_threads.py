@@ -1,0 +1,295 @@
+"""What a running call uses is its own until all threads end: interrupts, arrays that others change, threads that cannot be started."""
+
+import gc
+import unittest
+from _thread import start_new_thread
+from array import array
+from typing import Any, Callable, List
+from unittest import mock
+
+import trirast
+from trirast import _threads
+
+from .common import DRAW_LIST, NUMPY, VERTICES, bytes_of, run
+
+# `interrupted` makes a call, and interrupts it after some milliseconds, and then every 4 ms as long as it runs.
+INTERRUPTS = """
+import signal, trirast
+from array import array
+armed = False
+
+def interrupt(*_):
+    if armed:
+        raise KeyboardInterrupt
+
+signal.signal(signal.SIGALRM, interrupt)
+
+def interrupted(call, seconds):
+    global armed
+    try:
+        armed = True
+        signal.setitimer(signal.ITIMER_REAL, seconds, 0.004)
+        call()
+    except KeyboardInterrupt:
+        armed = False
+    finally:
+        armed = False
+        signal.setitimer(signal.ITIMER_REAL, 0)
+
+# A batch that takes some hundred milliseconds, in more memory than is kept when it is freed.
+rows = 1_300_000
+corners = [0, 0, 0, 9, 9, 9, 5, 130000, 0, 0, 9, 9, 9, 5, 0, 130000, 0, 9, 9, 9, 5]
+vertices = array("i", bytes(28 * (rows - 3))) + array("i", corners)
+indices = array("I", [rows - 3, rows - 2, rows - 1])
+"""
+
+
+class Interrupts(unittest.TestCase):
+    def must_end_well(self, text: str, printed: str) -> None:
+        done = run(INTERRUPTS + text)
+        self.assertEqual((done.returncode, done.stdout.decode(), done.stderr.decode()), (0, printed, ""))
+
+    def test_come_while_arrays_are_drawn(self) -> None:
+        self.must_end_well(
+            """
+canvas = trirast.Canvas(512, 256)
+canvas.clear()
+for _ in range(3):
+    given = [vertices[:]]
+    interrupted(lambda: canvas.draw(given.pop(), 15000 * indices, blend="over", threads=4), 0.05)
+print("ended")
+""",
+            "ended\n",
+        )
+
+    def test_come_while_a_canvas_is_left(self) -> None:
+        self.must_end_well(
+            """
+for _ in range(3):
+    given = [trirast.Canvas(4096, 2048)]
+    given[0].clear()
+    interrupted(lambda: given.pop().draw(vertices, 2000 * indices, blend="over", threads=4), 0.05)
+print("ended")
+""",
+            "ended\n",
+        )
+
+    def test_come_while_pixels_are_written(self) -> None:
+        self.must_end_well(
+            """
+canvas = trirast.Canvas(4096, 4096, samples=4)
+canvas.load(bytes([7]) * (3 * 4096 * 4096), threads=4)
+for _ in range(8):
+    interrupted(lambda: canvas.rgba(bytearray(4 * 4096 * 4096), threads=4), 0.01)
+print(set(memoryview(canvas.rgb()).tobytes()))
+""",
+            "{7}\n",
+        )
+
+    def test_come_while_a_list_is_drawn(self) -> None:
+        self.must_end_well(
+            """
+for _ in range(4):
+    interrupted(
+        lambda: trirast.draw({"width": 4096, "height": 4096, "draws": []}, threads=4, out=bytearray(3 * 4096 * 4096)), 0.01
+    )
+print("ended")
+""",
+            "ended\n",
+        )
+
+    def test_leave_a_batch_drawn_or_not_begun(self) -> None:
+        self.must_end_well(
+            """
+size = 2048
+square = [[256 * x, 256 * y, 0, 9, 8, 7, 255] for x, y in ((0, 0), (size, 0), (size, size), (0, size))]
+canvas = trirast.Canvas(size, size, samples=4)
+found = set()
+for number in range(20):
+    canvas.clear()
+    interrupted(lambda: canvas.draw(square, quads=[[0, 1, 2, 3]] * 20, threads=4), 0.001 * number)
+    found.add(tuple(sorted(set(memoryview(canvas.rgb()).tobytes()))))
+print(found <= {(0,), (7, 8, 9)} or found)
+""",
+            "True\n",
+        )
+
+    def test_come_after_the_threads(self) -> None:
+        events: List[str] = []
+        
+        def part(number: int) -> None:
+            run_for_a_while()
+            events.append(f"part {number}")
+
+        class Interrupted(_threads.Work):
+            """The first two waits are interrupted."""
+
+            def __init__(self, *arguments: Any) -> None:
+                super().__init__(*arguments)
+                self._signals = mock.Mock(wraps=self._signals)
+                self._signals.get.side_effect = [KeyboardInterrupt, KeyboardInterrupt] + [mock.DEFAULT] * 9
+
+        with mock.patch.object(_threads, "Work", Interrupted), self.assertRaises(KeyboardInterrupt):
+            _threads.share(part, lambda count: [(number,) for number in range(count)], 3)
+        self.assertEqual(sorted(events), ["part 0", "part 1", "part 2"])
+
+
+def run_for_a_while() -> int:
+    return sum(range(200_000))
+
+
+class Arrays(unittest.TestCase):
+    """Arrays that another thread changes while they are drawn."""
+
+    def must_not_crash(self, change: str, threads: int) -> None:
+        done = run(f"""
+            import threading, time, trirast
+            from array import array
+            count = 20000
+            vertices = array("i", [n for k in range(3) for n in (256 * k * k, 2560 * k, 0, 1, 2, 3, 255)])
+            indices = array("I", [0, 1, 2] * count)
+            canvas = trirast.Canvas(64, 256)
+            canvas.clear()
+            is_over = False
+
+            def flip():
+                while not is_over:
+                    for _ in range(1000):
+                        {change}
+
+            flipping = threading.Thread(target=flip)
+            flipping.start()
+            end = time.monotonic() + 1.5
+            while time.monotonic() < end:
+                try:
+                    canvas.draw(vertices, indices, threads={threads})
+                except trirast.DrawListError as error:
+                    assert error.name in ("BadIndex", "OutOfRange"), error
+            is_over = True
+            flipping.join()
+            print("ended")
+        """)
+        self.assertEqual((done.returncode, done.stdout, done.stderr), (0, b"ended\n", b""))
+
+    def test_of_indices(self) -> None:
+        for threads in (1, 3):
+            self.must_not_crash("indices[-1] = 0x7fffffff; indices[-1] = 2", threads)
+
+    def test_of_positions(self) -> None:
+        for threads in (1, 3):
+            self.must_not_crash("vertices[14] = 0x7fffffff; vertices[14] = 1024", threads)
+
+    def test_a_draw_has_a_copy(self) -> None:
+        vertices, indices = array("i", sum(VERTICES, [])), array("I", [0, 1, 2])
+        draw = trirast.Draw(vertices, indices)
+        wanted = trirast.draw_scene(3, 3, [draw]).bytes
+        vertices[0], indices[1] = 99999, 77
+        self.assertEqual(trirast.draw_scene(3, 3, [draw]).bytes, wanted)
+        vertices.append(1)
+        indices.append(1)
+
+
+class Errors(unittest.TestCase):
+    """Errors of several threads."""
+
+    def setUp(self) -> None:
+        gc.disable()
+        self.addCleanup(gc.enable)
+
+    def test_leave_buffers_to_their_owner(self) -> None:
+        canvas = trirast.Canvas(2, 200)
+        canvas.clear()
+        for threads in (1, 3):
+            for is_kept in (False, True):
+                out = array("H", bytes(2 * 2 * 200))
+                kept: List[BaseException] = []
+                try:
+                    canvas.depth(1, out, threads=threads)
+                except trirast.SampleError as error:
+                    kept += [error] if is_kept else []
+                out.append(1)
+                short = bytearray(5)
+                try:
+                    canvas.rgb(short, threads=threads)
+                except ValueError as error:
+                    kept += [error] if is_kept else []
+                short.append(1)
+
+    def test_of_a_list_leave_the_buffer_to_its_owner(self) -> None:
+        high = {**DRAW_LIST, "height": 200}
+        for threads in (1, 3):
+            out = bytearray(3 * 3 * 200)
+            try:
+                trirast.draw(high, 9, threads, out=out)
+            except trirast.TileSizeError as error:
+                kept = error
+            out.append(1)
+            self.assertEqual(str(kept), "trirast: no such tile size")
+
+    def test_are_those_of_the_first_part(self) -> None:
+        def part(number: int) -> None:
+            raise ValueError(f"part {number}")
+
+        for count in (1, 2, 5):
+            with self.assertRaisesRegex(ValueError, "part 0"):
+                _threads.share(part, lambda parts: [(number,) for number in range(parts)], count)
+
+
+class Starting(unittest.TestCase):
+    """Threads that cannot be started leave their work to those that were, or to the calling thread."""
+
+    def drawn(self, threads: int) -> bytes:
+        canvas = trirast.Canvas(8, 256)
+        canvas.clear(threads=threads)
+        canvas.draw([[0, 0, 0, 9, 9, 9, 255], [2048, 0, 0, 9, 9, 9, 255], [0, 65536, 0, 9, 9, 9, 255]], [[0, 1, 2]], threads=threads)
+        return bytes_of(canvas.rgb(threads=threads)) + trirast.draw({**DRAW_LIST, "height": 256}, threads=threads).bytes
+
+    def test_none_or_some(self) -> None:
+        wanted = self.drawn(1)
+        for possible in range(4):
+            def start_some(call: Callable[..., Any], arguments: Any, left: List[int] = [possible]) -> int:
+                if left[0] % 4 == 0:
+                    raise RuntimeError("can't start new thread")
+                left[0] -= 1
+                return start_new_thread(call, arguments)
+
+            with mock.patch.object(_threads, "start_new_thread", start_some):
+                self.assertEqual(self.drawn(4), wanted, possible)
+
+    def test_for_want_of_memory(self) -> None:
+        done = run("""
+            import resource, threading, trirast
+            canvas = trirast.Canvas(512, 256)
+            canvas.clear()
+            threading.stack_size(1 << 30)
+            used = int(open("/proc/self/statm").read().split()[0]) * resource.getpagesize()
+            resource.setrlimit(resource.RLIMIT_AS, (used + (5 << 29),) * 2)
+            square = [[0, 0, 0, 9, 9, 9, 9], [131072, 0, 0, 9, 9, 9, 9], [131072, 65536, 0, 9, 9, 9, 9], [0, 65536, 0, 9, 9, 9, 9]]
+            canvas.draw(square, quads=[[0, 1, 2, 3]] * 3000, blend="over", threads=4)
+            print(len(set(memoryview(canvas.rgb()).tobytes())))
+        """)
+        self.assertEqual((done.returncode, done.stdout, done.stderr), (0, b"1\n", b""))
+
+
+class OneCanvas(unittest.TestCase):
+    def test_is_used_by_several_threads_in_turn(self) -> None:
+        if NUMPY is None:
+            self.skipTest("there is no numpy")
+        canvas = trirast.Canvas(64, 256, samples=4)
+        canvas.clear()
+        square = [[0, 0, 0, 1, 1, 1, 255], [16384, 0, 0, 1, 1, 1, 255], [16384, 65536, 0, 1, 1, 1, 255], [0, 65536, 0, 1, 1, 1, 255]]
+        pictures: List[Any] = []
+
+        def draw_and_look(number: int) -> None:
+            for color in range(20):
+                canvas.clear((color, color, number))
+                canvas.draw(square, quads=[[0, 1, 2, 3]], threads=2)
+                pictures.append(canvas.rgb(threads=2))
+
+        _threads.share(draw_and_look, lambda count: [(number,) for number in range(count)], 4)
+        # Each picture is one that a call left: of one colour.
+        self.assertEqual({len(NUMPY.unique(picture.reshape(-1, 3), axis=0)) for picture in pictures}, {1})
+
+
+if __name__ == "__main__":
+    unittest.main()
