@@ -4,8 +4,8 @@
 
 A frame of llvmpipe goes from its clear to the pixels read back, warm, with each sample shaded as the program does it; a
 frame of the program goes from a list that was read to its picture's last byte, thrown away (`crates/frames`). The two
-take turns, and the least time of each counts, with the processor time of the whole process in brackets. `--model` names a
-third program that takes `--frames N --workers N`, reads a list and prints `least_ms N` on standard error. A whole process
+take turns, and the median of each one's turns counts, with the processor time of the whole process in brackets; the spread is from the
+fastest turn of ours to its slowest one, by the median. `--model` names a third program that takes `--frames N --workers N`, reads a list and prints `least_ms N` on standard error. A whole process
 of ours starts, reads the list, draws it once and ends; llvmpipe has no such number, since it reads no list. If there is a
 build of crates/frames for x86-64-v3 (`make frames CPU=x86-64-v3`) and the processor runs it, it takes turns with them.
 
@@ -23,6 +23,7 @@ import os
 import re
 import subprocess
 import sys
+from statistics import median
 
 from bench import scenes
 from bench.run import Run, load
@@ -37,7 +38,7 @@ SCENES = (
 WORKERS = (1, 4)
 FRAMES_A_TURN = 3
 NEAR = 4
-COLUMNS = ("list", "workers", "llvmpipe frame (processor), ms", "frame, ms", "by llvmpipe")
+COLUMNS = ("list", "workers", "llvmpipe frame (processor), ms", "frame, ms", "spread", "by llvmpipe")
 LEVEL_COLUMNS = (f"frame of {LEVEL}, ms", "by the frame")
 MODEL_COLUMNS = ("model's frame, ms", "by the model")
 LAST_COLUMNS = ("whole process (processor), ms", "pixels that differ by more")
@@ -129,6 +130,11 @@ def whole_process(program: str, source: str, workers: int) -> tuple[float, float
     return run.wall, run.processor
 
 
+def medians(times: list[tuple[float, float]]) -> tuple[float, float]:
+    """The medians of wall and of processor times."""
+    return median(wall for wall, _processor in times), median(processor for _wall, processor in times)
+
+
 def far_pixels(program: str, source: str, target: str) -> str:
     """The share of pixels of which a channel is more than NEAR away."""
     picture = picture_file.decode(drawn(program, bytes_at(source)).output)
@@ -149,10 +155,12 @@ class Table:
         self.renderer = ""
 
     def cells(self, source: str, workers: int) -> list[str]:
-        """The times of one row: the programs in turn, and the least time of each."""
+        """The times of one row: the programs in turn, and the median of each one's turns."""
         driver = Llvmpipe(source, os.path.join(BENCH_OUT, "llvmpipe.rgba"), workers)
         self.renderer = driver.name
-        theirs, frames, levels, models, whole = [], [], [], [], []
+        theirs: list[tuple[float, float]] = []
+        whole: list[tuple[float, float]] = []
+        frames, levels, models = list[float](), list[float](), list[float]()
         for _ in range(self.runs):
             theirs.append(driver.turn())
             frames.append(frame_seconds(self.frames, source, workers))
@@ -160,12 +168,13 @@ class Table:
             models += [model_seconds(self.model, source, workers)] if self.model else []
             whole.append(whole_process(self.program, source, workers))
         driver.end()
-        (wall, processor), frame, (process, spent) = min(theirs), min(frames), min(whole)
-        cells = [f"{1000 * wall:.2f} ({1000 * processor:.1f})", f"{1000 * frame:.2f}", f"{frame / wall:.2f}"]
-        if levels:
-            cells += [f"{1000 * min(levels):.2f}", f"{min(levels) / frame:.2f}"]
-        if models:
-            cells += [f"{1000 * min(models):.2f}", f"{frame / min(models):.2f}"]
+        (wall, processor), (process, spent) = medians(theirs), medians(whole)
+        frame, spread = median(frames), (max(frames) - min(frames)) / median(frames)
+        cells = [f"{1000 * wall:.2f} ({1000 * processor:.1f})", f"{1000 * frame:.2f}", f"{100 * spread:.0f} %", f"{frame / wall:.2f}"]
+        for others, by_frame in ((levels, True), (models, False)):
+            if others:
+                ratio = median(others) / frame if by_frame else frame / median(others)
+                cells += [f"{1000 * median(others):.2f}", f"{ratio:.2f}"]
         return cells + [f"{1000 * process:.1f} ({1000 * spent:.1f})"]
 
     def row(self, source: str, workers: int) -> None:
@@ -192,7 +201,7 @@ def parsed() -> argparse.Namespace:
     parser.add_argument("--frames", default=FRAMES_PROGRAM, help="the program of crates/frames (default: where make frames leaves it)")
     parser.add_argument("--of-level", help=f"the same for {LEVEL} (default: where make frames CPU={LEVEL} leaves it, if it is there)")
     parser.add_argument("--model", help="the program of bench/model (default: where make model builds it, if it is there)")
-    parser.add_argument("--runs", type=int, default=5, help="turns of each program, of which the best counts (default 5)")
+    parser.add_argument("--runs", type=int, default=5, help="turns of each program, of which the median counts (default 5)")
     parser.add_argument("--workers", type=int, nargs="+", default=WORKERS, help="default 1 4")
     parser.add_argument("--scenes", nargs="+", choices=SCENES, default=SCENES, metavar="NAME", help=", ".join(SCENES))
     parser.add_argument("--lists", nargs="+", metavar="FILE", help="draw lists in place of scenes")
