@@ -40,13 +40,16 @@ def pairs_of(edit: str) -> list[tuple[str, str, str]]:
 
 
 def tests() -> set[str]:
-    """The tests of all crates, as crate::function, and those of the whole program in Python, as acceptance::function without `test_`."""
+    """The tests of all crates, as crate::function, those of the whole program in Python, as acceptance::function without `test_`, and the
+    calls that have worked values, as worked_values::call."""
     found: set[str] = set()
     for path in places.files("tests", "acceptance", "*.py"):
         found.update(f"acceptance::{name}" for name in re.findall(r"^def test_(\w+)", text_of(path), re.MULTILINE))
     for path in places.files("crates", "*", "src", "**", "*.rt"):
         crate = path.split(os.sep)[1]
         found.update(f"{crate}::{name}" for name in re.findall(r"#\[test\]\s+fn (\w+)", text_of(path)))
+    lines = text_of("crates", "worked_values", "stdin").splitlines()
+    found.update(f"worked_values::{line.split()[0]}" for line in lines if line and not line.startswith("#"))
     return found
 
 

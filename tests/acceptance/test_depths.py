@@ -35,6 +35,20 @@ def test_shows_stored_depths(keys: str, pixels: str) -> None:
 
 def test_shows_the_clear_depth_of_a_list_without_draws() -> None:
     check('{"width":2,"height":1,"clear_depth":258,"output":"depth","draws":[]}', (2, 1), "0102 0102")
+    check('{"width":1,"height":1,"samples":4,"output":"depth","draws":[]}', (1, 1), "FFFF")
+
+
+@pytest.mark.parametrize(
+    ("depth", "keys", "pixels"),
+    [
+        # 258 is 1 * 256 + 2: the more significant byte comes first.
+        pytest.param(258, ',"depth_write":true', "0102", id="a depth that is stored"),
+        pytest.param(7, "", "FFFF", id="a depth that is not stored"),
+    ],
+)
+def test_shows_a_depth_only_if_it_is_stored(depth: int, keys: str, pixels: str) -> None:
+    drawn = draw(f"[128,128,{depth},{WHITE}],[640,128,{depth},{WHITE}],[128,640,{depth},{WHITE}]", keys)
+    check(draw_list(1, 1, drawn, keys=',"output":"depth"'), (1, 1), pixels)
 
 
 @pytest.mark.parametrize(

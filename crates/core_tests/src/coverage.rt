@@ -1,10 +1,10 @@
-//! Masks, classes and squares, by worked values and compared with the reference test on generated triangles and quads.
+//! Masks, classes and squares, compared with the reference test on generated triangles and quads.
 ghost use Rattle.std.specs.Prelude.{◌<◌, ◌^◌, IsTrue};
 ghost use Rattle.grid.specs.Samples.{IsPart};
 
-use crate::support::{point, triangle};
-use cover::{Class, Masks, Pair, Setup, pair_masks, quad_masks};
-use grid::{Cull, PixelBox, Point, Quad, SampleCount, TileSide, Tri, sample_at};
+use crate::support::point;
+use cover::{Class, Masks, Setup, quad_masks};
+use grid::{Cull, Point, Quad, SampleCount, TileSide, Tri, sample_at};
 use std::process::Abort;
 
 /// The ends of the guard band.
@@ -12,198 +12,10 @@ const LOW: i32 = -8_388_608;
 
 const HIGH: i32 = 8_388_607;
 
-fn setup(rt: &impl Abort, corners: [(i32, i32); 3]) -> Setup {
-    Setup::new(&triangle(rt, corners), Cull::None).expect(rt, "a triangle with an area")
-}
-
 fn one(plane: u64) -> Masks {
     Masks {
         plane: [plane, 0, 0, 0],
     }
-}
-
-#[test]
-fn leaves_out_flat_and_culled_triangles(rt: HostRuntime) {
-    let (a, b, c) = (
-        point(&rt, (128, 128)),
-        point(&rt, (640, 128)),
-        point(&rt, (128, 640)),
-    );
-    let front = Tri::new(a, b, c);
-    let back = Tri::new(a, c, b);
-    assert!(rt; Setup::new(&Tri::new(a, a, b), Cull::None).is_none());
-    assert!(rt; Setup::new(&front, Cull::None).is_some());
-    assert!(rt; Setup::new(&front, Cull::Front).is_none());
-    assert!(rt; Setup::new(&front, Cull::Back).is_some());
-    assert!(rt; Setup::new(&back, Cull::Front).is_some());
-    assert!(rt; Setup::new(&back, Cull::Back).is_none());
-}
-
-#[test]
-fn bounds_a_triangle(rt: HostRuntime) {
-    let small = setup(&rt, [(128, 128), (640, 128), (128, 640)]);
-    assert_eq!(rt;
-        small.bounds(),
-        PixelBox {
-            x0: 0,
-            y0: 0,
-            x1: 3,
-            y1: 3
-        }
-    );
-    let outside = setup(&rt, [(-512, 0), (-256, 0), (-512, 256)]).bounds();
-    assert_eq!(rt; outside.x0, 0);
-    assert_eq!(rt; outside.x1, 0);
-    let everything = setup(&rt, [(LOW, LOW), (HIGH, LOW), (HIGH, HIGH)]);
-    assert_eq!(rt;
-        everything.bounds(),
-        PixelBox {
-            x0: 0,
-            y0: 0,
-            x1: 4096,
-            y1: 4096
-        }
-    );
-}
-
-#[test]
-fn covers_half_a_block(rt: HostRuntime) {
-    for corners in [
-        [(0, 0), (2048, 0), (0, 2048)],
-        [(0, 0), (0, 2048), (2048, 0)],
-    ] {
-        let half = setup(&rt, corners);
-        assert_eq!(rt;
-            half.masks(0, 0, 0, SampleCount::One),
-            one(0x0001_0307_0F1F_3F7F)
-        );
-        assert_eq!(rt;
-            half.masks(0, 0, 0, SampleCount::Four),
-            Masks {
-                plane: [
-                    0x0103_070F_1F3F_7FFF,
-                    0x0001_0307_0F1F_3F7F,
-                    0x0103_070F_1F3F_7FFF,
-                    0x0001_0307_0F1F_3F7F,
-                ]
-            }
-        );
-        assert_eq!(rt; half.masks(1, 0, 0, SampleCount::One), one(0));
-    }
-}
-
-// The edge from (2016, -100000) to (2016, 100000) runs through sample 1 of column 7.
-#[test]
-fn gives_an_edge_to_its_right_side(rt: HostRuntime) {
-    let left = setup(&rt, [(2016, -100_000), (2016, 100_000), (-100_000, 0)]);
-    assert_eq!(rt;
-        left.masks(0, 0, 0, SampleCount::Four),
-        Masks {
-            plane: [u64::MAX, 0x7F7F_7F7F_7F7F_7F7F, u64::MAX, u64::MAX]
-        }
-    );
-    let right = setup(&rt, [(2016, -100_000), (2016, 100_000), (100_000, 0)]);
-    assert_eq!(rt;
-        right.masks(0, 0, 0, SampleCount::Four),
-        Masks {
-            plane: [0, 0x8080_8080_8080_8080, 0, 0]
-        }
-    );
-}
-
-#[test]
-fn splits_a_square(rt: HostRuntime) {
-    let pair = Pair::new(
-        point(&rt, (640, 128)),
-        point(&rt, (128, 640)),
-        point(&rt, (128, 128)),
-        point(&rt, (640, 640)),
-    )
-    .expect(&rt, "opposite sides");
-    assert_eq!(rt;
-        pair_masks(&pair, 0, 0, 0, SampleCount::One),
-        (one(0x103), one(0x200))
-    );
-    let wide = Pair::new(
-        point(&rt, (2048, 0)),
-        point(&rt, (0, 2048)),
-        point(&rt, (0, 0)),
-        point(&rt, (2048, 2048)),
-    )
-    .expect(&rt, "opposite sides");
-    assert_eq!(rt;
-        pair_masks(&wide, 0, 0, 0, SampleCount::One),
-        (one(0x0001_0307_0F1F_3F7F), one(0xFFFE_FCF8_F0E0_C080))
-    );
-    let widest = Pair::new(
-        point(&rt, (HIGH, LOW)),
-        point(&rt, (LOW, HIGH)),
-        point(&rt, (HIGH, HIGH)),
-        point(&rt, (LOW, LOW)),
-    )
-    .expect(&rt, "opposite sides");
-    assert_eq!(rt;
-        pair_masks(&widest, 0, 0, 0, SampleCount::One),
-        (one(u64::MAX), one(0))
-    );
-}
-
-#[test]
-fn pairs_opposite_sides_alone(rt: HostRuntime) {
-    let (a, b, c, d) = (
-        point(&rt, (0, 0)),
-        point(&rt, (256, 0)),
-        point(&rt, (0, 256)),
-        point(&rt, (256, 256)),
-    );
-    assert!(rt; Pair::new(a, b, c, d).is_none());
-    assert!(rt; Pair::new(a, b, c, point(&rt, (512, 0))).is_none());
-    assert!(rt; Pair::new(a, d, b, c).is_some());
-}
-
-#[test]
-fn classifies_squares(rt: HostRuntime) {
-    let half = setup(&rt, [(0, 0), (16640, 0), (0, 16640)]);
-    for (bx, by, side, one, four) in [
-        (0, 0, TileSide::T64, Class::Mixed, Class::Mixed),
-        (0, 0, TileSide::T32, Class::All, Class::All),
-        (4, 0, TileSide::T32, Class::Mixed, Class::Mixed),
-        (4, 4, TileSide::T32, Class::Out, Class::Mixed),
-    ] {
-        assert_eq!(rt; half.classify(bx, by, side, SampleCount::One), one);
-        assert_eq!(rt; half.classify(bx, by, side, SampleCount::Four), four);
-    }
-    let left = setup(&rt, [(2016, -100_000), (2016, 100_000), (-100_000, 0)]);
-    for (count, class) in [
-        (SampleCount::One, Class::All),
-        (SampleCount::Four, Class::Mixed),
-    ] {
-        assert_eq!(rt; left.classify(0, 0, TileSide::T8, count), class);
-        assert_eq!(rt; left.square(0, 0, TileSide::T8, count).class(), class);
-    }
-    let right = setup(&rt, [(2016, -100_000), (2016, 100_000), (100_000, 0)]);
-    assert_eq!(rt;
-        right.classify(0, 0, TileSide::T8, SampleCount::Four),
-        Class::Mixed
-    );
-}
-
-// The quarters of a square are the squares that stand there.
-#[test]
-fn cuts_squares(rt: HostRuntime) {
-    let half = setup(&rt, [(0, 0), (16640, 0), (0, 16640)]);
-    let whole = half.square(0, 0, TileSide::T64, SampleCount::Four);
-    for q in 0..4u32 {
-        let quarter = whole.quarter(q);
-        assert_eq!(rt; quarter.bx(), 4 * (q % 2));
-        assert_eq!(rt; quarter.by(), 4 * (q / 2));
-        assert_eq!(rt; quarter.side(), TileSide::T32);
-        assert_eq!(rt;
-            quarter.class(),
-            half.classify(4 * (q % 2), 4 * (q / 2), TileSide::T32, SampleCount::Four)
-        );
-    }
-    assert_eq!(rt; whole.quarter(0).class(), Class::All);
 }
 
 /// Each number of samples of a pixel.
@@ -369,41 +181,6 @@ fn agrees_with_the_plain_test(rt: HostRuntime) {
                 compare(&rt, &t, &setup, bx, by);
             }
         }
-    }
-}
-
-fn quad(rt: &impl Abort, corners: [(i32, i32); 4]) -> Quad {
-    let [a, b, c, d] = corners;
-    let made = Quad::new(point(rt, a), point(rt, b), point(rt, c), point(rt, d));
-    made.expect(rt, "strictly convex")
-}
-
-// Corners on four sample positions: the upper and the left edge belong to the quad, the lower and the right one do not.
-#[test]
-fn covers_a_quad_on_samples(rt: HostRuntime) {
-    let whole = quad(&rt, [(128, 128), (640, 128), (640, 640), (128, 640)]);
-    assert_eq!(rt; quad_masks(&whole, 0, 0, 0, SampleCount::One), one(0x303));
-    assert_eq!(rt;
-        quad_masks(&whole.turned(), 0, 0, 0, SampleCount::One),
-        one(0x303)
-    );
-    assert_eq!(rt;
-        quad_masks(&whole.reversed(), 0, 0, 0, SampleCount::One),
-        one(0x303)
-    );
-    assert_eq!(rt; quad_masks(&whole, 1, 0, 0, SampleCount::One), one(0));
-}
-
-#[test]
-fn covers_the_guard_band(rt: HostRuntime) {
-    let everything = quad(&rt, [(LOW, LOW), (HIGH, LOW), (HIGH, HIGH), (LOW, HIGH)]);
-    for (bx, by) in [(0, 0), (511, 0), (0, 511), (511, 511)] {
-        assert_eq!(rt;
-            quad_masks(&everything, bx, by, 0, SampleCount::Four),
-            Masks {
-                plane: [u64::MAX; 4]
-            }
-        );
     }
 }
 

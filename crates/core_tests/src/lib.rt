@@ -1,4 +1,5 @@
-//! Tests of `grid`, `shade`, `cover` and `bins`, through what they make public.
+//! Tests of `grid`, `shade`, `cover` and `bins`, through what they make public. Values that were worked by hand are lines of
+//! `worked_values`.
 #![tactic(auto)]
 
 #[cfg(test)]
@@ -7,8 +8,6 @@ mod coverage;
 mod geometry;
 #[cfg(test)]
 mod rows;
-#[cfg(test)]
-mod shading;
 #[cfg(test)]
 mod support;
 #[cfg(test)]

@@ -133,41 +133,6 @@ fn leaves_out_what_is_not_drawn(rt: HostRuntime) -> Result<(), Fail> {
     Ok(())
 }
 
-#[test]
-fn tiles_a_picture_of_65_by_65(rt: HostRuntime) {
-    let last_starts = [64, 64, 64, 64];
-    let tiles = [81, 25, 9, 4];
-    for number in 0..4 {
-        let tiling = Tiling::new(65, 65, SIDES[number]);
-        let side = SIDES[number].pixels() as i32;
-        assert_eq!(rt; tiling.tiles(), tiles[number]);
-        assert_eq!(rt; tiling.columns() * tiling.rows(), tiles[number]);
-        assert_eq!(rt;
-            tiling.rect(0),
-            PixelBox {
-                x0: 0,
-                y0: 0,
-                x1: side,
-                y1: side
-            }
-        );
-        let start = last_starts[number];
-        let last = PixelBox {
-            x0: start,
-            y0: start,
-            x1: 65,
-            y1: 65,
-        };
-        assert_eq!(rt; tiling.rect(tiling.tiles() - 1), last);
-        assert_eq!(rt; tiling.tile_of(64, 64), Some(tiles[number] - 1));
-        assert_eq!(rt; tiling.tile_of(65, 0), None);
-        assert_eq!(rt;
-            (tiling.width(), tiling.height(), tiling.side()),
-            (65, 65, SIDES[number])
-        );
-    }
-}
-
 /// Triangles that come from a linear congruential generator, in and round a picture of 100 by 70 pixels.
 fn scattered() -> [[(i32, i32); 3]; 24] {
     let mut seed: u32 = 2463534242;

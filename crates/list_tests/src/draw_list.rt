@@ -1,3 +1,4 @@
+//! Lists that are made without a text. Limits of draws and primitives are tested by the program, in tests/acceptance.
 use grid::{Cull, PixelBox, Point, SampleCount};
 use list::{Draw, DrawList, ListFault, Output, Primitives, RowSpan, State, Vertex};
 use shade::{DepthTest, Merge, Sample, Shaded};
@@ -190,48 +191,6 @@ fn keeps_the_limits_of_a_picture(rt: HostRuntime) -> Result<(), Fail> {
     Ok(())
 }
 
-#[test]
-fn keeps_the_limit_of_draws(rt: HostRuntime) -> Result<(), Fail> {
-    let alloc = rt.alloc();
-    for (number, expected) in [(1024, None), (1025, Some(ListFault::PastLimit))] {
-        let mut draws = Vec::new(alloc);
-        for _ in 0..number {
-            draws.push(Draw {
-                state: STATE,
-                vertices: Vec::new(alloc),
-                primitives: Primitives::Triangles(Vec::new(alloc)),
-            })?;
-        }
-        assert_eq!(rt; fault(alloc, 1, 1, draws), expected);
-    }
-    Ok(())
-}
-
-#[test]
-fn keeps_the_limit_of_triangles(rt: HostRuntime) -> Result<(), Fail> {
-    let alloc = rt.alloc();
-    for (number, expected) in [(32_768, None), (32_769, Some(ListFault::PastLimit))] {
-        let mut draws = Vec::new(alloc);
-        for many in [32_768, number] {
-            let mut triangles = Vec::new(alloc);
-            for _ in 0..many {
-                triangles.push([0, 1, 2])?;
-            }
-            draws.push(draw_of(&rt, alloc, CORNER, Primitives::Triangles(triangles))?)?;
-        }
-        assert_eq!(rt; fault(alloc, 1, 1, draws), expected);
-    }
-    Ok(())
-}
-
-#[test]
-fn refuses_a_vertex_that_is_not_there(rt: HostRuntime) -> Result<(), Fail> {
-    let alloc = rt.alloc();
-    let draws = vec![in alloc; draw(&rt, alloc, CORNER, &[3])?]?;
-    assert_eq!(rt; fault(alloc, 1, 1, draws), Some(ListFault::PastLimit));
-    Ok(())
-}
-
 /// The strip of these indices.
 fn strip(alloc: Global, indices: &[u32]) -> Result<Primitives, AllocError> {
     Ok(Primitives::Strip(Vec::from_slice(alloc, indices)?))
@@ -259,38 +218,6 @@ fn turns_every_other_triangle_of_a_strip(rt: HostRuntime) -> Result<(), Fail> {
     assert_eq!(rt; corners_of(2), (512, 0, 0));
     assert_eq!(rt; corners_of(3), (0, 256, 0));
     assert_eq!(rt; corners_of(4), (512, 256, 512));
-    Ok(())
-}
-
-#[test]
-fn has_no_triangle_in_a_short_strip(rt: HostRuntime) -> Result<(), Fail> {
-    let alloc = rt.alloc();
-    for (indices, triangles) in [
-        ([].as_slice(), 0),
-        ([2].as_slice(), 0),
-        ([2, 1].as_slice(), 0),
-        ([2, 1, 0].as_slice(), 1),
-    ] {
-        let draws = vec![in alloc; draw_of(&rt, alloc, CORNER, strip(alloc, indices)?)?]?;
-        assert_eq!(rt; list(&rt, alloc, draws).triangles(), triangles);
-    }
-    Ok(())
-}
-
-#[test]
-fn refuses_a_strip_past_the_limits(rt: HostRuntime) -> Result<(), Fail> {
-    let alloc = rt.alloc();
-    let past = Some(ListFault::PastLimit);
-    let draws = vec![in alloc; draw_of(&rt, alloc, CORNER, strip(alloc, &[3])?)?]?;
-    assert_eq!(rt; fault(alloc, 1, 1, draws), past);
-    for (number, expected) in [(65_538, None), (65_539, past)] {
-        let mut indices = Vec::new(alloc);
-        for _ in 0..number {
-            indices.push(0)?;
-        }
-        let draws = vec![in alloc; draw_of(&rt, alloc, CORNER, Primitives::Strip(indices))?]?;
-        assert_eq!(rt; fault(alloc, 1, 1, draws), expected);
-    }
     Ok(())
 }
 
@@ -329,30 +256,6 @@ fn quad_draw(rt: &impl Abort, alloc: Global, quad: [u32; 4]) -> Result<Draw, All
         vertices,
         primitives: Primitives::Quads(vec![in alloc; quad]?),
     })
-}
-
-#[test]
-fn cuts_a_quad_into_two_triangles(rt: HostRuntime) -> Result<(), Fail> {
-    let alloc = rt.alloc();
-    let draws = vec![in alloc;
-        quad_draw(&rt, alloc, [0, 1, 2, 3])?,
-        quad_draw(&rt, alloc, [3, 2, 1, 0])?,
-    ]?;
-    let list = list(&rt, alloc, draws);
-    assert_eq!(rt; list.triangles(), 4);
-    let corners_of = |number: usize| {
-        let tri = list.triangle(number).tri;
-        (
-            (tri.a.x(), tri.a.y()),
-            (tri.b.x(), tri.b.y()),
-            (tri.c.x(), tri.c.y()),
-        )
-    };
-    assert_eq!(rt; corners_of(0), ((0, 0), (512, 0), (512, 512)));
-    assert_eq!(rt; corners_of(1), ((512, 512), (0, 512), (0, 0)));
-    assert_eq!(rt; corners_of(2), ((0, 512), (512, 512), (512, 0)));
-    assert_eq!(rt; corners_of(3), ((512, 0), (0, 0), (0, 512)));
-    Ok(())
 }
 
 #[test]

@@ -1,8 +1,8 @@
-//! Pictures that `plain` draws, by worked bytes.
+//! Pictures that `plain` draws, by worked bytes. The program's pictures, which are the same by their contracts, have more of them, in
+//! tests/acceptance.
 use grid::{Point, SampleCount};
 use model::{DEFAULT_CLEAR, DEFAULT_STATE, Draw, DrawList, Output, Primitives, State, Vertex};
 use plain::render;
-use shade::DepthTest;
 use std::alloc::Global;
 use std::process::Abort;
 use std::test::Fail;
@@ -120,86 +120,11 @@ fn interpolates_red_at_samples(rt: HostRuntime) -> Result<(), Fail> {
     Ok(())
 }
 
-#[test]
-fn compares_depths(rt: HostRuntime) -> Result<(), Fail> {
-    let white = stored(CORNER, [0, 3, 0]);
-    let mut red = coloured(CORNER, RED);
-    red.depths = [1, 1, 1];
-    red.state.merge.test = DepthTest::Equal;
-    let bytes = picture(&rt, rt.alloc(), 3, SampleCount::One, &[white, red])?;
-    let expected = b"\xFF\xFF\xFF\xFF\0\0\0\0\0\xFF\xFF\xFF\0\0\0\0\0\0\0\0\0\0\0\0\0\0\0";
-    assert_eq!(rt; bytes.as_slice(), expected.as_slice());
-    Ok(())
-}
-
-#[test]
-fn resolves_after_all_triangles(rt: HostRuntime) -> Result<(), Fail> {
-    let white = coloured([(0, 0), (256, 0), (0, 256)], WHITE);
-    let mut red = coloured([(0, 0), (512, 0), (0, 512)], RED);
-    red.state.sample_mask = 1;
-    let bytes = picture(&rt, rt.alloc(), 1, SampleCount::Four, &[white, red])?;
-    assert_eq!(rt; bytes.as_slice(), b"\x80\x40\x40".as_slice());
-    Ok(())
-}
-
-#[test]
-fn repeats_a_triangle(rt: HostRuntime) -> Result<(), Fail> {
-    let mut half = coloured(CORNER, [255, 255, 255, 128]);
-    half.state.merge.over = true;
-    let bytes = picture(&rt, rt.alloc(), 3, SampleCount::One, &[half, half])?;
-    let expected = b"\xC0\xC0\xC0\xC0\xC0\xC0\0\0\0\xC0\xC0\xC0\0\0\0\0\0\0\0\0\0\0\0\0\0\0\0";
-    assert_eq!(rt; bytes.as_slice(), expected.as_slice());
-    Ok(())
-}
-
-#[test]
-fn shows_depths(rt: HostRuntime) -> Result<(), Fail> {
-    let drawn = stored(CORNER, [0, 3, 0]);
-    let bytes = depths(&rt, rt.alloc(), 3, SampleCount::One, &[drawn])?;
-    let expected = b"\0\0\0\x01\xFF\xFF\0\0\xFF\xFF\xFF\xFF\xFF\xFF\xFF\xFF\xFF\xFF";
-    assert_eq!(rt; bytes.as_slice(), expected.as_slice());
-    Ok(())
-}
-
 /// The numerator of the depth at the first sample is 255 * 24576, over 65536: 95.
 #[test]
 fn shows_the_depth_of_the_first_sample(rt: HostRuntime) -> Result<(), Fail> {
     let drawn = stored([(0, 0), (256, 0), (0, 256)], [0, 255, 0]);
     let bytes = depths(&rt, rt.alloc(), 1, SampleCount::Four, &[drawn])?;
     assert_eq!(rt; bytes.as_slice(), b"\0\x5F".as_slice());
-    Ok(())
-}
-
-#[test]
-fn shows_no_depth_of_a_sample_that_is_masked(rt: HostRuntime) -> Result<(), Fail> {
-    let mut drawn = stored([(0, 0), (256, 0), (0, 256)], [0, 255, 0]);
-    drawn.state.sample_mask = 14;
-    let bytes = depths(&rt, rt.alloc(), 1, SampleCount::Four, &[drawn])?;
-    assert_eq!(rt; bytes.as_slice(), b"\xFF\xFF".as_slice());
-    Ok(())
-}
-
-#[test]
-fn shows_no_depth_that_is_not_stored(rt: HostRuntime) -> Result<(), Fail> {
-    let mut drawn = stored(CORNER, [7, 7, 7]);
-    drawn.state.merge.depth_write = false;
-    let bytes = depths(&rt, rt.alloc(), 1, SampleCount::One, &[drawn])?;
-    assert_eq!(rt; bytes.as_slice(), b"\xFF\xFF".as_slice());
-    Ok(())
-}
-
-#[test]
-fn shows_the_clear_depth_without_draws(rt: HostRuntime) -> Result<(), Fail> {
-    let bytes = depths(&rt, rt.alloc(), 1, SampleCount::Four, &[])?;
-    assert_eq!(rt; bytes.as_slice(), b"\xFF\xFF".as_slice());
-    Ok(())
-}
-
-/// 258 is 1 * 256 + 2.
-#[test]
-fn shows_the_more_significant_byte_first(rt: HostRuntime) -> Result<(), Fail> {
-    let drawn = stored(CORNER, [258, 258, 258]);
-    let bytes = depths(&rt, rt.alloc(), 1, SampleCount::One, &[drawn])?;
-    assert_eq!(rt; bytes.as_slice(), b"\x01\x02".as_slice());
     Ok(())
 }

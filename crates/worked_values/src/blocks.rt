@@ -1,0 +1,147 @@
+//! The calls of `cover`, and those of `bins` that need no list.
+ghost use Rattle.std.specs.Prelude.{◌<◌, IfSome, IsTrue};
+ghost use Rattle.cover.specs.Square.{IsCorner};
+ghost use Rattle.grid.specs.Samples.{IsPart};
+
+use crate::answer::{Answer, whole};
+use crate::words::Words;
+use bins::Tiling;
+use cover::{Pair, Setup, pair_masks, quad_masks};
+use grid::{Cull, SampleCount, TileSide};
+
+/// A block of the screen, the first sample of a part, and how many samples a pixel has.
+fn part_of(words: &mut Words<'_>) -> Option<(u32, u32, u32, SampleCount)>
+    ensures { IfSome result (λ it. (it.0 < 512) × (it.1 < 512) × IsPart it.3 it.2) }
+{
+    let (bx, by) = (words.number()?, words.number()?);
+    let (from, count) = (words.number()?, words.samples()?);
+    if bx < 512 && by < 512 && from < 16 && from + count.part_size() <= count.count() {
+        Some((bx, by, from, count))
+    } else {
+        None
+    }
+}
+
+pub(crate) fn is_set_up_of(words: &mut Words<'_>) -> Option<Answer> {
+    let (cull, t) = (words.cull()?, words.triangle()?);
+    Some(Answer::Truth(Setup::new(&t, cull).is_some()))
+}
+
+pub(crate) fn bounds_of(words: &mut Words<'_>) -> Option<Answer> {
+    let setup = Setup::new(&words.triangle()?, Cull::None)?;
+    Some(Answer::Rectangle(setup.bounds()))
+}
+
+pub(crate) fn masks_of(words: &mut Words<'_>) -> Option<Answer> {
+    let setup = Setup::new(&words.triangle()?, Cull::None)?;
+    let (bx, by, from, count) = part_of(words)?;
+    let masks = setup.masks(bx, by, from, count);
+    Some(Answer::Covered(count.part_size(), masks))
+}
+
+pub(crate) fn pair_masks_of(words: &mut Words<'_>) -> Option<Answer> {
+    let (a, b) = (words.point()?, words.point()?);
+    let (c, d) = (words.point()?, words.point()?);
+    let (bx, by, from, count) = part_of(words)?;
+    let Some(pair) = Pair::new(a, b, c, d) else {
+        return Some(Answer::Nothing);
+    };
+    let (first, second) = pair_masks(&pair, bx, by, from, count);
+    Some(Answer::BothCovered(count.part_size(), first, second))
+}
+
+pub(crate) fn quad_masks_of(words: &mut Words<'_>) -> Option<Answer> {
+    let quad = words.quad()??;
+    let (bx, by, from, count) = part_of(words)?;
+    let masks = quad_masks(&quad, bx, by, from, count);
+    Some(Answer::Covered(count.part_size(), masks))
+}
+
+/// Whether a square of this size may begin at this block column or row.
+fn is_corner(side: TileSide, block: u32) -> bool
+    ensures { IsTrue result → IsCorner side block }
+{
+    block < 512 && 8 * block % side.pixels() == 0
+}
+
+pub(crate) fn class_of(words: &mut Words<'_>) -> Option<Answer> {
+    let setup = Setup::new(&words.triangle()?, Cull::None)?;
+    let (bx, by) = (words.number()?, words.number()?);
+    let (side, count) = (words.tile_side()?, words.samples()?);
+    if is_corner(side, bx) && is_corner(side, by) {
+        Some(Answer::Classed(setup.classify(bx, by, side, count)))
+    } else {
+        None
+    }
+}
+
+pub(crate) fn square_of(words: &mut Words<'_>) -> Option<Answer> {
+    let setup = Setup::new(&words.triangle()?, Cull::None)?;
+    let (bx, by) = (words.number()?, words.number()?);
+    let (side, count) = (words.tile_side()?, words.samples()?);
+    if is_corner(side, bx) && is_corner(side, by) {
+        let square = setup.square(bx, by, side, count);
+        Some(Answer::Square(square.bx(), square.by(), square.side(), square.class()))
+    } else {
+        None
+    }
+}
+
+pub(crate) fn quarter_of(words: &mut Words<'_>) -> Option<Answer> {
+    let setup = Setup::new(&words.triangle()?, Cull::None)?;
+    let (bx, by) = (words.number()?, words.number()?);
+    let (side, count) = (words.tile_side()?, words.samples()?);
+    let q = words.number()?;
+    if is_corner(side, bx) && is_corner(side, by) && side.pixels() > 8 && q < 4 {
+        let quarter = setup.square(bx, by, side, count).quarter(q);
+        Some(Answer::Square(quarter.bx(), quarter.by(), quarter.side(), quarter.class()))
+    } else {
+        None
+    }
+}
+
+fn tiling(words: &mut Words<'_>) -> Option<Tiling> {
+    let (width, height) = (words.number()?, words.number()?);
+    let side = words.tile_side()?;
+    if 1 <= width && width <= 4096 && 1 <= height && height <= 4096 {
+        Some(Tiling::new(width, height, side))
+    } else {
+        None
+    }
+}
+
+pub(crate) fn tiles_of(words: &mut Words<'_>) -> Option<Answer> {
+    Some(whole(tiling(words)?.tiles()))
+}
+
+pub(crate) fn columns_and_rows_of(words: &mut Words<'_>) -> Option<Answer> {
+    let tiling = tiling(words)?;
+    Some(Answer::Place(i64::from(tiling.columns()), i64::from(tiling.rows())))
+}
+
+pub(crate) fn size_of(words: &mut Words<'_>) -> Option<Answer> {
+    let tiling = tiling(words)?;
+    Some(Answer::Place(i64::from(tiling.width()), i64::from(tiling.height())))
+}
+
+pub(crate) fn side_of(words: &mut Words<'_>) -> Option<Answer> {
+    Some(whole(tiling(words)?.side().pixels()))
+}
+
+pub(crate) fn tile_rectangle_of(words: &mut Words<'_>) -> Option<Answer> {
+    let tiling = tiling(words)?;
+    let k = words.number()?;
+    if k < tiling.tiles() {
+        Some(Answer::Rectangle(tiling.rect(k)))
+    } else {
+        None
+    }
+}
+
+pub(crate) fn tile_at_of(words: &mut Words<'_>) -> Option<Answer> {
+    let tiling = tiling(words)?;
+    Some(match tiling.tile_of(words.number()?, words.number()?) {
+        Some(k) => whole(k),
+        None => Answer::Nothing,
+    })
+}

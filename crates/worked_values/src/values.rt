@@ -1,0 +1,85 @@
+//! The calls of `shade`.
+use crate::answer::{Answer, whole};
+use crate::words::Words;
+use shade::{MAX_SAMPLES, Merge, Sample, Weights, apply, floor_at, over, passes, resolved_colour};
+
+pub(crate) fn value_of(words: &mut Words<'_>) -> Option<Answer> {
+    let (t, p) = (words.triangle()?, words.point()?);
+    let v = [words.value()?, words.value()?, words.value()?];
+    Some(if t.covers(p) {
+        whole(u32::from(floor_at(&t, p, v)))
+    } else {
+        Answer::Nothing
+    })
+}
+
+pub(crate) fn weighted_of(words: &mut Words<'_>) -> Option<Answer> {
+    let (t, p) = (words.triangle()?, words.point()?);
+    let v = [words.value()?, words.value()?, words.value()?];
+    Some(if t.covers(p) {
+        whole(u32::from(Weights::at(&t, p).value(v)))
+    } else {
+        Answer::Nothing
+    })
+}
+
+pub(crate) fn channel_of(words: &mut Words<'_>) -> Option<Answer> {
+    let (t, p) = (words.triangle()?, words.point()?);
+    let v = [words.byte()?, words.byte()?, words.byte()?];
+    Some(if t.covers(p) {
+        whole(u32::from(Weights::at(&t, p).channel(v)))
+    } else {
+        Answer::Nothing
+    })
+}
+
+pub(crate) fn passes_of(words: &mut Words<'_>) -> Option<Answer> {
+    let (test, new, old) = (words.depth_test()?, words.value()?, words.value()?);
+    Some(Answer::Truth(passes(test, new, old)))
+}
+
+pub(crate) fn over_of(words: &mut Words<'_>) -> Option<Answer> {
+    let (s, a, d) = (words.byte()?, words.byte()?, words.byte()?);
+    Some(whole(u32::from(over(s, a, d))))
+}
+
+/// The mean of a channel of so many samples: of red, beside which the others are the same at each sample.
+pub(crate) fn mean_of(words: &mut Words<'_>) -> Option<Answer> {
+    let count = words.samples()?;
+    let mut samples = [Sample {
+        r: 0,
+        g: 0,
+        b: 255,
+        z: 0,
+    }; MAX_SAMPLES];
+    for s in 0..count.count() {
+        samples[s as usize].r = words.byte()?;
+    }
+    match resolved_colour(&samples, count) {
+        [mean, 0, 255] => Some(whole(u32::from(mean))),
+        _ => None,
+    }
+}
+
+/// The colour of a pixel by its first sample and by what all others are.
+pub(crate) fn resolved_of(words: &mut Words<'_>) -> Option<Answer> {
+    let count = words.samples()?;
+    let first = words.sample()?;
+    let mut samples = [words.sample()?; MAX_SAMPLES];
+    samples[0] = first;
+    let [r, g, b] = resolved_colour(&samples, count);
+    Some(Answer::Colour(r, g, b))
+}
+
+pub(crate) fn apply_of(words: &mut Words<'_>) -> Option<Answer> {
+    let (test, depth_write, over) = (words.depth_test()?, words.truth()?, words.truth()?);
+    let write = [words.truth()?, words.truth()?, words.truth()?];
+    let merge = Merge {
+        test,
+        depth_write,
+        write,
+        over,
+    };
+    let new = words.shaded()?;
+    Some(Answer::Stored(apply(&merge, &new, words.sample()?)))
+}
