@@ -2,6 +2,7 @@
 //
 //     canvas scene FILE ROUNDS      microseconds of clearing, of drawing and of resolving a scene, and of trirast_draw_scene on it
 //     canvas batches SIDE ROUNDS    nanoseconds of each of 10,000 batches of two triangles of 8 pixels, by colours and by ids
+//     canvas samples FILE ROUNDS N  microseconds of clearing and drawing a scene on a canvas of N samples a pixel
 //
 // A FILE is three counts, the members of a trirast_scene_head but the first, and the arrays of a batch, as 32-bit integers.
 #define _POSIX_C_SOURCE 200809L
@@ -53,16 +54,26 @@ static uint32_t *integers_of(const char *path) {
     return integers;
 }
 
+// The draws of a scene are between its head and its vertices.
+static trirast_batch_draw *draws_of(uint32_t *integers) {
+    return (trirast_batch_draw *)(integers + 2 + sizeof(trirast_scene_head) / sizeof *integers);
+}
+
+static trirast_batch batch_of(uint32_t *integers, trirast_scene_head *head) {
+    trirast_batch batch = TRIRAST_BATCH_INIT;
+    memcpy((uint32_t *)head + 1, integers + 3, sizeof *head - sizeof head->struct_size);
+    batch.draw_count = integers[0], batch.vertex_count = integers[1], batch.index_count = integers[2];
+    batch.draws = draws_of(integers);
+    batch.vertices = (const trirast_vertex *)(batch.draws + batch.draw_count);
+    batch.indices = (const uint32_t *)(batch.vertices + batch.vertex_count);
+    return batch;
+}
+
 static void time_scene(const char *path, int rounds) {
     uint32_t *integers = integers_of(path);
     trirast_scene_head head = TRIRAST_SCENE_HEAD_INIT;
-    trirast_batch batch = TRIRAST_BATCH_INIT;
+    trirast_batch batch = batch_of(integers, &head);
     trirast_error error;
-    memcpy((uint32_t *)&head + 1, integers + 3, sizeof head - sizeof head.struct_size);
-    batch.draw_count = integers[0], batch.vertex_count = integers[1], batch.index_count = integers[2];
-    batch.draws = (const trirast_batch_draw *)(integers + 2 + sizeof head / sizeof *integers);
-    batch.vertices = (const trirast_vertex *)(batch.draws + batch.draw_count);
-    batch.indices = (const uint32_t *)(batch.vertices + batch.vertex_count);
     trirast_canvas canvas = new_canvas(head.width, head.height, head.samples);
     const uint8_t color[3] = {(uint8_t)head.clear_red, (uint8_t)head.clear_green, (uint8_t)head.clear_blue};
     size_t size = (size_t)head.width * head.height * 3;
@@ -86,6 +97,26 @@ static void time_scene(const char *path, int rounds) {
     must(!memcmp(file + length, pixels, size), "other pixels");
     printf("%.0f %.0f %.0f %.0f\n", least[0] / 1e3, least[1] / 1e3, least[2] / 1e3, least[3] / 1e3);
     free(integers), free(pixels), free(file), free(canvas.memory);
+}
+
+// Draws every sample of a pixel, also where a list, which has four at most, draws those four.
+static void time_samples(const char *path, int rounds, uint32_t samples) {
+    uint32_t *integers = integers_of(path);
+    trirast_scene_head head = TRIRAST_SCENE_HEAD_INIT;
+    trirast_batch batch = batch_of(integers, &head);
+    trirast_error error;
+    for (uint32_t k = 0; k < integers[0]; k++) draws_of(integers)[k].sample_mask = 65535;
+    trirast_canvas canvas = new_canvas(head.width, head.height, samples);
+    const uint8_t color[3] = {(uint8_t)head.clear_red, (uint8_t)head.clear_green, (uint8_t)head.clear_blue};
+    double least = 1e18;
+    for (int k = 0; k < rounds; k++) {
+        double begun = now();
+        must(!trirast_canvas_clear(&canvas, color, (uint16_t)head.clear_depth), "clear");
+        must(!trirast_canvas_draw(&canvas, &batch, &error), "draw");
+        keep_least(&least, begun);
+    }
+    printf("%.0f\n", least / 1e3);
+    free(integers), free(canvas.memory);
 }
 
 // ---- Batches
@@ -126,10 +157,12 @@ static void time_batches(uint32_t side, int rounds) {
 }
 
 int main(int count, char **arguments) {
-    must(count == 4, "canvas scene FILE ROUNDS, or canvas batches SIDE ROUNDS");
+    must(count == 4 || count == 5, "canvas scene FILE ROUNDS, canvas batches SIDE ROUNDS, or canvas samples FILE ROUNDS N");
     int rounds = atoi(arguments[3]);
     if (!strcmp(arguments[1], "scene"))
         time_scene(arguments[2], rounds);
+    else if (!strcmp(arguments[1], "samples") && count == 5)
+        time_samples(arguments[2], rounds, (uint32_t)strtoul(arguments[4], NULL, 10));
     else
         time_batches((uint32_t)strtoul(arguments[2], NULL, 10), rounds);
     return 0;

@@ -1,12 +1,14 @@
-"""Times canvases on the scenes of bench/scenes.py, and prints four tables.
+"""Times canvases on the scenes of bench/scenes.py, and prints five tables.
 
-    python3 -m bench.canvas [--runs 5] [--scenes tiny mesh ..] [--tables parts batches frames scattered] [--threads 1 4] [--small-pages]
+    python3 -m bench.canvas [--runs 5] [--scenes tiny mesh ..] [--tables parts batches samples ..] [--threads 1 4] [--small-pages]
 
 Needs `make library` and gcc.
 
 parts: the least time of clearing, of drawing and of resolving each scene on a canvas, and of trirast_draw_scene, which does all three,
 by processor time on one thread; the ways take turns. Every pixel is compared.
 batches: the processor time of a batch of two triangles of 8 pixels, of 10,000.
+samples: the instructions of a sample with 2, 8 and 16 samples a pixel by those of one with four, and its time so; clear and draw.
+Instructions need valgrind.
 frames: the processor time of a frame by examples/cpp/frames.cpp, one batch, beside one by crates/frames. Needs `make frames` and g++.
 scattered: the same of scenes of scattered triangles, cut into batches of fewer triangles, on one thread.
 
@@ -19,6 +21,7 @@ import argparse
 import ctypes
 import json
 import os
+import shutil
 import subprocess
 import sys
 from typing import Callable, Sequence
@@ -32,7 +35,7 @@ SCENES = tuple(name for name in run.SCENES if name not in run.REFUSED)
 SIDES = (1024, 4096)
 PROGRAM = os.path.join(BENCH_OUT, "canvas")
 FRAMES_EXAMPLE = os.path.join(BENCH_OUT, "canvas_frames")
-TABLES = ("parts", "batches", "frames", "scattered")
+TABLES = ("parts", "batches", "samples", "frames", "scattered")
 # The time of a frame is that of further frames by their number, so that reading the list does not count. The least number of these,
 # and the seconds that they take at least.
 FRAMES = 6
@@ -40,6 +43,9 @@ ENOUGH_SECONDS = 0.5
 # A frame of fewer seconds is lost in what a process takes.
 LEAST = 0.0005
 SCATTERED = ("small", "slivers")
+# Scenes that are drawn with each number of samples a pixel, and these numbers beside four.
+SAMPLED = ("smooth", "mesh", "flat", "small", "dust")
+COUNTS = (1, 2, 8, 16)
 BATCH_SIZES = (1, 16, 64, 256, 1024, 4096)
 
 
@@ -84,6 +90,35 @@ def print_batches(rounds: int) -> None:
     for side in SIDES:
         cells = [f"{time / 1000:.2f}" for time in timed("batches", str(side), str(rounds))]
         print(f"| {side} by {side} | {' | '.join(cells)} |", flush=True)
+
+
+def instructions(path: str, count: int) -> int:
+    """What one more draw takes, by callgrind."""
+
+    def of_draws(draws: int) -> int:
+        command = ["valgrind", "--tool=callgrind", "--callgrind-out-file=/dev/null", PROGRAM, "samples", path, str(draws), str(count)]
+        done = subprocess.run(command, check=True, capture_output=True, text=True)
+        return int(done.stderr.rsplit("Collected :", 1)[1].split()[0])
+
+    return of_draws(2) - of_draws(1)
+
+
+def print_samples(rounds: int) -> None:
+    has_valgrind = shutil.which("valgrind") is not None
+    what = "instructions, and time" if has_valgrind else "time"
+    print(f"\nA sample by a sample of four a pixel: {what}.\n")
+    print(f"| scene | {' | '.join(f'{count} samples' for count in COUNTS)} |\n{'|---' * (len(COUNTS) + 1)}|")
+    for name in SAMPLED:
+        path = arrays_path(name)
+        least = {count: float("inf") for count in (4, *COUNTS)}
+        for _ in range(rounds):
+            for count in least:
+                least[count] = min(least[count], timed("samples", path, "3", str(count))[0] / count)
+        each = [least]
+        if has_valgrind:
+            each.insert(0, {count: instructions(path, count) / count for count in least})
+        cells = [", ".join(f"{by[count] / by[4]:.2f}" for by in each) for count in COUNTS]
+        print(f"| {name} | {' | '.join(cells)} |", flush=True)
 
 
 # ---- Frames beside crates/frames
@@ -159,7 +194,7 @@ def refuse_large_pages() -> None:
 
 def print_tables(options: argparse.Namespace) -> bool:
     """Prints the tables that are asked for. Returns whether their programs could be built."""
-    if "parts" in options.tables or "batches" in options.tables:
+    if {"parts", "batches", "samples"} & set(options.tables):
         if not built():
             return False
         print(f"Least of {options.runs} rounds, one thread, milliseconds of processor time.\n")
@@ -167,6 +202,8 @@ def print_tables(options: argparse.Namespace) -> bool:
             print_scenes(list(options.scenes), options.runs)
         if "batches" in options.tables:
             print_batches(options.runs)
+        if "samples" in options.tables:
+            print_samples(options.runs)
     if "frames" in options.tables or "scattered" in options.tables:
         if not built_frames():
             return False
@@ -191,7 +228,8 @@ def main() -> int:
     if not os.path.isfile(STATIC_LIBRARY):
         print(f"there is no library at {STATIC_LIBRARY}; run make library first", file=sys.stderr)
         return 1
-    scenes.write_all([*options.scenes, *(SCATTERED if "scattered" in options.tables else ())])
+    more = {"scattered": SCATTERED, "samples": SAMPLED}
+    scenes.write_all([*options.scenes, *(name for table in options.tables for name in more.get(table, ()))])
     print(f"Machine: {run.processor_name()}, {os.cpu_count()} processors; load before the run {run.load()}.")
     if not print_tables(options):
         return 1

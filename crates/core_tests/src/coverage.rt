@@ -83,14 +83,14 @@ fn compare_part(
     let plain = plain_masks(t, bx, by, from, count);
     assert_eq!(rt; setup.masks(bx, by, from, count), plain, "block {bx}, {by}");
     let block = setup.square(bx, by, TileSide::T8, count);
-    assert_eq!(rt; block.masks(from), plain, "square {bx}, {by}");
+    assert_eq!(rt; block.masks::<0>(from), plain, "square {bx}, {by}");
     let class = setup.classify(bx, by, TileSide::T8, count);
     let (bx16, by16) = (bx / 2 * 2, by / 2 * 2);
     let around = setup.square(bx16, by16, TileSide::T16, count);
     let quarter = around.quarter(bx % 2 + by % 2 * 2);
     assert_eq!(rt; (quarter.bx(), quarter.by()), (bx, by));
     assert_eq!(rt; quarter.class(), class, "quarter {bx}, {by}");
-    assert_eq!(rt; quarter.masks(from), plain, "quarter {bx}, {by}");
+    assert_eq!(rt; quarter.masks::<0>(from), plain, "quarter {bx}, {by}");
     match class {
         Class::Out => assert_eq!(rt; plain, one(0), "block {bx}, {by}"),
         Class::All => assert_eq!(rt; plain, full_masks(count), "block {bx}, {by}"),

@@ -168,20 +168,6 @@ module _ (P : ℕ → ℕ → ℕ → Type 0) (count : SampleCount) (from a b c 
   pub four_words : AreWordsWhere P count from (a ∷ b ∷ c ∷ d ∷ [])
   four_words = record { exact = λ s row column lt. (word_at s).some lt row column; empty = λ s. (word_at s).none }
 
--- all samples of four are in one part
-pub words_of_four : (P : ℕ → ℕ → ℕ → Type 0) (count : SampleCount) (from a b c d : ℕ) → count ≡ Four → IsPart count from
-    → ((row column : ℕ) → row < 8 → column < 8 → (IsBitSet a (8 * row + column) ↔ P 0 row column)) → ((row column : ℕ) → row < 8 → column < 8 → (IsBitSet b (8 * row + column) ↔ P 1 row column))
-    → ((row column : ℕ) → row < 8 → column < 8 → (IsBitSet c (8 * row + column) ↔ P 2 row column)) → ((row column : ℕ) → row < 8 → column < 8 → (IsBitSet d (8 * row + column) ↔ P 3 row column))
-    → AreWordsWhere P count from (a ∷ b ∷ c ∷ d ∷ [])
-words_of_four P count from a b c d is part first second third fourth =
-    let all : count_of count ≡ 4 = ap count_of is in
-    let size : part_size count ≡ 4 = ap part_size is in
-    let zero_from : from ≡ 0 = omega (arith, part, all, size) in
-    let no : (s : ℕ) (w : ℕ) → s < 4 → part_size count ≤ s → w ≡ 0 = λ s w l le. absurd (omega (arith, size, l, le)) in
-    subst (λ f. AreWordsWhere P count f (a ∷ b ∷ c ∷ d ∷ [])) (sym zero_from)
-    (four_words P count 0 a b c d (record { some = λ _. first; none = no 0 a (omega arith) }) (record { some = λ _. second; none = no 1 b (omega arith) })
-    (record { some = λ _. third; none = no 2 c (omega arith) }) (record { some = λ _. fourth; none = no 3 d (omega arith) }))
-
 -- ---- edges joined
 pub both_exact : {P Q : ℕ → ℕ → ℕ → Type 0} (count : SampleCount) (from : ℕ) (m n r : Masks) → AreMasksWhere P count from m → AreMasksWhere Q count from n
     → ((s : ℕ) → slice_index r.plane s ≡ bit_and (slice_index m.plane s) (slice_index n.plane s)) → AreMasksWhere (λ s row column. P s row column × Q s row column) count from r

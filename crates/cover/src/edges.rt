@@ -99,10 +99,11 @@ impl Edges {
             || self.ca.passes_none(at.ca, reach)
     }
 
-    /// The samples of a block, from sample `from` of a pixel on, at which none of the functions is negative. They are `at` at the first position of the box round the
-    /// block's samples.
+    /// The samples of a block, from sample `from` of a pixel on, at which none of the functions is negative. They are `at` at the
+    /// first position of the box round the block's samples. Each `N` has code of its own, which is large, and so is in line only
+    /// where it is called from one place.
     #[inline(always)]
-    pub(crate) fn masks(&self, at: &Values, from: u32, count: SampleCount) -> Masks
+    pub(crate) fn masks<const N: u32>(&self, at: &Values, from: u32, count: SampleCount) -> Masks
         requires at { AreScreenBounded at.now }
         requires part { IsPart count from }
         ensures { AreMasksWhere (λ s row column. IsInsideAfter self.now at.now (to_column count s column) (to_row count s row)) count from result }

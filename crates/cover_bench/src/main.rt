@@ -133,7 +133,7 @@ fn masks_of_quarters(square: &Square, start: u64) -> u64
     for q in 0..4u32 {
         let block = square.quarter(q);
         if block.class() == Class::Mixed {
-            sum = joined(sum, &block.masks(0), block.bx(), block.by());
+            sum = joined(sum, &block.masks::<0>(0), block.bx(), block.by());
         }
     }
     sum

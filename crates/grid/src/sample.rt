@@ -6,8 +6,7 @@ use crate::point::Point;
 use crate::sample_count::SampleCount;
 
 /// How far right of a pixel's upper left corner and below it sample `s` of two lies.
-#[cold]
-#[inline(never)]
+#[inline(always)]
 fn offset_of_two(s: u32) -> (u32, u32)
     requires { s < 2 }
     ensures right { result.0 ≡ slice_index (offsets_x Two) s }
@@ -39,8 +38,7 @@ fn offset_of_four(s: u32) -> (u32, u32)
 }
 
 /// How far right of a pixel's upper left corner and below it sample `s` of eight lies.
-#[cold]
-#[inline(never)]
+#[inline(always)]
 fn offset_of_eight(s: u32) -> (u32, u32)
     requires { s < 8 }
     ensures right { result.0 ≡ slice_index (offsets_x Eight) s }
@@ -62,8 +60,7 @@ fn offset_of_eight(s: u32) -> (u32, u32)
 
 /// How far right of a pixel's upper left corner and below it sample `s` of sixteen lies. Sample 12 lies on the left border of the
 /// pixel, and sample 15 on the upper one.
-#[cold]
-#[inline(never)]
+#[inline(always)]
 fn offset_of_sixteen(s: u32) -> (u32, u32)
     requires { s < 16 }
     ensures right { result.0 ≡ slice_index (offsets_x Sixteen) s }

@@ -168,6 +168,23 @@ fn draw_planes(
     }
 }
 
+/// The same, not in line: few draws leave channels as they are.
+#[inline(never)]
+fn draw_some_channels(
+    merge: &Merge,
+    depth: &DepthSource<'_>,
+    colour: &ColourSource<'_>,
+    mask: &BlockMask,
+    samples: &mut [BlockSamples],
+    corrections: &mut Corrections,
+)
+    requires { length samples.old ≡ part_size mask.now.count }
+    ensures drawn { (t : Triangle) → AreSourcesOf t merge.now depth.now colour.now → CoversBlock t mask.now → IsBlockDrawn t mask.now samples.old samples.new }
+    ensures samples { length samples.new ≡ length samples.old }
+{
+    draw_planes(merge, depth, colour, mask, samples, corrections);
+}
+
 /// Whether a merge writes all three channels.
 #[inline(always)]
 fn writes_all(merge: &Merge) -> bool
@@ -273,6 +290,7 @@ fn draw_by_sources<const OVER: bool>(
 }
 
 /// The same with code of its own for a merge that writes all channels: blended over the stored ones, or not.
+#[inline(always)]
 fn draw_by_merge(
     merge: &Merge,
     depth: &DepthSource<'_>,
@@ -286,7 +304,7 @@ fn draw_by_merge(
     ensures samples { length samples.new ≡ length samples.old }
 {
     if !writes_all(merge) {
-        draw_planes(merge, depth, colour, mask, samples, corrections);
+        draw_some_channels(merge, depth, colour, mask, samples, corrections);
     } else if merge.over {
         draw_by_sources::<true>(merge, depth, colour, mask, samples, corrections);
     } else {
@@ -297,6 +315,7 @@ fn draw_by_merge(
 impl Interpolants {
     /// Draws the triangle at the samples of a block that are in the mask, each of which it covers. `samples` holds those of the
     /// block, sample index by sample index. Corrections are counted.
+    #[inline(always)]
     pub fn draw(
         &self,
         mask: &BlockMask,

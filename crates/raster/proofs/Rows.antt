@@ -1,5 +1,5 @@
 -- The blocks of a region, row by row.
-use Rattle.std.proofs.Common.{◌≡◌, ◌⊎◌, inl, inr, zero, suc, ℕ, ◌+◌, ◌-◌, ◌*◌, ◌<◌, ◌≤◌, List, [], ◌∷◌, IsBitSet, slice_index, ℤ, ◌≤ℤ◌, ◌<ℤ◌, FitsSigned, to_z, of_z, w32, arith}
+use Rattle.std.proofs.Common.{◌≡◌, refl, ◌⊎◌, inl, inr, zero, suc, ℕ, ◌+◌, ◌-◌, ◌*◌, ◌<◌, ◌≤◌, List, [], ◌∷◌, IsBitSet, slice_index, ℤ, ◌≤ℤ◌, ◌<ℤ◌, FitsSigned, to_z, of_z, w32, arith}
 use Rattle.std.proofs.lemmas.Int.{ints, clamps}
 use Rattle.std.specs.Int.{int_min, int_max}
 use Rattle.std.proofs.lemmas.Bool.{cases_lt}
@@ -21,14 +21,13 @@ use Rattle.raster.specs.declared.tile.Tile.{Tile}
 use Rattle.raster.specs.declared.region.Region.{Region}
 use Rattle.raster.specs.Region.{IsRegionIn, IsInRegion, HoldsCommon, HoldsTile}
 use Rattle.raster.specs.Samples.{IsSampleOf}
-use Rattle.raster.specs.Drawing.{DrawsPart, DrawsTile, DrawsAt, IsInPart, IsOfPart, IsInSquarePart, CoversNoneOf, LiesIn, ArePlanesOf, square_of, block_of}
+use Rattle.raster.specs.Drawing.{DrawsPart, DrawsTile, DrawsAt, IsInSquare, IsInSquarePart, CoversNoneOf, LiesIn, ArePlanesOf, square_of, block_of}
 use Rattle.raster.proofs.BlockDrawn.{part_at_most}
 use Rattle.raster.proofs.Bits.{is_set}
 use Rattle.raster.proofs.Parts.{missed_part, joined, same_part}
 
--- the sample is of the part, and the pixel in the region, in a row of blocks before by, or in that row and before the column bx
-pub record IsScannedBefore (tile : Tile) (r : Region) (from by bx : ℕ) (row column s : ℕ) : Type 0 where
-  pub samples : IsInPart tile.count from s
+-- the pixel is in the region, in a row of blocks before by, or in that row and before the column bx
+pub record IsScannedBefore (tile : Tile) (r : Region) (by bx : ℕ) (row column s : ℕ) : Type 0 where
   pub region : IsInRegion tile r row column
   pub before : (8 * tile.by + row < 8 * by) ⊎ ((8 * tile.by + row < 8 * by + 8) × (8 * tile.bx + column < 8 * bx))
 
@@ -72,60 +71,55 @@ all_covered t bx by count from part covered s h row column high wide =
     let few = part_at_most count in
     (λ is. covered (from + s) row column (omega (arith, h, part)) high wide, λ c. all_set s (8 * row + column) (omega (arith, few.1, h)) (omega arith))
 
-module _ (t : Placed) (tile : Tile) (first : ℕ) (r : Region) (within : IsRegionIn tile r) where
+module _ (t : Placed) (tile : Tile) (r : Region) (within : IsRegionIn tile r) where
   -- one block more
-  module _ (by bx : ℕ) (a b c : List BlockSamples) (begun : DrawsPart t tile (IsScannedBefore tile r first by bx) a b) (block : DrawsPart t tile (IsInSquarePart tile bx by 8 first) b c)
+  module _ (by bx : ℕ) (a b c : List BlockSamples) (begun : DrawsPart t tile (IsScannedBefore tile r by bx) a b) (block : DrawsPart t tile (IsInSquare tile bx by 8) b c)
       (from : r.left ≤ bx) (to : bx < r.right) (above : r.top ≤ by) (below : by < r.bottom) where
-    from_block : (row column s : ℕ) → IsSampleOf tile row column s → IsScannedBefore tile r first by (bx + 1) row column s → IsScannedBefore tile r first by bx row column s ⊎ IsInSquarePart tile bx by 8 first row column s
+    from_block : (row column s : ℕ) → IsSampleOf tile row column s → IsScannedBefore tile r by (bx + 1) row column s → IsScannedBefore tile r by bx row column s ⊎ IsInSquare tile bx by 8 row column s
     from_block row column s h p =
         elim p.before [
-          | inl over ↦ inl (record { samples = p.samples; region = p.region; before = inl over })
+          | inl over ↦ inl (record { region = p.region; before = inl over })
           | inr beside ↦
               elim (cases_lt (8 * tile.by + row) (8 * by)) [
-                | inl over ↦ inl (record { samples = p.samples; region = p.region; before = inl over })
+                | inl over ↦ inl (record { region = p.region; before = inl over })
                 | inr under ↦
                     elim (cases_lt (8 * tile.bx + column) (8 * bx)) [
-                      | inl less ↦ inl (record { samples = p.samples; region = p.region; before = inr (beside.0, less) })
-                      | inr more ↦ inr (record { square = record { left = more; right = omega (arith, beside.1); top = under; bottom = beside.0 }; samples = p.samples })
+                      | inl less ↦ inl (record { region = p.region; before = inr (beside.0, less) })
+                      | inr more ↦ inr (record { left = more; right = omega (arith, beside.1); top = under; bottom = beside.0 })
                     ]
               ]
         ]
 
-    into_blocks : (row column s : ℕ) → IsSampleOf tile row column s → IsScannedBefore tile r first by bx row column s ⊎ IsInSquarePart tile bx by 8 first row column s → IsScannedBefore tile r first by (bx + 1) row column s
+    into_blocks : (row column s : ℕ) → IsSampleOf tile row column s → IsScannedBefore tile r by bx row column s ⊎ IsInSquare tile bx by 8 row column s → IsScannedBefore tile r by (bx + 1) row column s
     into_blocks row column s h (inl p) =
         record {
-          samples = p.samples;
           region = p.region;
           before = elim p.before [
             | inl over ↦ inl over
             | inr beside ↦ inr (beside.0, omega (arith, beside.1))
           ];
         }
-    into_blocks row column s h (inr p) =
-        let i = p.square in
+    into_blocks row column s h (inr i) =
         record {
-          samples = p.samples;
           region = record { left = omega (arith, i.left, from); right = omega (arith, i.right, to); top = omega (arith, i.top, above); bottom = omega (arith, i.bottom, below) };
           before = inr (i.bottom, omega (arith, i.right));
         }
 
-    apart : (row column s : ℕ) → IsSampleOf tile row column s → IsScannedBefore tile r first by bx row column s → IsInSquarePart tile bx by 8 first row column s → ⊥
-    apart row column s h p q =
-        let i = q.square in
+    apart : (row column s : ℕ) → IsSampleOf tile row column s → IsScannedBefore tile r by bx row column s → IsInSquare tile bx by 8 row column s → ⊥
+    apart row column s h p i =
         elim p.before [
           | inl over ↦ omega (arith, over, i.top)
           | inr beside ↦ omega (arith, beside.1, i.left)
         ]
 
-    pub one_more : DrawsPart t tile (IsScannedBefore tile r first by (bx + 1)) a c
+    pub one_more : DrawsPart t tile (IsScannedBefore tile r by (bx + 1)) a c
     one_more = joined t tile _ _ _ a b c begun block apart from_block into_blocks
 
   -- the next row of blocks
-  pub next_row : (by bx : ℕ) (a b : List BlockSamples) → r.right ≤ bx → DrawsPart t tile (IsScannedBefore tile r first by bx) a b → DrawsPart t tile (IsScannedBefore tile r first (by + 1) r.left) a b
+  pub next_row : (by bx : ℕ) (a b : List BlockSamples) → r.right ≤ bx → DrawsPart t tile (IsScannedBefore tile r by bx) a b → DrawsPart t tile (IsScannedBefore tile r (by + 1) r.left) a b
   next_row by bx a b end begun =
       same_part t tile _ _ a b begun
       (λ row column s h p. record {
-        samples = p.samples;
         region = p.region;
         before = let region = p.region in elim p.before [
           | inl over ↦ inr (omega (arith, over), omega (arith, region.right, end))
@@ -133,7 +127,6 @@ module _ (t : Placed) (tile : Tile) (first : ℕ) (r : Region) (within : IsRegio
         ];
       })
       (λ row column s h p. record {
-        samples = p.samples;
         region = p.region;
         before = elim p.before [
           | inl over ↦ inl (omega (arith, over))
@@ -145,17 +138,17 @@ module _ (t : Placed) (tile : Tile) (first : ℕ) (r : Region) (within : IsRegio
   module _ (bounds : PixelBox) (covering : HoldsCovered t.tri bounds) (holds : HoldsCommon tile bounds t.state.scissor r) where
     module _ (by bx : ℕ) (end : r.bottom ≤ by) (row column s : ℕ) (h : IsSampleOf tile row column s) where
       -- a sample that is met
-      met_before : IsInPart tile.count first s → Meets t tile.count (8 * tile.bx + column) (8 * tile.by + row) s → IsScannedBefore tile r first by bx row column s
-      met_before part m =
+      met_before : Meets t tile.count (8 * tile.bx + column) (8 * tile.by + row) s → IsScannedBefore tile r by bx row column s
+      met_before m =
           let across = corner_on_screen tile.side tile.bx tile.column in
           let down = corner_on_screen tile.side tile.by tile.row in
           let in_bounds = covering tile.count (8 * tile.bx + column) (8 * tile.by + row) s (omega (arith, across, h.wide)) (omega (arith, down, h.high)) h.is_sample m.covered in
           let region = holds row column h.high h.wide in_bounds m.in_scissor in
-          record { samples = part; region = region; before = inl (omega (arith, region.bottom, end)) }
+          record { region = region; before = inl (omega (arith, region.bottom, end)) }
 
       -- a sample is in the region or not
-      decided : IsInPart tile.count first s → IsScannedBefore tile r first by bx row column s ⊎ ¬ IsScannedBefore tile r first by bx row column s
-      decided part =
+      decided : IsScannedBefore tile r by bx row column s ⊎ ¬ IsScannedBefore tile r by bx row column s
+      decided =
           elim (cases_lt (8 * tile.bx + column) (8 * r.left)) [
             | inl less ↦ inr (λ p. let region = p.region in omega (arith, region.left, less))
             | inr left ↦
@@ -167,24 +160,21 @@ module _ (t : Placed) (tile : Tile) (first : ℕ) (r : Region) (within : IsRegio
                         | inr top ↦
                             elim (cases_lt (8 * tile.by + row) (8 * r.bottom)) [
                               | inr under ↦ inr (λ p. let region = p.region in omega (arith, region.bottom, under))
-                              | inl bottom ↦ inl (record { samples = part; region = record { left = left; right = right; top = top; bottom = bottom }; before = inl (omega (arith, bottom, end)) })
+                              | inl bottom ↦ inl (record { region = record { left = left; right = right; top = top; bottom = bottom }; before = inl (omega (arith, bottom, end)) })
                             ]
                       ]
                 ]
           ]
 
-      sample_drawn : (a b : List BlockSamples) → IsInPart tile.count first s → DrawsPart t tile (IsScannedBefore tile r first by bx) a b → DrawsAt t tile a b row column s
-      sample_drawn a b part begun =
-          elim (decided part) [
+      sample_drawn : (a b : List BlockSamples) → DrawsPart t tile (IsScannedBefore tile r by bx) a b → DrawsAt t tile a b row column s
+      sample_drawn a b begun =
+          elim decided [
             | inl p ↦ begun.drawn row column s h p
-            | inr n ↦ let same = begun.kept row column s h n in record { met = λ m. absurd (n (met_before part m)); missed = λ _. same }
+            | inr n ↦ let same = begun.kept row column s h n in record { met = λ m. absurd (n (met_before m)); missed = λ _. same }
           ]
 
-    pub scanned : (by bx : ℕ) (a b : List BlockSamples) → r.bottom ≤ by → DrawsPart t tile (IsScannedBefore tile r first by bx) a b → DrawsPart t tile (IsOfPart tile.count first) a b
-    scanned by bx a b end begun = record {
-      drawn = λ row column s h part. sample_drawn by bx end row column s h a b part begun;
-      kept = λ row column s h n. begun.kept row column s h (λ p. n p.samples);
-    }
+    pub scanned : (by bx : ℕ) (a b : List BlockSamples) → r.bottom ≤ by → DrawsPart t tile (IsScannedBefore tile r by bx) a b → DrawsTile t tile a b
+    scanned by bx a b end begun row column s h = sample_drawn by bx end row column s h a b begun
 
 -- no sample of a block is covered
 pub block_missed : (t : Placed) (tile : Tile) (bx by from : ℕ) (xs : List BlockSamples) → CoversNoneOf (record { triangle = t.tri; bx = bx; by = by; side = T8; count = tile.count }) from
@@ -208,7 +198,7 @@ block_of_covered t tile bx by lies covers s row column small high wide =
     let down : 8 * tile.by + (8 * (by - tile.by) + row) ≡ 8 * by + row = omega (arith, lies.top) in
     rw (across, down) at (covers s (8 * (by - tile.by) + row) (8 * (bx - tile.bx) + column) small (omega (arith, lies.top, lies.bottom)) (omega (arith, lies.left, lies.right)))
 
--- ---- one part of the samples after another
+-- ---- one part of the samples of a block after another
 pub all_parts : (count : SampleCount) (s : ℕ) → s < count_of count → s < 4 * parts_of count
 all_parts One s h = omega (arith, h)
 all_parts Two s h = omega (arith, h)
@@ -231,26 +221,41 @@ in_part Four part s h k low high = omega (arith, high)
 in_part Eight part s h k low high = omega (arith, high)
 in_part Sixteen part s h k low high = omega (arith, high)
 
--- the samples before the parts that are left
-abbrev pub IsBeforePart : ℕ → ℕ → ℕ → ℕ → Type 0
-IsBeforePart part row column s = s < 4 * part
+-- with fewer than eight samples there is one part
+pub one_part : (count : SampleCount) → count_of count < 8 → parts_of count ≡ 1
+one_part One h = refl
+one_part Two h = refl
+one_part Four h = refl
+one_part Eight h = absurd (omega (arith, h))
+one_part Sixteen h = absurd (omega (arith, h))
 
-module _ (t : Placed) (tile : Tile) where
-  pub no_parts : (xs : List BlockSamples) → DrawsPart t tile (IsBeforePart 0) xs xs
-  no_parts xs = missed_part t tile _ xs (λ row column s h p m. absurd (omega (arith, p)))
+-- the samples of a block before the parts that are left
+pub record IsInSquareBefore (tile : Tile) (bx by part : ℕ) (row column s : ℕ) : Type 0 where
+  pub square : IsInSquare tile bx by 8 row column s
+  pub before : s < 4 * part
 
-  pub part_more : (part : ℕ) (a b c : List BlockSamples) → part < parts_of tile.count → DrawsPart t tile (IsBeforePart part) a b → DrawsPart t tile (IsOfPart tile.count (4 * part)) b c
-      → DrawsPart t tile (IsBeforePart (part + 1)) a c
-  part_more part a b c lt begun next = joined t tile (IsBeforePart part) (IsOfPart tile.count (4 * part)) (IsBeforePart (part + 1)) a b c begun next
-      (λ row column s h p q. omega (arith, p, q.low))
+module _ (t : Placed) (tile : Tile) (bx by : ℕ) where
+  pub no_parts : (xs : List BlockSamples) → DrawsPart t tile (IsInSquareBefore tile bx by 0) xs xs
+  no_parts xs = missed_part t tile _ xs (λ row column s h p m. absurd (omega (arith, p.before)))
+
+  pub part_more : (part : ℕ) (a b c : List BlockSamples) → part < parts_of tile.count → DrawsPart t tile (IsInSquareBefore tile bx by part) a b → DrawsPart t tile (IsInSquarePart tile bx by 8 (4 * part)) b c
+      → DrawsPart t tile (IsInSquareBefore tile bx by (part + 1)) a c
+  part_more part a b c lt begun next = joined t tile (IsInSquareBefore tile bx by part) (IsInSquarePart tile bx by 8 (4 * part)) (IsInSquareBefore tile bx by (part + 1)) a b c begun next
+      (λ row column s h p q. let own = q.samples in omega (arith, p.before, own.low))
       (λ row column s h p. elim (cases_lt s (4 * part)) [
-        | inl before ↦ inl before
-        | inr from ↦ inr (record { low = from; high = in_part tile.count part s lt h.is_sample from p })
+        | inl before ↦ inl (record { square = p.square; before = before })
+        | inr from ↦ inr (record { square = p.square; samples = record { low = from; high = in_part tile.count part s lt h.is_sample from p.before } })
       ])
       (λ row column s h p. elim p [
-        | inl before ↦ omega (arith, before)
-        | inr inside ↦ (let few = part_at_most tile.count in omega (arith, inside.high, few.1))
+        | inl begun ↦ record { square = begun.square; before = omega (arith, begun.before) }
+        | inr inside ↦ (let few = part_at_most tile.count in let own = inside.samples in record { square = inside.square; before = omega (arith, own.high, few.1) })
       ])
 
-  pub all_drawn : (part : ℕ) (a b : List BlockSamples) → parts_of tile.count ≤ part → DrawsPart t tile (IsBeforePart part) a b → DrawsTile t tile a b
-  all_drawn part a b end begun row column s h = begun.drawn row column s h (omega (arith, all_parts tile.count s h.is_sample, end))
+  pub all_drawn : (part : ℕ) (a b : List BlockSamples) → parts_of tile.count ≤ part → DrawsPart t tile (IsInSquareBefore tile bx by part) a b → DrawsPart t tile (IsInSquare tile bx by 8) a b
+  all_drawn part a b end begun = same_part t tile (IsInSquareBefore tile bx by part) (IsInSquare tile bx by 8) a b begun
+      (λ row column s h p. record { square = p; before = omega (arith, all_parts tile.count s h.is_sample, end) })
+      (λ row column s h p. p.square)
+
+  -- the only part of a block
+  pub one_drawn : (a b : List BlockSamples) → parts_of tile.count ≡ 1 → DrawsPart t tile (IsInSquarePart tile bx by 8 0) a b → DrawsPart t tile (IsInSquare tile bx by 8) a b
+  one_drawn a b one drawn = all_drawn 1 a b (omega (arith, one)) (part_more 0 a a b (omega (arith, one)) (no_parts a) drawn)

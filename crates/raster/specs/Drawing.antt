@@ -46,10 +46,6 @@ pub record IsInPart (count : SampleCount) (from s : ℕ) : Type 0 where
   pub low : from ≤ s
   pub high : s < from + part_size count
 
--- The same, whatever the pixel.
-abbrev pub IsOfPart : SampleCount → ℕ → ℕ → ℕ → ℕ → Type 0
-IsOfPart count from row column s = IsInPart count from s
-
 -- Sample s of the pixel in a row and a column of the tile is in a square and in the part that begins with sample `from`. The square has
 -- this size and begins at pixel (8 bx, 8 by).
 pub record IsInSquarePart (tile : Tile) (bx by side from : ℕ) (row column s : ℕ) : Type 0 where

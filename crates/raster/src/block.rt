@@ -62,10 +62,13 @@ fn met(
 }
 
 /// Draws the triangle at the samples of block (bx, by), of the part that begins with sample `from`. The bits of `covered` say which
-/// of them it covers; `whole` says that all pixels of the tile are in the scissor.
-pub(crate) fn draw_block(
+/// of them it covers; `whole` says that all pixels of the tile are in the scissor. A pixel has `count` samples.
+/// Each `N` has code of its own.
+#[inline(always)]
+pub(crate) fn draw_block<const N: u32>(
     triangle: &Interpolants,
     tile: &Tile,
+    count: SampleCount,
     bx: u32,
     by: u32,
     from: u32,
@@ -75,20 +78,21 @@ pub(crate) fn draw_block(
     corrections: &mut Corrections,
 )
     requires samples { length samples.old ≡ planes_of tile.now.side tile.now.count }
+    requires count { count ≡ tile.now.count }
     requires block { LiesIn tile.now bx by 8 }
     requires drawn { IsRasterized triangle.now.tri triangle.now.state.cull }
-    requires part { IsPart tile.now.count from }
-    requires covered { ArePlanesOf triangle.now.tri bx by tile.now.count from covered.now }
+    requires part { IsPart count from }
+    requires covered { ArePlanesOf triangle.now.tri bx by count from covered.now }
     requires whole { IsTrue whole → HoldsTile triangle.now.state.scissor tile.now }
     ensures { DrawsPart triangle.now tile.now (IsInSquarePart tile.now bx by 8 from) samples.old samples.new }
 {
     let placed = triangle.placed();
     let scissor = in_scissor_of_tile(&placed.state.scissor, whole, tile, bx, by);
-    let mask = met(placed, bx, by, from, tile.count, covered, scissor);
-    let first = tile.place(by - tile.by, bx - tile.bx, from);
+    let mask = met(placed, bx, by, from, count, covered, scissor);
+    let first = tile.place_by_count(count, by - tile.by, bx - tile.bx, from);
     triangle.draw(
         &mask,
-        &mut samples[first..first + tile.count.part_size() as usize],
+        &mut samples[first..first + count.part_size() as usize],
         corrections,
     );
 }

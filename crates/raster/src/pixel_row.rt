@@ -91,25 +91,24 @@ pub fn colours(tile: &Tile, samples: &[BlockSamples], row: u32, column: u32) -> 
     ensures colours { AreColoursAt tile.now samples.now row column result }
 {
     let from = 8 * (row % 8) as usize;
-    let place = tile.place(row / 8, column, 0);
-    let first = &samples[place];
     match tile.count {
-        SampleCount::One => interleaved(
-            u8x8::from_slice(&first.r[from..]),
-            u8x8::from_slice(&first.g[from..]),
-            u8x8::from_slice(&first.b[from..]),
-        ),
-        SampleCount::Two | SampleCount::Eight | SampleCount::Sixteen => {
-            colours_of_more(tile, samples, row, column)
+        SampleCount::One => {
+            let plane = &samples[tile.place_by_count(SampleCount::One, row / 8, column, 0)];
+            interleaved(
+                u8x8::from_slice(&plane.r[from..]),
+                u8x8::from_slice(&plane.g[from..]),
+                u8x8::from_slice(&plane.b[from..]),
+            )
         }
         SampleCount::Four => {
-            let second = &samples[tile.place(row / 8, column, 1)];
-            let third = &samples[tile.place(row / 8, column, 2)];
-            let fourth = &samples[tile.place(row / 8, column, 3)];
+            let place = tile.place_by_count(SampleCount::Four, row / 8, column, 0);
+            let (first, second) = (&samples[place], &samples[place + 1]);
+            let (third, fourth) = (&samples[place + 2], &samples[place + 3]);
             let red = means_of_four(&first.r, &second.r, &third.r, &fourth.r, from);
             let green = means_of_four(&first.g, &second.g, &third.g, &fourth.g, from);
             let blue = means_of_four(&first.b, &second.b, &third.b, &fourth.b, from);
             interleaved(red, green, blue)
         }
+        _ => colours_of_more(tile, samples, row, column),
     }
 }

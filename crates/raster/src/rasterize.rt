@@ -1,18 +1,19 @@
 //! The blocks of a tile that a triangle meets, row by row.
 ghost use Rattle.std.specs.Prelude.{◌≡◌, length, IfSome, IsTrue, None};
 ghost use Rattle.grid.specs.declared.pixels.TileSide.TheVariants.{T8};
-ghost use Rattle.grid.specs.Samples.{IsPart};
+ghost use Rattle.grid.specs.Samples.{count_of, IsPart};
 ghost use Rattle.cover.specs.Rasterized.{IsRasterized};
-ghost use Rattle.cover.specs.Square.{CoversAll};
+ghost use Rattle.cover.specs.Square.{CoversAll, IsClassOf};
 ghost use Rattle.raster.specs.Samples.{planes_of};
-ghost use Rattle.raster.specs.Drawing.{DrawsTile, DrawsPart, IsOfPart, ArePlanesOf, CoversNoneOf, LiesIn, square_of, block_of};
+ghost use Rattle.raster.specs.Region.{HoldsTile};
+ghost use Rattle.raster.specs.Drawing.{DrawsTile, DrawsPart, IsInSquare, IsInSquarePart, ArePlanesOf, CoversNoneOf, LiesIn, square_of};
 
 use crate::block::draw_block;
 use crate::region::Region;
 use crate::scissor::holds_tile;
 use crate::tile::Tile;
 use cover::{Class, Setup, Square};
-use grid::TileSide;
+use grid::{SampleCount, TileSide};
 use lanes::{BlockSamples, Interpolants};
 use planes::Corrections;
 use shade::Placed;
@@ -23,38 +24,32 @@ const ALL: [u64; 4] = [u64::MAX; 4];
 /// The masks of a block of whose samples none is covered.
 const NONE: [u64; 4] = [0; 4];
 
-/// Which samples of a block the triangle covers, of the part that begins with sample `from`, or `None` if it covers none of them.
-#[inline]
-fn planes(block: &Square, from: u32) -> Option<[u64; 4]>
+/// What the triangle covers of the samples of a block of the tile. `all` says that it covers all samples of the tile.
+#[inline(always)]
+fn class_of(block: &Square, all: bool) -> Class
+    requires { IsTrue all → CoversAll block.now }
+    ensures { IsClassOf block.now result }
+{
+    if all { Class::All } else { block.class() }
+}
+
+/// Which samples of a block of this class the triangle covers, of the part that begins with sample `from`, or `None` if it covers none of
+/// them. Each `N` has code of its own.
+#[inline(always)]
+fn planes<const N: u32>(block: &Square, class: Class, from: u32) -> Option<[u64; 4]>
     requires side { block.now.side ≡ T8 }
     requires part { IsPart block.now.count from }
+    requires class { IsClassOf block.now class }
     ensures some { IfSome result (ArePlanesOf block.now.triangle block.now.bx block.now.by block.now.count from) }
     ensures none { result ≡ None → CoversNoneOf block.now from }
 {
-    match block.class() {
+    match class {
         Class::Out => None,
         Class::All => Some(ALL),
         Class::Mixed => {
-            let planes = block.masks(from).plane;
+            let planes = block.masks::<N>(from).plane;
             if planes == NONE { None } else { Some(planes) }
         }
-    }
-}
-
-/// Which samples of block (bx, by) of the tile the triangle covers, of the part that begins with sample `from`, or `None` if it
-/// covers none of them; `all` says that it covers all samples of the tile.
-#[inline]
-fn covered(setup: &Setup, tile: &Tile, all: bool, bx: u32, by: u32, from: u32) -> Option<[u64; 4]>
-    requires block { LiesIn tile.now bx by 8 }
-    requires part { IsPart tile.now.count from }
-    requires all { IsTrue all → CoversAll (square_of setup.now tile.now) }
-    ensures some { IfSome result (ArePlanesOf setup.now bx by tile.now.count from) }
-    ensures none { result ≡ None → CoversNoneOf (block_of setup.now tile.now bx by) from }
-{
-    if all {
-        Some(ALL)
-    } else {
-        planes(&setup.square(bx, by, TileSide::T8, tile.count), from)
     }
 }
 
@@ -84,21 +79,135 @@ fn raise_if_asked(interpolants: &mut Interpolants, corrections: &mut Corrections
     }
 }
 
-/// Draws the triangle at the samples of the tile that it meets, of the part that begins with sample `from`: block by block of the
-/// region in which its box and its scissor meet the tile. It is made ready at the first block that it does not leave out.
-fn draw_blocks(
+/// Draws the triangle at the samples of block (bx, by) of the tile, of the part that begins with sample `from`. The block is of this
+/// class. The triangle is made ready at the first block that is not left out.
+#[inline(always)]
+fn draw_part<const N: u32>(
+    triangle: &Placed,
+    tile: &Tile,
+    block: &Square,
+    class: Class,
+    count: SampleCount,
+    bx: u32,
+    by: u32,
+    from: u32,
+    whole: bool,
+    interpolants: &mut Option<Interpolants>,
+    samples: &mut [BlockSamples],
+    corrections: &mut Corrections,
+)
+    requires samples { length samples.old ≡ planes_of tile.now.side tile.now.count }
+    requires count { count ≡ tile.now.count }
+    requires lies { LiesIn tile.now bx by 8 }
+    requires drawn { IsRasterized triangle.now.tri triangle.now.state.cull }
+    requires block { block.now ≡ record { triangle = triangle.now.tri; bx = bx; by = by; side = T8; count = count } }
+    requires class { IsClassOf (record { triangle = triangle.now.tri; bx = bx; by = by; side = T8; count = count }) class }
+    requires part { IsPart count from }
+    requires whole { IsTrue whole → HoldsTile triangle.now.state.scissor tile.now }
+    requires made { IfSome interpolants.old (λ made. made ≡ triangle.now) }
+    ensures drawn { DrawsPart triangle.now tile.now (IsInSquarePart tile.now bx by 8 from) samples.old samples.new }
+    ensures made { IfSome interpolants.new (λ made. made ≡ triangle.now) }
+{
+    if let Some(covered) = planes::<N>(block, class, from) {
+        let interpolants = interpolants.get_or_insert_with(|| Interpolants::new(triangle));
+        draw_block::<N>(
+            interpolants,
+            tile,
+            count,
+            bx,
+            by,
+            from,
+            &covered,
+            whole,
+            samples,
+            corrections,
+        );
+        raise_if_asked(interpolants, corrections);
+    }
+}
+
+/// Draws the triangle at the samples of block (bx, by) of the tile, one part of at most four samples of a pixel after another. A pixel
+/// has `N` samples, which is `count`. `all` says that all samples of the tile are covered.
+#[inline(always)]
+fn draw_parts<const N: u32>(
     triangle: &Placed,
     setup: &Setup,
     tile: &Tile,
-    from: u32,
+    count: SampleCount,
+    bx: u32,
+    by: u32,
+    all: bool,
+    whole: bool,
+    interpolants: &mut Option<Interpolants>,
+    samples: &mut [BlockSamples],
+    corrections: &mut Corrections,
+)
+    requires samples { length samples.old ≡ planes_of tile.now.side tile.now.count }
+    requires setup { setup.now ≡ triangle.now.tri }
+    requires count { count ≡ tile.now.count }
+    requires number { count_of count ≡ N }
+    requires lies { LiesIn tile.now bx by 8 }
+    requires drawn { IsRasterized triangle.now.tri triangle.now.state.cull }
+    requires all { IsTrue all → CoversAll (square_of triangle.now.tri tile.now) }
+    requires whole { IsTrue whole → HoldsTile triangle.now.state.scissor tile.now }
+    requires made { IfSome interpolants.old (λ made. made ≡ triangle.now) }
+    ensures drawn { DrawsPart triangle.now tile.now (IsInSquare tile.now bx by 8) samples.old samples.new }
+    ensures made { IfSome interpolants.new (λ made. made ≡ triangle.now) }
+{
+    let block = setup.square(bx, by, TileSide::T8, count);
+    let class = class_of(&block, all);
+    // A loop of one turn would try all edges of a block first, whatever its class.
+    if N < 8 {
+        draw_part::<N>(
+            triangle,
+            tile,
+            &block,
+            class,
+            count,
+            bx,
+            by,
+            0,
+            whole,
+            interpolants,
+            samples,
+            corrections,
+        );
+    } else {
+        for part in 0..count.parts() {
+            draw_part::<N>(
+                triangle,
+                tile,
+                &block,
+                class,
+                count,
+                bx,
+                by,
+                4 * part,
+                whole,
+                interpolants,
+                samples,
+                corrections,
+            );
+        }
+    }
+}
+
+/// Draws the triangle at the samples of the tile that it meets, block by block of the region in which its box and its scissor meet the
+/// tile. A pixel has `N` samples, which is `count`, so that each number of samples has code of its own.
+#[inline(never)]
+fn draw_blocks<const N: u32>(
+    triangle: &Placed,
+    setup: &Setup,
+    tile: &Tile,
+    count: SampleCount,
     samples: &mut [BlockSamples],
 )
     requires samples { length samples.old ≡ planes_of tile.now.side tile.now.count }
     requires setup { setup.now ≡ triangle.now.tri }
-    requires part { IsPart tile.now.count from }
+    requires count { count ≡ tile.now.count }
+    requires number { count_of count ≡ N }
     requires drawn { IsRasterized triangle.now.tri triangle.now.state.cull }
-    ensures drawn { DrawsPart triangle.now tile.now (IsOfPart tile.now.count from) samples.old samples.new }
-    ensures samples { length samples.new ≡ length samples.old }
+    ensures { DrawsTile triangle.now tile.now samples.old samples.new }
 {
     let region = Region::of(tile, &setup.bounds(), &triangle.state.scissor);
     let all = covers_tile(setup, tile, &region);
@@ -107,34 +216,20 @@ fn draw_blocks(
     let mut corrections = Corrections::none();
     for by in region.top..region.bottom {
         for bx in region.left..region.right {
-            if let Some(covered) = covered(setup, tile, all, bx, by, from) {
-                let interpolants = interpolants.get_or_insert_with(|| Interpolants::new(triangle));
-                draw_block(
-                    interpolants,
-                    tile,
-                    bx,
-                    by,
-                    from,
-                    &covered,
-                    whole,
-                    samples,
-                    &mut corrections,
-                );
-                raise_if_asked(interpolants, &mut corrections);
-            }
+            draw_parts::<N>(
+                triangle,
+                setup,
+                tile,
+                count,
+                bx,
+                by,
+                all,
+                whole,
+                &mut interpolants,
+                samples,
+                &mut corrections,
+            );
         }
-    }
-}
-
-/// Draws the triangle at the samples of the tile that it meets, one part of at most four samples of a pixel after another.
-fn draw_parts(triangle: &Placed, setup: &Setup, tile: &Tile, samples: &mut [BlockSamples])
-    requires samples { length samples.old ≡ planes_of tile.now.side tile.now.count }
-    requires setup { setup.now ≡ triangle.now.tri }
-    requires drawn { IsRasterized triangle.now.tri triangle.now.state.cull }
-    ensures { DrawsTile triangle.now tile.now samples.old samples.new }
-{
-    for part in 0..tile.count.parts() {
-        draw_blocks(triangle, setup, tile, 4 * part, samples);
     }
 }
 
@@ -144,6 +239,19 @@ pub fn draw_triangle(triangle: &Placed, tile: &Tile, samples: &mut [BlockSamples
     ensures { DrawsTile triangle.now tile.now samples.old samples.new }
 {
     if let Some(setup) = Setup::new(&triangle.tri, triangle.state.cull) {
-        draw_parts(triangle, &setup, tile, samples);
+        let count = tile.count;
+        match count {
+            SampleCount::One => draw_blocks::<1>(triangle, &setup, tile, SampleCount::One, samples),
+            SampleCount::Two => draw_blocks::<2>(triangle, &setup, tile, SampleCount::Two, samples),
+            SampleCount::Four => {
+                draw_blocks::<4>(triangle, &setup, tile, SampleCount::Four, samples);
+            }
+            SampleCount::Eight => {
+                draw_blocks::<8>(triangle, &setup, tile, SampleCount::Eight, samples);
+            }
+            SampleCount::Sixteen => {
+                draw_blocks::<16>(triangle, &setup, tile, SampleCount::Sixteen, samples);
+            }
+        }
     }
 }

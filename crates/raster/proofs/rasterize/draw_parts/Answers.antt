@@ -1,18 +1,29 @@
-use Rattle.std.proofs.Common.{◌∙◌, refl, arith}
-use Rattle.raster.proofs.Rows.{no_parts, part_more, part_of_count, all_drawn}
+use Rattle.std.proofs.Common.{◌≡◌, ◌∙◌, ap, sym, subst, arith}
+use Rattle.grid.specs.Samples.{count_of, parts_of}
+use Rattle.grid.specs.declared.pixels.TileSide.TheVariants.{T8}
+use Rattle.cover.specs.Square.{TestedSquare, CoversAll}
+use Rattle.raster.specs.Drawing.{block_of}
+use Rattle.raster.proofs.Rows.{part_more, all_drawn, one_part, one_drawn, block_of_covered}
 use Rattle.raster.proofs.rasterize.draw_parts.Goals as goal
 
-pub draw_blocks-requires-clause-part : goal.draw_blocks-requires-clause-part
-draw_blocks-requires-clause-part c = part_of_count c.args.tile.now.count c.loop-part.part (omega (arith, c.parts-part-end.ensures, c.loop-part-test.true))
-
-pub loop-part-init : goal.loop-part-init
-loop-part-init c = (no_parts c.args.triangle.now c.args.tile.now c.args.samples.now, refl)
+pub class_of-class-requires : goal.class_of-class-requires
+class_of-class-requires g c all =
+    let t = c.args.triangle.now in
+    let tile = c.args.tile.now in
+    let same : c.square-block.result ≡ block_of t.tri tile c.args.bx c.args.by = c.square-block.ensures ∙ (λ i. record { triangle = c.requires.setup i; bx = c.args.bx; by = c.args.by; side = T8; count = c.requires.count i }) in
+    subst (λ (q : TestedSquare). CoversAll q) (sym same) (block_of_covered t.tri tile c.args.bx c.args.by c.requires.lies (c.requires.all all))
 
 pub loop-part-preserved : goal.loop-part-preserved
-loop-part-preserved c = (
-  part_more c.args.triangle.now c.args.tile.now c.loop-part.part _ _ _ (omega (arith, c.parts-part-end.ensures, c.loop-part-test.true)) c.loop-part.invariant.0 c.draw_blocks.ensures.drawn,
-  c.draw_blocks.ensures.samples ∙ c.loop-part.invariant.1,
+loop-part-preserved g c = (
+  part_more c.args.triangle.now c.args.tile.now c.args.bx c.args.by c.loop-part.part _ _ _ (omega (arith, c.parts-part-end.ensures, c.loop-part-test.true, ap parts_of c.requires.count)) c.loop-part.invariant.0 c.draw_part-in-loop-part.ensures.drawn,
+  c.draw_part-in-loop-part.ensures.made,
 )
 
-pub returns : goal.returns
-returns c = all_drawn c.args.triangle.now c.args.tile.now c.loop-part.part _ _ (omega (arith, c.parts-part-end.ensures, c.loop-part-test.false)) c.loop-part.invariant.0
+pub returns-then-this-lt8-clause-drawn : goal.returns-then-this-lt8-clause-drawn
+returns-then-this-lt8-clause-drawn g c =
+    let tile = c.args.tile.now in
+    one_drawn c.args.triangle.now tile c.args.bx c.args.by _ _ (one_part tile.count (omega (arith, c.requires.number, c.if-this-lt8.true, ap count_of c.requires.count))) c.draw_part.ensures.drawn
+
+pub returns-after-loop-part-clause-drawn : goal.returns-after-loop-part-clause-drawn
+returns-after-loop-part-clause-drawn g c =
+    all_drawn c.args.triangle.now c.args.tile.now c.args.bx c.args.by c.loop-part.part _ _ (omega (arith, c.parts-part-end.ensures, c.loop-part-test.false, ap parts_of c.requires.count)) c.loop-part.invariant.0

@@ -1,7 +1,7 @@
-use Rattle.std.proofs.Common.{◌≡◌, length}
+use Rattle.std.proofs.Common.{◌≡◌, IfSome}
 use Rattle.raster.specs.Drawing.{DrawsPart}
-use Rattle.raster.proofs.Rows.{IsBeforePart}
+use Rattle.raster.proofs.Rows.{IsInSquareBefore}
 use Rattle.raster.proofs.rasterize.draw_parts.Given as goal
 
 abbrev pub invariant-loop-part : goal.invariant-loop-part
-invariant-loop-part l = DrawsPart l.triangle l.tile (IsBeforePart l.part) l.fn.samples l.samples × (length l.samples ≡ length l.fn.samples)
+invariant-loop-part g l = DrawsPart l.triangle l.tile (IsInSquareBefore l.tile l.bx l.by l.part) l.fn.samples l.samples × IfSome l.interpolants (λ made. made ≡ l.triangle)

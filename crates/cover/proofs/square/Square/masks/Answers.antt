@@ -7,10 +7,10 @@ use Rattle.cover.proofs.Joined.{masks_of_square}
 use Rattle.cover.proofs.square.Square.masks.Goals as goal
 
 pub masks-requires-clause-at : goal.masks-requires-clause-at
-masks-requires-clause-at c = small_corner c.self.invariant
+masks-requires-clause-at g c = small_corner c.self.invariant
 
 pub returns : goal.returns
-returns c =
+returns g c =
     let s = c.self.inside in
     let part : IsPart s.count c.args.from = subst (λ (p : TestedSquare). IsPart p.count c.args.from) (sym c.self.view_is) c.requires in
     subst (λ (p : TestedSquare). AreMasksOf p.triangle p.bx p.by p.count c.args.from c.masks.result) c.self.view_is (masks_of_square s.triangle s.edges.now s.at s.bx s.by s.side s.count c.args.from c.masks.result part c.self.invariant c.masks.ensures)
