@@ -1,6 +1,6 @@
 """Draws posters in all their ways, and compares every byte with the program's.
 
-    PYTHONPATH=python/src python3 -m pytest tools/poster [--long]
+    PYTHONPATH=python/src python3 -m pytest tools/poster [--long] [--rounds N]
 
 It needs numpy. Dask's checks are skipped if Dask is not installed, and those of the tiles' page without Chromium. What is drawn is left
 in out/check-poster/.
@@ -10,6 +10,7 @@ from __future__ import annotations
 
 import os
 import shutil
+from dataclasses import replace
 
 import pytest
 
@@ -25,6 +26,7 @@ LONG = Options(FOLDER, lists=60, dask_lists=16, kills=2, rounds=4)
 
 def pytest_generate_tests(metafunc: pytest.Metafunc) -> None:
     options = LONG if metafunc.config.getoption("--long") else SHORT
+    options = replace(options, rounds=metafunc.config.getoption("--rounds") or options.rounds)
     found = [case for part in (pictures, stopped, kills, memory, page) for case in part.cases(options)]
     metafunc.parametrize("case", cases.parameters(found))
 
