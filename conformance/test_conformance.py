@@ -17,6 +17,8 @@ import tempfile
 import unittest
 from typing import Callable, Sequence
 
+import pytest
+
 from conformance import suites
 from conformance.comparison import Tally, compare_suite, compare_values, only_sample, pixels_that_differ, planes
 from conformance.findings import QUESTIONS, findings
@@ -146,6 +148,7 @@ class SuiteLists(unittest.TestCase):
 class PlantedFaults(unittest.TestCase):
     """What is found of each mutant, and that nothing else is."""
 
+    @pytest.mark.long
     def test_the_rules_themselves_agree(self) -> None:
         self.assertEqual(differing(Model()), set())
         self.assertEqual(readings(Model()), {})
@@ -159,6 +162,7 @@ class PlantedFaults(unittest.TestCase):
         # A quarter of a turn takes (x, y) to (256 - y, x).
         self.assertEqual(readings(renderer), {PLACES_OF_FOUR: "(224, 96), (160, 224), (96, 32), (32, 160)"})
 
+    @pytest.mark.long
     def test_bottom_right_rule(self) -> None:
         renderer = Remembering(Model("bottom-right rule"))
         names = differing(renderer)
@@ -168,6 +172,7 @@ class PlantedFaults(unittest.TestCase):
         self.assertEqual(found[EDGES], "right, bottom")
         self.assertNotIn(BITS, found)
 
+    @pytest.mark.long
     def test_seven_subpixel_bits(self) -> None:
         renderer = Remembering(Model("seven subpixel bits"))
         names = differing(renderer)

@@ -18,6 +18,8 @@ import unittest
 import zlib
 from typing import Callable, Sequence
 
+import pytest
+
 from conformance import suites
 from conformance.comparison import EXTRA, MISSING, Tally, compare_suite
 from conformance.d3d11 import pictures, process, requests, streams, windows
@@ -118,10 +120,12 @@ STATES_THAT_DIFFER: dict[str, tuple[str, ...]] = {
 class PlantedFaults(unittest.TestCase):
     """What is found of each mutant behind the streams."""
 
+    @pytest.mark.long
     def test_the_rules_themselves_agree(self) -> None:
         for row in sorted({row for rows in OWN.values() for row in rows}):
             self.assertFalse(differs(row, ""), row)
 
+    @pytest.mark.long
     def test_each_mutant_in_the_first_tenth_of_its_own_subjects(self) -> None:
         self.assertEqual(set(OWN), set(MUTANTS))
         for mutant, rows in OWN.items():
@@ -129,6 +133,7 @@ class PlantedFaults(unittest.TestCase):
                 with self.subTest(mutant=mutant, row=row):
                     self.assertTrue(differs(row, mutant))
 
+    @pytest.mark.long
     def test_no_mutant_under_the_subjects_of_others(self) -> None:
         for mutant in MUTANTS:
             for row in STATES:

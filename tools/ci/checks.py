@@ -175,7 +175,8 @@ CHECKS = (
     Check(
         name="check-conformance",
         about="the comparison with drivers, by mutants and by recorded answers",
-        command="pytest conformance/test_conformance.py conformance/d3d11/test_direct3d.py", seconds=60,
+        command="pytest conformance/test_conformance.py conformance/d3d11/test_direct3d.py", seconds=40,
+        long="-m 'long or not long'", long_seconds=160,
     ),
     Check(
         name="injection",
@@ -204,25 +205,33 @@ CHECKS = (
     Check(
         name="check-library",
         about="library, header, packages in Python and Rust and examples against the program",
-        command="tools.check_library", seconds=400,
+        command="pytest tools/library", seconds=400,
+        runs=EVERYTHING, needs=COMPILER,
+    ),
+    Check(
+        name="package",
+        about="the tests of the Python package",
+        command="pytest python/tests", seconds=30,
         runs=EVERYTHING, needs=COMPILER,
     ),
     Check(
         name="check-packages",
         about="Debian packages, wheels and CMake files, each installed in a clean folder",
-        command="tools.check_packages", seconds=120,
+        command="pytest tools/packages", seconds=120,
         runs=EVERYTHING, needs=COMPILER,
     ),
     Check(
         name="check-poster",
         about="posters against the program, stopped and resumed",
-        command="tools.check_poster", seconds=200,
+        command="pytest tools/poster", seconds=100,
+        long="--long", long_seconds=300,
         runs=EVERYTHING, needs=COMPILER,
     ),
     Check(
         name="check-web",
         about="the page in Chromium, each sample against the program",
-        command="tools.check_web", seconds=120,
+        command="pytest tools/web", seconds=60,
+        long="-m 'long or not long'", long_seconds=150,
         runs=EVERYTHING, needs=COMPILER,
     ),
 )

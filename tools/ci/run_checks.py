@@ -24,7 +24,7 @@ from tools.ci.checks import BUILDS, CHECKS, Check, by_name
 from tools.ci.schedule import Ended, Outcome, Schedule, Task, clock
 from tools.ci.toolchain import Ran, run, stop_all
 from tools.counts import MISSING, Counts
-from tools.places import TOP
+from tools.places import PYTHON_SOURCES, TOP
 
 LOGS = os.path.join("out", "test")
 MINUTE = 60
@@ -68,7 +68,8 @@ class Tests:
         return Outcome(True, "there", ran.seconds, counts=Counts())
 
     def check(self, check: Check, _processors: int) -> Outcome:
-        environment = {**os.environ, "PYTHONUNBUFFERED": "1"}
+        # Some checks start programs that import the package.
+        environment = {**os.environ, "PYTHONUNBUFFERED": "1", "PYTHONPATH": PYTHON_SOURCES}
         ran = run(check.words(self.is_long), self.top, LONG_SECONDS if self.is_long else CHECK_SECONDS, environment)
         self.log(check.name, ran)
         counts = counted(ran)

@@ -1,1 +1,1 @@
-"""The parts of the check of the library: see tools/check_library.py."""
+"""The check of the library: see test_library.py."""

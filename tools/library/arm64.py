@@ -3,12 +3,13 @@
 from __future__ import annotations
 
 import os
+from typing import Iterator
 
 from tools import answers
 from tools.library import in_c
 from tools.library.commands import OUT, WARNINGS, make, need, run
 from tools.library.lists import read_lists, write_many
-from tools.library.tally import MAX_SECONDS, Tally, must
+from tools.cases import MAX_SECONDS, Case, case, must
 from tools.places import INCLUDE, LIB, PROGRAM
 
 COMPILER, NM, QEMU = "aarch64-linux-gnu-gcc", "aarch64-linux-gnu-nm", "qemu-aarch64-static"
@@ -51,18 +52,21 @@ def check_program() -> str:
     return f"{len(lists.drawn)} pictures, {len(lists.refused)} refused lists"
 
 
-def check(tally: Tally, seed: int) -> None:
-    if tally.only and not any(word in "ARM64" for word in tally.only):
-        return
-    if not tally.run("ARM64: the library and the test in C build", build):
-        return
+def prepare(seed: int) -> None:
+    build()
     write_many(seed, LISTS)
+
+
+def cases(seed: int) -> Iterator[Case]:
+    built = "ARM64: the library and the test in C build"
+    yield case(built, prepare, seed)
     for kind, flags in (("so", ("-D",)), ("a", ())):
         path = os.path.join(LIBRARIES, f"libtrirast.{kind}")
-        tally.run(f"ARM64: libtrirast.{kind} shows the calls of the header alone", in_c.check_exports, path, *flags, tool=NM)
-        tally.run(f"ARM64: libtrirast.{kind} needs the heap and moves of memory alone", in_c.check_needs, path, *flags, tool=NM)
+        yield case(f"ARM64: libtrirast.{kind} shows the calls of the header alone", in_c.check_exports, path, *flags, tool=NM, needs=built)
+        yield case(f"ARM64: libtrirast.{kind} needs the heap and moves of memory alone", in_c.check_needs, path, *flags, tool=NM, needs=built)
     for way, manifest in WAYS:
-        in_c.check_in_c(tally, [QEMU, os.path.join(OUT, "test_arm64_static")], "ARM64", way, manifest)
-    tally.run("ARM64: the program", check_program)
+        program = [QEMU, os.path.join(OUT, "test_arm64_static")]
+        yield case(f"ARM64: {way}", in_c.check_in_c, program, way, manifest, needs=built)
+    yield case("ARM64: the program", check_program, needs=built)
     loader = [QEMU, "-L", SYSTEM, "-E", f"LD_LIBRARY_PATH={LIBRARIES}"]
-    in_c.check_in_c(tally, [*loader, os.path.join(OUT, "test_arm64_shared")], "ARM64, shared", "pictures", "few.txt")
+    yield case("ARM64, shared: pictures", in_c.check_in_c, [*loader, os.path.join(OUT, "test_arm64_shared")], "pictures", "few.txt", needs=built)

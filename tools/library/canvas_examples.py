@@ -6,6 +6,7 @@ import json
 import os
 import re
 import subprocess
+from typing import Iterator
 
 from tools import compare_canvas, picture_file, places, reference
 from tools.draw_list import draw_list, encode
@@ -14,7 +15,7 @@ from tools.library.commands import (
     OUT, WARNINGS, drawn_by_program, must_be_silent, must_be_the_programs, need, run,
 )
 from tools.library.screen import Screen
-from tools.library.tally import MAX_SECONDS, MissingError, Tally, must
+from tools.cases import MAX_SECONDS, Case, MissingError, case, must
 from tools.places import EXAMPLES, INCLUDE, STATIC_LIBRARY, TOP
 
 RING = os.path.join(EXAMPLES, "python", "ring.obj")
@@ -155,11 +156,11 @@ def check_watched(tool: str, example: str) -> None:
         must(found == drawn_by_program(text).output, "other bytes")
 
 
-def check(tally: Tally) -> None:
-    tally.run("examples/c: spin", check_spin)
-    tally.run("examples/c: what spin picks", check_picks)
-    tally.run("examples/c: spin in a window", check_window)
-    tally.run("examples/cpp: frames", check_frames)
+def cases() -> Iterator[Case]:
+    yield case("examples/c: spin", check_spin)
+    yield case("examples/c: what spin picks", check_picks)
+    yield case("examples/c: spin in a window", check_window)
+    yield case("examples/cpp: frames", check_frames)
     for example in ("c/frames", "c/spin", "cpp/canvas", "cpp/frames"):
         for tool in ("memcheck", "drd"):
-            tally.run(f"{tool} finds nothing in examples/{example} with threads", check_watched, tool, example)
+            yield case(f"{tool} finds nothing in examples/{example} with threads", check_watched, tool, example)

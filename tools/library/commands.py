@@ -11,7 +11,7 @@ from typing import Any, Sequence
 
 from tools import answers, picture_file, places, races
 from tools.answers import Answer
-from tools.library.tally import MAX_SECONDS, CheckError, MissingError, must
+from tools.cases import MAX_SECONDS, CheckError, MissingError, must
 from tools.places import LIB, PROGRAM, PYTHON_SOURCES, TOP
 
 OUT = os.path.join(places.OUT, "check-library")
@@ -58,15 +58,6 @@ def must_be_silent(tool: str, command: Sequence[str], text: bytes = b"", leaks: 
     status, output, messages = races.watched(tool, command, text, OUT, leaks)
     must(status == 0 and "==" not in messages, f"status {status}: {messages[:600]}")
     return output
-
-
-def run_package_tests(python: str = sys.executable, *more: str) -> str:
-    """Runs the package's own tests, with further arguments of unittest, and returns what they print last. Raises `CheckError` if one fails."""
-    command = [python, "-W", "error", "-m", "unittest", "discover", "-s", "python/tests", "-t", "python", *more]
-    done = subprocess.run(command, cwd=TOP, env=PACKAGE_ENVIRONMENT, capture_output=True, timeout=MAX_SECONDS)
-    lines = done.stderr.decode().splitlines()
-    must(done.returncode == 0, "\n".join(lines[-30:]))
-    return f"{lines[-3]}, {lines[-1]}"
 
 
 def make(*arguments: str) -> None:

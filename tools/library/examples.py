@@ -15,7 +15,7 @@ from tools.library.commands import (
 )
 from tools.library.lists import read_lists
 from tools.library.page_examples import SCENE
-from tools.library.tally import MAX_SECONDS, must
+from tools.cases import MAX_SECONDS, must
 from tools.places import EXAMPLES, INCLUDE, STATIC_LIBRARY
 
 C_EXAMPLE = os.path.join(EXAMPLES, "c", "frames.c")

@@ -1,28 +1,21 @@
-"""The Python package, each picture and each error against the program's.
-
-    PYTHONPATH=python/src python3 -m tools.library.from_python [--only WORD ..]
-
-tools/check_library.py runs it, after it has written the lists. It prints a line for each check and then their counts. Exit
-status 1 if one failed.
-"""
+"""The Python package, each picture and each error against the program's."""
 
 from __future__ import annotations
 
-import argparse
 import importlib
 import importlib.util
 import json
 import os
 import sys
 import threading
-from typing import Any, Callable
+from typing import Any, Callable, Iterator
 
 import trirast
 
 from tools.draw_list import Draw, DrawList
-from tools.library.commands import OUT, PACKAGE_ENVIRONMENT, blocks_of_the_page, python_with, run, run_package_tests
+from tools.library.commands import OUT, PACKAGE_ENVIRONMENT, blocks_of_the_page, run
 from tools.library.lists import Lists, read_lists
-from tools.library.tally import CheckError, MissingError, Tally, must
+from tools.cases import Case, CheckError, MissingError, case, must
 from tools.places import bytes_of
 
 # A tile size and the threads: each list is drawn by one of these pairs.
@@ -133,19 +126,8 @@ def check_errors(lists: Lists) -> str:
 # ---- The package's tests, and its page
 
 
-def check_package_tests() -> str:
-    """The package's own tests pass, by the standard library alone."""
-    return run_package_tests()
-
-
-def check_matplotlib() -> str:
-    """The tests of the backend of matplotlib pass, by a Python that has matplotlib."""
-    return run_package_tests(python_with("numpy", "matplotlib"), "-p", "test_matplotlib.py")
-
-
-def check_calls() -> str:
-    """The tests pass by a Python that has numpy and hypothesis, and so with arrays of numpy and calls that are made up."""
-    return run_package_tests(python_with("numpy", "hypothesis"))
+def of_lists(check: Callable[[Lists], object]) -> None:
+    check(read_lists("all.txt"))
 
 
 def check_page() -> None:
@@ -201,24 +183,11 @@ def check_numpy_canvas() -> None:
     must((canvas.rgb(numpy.empty((2, 3, 3), numpy.uint8)) == 9).all(), "other pixels")
 
 
-def main() -> int:
-    parser = argparse.ArgumentParser(description="Checks the Python package against the program.")
-    parser.add_argument("--only", nargs="+", metavar="WORD", default=(), help="checks whose name has one of these words")
-    tally = Tally(parser.parse_args().only)
-    lists = read_lists("all.txt")
-    tally.run("Python draws the program's bytes, of lists and of arrays", check_pictures, lists)
-    tally.run("Python raises the program's errors", check_errors, lists)
-    tally.run("Python draws in four threads at the same time", check_threads, lists)
-    tally.run("python/tests", check_package_tests)
-    tally.run("python/tests: numpy and calls that are made up", check_calls)
-    tally.run("python/tests: matplotlib", check_matplotlib)
-    tally.run("Python of docs/library.md", check_page)
-    tally.run("Python offers numpy's array protocol", check_array_interface)
-    tally.run("numpy takes a picture", check_numpy)
-    tally.run("numpy takes and gives what a canvas has", check_numpy_canvas)
-    print(tally.counts, flush=True)
-    return 1 if tally.counts.failed else 0
-
-
-if __name__ == "__main__":
-    sys.exit(main())
+def cases() -> Iterator[Case]:
+    yield case("Python draws the program's bytes, of lists and of arrays", of_lists, check_pictures)
+    yield case("Python raises the program's errors", of_lists, check_errors)
+    yield case("Python draws in four threads at the same time", of_lists, check_threads)
+    yield case("Python of docs/library.md", check_page)
+    yield case("Python offers numpy's array protocol", check_array_interface)
+    yield case("numpy takes a picture", check_numpy)
+    yield case("numpy takes and gives what a canvas has", check_numpy_canvas)

@@ -5,11 +5,12 @@ from __future__ import annotations
 import os
 import re
 import subprocess
+from typing import Iterator
 
 from tools import places
 from tools.library import declarations
 from tools.library.commands import OUT, need
-from tools.library.tally import MAX_SECONDS, Tally, must
+from tools.cases import MAX_SECONDS, Case, case, must
 from tools.places import LIB, TOP
 
 CRATES = os.path.join(TOP, "bindings", "rust")
@@ -58,8 +59,8 @@ def check_kind(kind: str) -> str:
     return f"{passed} tests"
 
 
-def check(tally: Tally) -> None:
-    tally.run("Rust: the crates have the repository's version", check_version)
-    tally.run("Rust: trirast-sys declares what the header does", check_declared)
+def cases() -> Iterator[Case]:
+    yield case("Rust: the crates have the repository's version", check_version)
+    yield case("Rust: trirast-sys declares what the header does", check_declared)
     for kind in ("static", "shared"):
-        tally.run(f"Rust: cargo test over the {kind} library", check_kind, kind)
+        yield case(f"Rust: cargo test over the {kind} library", check_kind, kind)

@@ -5,12 +5,12 @@ from __future__ import annotations
 import os
 import re
 import subprocess
-from typing import Sequence
+from typing import Iterator, Sequence
 
 from tools import places
 from tools.library import sanitized
 from tools.library.commands import OUT, SHARED, WARNINGS, must_be_silent, need, run
-from tools.library.tally import MAX_SECONDS, Tally, must
+from tools.cases import MAX_SECONDS, Case, MissingError, case, must
 from tools.places import INCLUDE, LEVEL, LIB, SECOND_LEVEL, SHARED_LIBRARY, STATIC_LIBRARY, TOP
 
 SOURCES = os.path.join(TOP, "tools", "library")
@@ -69,18 +69,18 @@ def check_needs(path: str, *flags: str, tool: str = "nm") -> str:
     return ", ".join(sorted(found))
 
 
-def check_libraries(tally: Tally) -> None:
+def library_cases() -> Iterator[Case]:
     for standard in ("c99", "c11", "c17"):
-        tally.run(f"header as {standard}", check_header, "gcc", "c", standard)
+        yield case(f"header as {standard}", check_header, "gcc", "c", standard)
     for standard in ("c++11", "c++20"):
-        tally.run(f"header as {standard}", check_header, "g++", "c++", standard)
+        yield case(f"header as {standard}", check_header, "g++", "c++", standard)
     for compiler in ("g++", "clang++"):
         for standard in ("c++17", "c++20"):
-            tally.run(f"trirast.hpp as {standard} by {compiler}", check_header, compiler, "c++", standard, "trirast.hpp")
+            yield case(f"trirast.hpp as {standard} by {compiler}", check_header, compiler, "c++", standard, "trirast.hpp")
     for path, flags in ((SHARED_LIBRARY, ("-D",)), (STATIC_LIBRARY, ()), (SECOND_LEVEL, ("-D",))):
         name = os.path.relpath(path, LIB)
-        tally.run(f"{name} shows the calls of the header alone", check_exports, path, *flags)
-        tally.run(f"{name} needs the heap and moves of memory alone", check_needs, path, *flags)
+        yield case(f"{name} shows the calls of the header alone", check_exports, path, *flags)
+        yield case(f"{name} needs the heap and moves of memory alone", check_needs, path, *flags)
 
 
 # ---- The test in C
@@ -99,47 +99,40 @@ def build_tests() -> None:
     build_test("test_shared", PARTS, *SHARED)
 
 
-def check_in_c(tally: Tally, program: Sequence[str], name: str, way: str, manifest: str) -> None:
+def check_in_c(program: Sequence[str], way: str, manifest: str) -> str:
     """Runs one way of the test in C, each line of which is a check. `program` is the command that runs it."""
-    command = [*program, way, f"lists/{manifest}"]
-    done = subprocess.run(command, cwd=OUT, capture_output=True, timeout=MAX_SECONDS)
+    done = subprocess.run([*program, way, f"lists/{manifest}"], cwd=OUT, capture_output=True, timeout=MAX_SECONDS)
     lines = done.stdout.decode().splitlines()
-    for line in lines:
-        outcome, _, what = line.partition(" ")
-        if outcome in ("ok", "failed"):
-            tally.record(outcome, f"{name}: {what}")
-        else:
-            print(f"        {line}")
-    if done.returncode and not any(line.startswith("failed") for line in lines):
-        tally.record("failed", f"{name} {way}", f"status {done.returncode} {done.stderr.decode()[-600:]}")
+    failed = [line for line in lines if line.startswith("failed ")]
+    must(not failed and done.returncode == 0, "\n".join([*failed, f"status {done.returncode} {done.stderr.decode()[-600:]}"]))
+    passed = sum(line.startswith("ok ") for line in lines)
+    must(passed > 0, "it checked nothing")
+    return f"{passed} checks"
 
 
-def check_by_cpp(tally: Tally) -> None:
-    """Runs the test of trirast.hpp, each line of which is a check, and once more under memcheck."""
-    program = os.path.join(OUT, "test_cpp")
+def cpp_cases() -> Iterator[Case]:
+    """The test of trirast.hpp, each line of which is a check, and once more under memcheck."""
+    program, built = os.path.join(OUT, "test_cpp"), "trirast.hpp: its test builds"
     source = os.path.join(SOURCES, "canvases.cpp")
     flags = ["-std=c++17", "-O2", "-g", *WARNINGS, "-Wconversion", "-I", INCLUDE]
 
     def build() -> None:
         run([need("g++"), *flags, "-o", program, source, STATIC_LIBRARY])
 
-    if tally.run("trirast.hpp: its test builds", build):
-        check_in_c(tally, [program], "trirast.hpp", "canvases", "few.txt")
-        tally.run("memcheck finds nothing in trirast.hpp", check_watched, "memcheck", "canvases", program)
-    tally.run("trirast.hpp by random calls under sanitizers", sanitized.check_fuzz)
-    tally.run("a piece without tile rows under sanitizers", sanitized.check_no_rows)
+    yield case(built, build)
+    yield case("trirast.hpp: canvases", check_in_c, [program], "canvases", "few.txt", needs=built)
+    yield case("memcheck finds nothing in trirast.hpp", check_watched, "memcheck", "canvases", program, needs=built)
+    yield case("trirast.hpp by random calls under sanitizers", sanitized.check_fuzz)
+    yield case("a piece without tile rows under sanitizers", sanitized.check_no_rows)
 
 
-def check_second_level(tally: Tally, program: Sequence[str]) -> None:
+def check_second_level(program: Sequence[str], way: str) -> str:
     """The second level of x86-64 draws the same bytes, if this machine's processor has it."""
-    name = f"test_shared by {LEVEL}"
     with open("/proc/cpuinfo", encoding="ascii", errors="replace") as file:
         flags = set(re.findall(r"\w+", next((line for line in file if line.startswith("flags")), "")))
     if not OF_THE_LEVEL <= flags:
-        tally.record("skipped", name, f"the processor has no {', '.join(sorted(OF_THE_LEVEL - flags))}")
-        return
-    for way in ("pictures", "scenes", "canvases", "threads"):
-        check_in_c(tally, ["env", f"LD_PRELOAD={SECOND_LEVEL}", *program], name, way, "all.txt")
+        raise MissingError(f"{', '.join(sorted(OF_THE_LEVEL - flags))} in the processor")
+    return check_in_c(["env", f"LD_PRELOAD={SECOND_LEVEL}", *program], way, "all.txt")
 
 
 def check_watched(tool: str, way: str, program: str = os.path.join(OUT, "test_static")) -> None:
@@ -147,18 +140,17 @@ def check_watched(tool: str, way: str, program: str = os.path.join(OUT, "test_st
     must_be_silent(tool, [program, way, "lists/few.txt"], leaks="all")
 
 
-def check_by_c(tally: Tally) -> None:
-    if not tally.run("the test in C builds", build_tests):
-        return
+def c_cases() -> Iterator[Case]:
+    built = "the test in C builds"
+    yield case(built, build_tests)
     static, shared = ([os.path.join(OUT, name)] for name in ("test_static", "test_shared"))
     for way in WAYS:
-        if not tally.only or way in tally.only:
-            check_in_c(tally, static, "test_static", way, "few.txt" if way == "memory" else "all.txt")
-    if not tally.only:
-        for way in ("pictures", "canvases", "threads"):
-            check_in_c(tally, shared, "test_shared", way, "all.txt")
-        check_second_level(tally, shared)
+        yield case(f"test_static: {way}", check_in_c, static, way, "few.txt" if way == "memory" else "all.txt", needs=built)
+    for way in ("pictures", "canvases", "threads"):
+        yield case(f"test_shared: {way}", check_in_c, shared, way, "all.txt", needs=built)
+    for way in ("pictures", "scenes", "canvases", "threads"):
+        yield case(f"test_shared by {LEVEL}: {way}", check_second_level, shared, way, needs=built)
     for way in MEMCHECKED:
-        tally.run(f"memcheck finds nothing in {way}", check_watched, "memcheck", way)
+        yield case(f"memcheck finds nothing in {way}", check_watched, "memcheck", way, needs=built)
     for way in WITH_THREADS:
-        tally.run(f"drd finds nothing in {way}", check_watched, "drd", way)
+        yield case(f"drd finds nothing in {way}", check_watched, "drd", way, needs=built)

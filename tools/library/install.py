@@ -7,7 +7,7 @@ import tempfile
 
 from tools import places
 from tools.library.commands import OUT, WARNINGS, blocks_of_the_page, drawn_by_program, make, need, run
-from tools.library.tally import must
+from tools.cases import must
 from tools.places import EXAMPLES, LEVEL
 
 # What the program of docs/library.md that asks for a history prints.

@@ -1,5 +1,5 @@
 // Calls libtrirast in one of several ways, and prints a line for each thing that was compared: "ok WHAT" or
-// "failed WHAT: WHY". tools/check_library.py builds it, makes the cases with the program, and runs it:
+// "failed WHAT: WHY". tools/library/in_c.py builds it, makes the cases with the program, and runs it:
 //
 //     library_test pictures|rows|buffers|refused|lines|odd|scenes|canvases|large|histories|threads|stack|memory MANIFEST
 //

@@ -11,7 +11,7 @@ from tools import picture_file, places
 from tools.draw_list import DrawList, encode
 from tools.library.commands import OUT, PACKAGE_ENVIRONMENT, WARNINGS, drawn_by_program, need, run
 from tools.library.from_rust import CRATES, cargo
-from tools.library.tally import must
+from tools.cases import must
 from tools.packages.common import write
 from tools.places import INCLUDE, STATIC_LIBRARY
 

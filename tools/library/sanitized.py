@@ -7,7 +7,7 @@ import shutil
 import subprocess
 
 from tools.library.commands import OUT, WARNINGS, need, run
-from tools.library.tally import CheckError, must
+from tools.cases import CheckError, must
 from tools.places import INCLUDE, STATIC_LIBRARY, TOP
 
 SANITIZERS = ("-fsanitize=address,undefined", "-fno-sanitize-recover=all")

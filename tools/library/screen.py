@@ -10,7 +10,7 @@ from types import TracebackType
 from typing import Callable
 
 from tools.library.commands import need
-from tools.library.tally import CheckError
+from tools.cases import CheckError
 
 # The beginning of a dump of the screen, as /usr/include/X11/XWDFile.h has it: the names of the integers that are used here.
 HEADER_SIZE, WIDTH, HEIGHT, BITS, ROW_BYTES, COLOURS = 0, 4, 5, 11, 12, 19

@@ -4,9 +4,10 @@ from __future__ import annotations
 
 import os
 import shutil
+from typing import Iterator
 
 from tools.library.commands import make, need, run
-from tools.library.tally import CheckError, Tally, must
+from tools.cases import Case, CheckError, case, must
 from tools.packages.checking import OUT, clean_environment, picture_of_the_page, program_of_the_page
 from tools.packages.common import make_anew, release, write
 
@@ -62,8 +63,7 @@ def check_versions() -> str:
     return f"{', '.join(served)} served, {', '.join(refused)} refused"
 
 
-def check(tally: Tally) -> None:
+def cases() -> Iterator[Case]:
     for folder in ("lib/x86_64-linux-gnu", "lib"):
-        if not tally.run(f"CMake: find_package over {folder}", check_programs, folder):
-            return
-    tally.run("CMake: versions", check_versions)
+        yield case(f"CMake: find_package over {folder}", check_programs, folder)
+    yield case("CMake: versions", check_versions, needs="CMake: find_package over lib")

@@ -6,10 +6,11 @@ import glob
 import os
 import re
 import subprocess
+from typing import Iterator
 
 from tools import places
 from tools.library.commands import drawn_by_program, need, run
-from tools.library.tally import MissingError, Tally, must
+from tools.cases import Case, MissingError, case, must
 from tools.packages import debian, listing
 from tools.packages.checking import LISTS, OUT, check_documented, check_in_c, check_library_sizes, clean_environment
 from tools.packages.common import DIST, files_below, make_anew, write
@@ -137,16 +138,15 @@ def check_removal() -> None:
     must(not installed(), f"{installed()} were left")
 
 
-def check(tally: Tally) -> None:
-    if not tally.run("Debian: the packages build, twice the same", check_build):
-        return
-    tally.run("Debian: what the packages depend on", check_dependencies)
-    tally.run("Debian: lintian finds no error", check_lintian)
-    if not tally.run("Debian: dpkg installs them in a folder", check_install):
-        return
-    tally.run("Debian: the program draws", check_program)
-    if tally.run("Debian: a program in C finds the library and draws", check_program_in_c):
-        tally.run("Debian: the loader takes the processor's level", check_levels)
-    tally.run("Debian: the manual page", check_page)
-    tally.run("Debian: docs/library.md lists the files", check_files)
-    tally.run("Debian: dpkg removes them", check_removal)
+def cases() -> Iterator[Case]:
+    built, installed, in_c = "Debian: the packages build, twice the same", "Debian: dpkg installs them in a folder", "Debian: a program in C"
+    yield case(built, check_build)
+    yield case("Debian: what the packages depend on", check_dependencies, needs=built)
+    yield case("Debian: lintian finds no error", check_lintian, needs=built)
+    yield case(installed, check_install, needs=built)
+    yield case("Debian: the program draws", check_program, needs=installed)
+    yield case(in_c, check_program_in_c, needs=installed)
+    yield case("Debian: the loader takes the processor's level", check_levels, needs=in_c)
+    yield case("Debian: the manual page", check_page, needs=installed)
+    yield case("Debian: docs/library.md lists the files", check_files, needs=installed)
+    yield case("Debian: dpkg removes them", check_removal, needs=installed)

@@ -4,10 +4,11 @@ from __future__ import annotations
 
 import os
 import tarfile
+from typing import Iterator
 
 from tools import places
 from tools.library.commands import need, run
-from tools.library.tally import Tally, must
+from tools.cases import Case, case, must
 from tools.packages import release as releases
 from tools.packages.common import DIST, release
 
@@ -32,6 +33,6 @@ def check_sources() -> None:
     must(found == sorted(f"{name}/{path}" for path in tracked), "other files than those of the last commit")
 
 
-def check(tally: Tally) -> None:
-    if tally.run("release: checksums", check_checksums):
-        tally.run("release: sources", check_sources)
+def cases() -> Iterator[Case]:
+    yield case("release: checksums", check_checksums)
+    yield case("release: sources", check_sources, needs="release: checksums")

@@ -11,12 +11,12 @@ import os
 import re
 import sys
 import zipfile
-from typing import Any
+from typing import Any, Iterator
 
 from tools import places
 from tools.library import arm64
 from tools.library.commands import drawn_by_program, make, need, run
-from tools.library.tally import MissingError, Tally, must
+from tools.cases import Case, MissingError, case, must
 from tools.packages import listing, wheel
 from tools.packages.checking import (
     LISTS, OUT, check_documented, check_library_sizes, clean_environment, picture_of_the_page, program_of_the_page,
@@ -154,14 +154,15 @@ def build_for_arm64(name: str, text: str, *libraries: str) -> str:
     return program
 
 
-def check(tally: Tally) -> None:
-    if tally.run("wheel: x86-64, built twice the same", check_build, "x86_64"):
-        if tally.run("wheel: pip installs it in a fresh environment, without an index", check_install):
-            tally.run("wheel: import trirast draws", check_draws)
-            tally.run("wheel: the first level draws", check_first_level)
-        tally.run("wheel: x86-64 says what pyproject.toml says", check_metadata, "x86_64")
-        tally.run("wheel: docs/library.md lists the files for x86-64", check_files, "x86_64")
-    if tally.run("wheel: ARM64, built twice the same", check_build, "aarch64"):
-        tally.run("wheel: pip takes the one for ARM64, and qemu draws", check_arm64)
-        tally.run("wheel: ARM64 says what pyproject.toml says", check_metadata, "aarch64")
-        tally.run("wheel: docs/library.md lists the files for ARM64", check_files, "aarch64")
+def cases() -> Iterator[Case]:
+    built, installed, for_arm64 = "wheel: x86-64, built twice the same", "wheel: pip installs it", "wheel: ARM64, built twice the same"
+    yield case(built, check_build, "x86_64")
+    yield case(installed, check_install, needs=built)
+    yield case("wheel: import trirast draws", check_draws, needs=installed)
+    yield case("wheel: the first level draws", check_first_level, needs=installed)
+    yield case("wheel: x86-64 says what pyproject.toml says", check_metadata, "x86_64", needs=built)
+    yield case("wheel: docs/library.md lists the files for x86-64", check_files, "x86_64", needs=built)
+    yield case(for_arm64, check_build, "aarch64")
+    yield case("wheel: pip takes the one for ARM64, and qemu draws", check_arm64, needs=for_arm64)
+    yield case("wheel: ARM64 says what pyproject.toml says", check_metadata, "aarch64", needs=for_arm64)
+    yield case("wheel: docs/library.md lists the files for ARM64", check_files, "aarch64", needs=for_arm64)

@@ -7,7 +7,7 @@ from typing import Mapping
 
 from tools import places
 from tools.library.commands import WARNINGS, blocks_of_the_page, drawn_by_program, need, run
-from tools.library.tally import must
+from tools.cases import must
 from tools.packages import listing
 from tools.places import EXAMPLES
 

@@ -15,7 +15,7 @@ import time
 import urllib.request
 from typing import Any, Iterator
 
-from tools.library.tally import MissingError, must
+from tools.cases import MissingError, must
 
 NAMES = ("chromium", "chromium-browser")
 SECONDS = 120

@@ -2,41 +2,32 @@
 
 from __future__ import annotations
 
-import argparse
 import contextlib
 import importlib
 import importlib.util
 import json
 import os
 import random
-import sys
-from typing import Any, Callable, Iterator
+from dataclasses import dataclass
+from typing import Any, Iterator
 
 from tools import answers
 from tools.draw_list import DrawList
-from tools.library.tally import MAX_SECONDS, MissingError, Tally, must
+from tools.cases import MAX_SECONDS, MissingError, must
 from tools.places import PROGRAM
 from tools.poster import lists
 
 
-def arguments() -> argparse.Namespace:
-    parser = argparse.ArgumentParser(description="Checks of posters; tools/check_poster.py runs them.")
-    parser.add_argument("--folder", required=True)
-    parser.add_argument("--lists", type=int, default=60)
-    parser.add_argument("--dask-lists", type=int, default=16)
-    parser.add_argument("--kills", type=int, default=1)
-    parser.add_argument("--rounds", type=int, default=4)
-    parser.add_argument("--only", nargs="+", default=[])
-    return parser.parse_args()
+@dataclass(frozen=True)
+class Options:
+    """How much the checks of posters draw, and where."""
 
-
-def run_checks(checks: Callable[[Tally, argparse.Namespace], None]) -> None:
-    """Runs the checks of a module, prints their counts and exits."""
-    options = arguments()
-    tally = Tally(options.only)
-    checks(tally, options)
-    print(tally.counts, flush=True)
-    sys.exit(1 if tally.counts.failed else 0)
+    folder: str
+    lists: int = 20
+    dask_lists: int = 8
+    # Runs in which a worker is killed every three seconds, and of each kind of output runs that are killed at any moment.
+    kills: int = 1
+    rounds: int = 1
 
 
 def generated(seed: object) -> tuple[DrawList, int]:

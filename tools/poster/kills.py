@@ -7,7 +7,6 @@ Only processes that these checks started are ended, each by its number.
 
 from __future__ import annotations
 
-import argparse
 import contextlib
 import json
 import os
@@ -17,12 +16,12 @@ import signal
 import subprocess
 import sys
 import time
-from typing import Any, Dict, List
+from typing import Any, Dict, Iterator, List
 
 from trirast import poster
 
-from tools.library.tally import Tally, must
-from tools.poster.common import content, folder_files, run_checks
+from tools.cases import Case, case, must
+from tools.poster.common import Options, content, folder_files
 from tools.poster.stopped import SECONDS, write_scene
 
 SIDE, TRIANGLES, WINDOW = 1500, 10_000, 64
@@ -124,7 +123,7 @@ class Kills:
         must(found == self.wanted, f"round {number}: other files {names[:5]}, or bytes")
 
 
-def check_kills(options: argparse.Namespace, number: int) -> str:
+def check_kills(options: Options, number: int) -> str:
     kills = Kills(options.folder, number)
     for each in range(options.rounds):
         kills.round(each)
@@ -132,11 +131,7 @@ def check_kills(options: argparse.Namespace, number: int) -> str:
     return f"{options.rounds} rounds; killed with {', '.join(f'{stage}: {count}' for stage, count in sorted(kills.stages.items()))}"
 
 
-def check_all(tally: Tally, options: argparse.Namespace) -> None:
+def cases(options: Options) -> Iterator[Case]:
     for number, (out, tiles) in enumerate(KINDS):
         name = " and ".join(filter(None, (out and os.path.splitext(out)[1][1:], tiles)))
-        tally.run(f"runs killed at any moment, {name}", check_kills, options, number)
-
-
-if __name__ == "__main__":
-    run_checks(check_all)
+        yield case(f"runs killed at any moment, {name}", check_kills, options, number)

@@ -5,15 +5,15 @@
 
 from __future__ import annotations
 
-import argparse
 import json
 import os
 import subprocess
 import sys
 import time
+from typing import Iterator
 
-from tools.library.tally import Tally, must
-from tools.poster.common import run_checks
+from tools.cases import Case, case, must
+from tools.poster.common import Options
 
 # A blank poster of this side, and megabytes that are enough for it with each window's side.
 SIDE = 8000
@@ -59,11 +59,7 @@ def check_least(folder: str) -> None:
         must(done.returncode == 1 and done.stderr.count(b"\n") == 1, f"status {done.returncode}: {done.stderr!r}")
 
 
-def check_all(tally: Tally, options: argparse.Namespace) -> None:
+def cases(options: Options) -> Iterator[Case]:
     for window in ENOUGH:
-        tally.run(f"memory of windows of {window} pixels", check_memory, options.folder, window)
-    tally.run("windows that are smaller or larger", check_least, options.folder)
-
-
-if __name__ == "__main__":
-    run_checks(check_all)
+        yield case(f"memory of windows of {window} pixels", check_memory, options.folder, window)
+    yield case("windows that are smaller or larger", check_least, options.folder)

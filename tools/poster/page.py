@@ -7,23 +7,22 @@ Where a pixel of a level is a pixel of the page, the screenshot has to have the 
 
 from __future__ import annotations
 
-import argparse
 import json
 import os
 import shutil
 import struct
 import time
 import zlib
-from typing import Any
+from typing import Any, Iterator
 
 import numpy as np
 
 from trirast import poster
 
-from tools.library.tally import Tally, must
+from tools.cases import Case, case, must
 from tools.places import text_of
+from tools.poster.common import Options, program_file
 from tools.poster.browser import Page, page_of
-from tools.poster.common import program_file, run_checks
 from tools.poster.pictures import mean_of_four
 
 WIDTH, HEIGHT = 900, 640
@@ -147,9 +146,5 @@ def check_page(folder: str) -> str:
     return f"{compared} pixels of screenshots compared"
 
 
-def check_all(tally: Tally, options: argparse.Namespace) -> None:
-    tally.run("the page of tiles in Chromium", check_page, options.folder)
-
-
-if __name__ == "__main__":
-    run_checks(check_all)
+def cases(options: Options) -> Iterator[Case]:
+    yield case("the page of tiles in Chromium", check_page, options.folder)

@@ -5,7 +5,6 @@
 
 from __future__ import annotations
 
-import argparse
 import copy
 import json
 import os
@@ -13,7 +12,7 @@ import random
 import shutil
 import struct
 import zlib
-from typing import Any, Optional
+from typing import Any, Iterator, Optional
 from unittest import mock
 
 import numpy as np
@@ -24,9 +23,9 @@ from trirast.poster import _threads
 
 from tools import generated_lists
 from tools.draw_list import DrawList
-from tools.library.tally import CheckError, Tally, must
+from tools.cases import Case, CheckError, case, must
+from tools.poster.common import Options, content, dask, generated, local_cluster, program_file
 from tools.poster import lists
-from tools.poster.common import content, dask, generated, local_cluster, program_file, run_checks
 
 TILE = 256
 # How much windows weigh that a thread takes together: as much as the package says, or little.
@@ -66,13 +65,13 @@ def check_list(seed: int, folder: str, scheduler: Optional[str], workers: int) -
         must(png_pixels(png) == wanted[-len(png_pixels(png)) :], f"seed {seed}, window {side}: other pixels in the PNG file")
 
 
-def check_by_threads(options: argparse.Namespace) -> str:
+def check_by_threads(options: Options) -> str:
     for seed in range(options.lists):
         check_list(seed, options.folder, None, 1 + seed % 4)
     return f"{options.lists} lists"
 
 
-def check_by_dask(options: argparse.Namespace) -> str:
+def check_by_dask(options: Options) -> str:
     for workers in (1, 2, 3, 4):
         with local_cluster(workers) as address:
             for seed in range(workers - 1, options.dask_lists, 4):
@@ -80,7 +79,7 @@ def check_by_dask(options: argparse.Namespace) -> str:
     return f"{options.dask_lists} lists"
 
 
-def check_local(options: argparse.Namespace) -> None:
+def check_local(options: Options) -> None:
     """The engine starts a cluster of its own."""
     dask()
     value, side = generated("local")
@@ -121,7 +120,7 @@ def a_wide_list(pick: random.Random) -> DrawList:
     return scene
 
 
-def check_wide(options: argparse.Namespace) -> str:
+def check_wide(options: Options) -> str:
     """Posters past 4096 pixels are, part by part, what the program draws of the moved list."""
     count = max(4, options.lists // 10)
     for seed in range(count):
@@ -191,7 +190,7 @@ def check_tile_folder(folder: str, pixels: Any) -> int:
     return len(names) - 1
 
 
-def check_tiles(options: argparse.Namespace) -> str:
+def check_tiles(options: Options) -> str:
     """Tiles of the finest level are the poster's pixels, and those of each coarser one the mean of four."""
     count = 0
     for seed, (width, height, side) in enumerate(((1, 1, 64), (256, 256, 256), (257, 900, 100), (1500, 1100, 512), (2049, 77, 64))):
@@ -207,7 +206,7 @@ def check_tiles(options: argparse.Namespace) -> str:
 # ---- What is refused
 
 
-def check_guard_band(options: argparse.Namespace) -> None:
+def check_guard_band(options: Options) -> None:
     """A triangle that cannot be moved into a window that it meets is refused by name, and no file is made."""
     vertices = [[-8388608, 0, 0, 9, 9, 9, 9], [8388607, 0, 0, 9, 9, 9, 9], [8388607, 99999, 0, 9, 9, 9, 9], [0, 0, 0, 9, 9, 9, 9]]
     value: DrawList = {"width": 4096, "height": 4096, "draws": [{"vertices": vertices, "triangles": [[3, 3, 3], [0, 1, 2]]}]}
@@ -224,7 +223,7 @@ def check_guard_band(options: argparse.Namespace) -> None:
     must(not [name for name in os.listdir(options.folder) if name.startswith("refused")], "a file is there")
 
 
-def check_broken_lists(options: argparse.Namespace) -> str:
+def check_broken_lists(options: Options) -> str:
     """A broken list has the error of the library."""
     count = 0
     for number in range(10 * options.lists):
@@ -248,15 +247,11 @@ def check_broken_lists(options: argparse.Namespace) -> str:
     return f"{count} lists"
 
 
-def check_all(tally: Tally, options: argparse.Namespace) -> None:
-    tally.run("posters of lists by threads", check_by_threads, options)
-    tally.run("posters of lists by Dask", check_by_dask, options)
-    tally.run("posters by Dask's own processes", check_local, options)
-    tally.run("posters past 4096 pixels", check_wide, options)
-    tally.run("tiles", check_tiles, options)
-    tally.run("a triangle that cannot be moved", check_guard_band, options)
-    tally.run("broken lists", check_broken_lists, options)
-
-
-if __name__ == "__main__":
-    run_checks(check_all)
+def cases(options: Options) -> Iterator[Case]:
+    yield case("posters of lists by threads", check_by_threads, options)
+    yield case("posters of lists by Dask", check_by_dask, options)
+    yield case("posters by Dask's own processes", check_local, options)
+    yield case("posters past 4096 pixels", check_wide, options)
+    yield case("tiles", check_tiles, options)
+    yield case("a triangle that cannot be moved", check_guard_band, options)
+    yield case("broken lists", check_broken_lists, options)

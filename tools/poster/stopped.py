@@ -7,8 +7,8 @@ Only processes that these checks started are ended, each by its number.
 
 from __future__ import annotations
 
-import argparse
 import contextlib
+import functools
 import importlib.util
 import json
 import os
@@ -25,8 +25,8 @@ import numpy as np
 
 from trirast import poster
 
-from tools.library.tally import CheckError, Tally, must
-from tools.poster.common import content, dask, folder_files, run_checks
+from tools.cases import Case, CheckError, case, must
+from tools.poster.common import Options, content, dask, folder_files
 from tools.processes import descendants
 
 SECONDS = 600
@@ -52,13 +52,16 @@ class Runs:
 
     def __init__(self, folder: str) -> None:
         self.folder = os.path.join(folder, "stopped")
-        shutil.rmtree(self.folder, ignore_errors=True)
-        os.makedirs(self.folder)
-        self.scene = self.path("scene.npz")
-        write_scene(self.scene)
         self.wanted: dict[str, bytes] = {}
 
+    @functools.cached_property
+    def scene(self) -> str:
+        path = self.path("scene.npz")
+        write_scene(path)
+        return path
+
     def path(self, name: str) -> str:
+        os.makedirs(self.folder, exist_ok=True)
         return os.path.join(self.folder, name)
 
     def wanted_of(self, kind: str) -> bytes:
@@ -297,21 +300,16 @@ def check_no_scheduler(runs: Runs) -> None:
     must(done.returncode == 1 and b"SchedulerLostError" in done.stderr, f"status {done.returncode}: {done.stderr[-500:]!r}")
 
 
-def check_all(tally: Tally, options: argparse.Namespace) -> None:
+def cases(options: Options) -> Iterator[Case]:
     runs = Runs(options.folder)
     for kind in ("ppm", "png"):
-        tally.run(f"a killed run that is resumed, {kind}", check_resume, runs, kind)
-        tally.run(f"a killed run whose file is damaged, {kind}", check_damaged, runs, kind)
-    tally.run("a killed run that is resumed, tiles", check_resumed_tiles, runs)
-    tally.run("a stopped run of another list", check_other_list, runs)
+        yield case(f"a killed run that is resumed, {kind}", check_resume, runs, kind)
+        yield case(f"a killed run whose file is damaged, {kind}", check_damaged, runs, kind)
+    yield case("a killed run that is resumed, tiles", check_resumed_tiles, runs)
+    yield case("a stopped run of another list", check_other_list, runs)
     for number in range(options.kills):
-        tally.run("a worker killed every three seconds", check_killed_workers, runs, number)
-    tally.run("all workers killed as they start", check_killed_as_they_start, runs)
-    tally.run("the scheduler killed", check_killed_scheduler, runs)
-    tally.run("workers that die with each window", check_lost_for_good, runs)
-    tally.run("no scheduler", check_no_scheduler, runs)
-    shutil.rmtree(runs.folder, ignore_errors=True)
-
-
-if __name__ == "__main__":
-    run_checks(check_all)
+        yield case("a worker killed every three seconds", check_killed_workers, runs, number)
+    yield case("all workers killed as they start", check_killed_as_they_start, runs)
+    yield case("the scheduler killed", check_killed_scheduler, runs)
+    yield case("workers that die with each window", check_lost_for_good, runs)
+    yield case("no scheduler", check_no_scheduler, runs)

@@ -1,1 +1,1 @@
-"""The page of web/: what is packed for it, and its checks in Chromium, which tools/check_web.py runs."""
+"""The page of web/: what is packed for it, and its checks in Chromium."""

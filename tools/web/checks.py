@@ -10,7 +10,7 @@ import time
 from typing import Any
 
 from tools import picture_file, places
-from tools.library.tally import must
+from tools.cases import must
 from tools.web.explorer import FOLDER, HEIGHT, SECONDS, WIDTH, Explorer
 from tools.web.figure import NAMES, figure_in, run_program
 from tools.web.positions import check_shown

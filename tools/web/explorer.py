@@ -12,7 +12,7 @@ import time
 from dataclasses import dataclass
 from typing import Any, Iterator, Mapping
 
-from tools.library.tally import must
+from tools.cases import must
 from tools.places import TOP
 from tools.poster.browser import Page, page_of
 

@@ -9,7 +9,7 @@ from urllib.parse import parse_qs
 
 from tools import answers, picture_file
 from tools.draw_list import Draw, DrawList, draw, draw_list, encode, vertex
-from tools.library.tally import must
+from tools.cases import must
 from tools.places import PROGRAM
 from tools.reference import CANVAS, LIST, SAMPLES, Edge, ListFault, drawn, read, render, side
 

@@ -2,7 +2,7 @@
 
 from __future__ import annotations
 
-from tools.library.tally import CheckError, Tally, must
+from tools.cases import CheckError, must
 from tools.web.explorer import Explorer, served
 from tools.web.positions import check_positions
 
@@ -33,8 +33,3 @@ def check_mutant(explorer: Explorer, file: str, old: str, new: str) -> str:
             return f"found: {str(error)[:70]}"
     must(False, "it was not found")
     return ""
-
-
-def check_mutants(tally: Tally, explorer: Explorer) -> None:
-    for name, file, old, new in MUTANTS:
-        tally.run(f"mutant: {name}", check_mutant, explorer, file, old, new)

@@ -3,7 +3,7 @@
 from __future__ import annotations
 
 from tools import places
-from tools.library.tally import must
+from tools.cases import must
 from tools.web.explorer import Explorer
 
 

@@ -8,7 +8,7 @@ from collections import Counter
 from typing import Any, Sequence
 
 from tools import picture_file
-from tools.library.tally import CheckError, must
+from tools.cases import CheckError, must
 from tools.reference import SAMPLES
 from tools.web.explorer import SHIFT, Explorer
 from tools.web.figure import COLUMNS, MARGIN, NAMES, ROWS, UNIT, Figure, figure_in, run_program, some_figure, wanted_edges, wanted_samples
