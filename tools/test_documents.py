@@ -164,8 +164,8 @@ class Names(unittest.TestCase):
             self.assertTrue(quoted and quoted[1] == text_of(*path), f"{page} does not begin with {os.path.join(*path)}")
 
     def test_number_of_mutants(self) -> None:
-        self.assertIn(f"that {len(mutants.MUTANTS)} wrong rules", text_of("docs/proofs.md"))
-        self.assertIn(f"finds {len(canvas_mutants.MUTANTS)} wrong rules", text_of("docs/proofs.md"))
+        self.assertIn(f"that {len(mutants.MUTANTS)} wrong rules", text_of("docs/tested.md"))
+        self.assertIn(f"finds {len(canvas_mutants.MUTANTS)} wrong rules", text_of("docs/tested.md"))
 
     def test_sample_patterns(self) -> None:
         table = text_of("docs/rules.md").split("## Sample positions")[1].split("\n\n")[2]
@@ -183,7 +183,7 @@ class Proofs(unittest.TestCase):
         types = set(re.findall(r"\b(?:struct|enum|trait) (\w+)", "".join(sources("src/**/*.rt").values())))
         types |= definitions()
         clauses: set[str | None] = set()
-        for *_promise, carriers in rows(text_of("docs/proofs.md").split("## What is only tested")[0]):
+        for *_promise, carriers in rows(text_of("docs/proofs.md").split("## What no public clause says")[0]):
             carriers = re.sub(r"\(.*?\)", "", carriers)
             words = [word.split("::")[-1] for word in re.findall(r"`([\w:]+)`", carriers)]
             # "The same" calls are those of the row above.
@@ -200,7 +200,7 @@ class Proofs(unittest.TestCase):
 
     def test_every_public_call_is_named(self) -> None:
         public = public_calls()
-        promises, tested = text_of("docs/proofs.md").split("## What is only tested")
+        promises, tested = text_of("docs/proofs.md"), text_of("docs/tested.md")
         cells = [cell for *_promise, cell in rows(promises)] + [cell for cell, *_tests in rows(tested)]
         named = set().union(*(named_calls(cell, public) for cell in cells))
         self.assertEqual(sorted(public - named), [])

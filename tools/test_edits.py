@@ -1,6 +1,6 @@
 #!/usr/bin/env python3
 """Tests of the must-fail edits: that each can be applied to the sources, is named for a function that it changes, that the table of
-wrong bodies in docs/proofs.md names edits and tests that are there, and that docs/DECISIONS.md names each public function without an edit.
+wrong bodies in docs/tested.md names edits and tests that are there, and that docs/decisions/checks.md names each public function without an edit.
 
     python3 -m pytest tools/test_edits.py
 """
@@ -55,7 +55,7 @@ def tests() -> set[str]:
 
 def wrong_bodies() -> list[tuple[str, list[str]]]:
     """The table of wrong bodies: of each row the wrong body in words, and the names that refuse it."""
-    section = text_of("docs", "proofs.md").split("\n## Wrong bodies\n")[1].split("\n## ")[0]
+    section = text_of("docs", "tested.md").split("\n## Wrong bodies\n")[1].split("\n## ")[0]
     rows = [line.strip("|").split(" | ") for line in section.split("\n") if line.startswith("| ")]
     return [(body.strip(), re.findall(r"`([^`]+)`", refused)) for body, refused in rows[1:]]
 
@@ -104,8 +104,8 @@ def with_edit(is_by_file: bool) -> set[tuple[str, str]]:
 
 
 def said_to_have_none() -> set[tuple[str, str]]:
-    """The public functions that docs/DECISIONS.md says have no edit."""
-    section = text_of("docs", "DECISIONS.md").split("### Some public functions have no must-fail edit\n")[1].split("\n### ")[0]
+    """The public functions that docs/decisions/checks.md says have no edit."""
+    section = text_of("docs", "decisions", "checks.md").split("### Some public functions have no must-fail edit\n")[1].split("\n### ")[0]
     rows = [line.strip("|").split("|", 1) for line in section.split("\n") if line.startswith("| `")]
     return {(crate.strip().strip("`"), call) for crate, cells in rows for call in re.findall(r"`(\w+::\w+)`", cells)}
 

@@ -148,5 +148,5 @@ def cases() -> Iterator[Case]:
     yield case(in_c, check_program_in_c, needs=installed)
     yield case("Debian: the loader takes the processor's level", check_levels, needs=in_c)
     yield case("Debian: the manual page", check_page, needs=installed)
-    yield case("Debian: docs/library.md lists the files", check_files, needs=installed)
+    yield case("Debian: packaging/FILES.md lists the files", check_files, needs=installed)
     yield case("Debian: dpkg removes them", check_removal, needs=installed)

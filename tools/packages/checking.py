@@ -45,7 +45,7 @@ def check_in_c(folder: str, flags: list[str], environment: Mapping[str, str], co
 
 
 def check_documented(title: str, files: Mapping[str, int]) -> None:
-    """docs/library.md lists the files of a package below this title, and their sizes within a tenth or 2 KB."""
+    """packaging/FILES.md lists the files of a package below this title, and their sizes within a tenth or 2 KB."""
     listed = listing.listed(title)
     advice = "python3 -m tools.packages.listing writes the lists"
     must(sorted(listed) == sorted(files), f"{sorted(listed.keys() ^ files.keys())} in one of page and package alone; {advice}")

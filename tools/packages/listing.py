@@ -1,4 +1,4 @@
-"""Writes the lists of the packages' files, with their sizes, into docs/library.md.
+"""Writes the lists of the packages' files, with their sizes, into packaging/FILES.md.
 
     python3 -m tools.packages.listing
 
@@ -22,7 +22,7 @@ from tools.packages import wheel
 from tools.packages.common import DIST
 from tools.places import TOP
 
-PAGE = os.path.join(TOP, "docs", "library.md")
+PAGE = os.path.join(TOP, "packaging", "FILES.md")
 DEBIAN_TITLE = "The Debian packages"
 
 
@@ -58,14 +58,14 @@ def table(files: Mapping[str, int]) -> str:
 
 def part_of(page: str, title: str) -> str:
     """What stands below a title, up to the next. Raises `ValueError` if there is no such title."""
-    found = re.search(rf"(?<=^### {title}\n\n).*?(?=\n#)", page, re.MULTILINE | re.DOTALL)
+    found = re.search(rf"(?<=^## {title}\n\n).*?(?=\n#|\Z)", page, re.MULTILINE | re.DOTALL)
     if found is None:
-        raise ValueError(f"docs/library.md has no list {title}")
+        raise ValueError(f"packaging/FILES.md has no list {title}")
     return found[0]
 
 
 def listed(title: str) -> dict[str, int]:
-    """The files that docs/library.md lists below a title, with their sizes in KB."""
+    """The files that packaging/FILES.md lists below a title, with their sizes in KB."""
     rows = re.findall(r"^\| `(.*?)` \| (\d+) \|$", part_of(places.text_of(PAGE), title), re.MULTILINE)
     return {name: int(size) for name, size in rows}
 
@@ -75,7 +75,7 @@ def main() -> int:
     lists = {DEBIAN_TITLE: debian_files()}
     lists.update({wheel_title(name): wheel_files(name) for name in wheel.PROCESSORS if os.path.exists(wheel.path_of(name))})
     for title, files in lists.items():
-        page = page.replace(f"### {title}\n\n{part_of(page, title)}", f"### {title}\n\n{table(files)}")
+        page = page.replace(f"## {title}\n\n{part_of(page, title)}", f"## {title}\n\n{table(files)}")
     with open(PAGE, "w", encoding="utf-8") as file:
         file.write(page)
     return 0

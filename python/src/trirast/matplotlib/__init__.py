@@ -4,7 +4,7 @@
     matplotlib.use("module://trirast.matplotlib")
 
 Then `tripcolor(.., shading="gouraud")` and `pcolormesh(.., shading="gouraud")` draw as ever, to files and buffers of pixels. All else is
-Agg's. docs/canvas.md, "matplotlib", says what differs. It needs numpy and matplotlib 3.6 or later.
+Agg's. docs/matplotlib.md says what differs. It needs numpy and matplotlib 3.6 or later.
 """
 
 from __future__ import annotations
