@@ -217,6 +217,7 @@ CHECKS = (
         name="check-poster",
         about="posters against the program, stopped and resumed",
         command="tools.check_poster", seconds=200,
+        long="--rounds 20 --kills 3", long_seconds=900,
         runs=EVERYTHING, needs=COMPILER,
     ),
     Check(
