@@ -256,6 +256,28 @@ class Starting(unittest.TestCase):
             with mock.patch.object(_threads, "start_new_thread", start_some):
                 self.assertEqual(self.drawn(4), wanted, possible)
 
+    def test_with_little_stack(self) -> None:
+        done = run(f"""
+            import threading, trirast
+            threading.stack_size(65536)
+            vertices = [[256 * x, 256 * y, 9, 1, 2, 3, 200] for x in range(0, 512, 8) for y in range(0, 512, 8)]
+            triangles = [[k, k + 1, k + 70] for k in range(len(vertices) - 70)]
+
+            def draw_all(threads):
+                canvas = trirast.Canvas(512, 512, samples=4)
+                canvas.clear(threads=threads)
+                canvas.draw(vertices, triangles, depth_test="less", depth_write=True, blend="over", threads=threads)
+                canvas.rgb(threads=threads)
+                trirast.draw({{**{DRAW_LIST}, "height": 512}}, threads=threads)
+
+            draw_all(4)
+            calling = threading.Thread(target=draw_all, args=(1,))
+            calling.start()
+            calling.join()
+            print(threading.stack_size())
+        """)
+        self.assertEqual((done.returncode, done.stdout, done.stderr), (0, b"65536\n", b""))
+
     def test_for_want_of_memory(self) -> None:
         done = run("""
             import resource, threading, trirast

@@ -1,9 +1,10 @@
 """Shares a call among threads. What the call uses is theirs until all have ended, whatever happens to the caller meanwhile."""
 
-from _thread import start_new_thread
+from _thread import stack_size, start_new_thread
 from collections import deque
 from itertools import repeat
 from queue import SimpleQueue
+from threading import RLock
 from typing import Any, Callable, Deque, Dict, List, Optional, Sequence, Tuple
 
 from ._buffers import Buffer
@@ -12,6 +13,22 @@ Part = Tuple[Any, ...]
 Call = Callable[..., Any]
 # Two interrupts within a microsecond leave one level.
 LEVELS = 4
+# Bytes of stack that are enough for a call, which takes TRIRAST_STACK of the header, and for Python. A program may have asked for less.
+STACK = 1 << 20
+STARTING = RLock()
+
+
+def is_small(stack: int) -> bool:
+    """Whether a program asked for too little stack. 0 is what the system gives."""
+    return 0 < stack < STACK
+
+
+def is_stack_small() -> bool:
+    """Whether threads are started with too little stack."""
+    with STARTING:
+        given = stack_size()  # This also asks for what the system gives.
+        stack_size(given)
+    return is_small(given)
 
 
 def share(call: Call, split: Callable[[int], Sequence[Part]], threads: int, used: Sequence[Buffer] = ()) -> None:
@@ -21,7 +38,7 @@ def share(call: Call, split: Callable[[int], Sequence[Part]], threads: int, used
     error of the first part that has one. If no thread can be started, the calling thread does the whole.
     """
     parts = split(threads)
-    if len(parts) > 1:
+    if len(parts) > 1 or is_stack_small():
         work = Work(call, parts, used)
         if work.is_done_by_threads():
             work.raise_error()
@@ -82,11 +99,17 @@ class Work:
         """Starts a thread for each part, as far as there are threads. One is enough for all parts."""
         if self._started:
             return
-        try:
-            # Nothing of Python runs within this line, so no interrupt comes between the start of a thread and its entry in the list.
-            self._started.extend(map(start_new_thread, repeat(self._run, self._count), repeat(())))
-        except RuntimeError:
-            pass  # There are no more threads.
+        with STARTING:
+            given = stack_size()
+            try:
+                if not is_small(given):
+                    stack_size(given)
+                # Nothing of Python runs within this line, so no interrupt comes between the start of a thread and its entry in the list.
+                self._started.extend(map(start_new_thread, repeat(self._run, self._count), repeat(())))
+            except RuntimeError:
+                pass  # There are no more threads.
+            finally:
+                stack_size(given)
 
     def _run(self) -> None:
         while True:
