@@ -4,7 +4,7 @@ use crate::{Canvas, Format, Misfit, Origin, TileRows, Vertex};
 use grid::{Cull, PixelBox, Point, SampleCount, Tri, sample_at};
 use lanes::BlockSamples;
 use reach::Stored;
-use shade::{DepthTest, Merge, Placed, Sample, State, apply};
+use shade::{DepthTest, MAX_SAMPLES, Merge, Placed, Sample, State, apply, resolved_colour};
 use std::alloc::Global;
 use std::process::Abort;
 use std::test::Fail;
@@ -334,17 +334,13 @@ fn refuses_a_batch_that_leaves_the_guard_band(rt: HostRuntime) -> Result<(), Fai
     Ok(())
 }
 
-/// Red, green and blue of pixel (i, j) after the triangles: the means of its samples, rounded to nearest with halves up.
+/// Red, green and blue of pixel (i, j) after the triangles, resolved from its samples.
 fn colour_at(triangles: &[Placed], count: SampleCount, i: u32, j: u32) -> [u8; 3] {
-    let many = count.count();
-    let (mut r, mut g, mut b) = (many / 2, many / 2, many / 2);
-    for s in 0..many {
-        let sample = end_at(triangles, count, i, j, s);
-        r += u32::from(sample.r);
-        g += u32::from(sample.g);
-        b += u32::from(sample.b);
+    let mut ends = [CLEAR; MAX_SAMPLES];
+    for (s, end) in (0..count.count()).zip(ends.iter_mut()) {
+        *end = end_at(triangles, count, i, j, s);
     }
-    [(r / many) as u8, (g / many) as u8, (b / many) as u8]
+    resolved_colour(&ends, count)
 }
 
 /// The byte of a channel of pixel (i, j), or the unchanged one after the end of a row.
