@@ -2,8 +2,8 @@
 
     PYTHONPATH=python/src python3 -m pytest tools/poster [--long] [--rounds N]
 
-It needs numpy. Dask's checks are skipped if Dask is not installed, and those of the tiles' page without Chromium. What is drawn is left
-in out/check-poster/.
+It needs numpy. Dask's checks are skipped if Dask is not installed, and those of the tiles' page without Chromium. What
+is drawn is left in out/check-poster/.
 """
 
 from __future__ import annotations
