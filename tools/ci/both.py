@@ -18,7 +18,8 @@ def run(goal: str, top: str) -> Counts:
     """Runs a goal, passes on what it prints, and returns its counts."""
     last = ""
     with subprocess.Popen(
-        ["make", goal], cwd=top, stdin=subprocess.DEVNULL, stdout=subprocess.PIPE, stderr=subprocess.STDOUT, text=True, errors="replace"
+        ["make", goal], cwd=top, stdin=subprocess.DEVNULL, stdout=subprocess.PIPE, stderr=subprocess.STDOUT, text=True,
+        errors="replace",
     ) as child:
         assert child.stdout
         for line in child.stdout:
@@ -29,7 +30,8 @@ def run(goal: str, top: str) -> Counts:
                 last = line
     counts = Counts.in_line(last)
     if counts is None or (child.returncode and not counts.failed):
-        print(f"make {goal} ended with status {child.returncode}" + ("" if counts else " and printed no counts"), flush=True)
+        said = "" if counts else " and printed no counts"
+        print(f"make {goal} ended with status {child.returncode}{said}", flush=True)
         counts = (counts or Counts()) + Counts(failed=1)
     return counts
 

@@ -1,4 +1,5 @@
-"""The checks of what was built: one list, of which make, `make help`, `make test` and the table in CONTRIBUTING are made.
+"""The checks of what was built: one list, of which make, `make help`, `make test` and the table in CONTRIBUTING are
+made.
 
     python3 -m tools.ci.checks [--write]
 

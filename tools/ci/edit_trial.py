@@ -16,7 +16,8 @@ JUDGED = re.compile(r"^logic=not-proved\b", re.MULTILINE)
 # What a check prints of an edit that did not get as far as a proof.
 UNREAD = re.compile(r"^(?:\./)?src/\S+:\d+:\d+: error\[", re.MULTILINE)
 UNKNOWN = re.compile(
-    r"^(?:\./)?(?:src|specs)/\S+:\d+:\d+: error: .*(?:is not in scope|has no field|is no name|operand is missing|expected the end|cannot continue)",
+    r"^(?:\./)?(?:src|specs)/\S+:\d+:\d+: error: "
+    r".*(?:is not in scope|has no field|is no name|operand is missing|expected the end|cannot continue)",
     re.MULTILINE,
 )
 REASON = re.compile(r"^(?:note: )?(?:\./)?src/\S+:\d+:\d+: .*|^fn \S+: (?:not proved|no proof).*", re.MULTILINE)
@@ -35,8 +36,8 @@ def judged(ran: Ran) -> tuple[bool, str]:
         return False, f"NOT TRIED: the check had not ended after {SECONDS} seconds"
     if ran.status == 3 and (limit := LIMIT.search(ran.text)):
         return True, f"refused by a limit of the prover: {limit[0]}"
-    reason = REASON.search(ran.text)
-    if ran.status != 1 or not JUDGED.search(ran.text) or UNREAD.search(ran.text) or UNKNOWN.search(ran.text) or not reason:
+    reason, is_unread = REASON.search(ran.text), UNREAD.search(ran.text) or UNKNOWN.search(ran.text)
+    if ran.status != 1 or not JUDGED.search(ran.text) or is_unread or not reason:
         return False, f"BAD EDIT: it did not get as far as a proof (status {ran.status})"
     return True, f"refused: {reason[0][:120]}"
 

@@ -3,18 +3,20 @@
     python3 -m tools.ci.edits plan [--base COMMIT] [--sample N] [--list]
     python3 -m tools.ci.edits record
 
-An edit is due if anything that its check reads has changed since it was last tried and refused. For that a crate has a checksum of
+An edit is due if anything that its check reads has changed since it was last tried and refused. For that a crate has a
+checksum of
 
 - its own src/, specs/ and proofs/ and its line of crates.txt, without comments, layout and tests;
 - of each crate below it what a contract can name: its line, specs/ whole, and src/ without the bodies of functions;
 - the checksum of the toolchain's logic, which README names;
 
-and each edit one of its own text. So a change in a crate makes all of its edits due, and a new or changed edit itself alone. Proofs
-below are left out: no lemma makes a wrong body right. The sample is the next SAMPLE edits of a fixed order, by the number of commits.
+and each edit one of its own text. So a change in a crate makes all of its edits due, and a new or changed edit itself
+alone. Proofs below are left out: no lemma makes a wrong body right. The sample is the next SAMPLE edits of a fixed
+order, by the number of commits.
 
-What was tried stands in tests/edits_tried.json, as the commit of --base has it; `tried.py` says which that is if none is given.
-`plan` prints a line for each crate with edits that are due, and the counts. An edit that cannot be applied fails it. `record` adds what
-the last `make prove` saw refused.
+What was tried stands in tests/edits_tried.json, as the commit of --base has it; `tried.py` says which that is if none
+is given. `plan` prints a line for each crate with edits that are due, and the counts. An edit that cannot be applied
+fails it. `record` adds what the last `make prove` saw refused.
 """
 
 from __future__ import annotations
@@ -142,7 +144,8 @@ def say_plan(plan: Plan, number: int, with_names: bool = False) -> None:
         print(f"due: {count} of {crate}: {', '.join(reasons)}")
     for edit in (*plan.due, *plan.sample) if with_names else ():
         print(edit)
-    print(f"{len(plan.due)} of {number} edits are due, in {len(plan.crates())} crates; a sample of {len(plan.sample)} besides", flush=True)
+    crates, sample = len(plan.crates()), len(plan.sample)
+    print(f"{len(plan.due)} of {number} edits are due, in {crates} crates; a sample of {sample} besides", flush=True)
 
 
 def main() -> int:
@@ -157,9 +160,9 @@ def main() -> int:
     sums = Checksums(tree)
     if options.verb == "record":
         seconds.record(options.top)
-        return tried.record(options.top, {crate: sums.of_crate(crate) for crate in tree.uses}, {
-            crate: {edit: sums.of_edit(crate, edit) for edit in tree.edits(crate)} for crate in tree.uses if tree.edits(crate)
-        })
+        with_edits = [crate for crate in tree.uses if tree.edits(crate)]
+        of_edits = {crate: {edit: sums.of_edit(crate, edit) for edit in tree.edits(crate)} for crate in with_edits}
+        return tried.record(options.top, {crate: sums.of_crate(crate) for crate in with_edits}, of_edits)
     base = tried.base_of(options.top, options.base)
     print(f"what was tried: {base.why}")
     plan = make_plan(sums, base.record, tried.number_of_commits(options.top), options.sample)

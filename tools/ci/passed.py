@@ -1,7 +1,7 @@
 """Which steps a crate has passed in this checkout, so that a second run over kept work leaves them out.
 
-They stand beside what rt keeps, with a checksum of all that they rest on: every byte of the crate's files and of those below it, the
-toolchain, HANDLES, and the tools that judge. A clean clone has none of these.
+They stand beside what rt keeps, with a checksum of all that they rest on: every byte of the crate's files and of those
+below it, the toolchain, HANDLES, and the tools that judge. A clean clone has none of these.
 """
 
 from __future__ import annotations

@@ -2,15 +2,16 @@
 
     python3 -m tools.ci.prove [--all] [--anew] [--base COMMIT] [--processors N] [CRATE ..]
 
-Every crate is proved, as many side by side as there are processors, those with the longest chain above them first. A crate that is
-proved is checked as it stands, which says what its last line rests on, and then its tests and must-fail edits are tried beside the
-crates above. `edits.py` says which edits that are; with --all it is every one, and the whole of `rt ci` comes first. Over work that is
-kept in this checkout a step is taken again only if the crate or one below it has changed; with --anew each is. With crates named, only
-they and those below them are proved, and all edits of those named are tried.
+Every crate is proved, as many side by side as there are processors, those with the longest chain above them first. A
+crate that is proved is checked as it stands, which says what its last line rests on, and then its tests and must-fail
+edits are tried beside the crates above. `edits.py` says which edits that are; with --all it is every one, and the whole
+of `rt ci` comes first. Over work that is kept in this checkout a step is taken again only if the crate or one below it
+has changed; with --anew each is. With crates named, only they and those below them are proved, and all edits of those
+named are tried.
 
-A line for each step has the time, the seconds of a processor and what came of it. What failed stands once more at the end. The last
-line is `N passed, M failed, K skipped`. Exit status 1 if something failed. Which edits were refused is left in
-out/prove/refused.json, and `python3 -m tools.ci.edits record` takes it over into the committed record.
+A line for each step has the time, the seconds of a processor and what came of it. What failed stands once more at the
+end. The last line is `N passed, M failed, K skipped`. Exit status 1 if something failed. Which edits were refused is
+left in out/prove/refused.json, and `python3 -m tools.ci.edits record` takes it over into the committed record.
 """
 
 from __future__ import annotations
@@ -36,7 +37,9 @@ from tools.crates import Tree, below
 from tools.places import TOP
 
 # The crates whose programs the checks run, and the names under which they stand in bin/.
-PROGRAMS = {"trirast_cli": "trirast", "trirast_why": "trirast_why", "refused_tiles": "refused_tiles", "list_bench": "list_bench"}
+PROGRAMS = {
+    "trirast_cli": "trirast", "trirast_why": "trirast_why", "refused_tiles": "refused_tiles", "list_bench": "list_bench",
+}
 
 
 def processors() -> int:
@@ -110,8 +113,9 @@ def known_seconds(top: str) -> dict[str, int]:
     return {**seconds.read_file(os.path.join(top, seconds.KNOWN)), **of_edits}
 
 
-def chosen(run: Run, options: argparse.Namespace, has_refused: frozenset[str]) -> tuple[list[str], list[str], dict[str, int]]:
-    """The crates to prove, the edits to try, and what these are known to take. Edits that cannot be applied are counted as failed."""
+def chosen(run: Run, options: argparse.Namespace, refused: frozenset[str]) -> tuple[list[str], list[str], dict[str, int]]:
+    """The crates to prove, the edits to try but those that were refused, and what these are known to take. Edits that cannot be
+    applied are counted as failed."""
     base = tried.base_of(options.top, options.base)
     plan = edits.make_plan(run.sums, base.record, tried.number_of_commits(options.top))
     known = known_seconds(options.top)
@@ -125,7 +129,7 @@ def chosen(run: Run, options: argparse.Namespace, has_refused: frozenset[str]) -
         wanted = set(options.crates).union(*(below(crate, run.tree.uses) for crate in options.crates))
         crates = [crate for crate in crates if crate in wanted]
         names = [name for name in every if name.split("/")[0] in options.crates]
-    return crates, [name for name in names if name not in plan.faults and name not in has_refused], known
+    return crates, [name for name in names if name not in plan.faults and name not in refused], known
 
 
 def prove(options: argparse.Namespace) -> Counts:

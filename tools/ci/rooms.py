@@ -1,8 +1,9 @@
 """Folders of their own in which rt works on one crate, over what is proved of the crates below it.
 
-rt lets one command at a time work in a crate and in those below, so two crates of one checkout cannot be proved side by side. A room
-is a small checkout: copies of the crate's sources, and hard links to those of the crates below and to what rt keeps of their proofs
-and of the crate's own. rt replaces files and does not write into them, so the other links stay as they are.
+rt lets one command at a time work in a crate and in those below, so two crates of one checkout cannot be proved side by
+side. A room is a small checkout: copies of the crate's sources, and hard links to those of the crates below and to what
+rt keeps of their proofs and of the crate's own. rt replaces files and does not write into them, so the other links stay
+as they are.
 """
 
 from __future__ import annotations
@@ -24,10 +25,13 @@ KEPT = os.path.join("out", "incremental")
 
 
 def link_tree(source: str, target: str) -> None:
-    """Makes a second tree of links to the same files, if there is such a tree."""
-    if os.path.isdir(source):
-        os.makedirs(os.path.dirname(target), exist_ok=True)
-        subprocess.run(["cp", "-al", source, target], check=True)
+    """Makes a second tree of links to the same files, if there is such a tree; of copies where files cannot be linked."""
+    if not os.path.isdir(source):
+        return
+    os.makedirs(os.path.dirname(target), exist_ok=True)
+    if subprocess.run(["cp", "-al", source, target], stderr=subprocess.DEVNULL).returncode:
+        shutil.rmtree(target, ignore_errors=True)
+        subprocess.run(["cp", "-a", source, target], check=True)
 
 
 class Rooms:
@@ -73,7 +77,8 @@ class Rooms:
 
     def take_over(self, crate: str, folder: str) -> None:
         """Makes what rt left in a room the kept work of the crate."""
-        out, old = os.path.join(self.tree.folder(crate), "out"), os.path.join(os.path.dirname(os.path.dirname(folder)), "old")
+        out = os.path.join(self.tree.folder(crate), "out")
+        old = os.path.join(os.path.dirname(os.path.dirname(folder)), "old")
         with self.locks[crate]:
             if os.path.isdir(out):
                 os.rename(out, old)

@@ -23,7 +23,8 @@ def run(rt: str, top: str) -> Whole:
     refused: set[str] = set()
     last = ""
     with subprocess.Popen(
-        [rt, "ci"], cwd=top, stdin=subprocess.DEVNULL, stdout=subprocess.PIPE, stderr=subprocess.STDOUT, text=True, errors="replace"
+        [rt, "ci"], cwd=top, stdin=subprocess.DEVNULL, stdout=subprocess.PIPE, stderr=subprocess.STDOUT, text=True,
+        errors="replace",
     ) as child:
         assert child.stdout
         for line in child.stdout:

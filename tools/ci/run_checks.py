@@ -2,10 +2,10 @@
 
     python3 -m tools.ci.run_checks [--long] [NAME ..]
 
-What a check runs is built first, if it is missing or old, by make. A line for each check has the time, the seconds of a processor and
-its counts as it ends; what it prints goes to out/test/NAME.log, and the end of that is shown if it failed. What was skipped is named at
-the end, each with the reason. The last line is `N passed, M failed, K skipped`, and the exit status 1 if something failed. With --long
-each check takes its longer form. `checks.py` has the list.
+What a check runs is built first, if it is missing or old, by make. A line for each check has the time, the seconds of a
+processor and its counts as it ends; what it prints goes to out/test/NAME.log, and the end of that is shown if it
+failed. What was skipped is named at the end, each with the reason. The last line is `N passed, M failed, K skipped`,
+and the exit status 1 if something failed. With --long each check takes its longer form. `checks.py` has the list.
 """
 
 from __future__ import annotations
@@ -28,7 +28,7 @@ from tools.places import PYTHON_SOURCES, TOP
 
 LOGS = os.path.join("out", "test")
 MINUTE = 60
-# Against a check that does not end, on a machine that may be slow and busy. What make builds may have to be proved from nothing.
+# Against a check that does not end, on a machine that may be slow and busy. What make builds may have to be proved.
 CHECK_SECONDS, LONG_SECONDS, BUILD_SECONDS = 40 * MINUTE, 120 * MINUTE, 120 * MINUTE
 SKIPPED = re.compile(r"^(?:skipped\b|SKIPPED\b).*", re.MULTILINE)
 
@@ -77,7 +77,8 @@ class Tests:
             self.skipped.append(f"{check.name}: {(ran.last_lines(1) or [''])[0]}")
         self.skipped += [f"{check.name}: {found[0]}" for found in SKIPPED.finditer(ran.text)]
         late = " (its time was over)" if ran.status is None else ""
-        return Outcome(not counts.failed, f"{counts}{late}", ran.seconds, tuple(ran.last_lines(40)) if counts.failed else (), counts)
+        details = tuple(ran.last_lines(40)) if counts.failed else ()
+        return Outcome(not counts.failed, f"{counts}{late}", ran.seconds, details, counts)
 
     def tell(self, ended: Ended) -> None:
         outcome = ended.outcome
@@ -107,7 +108,8 @@ class Tests:
             made.append(Task(f"build of {name}", partial(self.build, name), tuple(task.name for task in made[-1:])))
         for check in checks:
             needs = tuple(f"build of {name}" for name in check.runs)
-            made.append(Task(check.name, partial(self.check, check), needs, check.long_seconds if self.is_long else check.seconds))
+            seconds = self.is_long and check.long_seconds or check.seconds
+            made.append(Task(check.name, partial(self.check, check), needs, seconds))
         return made
 
     def run(self, checks: Sequence[Check], processors: int) -> Counts:

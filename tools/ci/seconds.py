@@ -1,7 +1,7 @@
 """How long the steps of crates took, so that a run begins the longest chains of them first.
 
-They stand in tests/proof_seconds.json, which `make record` writes with what the last run saw: the most that a step ever took, since
-over kept work it takes a part of that.
+They stand in tests/proof_seconds.json, which `make record` writes with what the last run saw: the most that a step ever
+took, since over kept work it takes a part of that.
 """
 
 from __future__ import annotations

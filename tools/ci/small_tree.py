@@ -1,7 +1,8 @@
 """A tree of small crates for the tests of CI, and a program that stands for rt in it.
 
-The crates are `low`, `high` above it, the program `app` above that, and `apart`. What the stand-in refuses is written into their
-sources: a check of a crate whose sources have the word WRONG is refused by a proof, and one with BROKEN does not get that far.
+The crates are `low`, `high` above it, the program `app` above that, and `apart`. What the stand-in refuses is written
+into their sources: a check of a crate whose sources have the word WRONG is refused by a proof, and one with BROKEN does
+not get that far.
 """
 
 from __future__ import annotations

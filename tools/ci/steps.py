@@ -1,5 +1,6 @@
-"""What is asked of each crate: that it is proved, laid out, states nothing that no call can meet, and passes its tests; and of a
-program, built by each of two compilers, that it prints what it must."""
+"""What is asked of each crate: that it is proved, laid out, states nothing that no call can meet, and passes its tests;
+and of a program, built by each of two compilers, that it prints what it must.
+"""
 
 from __future__ import annotations
 
@@ -139,8 +140,7 @@ class Steps:
     def run_by(self, folder: str, crate: str, flags: Sequence[str]) -> tuple[Ran, str]:
         """Builds a program in its room and runs it. Returns what is wrong with that."""
         given, wanted = (os.path.join(folder, name) for name in ("stdin", "stdout"))
-        words = text_of(os.path.join(folder, "args")).splitlines() if os.path.isfile(os.path.join(folder, "args")) else []
-        status = int(text_of(os.path.join(folder, "status"))) if os.path.isfile(os.path.join(folder, "status")) else 0
+        words, status = content(folder, "args").splitlines(), int(content(folder, "status") or 0)
         with tempfile.TemporaryFile() as wrote, open(given if os.path.isfile(given) else os.devnull, "rb") as stdin:
             ran = self.rt(folder, "run", EMPTY_CONTRACTS, *flags, "--", *words, seconds=SECONDS, stdin=stdin, stdout=wrote)
             wrote.seek(0)
@@ -156,6 +156,12 @@ class Steps:
         if written != expected:
             return ran, f"what it wrote is not what its file stdout has: {difference(written, expected)}"
         return ran, "; ".join(self.linked(os.path.join(folder, "out", crate)))
+
+
+def content(folder: str, name: str) -> str:
+    """The text of a file beside src/, or nothing if it is not there."""
+    path = os.path.join(folder, name)
+    return text_of(path) if os.path.isfile(path) else ""
 
 
 def was_run(ran: Ran) -> bool:

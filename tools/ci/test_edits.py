@@ -148,7 +148,8 @@ def test_a_clone_takes_the_branch_of_its_origin(tree: SmallTree, monkeypatch: py
     clone = f"{tree.top}/out/clone"
     tree.git("clone", "-q", tree.top, clone)
     assert not tried.base_of(clone).record
-    subprocess.run(["git", "-c", "user.name=a", "-c", "user.email=a@b", "commit", "-q", "--allow-empty", "-m", "more"], cwd=clone, check=True)
+    committing = ("git", "-c", "user.name=a", "-c", "user.email=a@b", "commit", "-q", "--allow-empty", "-m", "more")
+    subprocess.run(committing, cwd=clone, check=True)
     assert tried.base_of(clone).record
 
 

@@ -5,6 +5,7 @@ from __future__ import annotations
 import argparse
 import os
 import re
+from typing import Any
 
 import pytest
 
@@ -17,9 +18,9 @@ from tools.counts import Counts
 class Proved:
     """A run over a tree: its counts, and what it printed."""
 
-    def __init__(self, tree: SmallTree, capsys: pytest.CaptureFixture[str], *crates: str, **how: object) -> None:
-        given: dict[str, object] = {"all": False, "anew": False, "base": None, "processors": 2, "rt": tree.rt, "top": tree.top, "crates": crates, **how}
-        self.counts = prove.prove(argparse.Namespace(**given))
+    def __init__(self, tree: SmallTree, capsys: pytest.CaptureFixture[str], *crates: str, **how: Any) -> None:
+        usual: dict[str, Any] = {"all": False, "anew": False, "base": None, "processors": 2, "rt": tree.rt, "top": tree.top}
+        self.counts = prove.prove(argparse.Namespace(**{**usual, "crates": crates, **how}))
         self.said = capsys.readouterr().out
 
     def failed(self) -> list[str]:

@@ -23,6 +23,8 @@ class Ran:
         return [line for line in self.text.splitlines() if line.strip()][-number:]
 
 
+# Variables of the environment by which rt would do something else.
+OF_RT = ("RT_BACKEND", "RT_SECONDS", "RT_ALLOW_C")
 # The commands that run now, and whether no further one is to begin.
 RUNNING: set[subprocess.Popen[bytes]] = set()
 STOPPING = threading.Event()
@@ -47,14 +49,15 @@ def run(
     command: Sequence[str], folder: str, seconds: float, environment: Mapping[str, str] | None = None,
     stdin: IO[bytes] | None = None, stdout: IO[bytes] | None = None,
 ) -> Ran:
-    """Runs a command in a folder for at most these seconds. What it prints is returned, but standard output only if no file is given
-    for it."""
+    """Runs a command in a folder for at most these seconds. What it prints is returned, but standard output only if no file
+    is given for it."""
     if STOPPING.is_set():
         return Ran(None, "", 0.0)
     late = threading.Event()
     with tempfile.TemporaryFile("w+", errors="replace") as said:
         child = subprocess.Popen(
-            command, cwd=folder, env=environment, stdin=stdin or subprocess.DEVNULL, stdout=stdout or said, stderr=said, start_new_session=True,
+            command, cwd=folder, env=environment, stdin=stdin or subprocess.DEVNULL, stdout=stdout or said, stderr=said,
+            start_new_session=True,
         )
 
         def end() -> None:
@@ -80,17 +83,20 @@ class Toolchain:
 
     def __init__(self, command: str = "rt") -> None:
         self.command = command
+        self.environment = {name: value for name, value in os.environ.items() if name not in OF_RT}
 
-    def __call__(self, folder: str, *words: str, seconds: float, stdin: IO[bytes] | None = None, stdout: IO[bytes] | None = None) -> Ran:
+    def __call__(
+        self, folder: str, *words: str, seconds: float, stdin: IO[bytes] | None = None, stdout: IO[bytes] | None = None,
+    ) -> Ran:
         """Runs rt. One that was killed, most likely for memory, is run once more."""
-        ran = run([self.command, *words], folder, seconds, stdin=stdin, stdout=stdout)
+        ran = run([self.command, *words], folder, seconds, self.environment, stdin, stdout)
         if ran.status in (-signal.SIGKILL, 128 + signal.SIGKILL):
             if stdin:
                 stdin.seek(0)
             if stdout:
                 stdout.seek(0)
                 stdout.truncate()
-            ran = run([self.command, *words], folder, seconds, stdin=stdin, stdout=stdout)
+            ran = run([self.command, *words], folder, seconds, self.environment, stdin, stdout)
         return ran
 
     def version(self) -> str:

@@ -1,8 +1,8 @@
 """The committed record of the must-fail edits that were tried and refused, and which commit's record a run believes.
 
-That commit is the one that is asked for; else that of the environment's TRIRAST_BASE; else origin's default branch, unless HEAD is at
-its end; else the parent of the newest commit that changed the record. So a change never vouches for itself. If there is none of
-these, no edit counts as tried.
+That commit is the one that is asked for; else that of the environment's TRIRAST_BASE; else origin's default branch,
+unless HEAD is at its end; else the parent of the newest commit that changed the record. So a change never vouches for
+itself. If there is none of these, no edit counts as tried.
 """
 
 from __future__ import annotations

@@ -1,7 +1,8 @@
 """What rt's lines say of a crate, and whether this repository may have it.
 
-The last line of a proof names what it rests on. No crate may hide what a contract says, have modules that the check could not finish,
-call C that is not proved, or end the process; threads and waiting are for HANDLES to allow. Tests alone may end the process.
+The last line of a proof names what it rests on. No crate may hide what a contract says, have modules that the check
+could not finish, call C that is not proved, or end the process; threads and waiting are for HANDLES to allow. Tests
+alone may end the process.
 """
 
 from __future__ import annotations

@@ -1,9 +1,11 @@
-"""Runs the library, its header, the packages in Python and Rust and the examples, and compares every byte with the program's.
+"""Runs the library, its header, the packages in Python and Rust and the examples, and compares every byte with the
+program's.
 
     PYTHONPATH=python/src python3 -m pytest tools/library [-k WORD]
 
-What it builds is left in out/check-library/. It needs gcc. g++, clang++, pkg-config, nm, valgrind, numpy, matplotlib, cargo, SDL with Xvfb
-and xdotool for windows, and for ARM64 aarch64-linux-gnu-gcc and qemu-aarch64-static are used if they are there.
+What it builds is left in out/check-library/. It needs gcc. g++, clang++, pkg-config, nm, valgrind, numpy, matplotlib,
+cargo, SDL with Xvfb and xdotool for windows, and for ARM64 aarch64-linux-gnu-gcc and qemu-aarch64-static are used if
+they are there.
 """
 
 from __future__ import annotations

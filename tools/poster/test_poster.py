@@ -2,8 +2,8 @@
 
     PYTHONPATH=python/src python3 -m pytest tools/poster [--long] [--rounds N]
 
-It needs numpy. Dask's checks are skipped if Dask is not installed, and those of the tiles' page without Chromium. What is drawn is left
-in out/check-poster/.
+It needs numpy. Dask's checks are skipped if Dask is not installed, and those of the tiles' page without Chromium. What
+is drawn is left in out/check-poster/.
 """
 
 from __future__ import annotations
@@ -21,12 +21,12 @@ from tools.poster.common import Options
 
 FOLDER = os.path.join(places.OUT, "check-poster")
 SHORT = Options(FOLDER)
-LONG = Options(FOLDER, lists=60, dask_lists=16, kills=2, rounds=4)
+LONG = Options(FOLDER, lists=60, dask_lists=16, kills=2, rounds=20)
 
 
 def pytest_generate_tests(metafunc: pytest.Metafunc) -> None:
-    options = LONG if metafunc.config.getoption("--long") else SHORT
-    options = replace(options, rounds=metafunc.config.getoption("--rounds") or options.rounds)
+    options = LONG if metafunc.config.getoption("--long", default=False) else SHORT
+    options = replace(options, rounds=metafunc.config.getoption("--rounds", default=None) or options.rounds)
     found = [case for part in (pictures, stopped, kills, memory, page) for case in part.cases(options)]
     metafunc.parametrize("case", cases.parameters(found))
 

@@ -1,9 +1,10 @@
-"""Drags the vertices of the coverage explorer in Chromium, and compares each sample with the program; and mutants of the page.
+"""Drags the vertices of the coverage explorer in Chromium, and compares each sample with the program; and mutants of
+the page.
 
     python3 -m pytest tools/web [-k WORD]
 
-It builds the page by `make web`. It needs Chromium and a toolchain that links for WebAssembly, and is skipped where one is missing. What it
-saw is left in out/check-web/.
+It builds the page by `make web`. It needs Chromium and a toolchain that links for WebAssembly, and is skipped where one
+is missing. What it saw is left in out/check-web/.
 """
 
 from __future__ import annotations
