@@ -2,7 +2,7 @@
 
     python3 -m tools.fuzz_package [--calls 10000]
 
-It needs the library (make library), and numpy and hypothesis: in Debian python3-numpy and python3-hypothesis. Each run makes up other calls:
+It needs the library (make library), and numpy, hypothesis and pytest: in Debian python3-numpy, python3-hypothesis and python3-pytest. Each run makes up other calls:
 layouts, types, shapes, threads, interrupts, copies, and arrays that change as they are drawn. python/tests/test_fuzz.py has them, and makes
 some hundred that are always the same as a part of the package's tests. Exit status 1 if the package crashed or drew another picture.
 """
@@ -14,6 +14,8 @@ import os
 import subprocess
 import sys
 
+from tools.cases import MissingError
+from tools.counts import MISSING, Counts
 from tools.library.commands import PACKAGE_ENVIRONMENT, python_with
 from tools.places import TOP
 
@@ -25,11 +27,17 @@ def main() -> int:
     parser = argparse.ArgumentParser(description="Makes up calls of the Python package.")
     parser.add_argument("--calls", type=int, default=10_000, help="how many at least (default: %(default)s)")
     calls = parser.parse_args().calls
+    try:
+        python = python_with("numpy", "hypothesis")
+    except MissingError as missing:
+        print(f"skipped: there is no {missing}")
+        return MISSING
     environment = {**PACKAGE_ENVIRONMENT, "TRIRAST_FUZZ_CALLS": str(calls)}
-    done = subprocess.run([python_with("numpy", "hypothesis"), *COMMAND], cwd=os.path.join(TOP, "python"), env=environment)
-    if done.returncode < 0:
-        print(f"the package crashed: signal {-done.returncode}", file=sys.stderr)
-    return 1 if done.returncode else 0
+    status = subprocess.run([python, *COMMAND], cwd=os.path.join(TOP, "python"), env=environment).returncode
+    if status < 0:
+        print(f"the package crashed: signal {-status}", file=sys.stderr)
+    print(Counts(passed=int(not status), failed=int(bool(status))), flush=True)
+    return 1 if status else 0
 
 
 if __name__ == "__main__":

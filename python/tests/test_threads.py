@@ -79,7 +79,7 @@ print("ended")
             """
 canvas = trirast.Canvas(4096, 4096, samples=4)
 canvas.load(bytes([7]) * (3 * 4096 * 4096), threads=4)
-for _ in range(8):
+for _ in range(4):
     interrupted(lambda: canvas.rgba(bytearray(4 * 4096 * 4096), threads=4), 0.01)
 print(set(memoryview(canvas.rgb()).tobytes()))
 """,
@@ -101,13 +101,13 @@ print("ended")
     def test_leave_a_batch_drawn_or_not_begun(self) -> None:
         self.must_end_well(
             """
-size = 2048
+size = 1024
 square = [[256 * x, 256 * y, 0, 9, 8, 7, 255] for x, y in ((0, 0), (size, 0), (size, size), (0, size))]
 canvas = trirast.Canvas(size, size, samples=4)
 found = set()
-for number in range(20):
+for number in range(10):
     canvas.clear()
-    interrupted(lambda: canvas.draw(square, quads=[[0, 1, 2, 3]] * 20, threads=4), 0.001 * number)
+    interrupted(lambda: canvas.draw(square, quads=[[0, 1, 2, 3]] * 40, threads=4), 0.002 * number)
     found.add(tuple(sorted(set(memoryview(canvas.rgb()).tobytes()))))
 print(found <= {(0,), (7, 8, 9)} or found)
 """,
@@ -159,7 +159,7 @@ class Arrays(unittest.TestCase):
 
             flipping = threading.Thread(target=flip)
             flipping.start()
-            end = time.monotonic() + 1.5
+            end = time.monotonic() + 1
             while time.monotonic() < end:
                 try:
                     canvas.draw(vertices, indices, threads={threads})
@@ -310,7 +310,7 @@ class OneCanvas(unittest.TestCase):
 
         _threads.share(draw_and_look, lambda count: [(number,) for number in range(count)], 4)
         # Each picture is one that a call left: of one colour.
-        self.assertEqual({len(NUMPY.unique(picture.reshape(-1, 3), axis=0)) for picture in pictures}, {1})
+        self.assertEqual({bool((picture == picture[0, 0]).all()) for picture in pictures}, {True})
 
 
 if __name__ == "__main__":

@@ -216,6 +216,13 @@ CHECKS = (
         runs=EVERYTHING, needs=COMPILER,
     ),
     Check(
+        name="fuzz-package",
+        about="calls of the Python package that are made up, each picture against a plain one",
+        command="tools.fuzz_package --calls 400", seconds=10,
+        long="--calls 10000", long_seconds=200,
+        runs=EVERYTHING, needs=COMPILER,
+    ),
+    Check(
         name="check-packages",
         about="Debian packages, wheels and CMake files, each installed in a clean folder",
         command="pytest tools/packages", seconds=120,
