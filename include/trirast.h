@@ -476,8 +476,9 @@ trirast_status trirast_triangle_samples(const char *json, size_t json_len, size_
 /* The tile rows of a canvas, or some of them, with the memory of their samples. A tile row has trirast_canvas_row_pixels()
  * rows of pixels, and a canvas has trirast_canvas_rows(height) tile rows. Begin with TRIRAST_CANVAS_INIT.
  *
- * A call owns the memory that it is given. So threads that share a canvas each pass a struct of their own with a piece of it
- * (trirast_canvas_piece), and may then call at once: two pieces without a tile row in common have no memory in common.
+ * During a call no other thread may use the memory that it was given. So threads that share a canvas each pass a struct of
+ * their own with a piece of it (trirast_canvas_piece), and may then call at once: two pieces without a tile row in common
+ * have no memory in common.
  *
  * A canvas is a window on the screen: pixel (x, y) of the canvas is pixel (x + origin_x, y + origin_y) of the screen.
  * Positions and scissors are those of the screen, and the canvas shows what lies there, sample by sample.
@@ -492,13 +493,14 @@ typedef struct trirast_canvas {
     int32_t origin_y;
     uint32_t first;       /* the first of these tile rows; the whole canvas: 0 */
     uint32_t end;         /* the tile row behind the last one; the whole canvas: trirast_canvas_rows(height) */
-    void *memory;         /* the samples of these tile rows, aligned to 2; aligned to 64 is faster. What is in it is not specified */
+    void *memory;         /* the samples of these tile rows, aligned to 2; aligned to 64 is faster. Its layout is not
+                           * specified; clear it before the first draw */
     size_t plane_count;   /* its size in units of TRIRAST_PLANE_BYTES: trirast_canvas_bytes(..) / TRIRAST_PLANE_BYTES */
 } trirast_canvas;
 
 #define TRIRAST_CANVAS_INIT {sizeof(trirast_canvas), 0, 0, 1, 0, 0, 0, 0, 0, 0}
 
-/* Bytes of the samples of one index of a block of 8 by 8 pixels: the unit of a canvas's memory. */
+/* Bytes of one sample index over a block of 8 by 8 pixels, 64 samples of 5 bytes: the unit of a canvas's memory. */
 #define TRIRAST_PLANE_BYTES 320
 
 /* How the colour of a pixel lies in bytes, in the order of the name. Alpha is written as 255, and is not read. */
