@@ -17,12 +17,14 @@ left in out/prove/refused.json, and `python3 -m tools.ci.edits record` takes it 
 from __future__ import annotations
 
 import argparse
+import contextlib
+import fcntl
 import os
 import shutil
 import signal
 import sys
 import time
-from typing import Sequence
+from typing import Iterator, Sequence
 
 from tools.ci import edits, rt_ci, seconds, tried
 from tools.ci.passed import Passed
@@ -132,7 +134,25 @@ def chosen(run: Run, options: argparse.Namespace, refused: frozenset[str]) -> tu
     return crates, [name for name in names if name not in plan.faults and name not in refused], known
 
 
+@contextlib.contextmanager
+def alone(top: str) -> Iterator[None]:
+    """Keeps a second run out of the checkout: each begins with empty rooms."""
+    os.makedirs(os.path.join(top, "out"), exist_ok=True)
+    with open(os.path.join(top, "out", "prove.lock"), "w", encoding="ascii") as file:
+        try:
+            fcntl.flock(file, fcntl.LOCK_EX | fcntl.LOCK_NB)
+        except BlockingIOError:
+            sys.exit("make prove already runs in this checkout")
+        yield
+
+
 def prove(options: argparse.Namespace) -> Counts:
+    """Proves, tries and runs what the options ask for. Returns how much of it passed."""
+    with alone(options.top):
+        return prove_alone(options)
+
+
+def prove_alone(options: argparse.Namespace) -> Counts:
     begun = time.monotonic()
     shutil.rmtree(os.path.join(options.top, "out", "prove"), ignore_errors=True)
     whole = rt_ci.run(options.rt, options.top) if options.all else rt_ci.Whole(Counts(), frozenset())

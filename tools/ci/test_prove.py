@@ -129,3 +129,8 @@ def test_programs_are_left_for_the_checks(tree: SmallTree, capsys: pytest.Captur
     os.remove(os.path.join(tree.top, "bin", "application"))
     Proved(tree, capsys)
     assert not os.listdir(os.path.join(tree.top, "bin"))
+
+
+def test_a_second_run_in_a_checkout_is_refused(tree: SmallTree, capsys: pytest.CaptureFixture[str]) -> None:
+    with prove.alone(tree.top), pytest.raises(SystemExit, match="already runs"):
+        Proved(tree, capsys)

@@ -64,7 +64,7 @@ def test_a_failed_check_shows_its_end_and_stops_no_other(tmp_path: Path, capsys:
 def test_a_check_that_does_not_end_is_stopped(
     tmp_path: Path, capsys: pytest.CaptureFixture[str], monkeypatch: pytest.MonkeyPatch,
 ) -> None:
-    monkeypatch.setattr(run_checks, "CHECK_SECONDS", 1)
+    monkeypatch.setattr(run_checks, "CHECK_SECONDS", 10)
     endless = check("import subprocess, sys; subprocess.run([sys.executable, '-c', 'while True: pass'])")
     tested = CheckRun(tmp_path, capsys, endless, check("pass", name="other"))
     assert tested.counts == Counts(1, 1)
