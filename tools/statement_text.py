@@ -31,6 +31,10 @@ in `crates/*/specs`.
 The [Glossary](#glossary) explains each symbol and each name of the toolchain, as `negsuc` and `R.remaining`. The [Index](#index) says which
 section defines a name of this repository, as `Counted`.
 
+All of it takes an afternoon. Ten definitions carry the picture, and half an hour reads them: `PassesEdge` and `Covers` (which samples a
+triangle has), `IsValueAt` (depth and colour there), `Passes` and `IsMerged` (depth test and new colour), `Draws` (one triangle at one sample),
+`Ends` (all of them), `IsResolved` (a pixel), `IsPicture` (the bytes) and `Denotes` (which list the input is). The rest is what these are made of.
+
 `python3 -m tools.statement` makes the page from the sources, and CI compares the two.
 """
 
