@@ -1,6 +1,7 @@
 //! The colours of pixels, written to the caller's memory.
 ghost use Rattle.std.specs.Prelude.{◌≡◌, ◌≢◌, ◌↔◌, ◌⊎◌, ℕ, ◌+◌, ◌-◌, ◌*◌, ◌/◌, ◌<◌, ◌≤◌, length, take, slice_index, IsOk, IsTrue, OnOk, OnErr, IfErr};
 ghost use Rattle.grid.specs.Pixels.{side_of};
+ghost use Rattle.grid.specs.Samples.{count_of};
 ghost use Rattle.raster.specs.Samples.{planes_of};
 ghost use Rattle.canvas.specs.Layout.{columns_of, rows_of, planes_of_tile, planes_of_row, planes_of_rows};
 ghost use Rattle.canvas.specs.Pixels.{pixel_bytes, FitPixels, IsPixelsMisfit};
@@ -65,7 +66,8 @@ fn resolve_run(
 }
 
 impl Canvas {
-    /// Writes the first `count` of eight pixels of row `j`, from column 8 * `block` on, from the planes of their tile.
+    /// Writes the first `count` of eight pixels of row `j`, from column 8 * `block` on, from the planes of their tile, whose own
+    /// blocks begin at plane `own`.
     #[inline(always)]
     fn resolve_eight(
         &self,
@@ -74,16 +76,17 @@ impl Canvas {
         samples: &[BlockSamples],
         format: Format,
         count: u32,
+        own: usize,
         bytes: &mut [u8],
     )
         requires column { block / 8 < columns_of self.now }
         requires row { j / 64 < rows_of self.now }
         requires samples { length samples.now ≡ planes_of_tile self.now.count }
         requires count { count ≤ 8 }
+        requires own { own ≡ 1 + count_of self.now.count }
         requires bytes { length bytes.old ≡ count * pixel_bytes format }
         ensures { (i : ℕ) → i < count → IsPixelIn self.now.count samples.now format (8 * block + i) j (λ k. slice_index bytes.new (i * pixel_bytes format + k)) }
     {
-        let own = 1 + self.count.count() as usize;
         if is_cleared(&samples[0]) {
             let cleared = Tile {
                 bx: 0,
@@ -114,6 +117,7 @@ impl Canvas {
         ensures { (i : ℕ) → i < self.now.width → IsPixelOf self.now (j / 64) samples.now format i j (λ k. slice_index bytes.new (i * pixel_bytes format + k)) }
     {
         let each = self.planes_of_tile();
+        let own = 1 + self.count.count() as usize;
         let unit = format.pixel_bytes();
         for block in 0..(self.width + 7) / 8 {
             let count = (self.width - 8 * block).min(8);
@@ -125,6 +129,7 @@ impl Canvas {
                 &samples[from..from + each],
                 format,
                 count,
+                own,
                 &mut bytes[at..at + count as usize * unit],
             );
         }

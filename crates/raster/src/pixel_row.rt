@@ -91,24 +91,22 @@ pub fn colours(tile: &Tile, samples: &[BlockSamples], row: u32, column: u32) -> 
     ensures colours { AreColoursAt tile.now samples.now row column result }
 {
     let from = 8 * (row % 8) as usize;
-    match tile.count {
-        SampleCount::One => {
-            let plane = &samples[tile.place_by_count(SampleCount::One, row / 8, column, 0)];
-            interleaved(
-                u8x8::from_slice(&plane.r[from..]),
-                u8x8::from_slice(&plane.g[from..]),
-                u8x8::from_slice(&plane.b[from..]),
-            )
-        }
-        SampleCount::Four => {
-            let place = tile.place_by_count(SampleCount::Four, row / 8, column, 0);
-            let (first, second) = (&samples[place], &samples[place + 1]);
-            let (third, fourth) = (&samples[place + 2], &samples[place + 3]);
-            let red = means_of_four(&first.r, &second.r, &third.r, &fourth.r, from);
-            let green = means_of_four(&first.g, &second.g, &third.g, &fourth.g, from);
-            let blue = means_of_four(&first.b, &second.b, &third.b, &fourth.b, from);
-            interleaved(red, green, blue)
-        }
-        _ => colours_of_more(tile, samples, row, column),
+    if tile.count == SampleCount::One {
+        let plane = &samples[tile.place_by_count(SampleCount::One, row / 8, column, 0)];
+        interleaved(
+            u8x8::from_slice(&plane.r[from..]),
+            u8x8::from_slice(&plane.g[from..]),
+            u8x8::from_slice(&plane.b[from..]),
+        )
+    } else if tile.count == SampleCount::Four {
+        let place = tile.place_by_count(SampleCount::Four, row / 8, column, 0);
+        let (first, second) = (&samples[place], &samples[place + 1]);
+        let (third, fourth) = (&samples[place + 2], &samples[place + 3]);
+        let red = means_of_four(&first.r, &second.r, &third.r, &fourth.r, from);
+        let green = means_of_four(&first.g, &second.g, &third.g, &fourth.g, from);
+        let blue = means_of_four(&first.b, &second.b, &third.b, &fourth.b, from);
+        interleaved(red, green, blue)
+    } else {
+        colours_of_more(tile, samples, row, column)
     }
 }

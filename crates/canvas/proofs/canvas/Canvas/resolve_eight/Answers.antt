@@ -27,7 +27,7 @@ pub returns-then-is_cleared : goal.returns-then-is_cleared
 returns-then-is_cleared c =
     λ i l.
     let x : ℕ = 8 * c.args.block + i in
-    let many : 1 + c.count.result - 1 ≡ count_of c.args.self.now.count = omega (arith, c.count.ensures) in
+    let many : c.args.own - 1 ≡ count_of c.args.self.now.count = omega (arith, c.requires.own) in
     cleared_pixel c.args.self.now.count c.args.samples.now c.args.format x c.args.j _ _ _ _ (c.resolve_run.ensures i l) refl refl (c.if-is_cleared.ensures.0 refl) many (omega (arith, l, c.requires.count))
 
 pub returns-else-is_cleared : goal.returns-else-is_cleared
@@ -38,9 +38,9 @@ returns-else-is_cleared c =
     let j : ℕ = c.args.j in
     let x : ℕ = 8 * c.args.block + i in
     let tile = c.tile-tile.result in
-    let own : ℕ = 1 + c.count.result in
+    let own : ℕ = c.args.own in
     let part = take (length xs - own) (drop own xs) in
-    let is_own : own ≡ 1 + count_of count = omega (arith, c.count.ensures) in
+    let is_own : own ≡ 1 + count_of count = c.requires.own in
     let whole : part ≡ drop own xs = ap (λ m. take m (drop own xs)) (sym (length-drop own xs)) ∙ take-length (drop own xs) in
     let behind : (k : ℕ) → slice_index_or part k none ≡ slice_index_or xs (1 + count_of count + k) none =
     λ k. ap (λ ys. slice_index_or ys k none) whole ∙ get_or-drop own xs k none ∙ ap (λ m. slice_index_or xs (m + k) none) is_own in
