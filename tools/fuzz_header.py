@@ -12,6 +12,7 @@ import argparse
 import sys
 import time
 
+from tools.cases import CheckError, MissingError
 from tools.library.sanitized import check_fuzz
 
 
@@ -21,7 +22,11 @@ def main() -> int:
     parser.add_argument("--seed", type=int, default=time.time_ns() // 1000, help="of the first scene (default: by the clock)")
     options = parser.parse_args()
     print(f"trirast.hpp for {options.seconds} seconds from seed {options.seed}", flush=True)
-    check_fuzz(options.seconds, options.seed)
+    try:
+        print(check_fuzz(options.seconds, options.seed), flush=True)
+    except (CheckError, MissingError) as error:
+        print(error, file=sys.stderr)
+        return 1
     return 0
 
 
