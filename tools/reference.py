@@ -95,16 +95,18 @@ class InputTooLong(Exception):
 
 @dataclass(frozen=True)
 class Limits:
-    """The numbers of samples that a pixel may have, and the greatest sample mask and edge of a scissor."""
+    """The numbers of samples that a pixel may have, the greatest sample mask and edge of a scissor, and the pixels that are drawn
+    without a scissor."""
 
     counts: tuple[int, ...]
     mask: int
     edge: int
+    uncut: tuple[int, ...]
 
 
-# Those of a draw list, and those of a canvas, which a list's value describes as well.
-LIST = Limits((1, 4), 15, 4096)
-CANVAS = Limits((1, 2, 4, 8, 16), 65535, 32768)
+# Those of a draw list, and those of a canvas, which a list's value describes as well. A canvas may begin left of the screen or above it.
+LIST = Limits((1, 4), 15, 4096, (0, 0, 4096, 4096))
+CANVAS = Limits((1, 2, 4, 8, 16), 65535, 32768, (-(2**31), -(2**31), 2**31, 2**31))
 
 
 @dataclass(frozen=True)
@@ -292,7 +294,7 @@ def read_state(value: Any, draw: int, limits: Limits) -> State:
         blend=check_word(value.get("blend", "none"), ("none", "over"), draw),
         write=tuple(check_truth(c, draw) for c in check_array(value.get("write", [True] * 3), 3, draw)),
         sample_mask=check_whole(value.get("sample_mask", limits.mask), 0, limits.mask, draw),
-        scissor=check_wholes(value.get("scissor", [0, 0, limits.edge, limits.edge]), 4, 0, limits.edge, draw),
+        scissor=check_wholes(value["scissor"], 4, 0, limits.edge, draw) if "scissor" in value else limits.uncut,
     )
 
 

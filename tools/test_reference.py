@@ -185,6 +185,10 @@ class OnCanvases(unittest.TestCase):
         self.assertEqual(seen, [BLACK, BLACK, WHITE, "80 80 80"])
         self.assertEqual(self.canvas_pixels(2, 3, whole, origin=(1, 0)), seen[1:])
         self.assertEqual(self.canvas_pixels(2, 5, whole, origin=(-1, 0)), [BLACK, *seen])
+        left = [vertex(-512, 0), vertex(512, 0), vertex(-512, 1024)]
+        self.assertEqual(self.canvas_pixels(2, 3, draw(left), origin=(-1, 0)), [WHITE, WHITE, "80 80 80"])
+        cut = draw(left, scissor=[0, 0, 32768, 32768])
+        self.assertEqual(self.canvas_pixels(2, 3, cut, origin=(-1, 0)), [BLACK, WHITE, "80 80 80"])
 
     def test_limits(self) -> None:
         for samples, mask, fault in ((3, 0, "5 OutOfRange"), (16, 65536, "5 OutOfRange in draw 0"), (16, 65535, None), (2, 16, None)):
