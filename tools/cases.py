@@ -2,6 +2,7 @@
 
 from __future__ import annotations
 
+import contextlib
 from dataclasses import dataclass, field
 from typing import Any, Callable, Iterable, Mapping
 
@@ -40,24 +41,38 @@ def case(name: str, check: Callable[..., object], *arguments: Any, needs: str = 
     return Case(name, check, arguments, named, needs, is_long)
 
 
+# The cases by name, and of those that were run whether they passed.
+KNOWN: dict[str, Case] = {}
+OUTCOMES: dict[str, bool] = {}
+
+
 def parameters(cases: Iterable[Case]) -> list[Any]:
     """The cases as pytest's parameters."""
-    return [pytest.param(it, id=it.name, marks=[pytest.mark.long] if it.is_long else []) for it in cases]
+    found = list(cases)
+    if repeated := {it.name for it in found if it.name in KNOWN or sum(other.name == it.name for other in found) > 1}:
+        raise ValueError(f"cases of one name: {repeated}")
+    KNOWN.update({it.name: it for it in found})
+    return [pytest.param(it, id=it.name, marks=[pytest.mark.long] if it.is_long else []) for it in found]
 
 
-# The cases that failed or were skipped.
-NOT_PASSED: set[str] = set()
+def passes(it: Case) -> bool:
+    """Whether a case passed, which is run if it was not yet."""
+    if it.name not in OUTCOMES:
+        with contextlib.suppress(Exception, pytest.skip.Exception):
+            run(it)
+    return OUTCOMES[it.name]
 
 
 def run(it: Case) -> None:
-    """Runs a case as a test. It is skipped if the machine lacks what it needs, or if the case failed without which it shows nothing."""
+    """Runs a case as a test. It is skipped if the machine lacks what it needs, or if the case did not pass without which it
+    shows nothing."""
+    if OUTCOMES.get(it.name):
+        return
+    OUTCOMES[it.name] = False
+    if it.needs and not passes(KNOWN[it.needs]):
+        pytest.skip(f"this did not pass: {it.needs}")
     try:
-        if it.needs in NOT_PASSED:
-            pytest.skip(f"this did not pass: {it.needs}")
         it.check(*it.arguments, **it.named)
     except MissingError as missing:
-        NOT_PASSED.add(it.name)
         pytest.skip(f"there is no {missing}")
-    except BaseException:
-        NOT_PASSED.add(it.name)
-        raise
+    OUTCOMES[it.name] = True

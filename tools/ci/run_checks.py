@@ -30,6 +30,8 @@ LOGS = os.path.join("out", "test")
 MINUTE = 60
 # Against a check that does not end, on a machine that may be slow and busy. What make builds may have to be proved.
 CHECK_SECONDS, LONG_SECONDS, BUILD_SECONDS = 40 * MINUTE, 120 * MINUTE, 120 * MINUTE
+# For the order of tasks alone.
+BUILD_LIKELY = 5 * MINUTE
 SKIPPED = re.compile(r"^(?:skipped\b|SKIPPED\b).*", re.MULTILINE)
 
 
@@ -105,7 +107,9 @@ class Tests:
         made: list[Task] = []
         for name in wanted:
             # rt works in a crate for one command at a time.
-            made.append(Task(f"build of {name}", partial(self.build, name), tuple(task.name for task in made[-1:])))
+            # What has to be proved takes longer than any check.
+            before = tuple(task.name for task in made[-1:])
+            made.append(Task(f"build of {name}", partial(self.build, name), before, BUILD_LIKELY))
         for check in checks:
             needs = tuple(f"build of {name}" for name in check.runs)
             seconds = self.is_long and check.long_seconds or check.seconds
