@@ -206,7 +206,8 @@ CHECKS = (
     Check(
         name="check-library",
         about="library, header, packages in Python and Rust and examples against the program",
-        command="pytest tools/library", seconds=400,
+        command="pytest tools/library", seconds=250,
+        long="-m 'long or not long'", long_seconds=300,
         runs=EVERYTHING, needs=COMPILER,
     ),
     Check(

@@ -59,6 +59,7 @@ class Checksums:
         self.logic = read_logic(tree.top)
         self.stated = lru_cache(maxsize=None)(self.read_stated)
         self.of_crate = lru_cache(maxsize=None)(self.read_crate)
+        self.of_edit = lru_cache(maxsize=None)(self.read_edit)
 
     def parts(self, crate: str, folders: Sequence[str], is_below: bool) -> Iterator[str]:
         folder = self.tree.folder(crate)
@@ -75,7 +76,13 @@ class Checksums:
         own = self.parts(crate, PARTS, is_below=False)
         return sum_of(self.logic, self.tree.lines[crate], *own, *(self.stated(name) for name in self.tree.below(crate)))
 
-    def of_edit(self, crate: str, edit: str) -> str:
+    def of_all(self) -> tuple[dict[str, str], dict[str, dict[str, str]]]:
+        """The checksums of the crates that have edits, and of these."""
+        crates = {crate: self.tree.edits(crate) for crate in self.tree.uses if self.tree.edits(crate)}
+        of_edits = {crate: {edit: self.of_edit(crate, edit) for edit in names} for crate, names in crates.items()}
+        return {crate: self.of_crate(crate) for crate in crates}, of_edits
+
+    def read_edit(self, crate: str, edit: str) -> str:
         return sum_of(self.tree.edit_text(crate, edit))[:16]
 
 
@@ -160,9 +167,7 @@ def main() -> int:
     sums = Checksums(tree)
     if options.verb == "record":
         seconds.record(options.top)
-        with_edits = [crate for crate in tree.uses if tree.edits(crate)]
-        of_edits = {crate: {edit: sums.of_edit(crate, edit) for edit in tree.edits(crate)} for crate in with_edits}
-        return tried.record(options.top, {crate: sums.of_crate(crate) for crate in with_edits}, of_edits)
+        return tried.record(options.top, *sums.of_all())
     base = tried.base_of(options.top, options.base)
     print(f"what was tried: {base.why}")
     plan = make_plan(sums, base.record, tried.number_of_commits(options.top), options.sample)

@@ -60,6 +60,8 @@ class Run:
         )
         self.counts = Counts()
         self.failures: list[Ended] = []
+        self.path = os.path.join(top, tried.REFUSED)
+        self.before = tried.read_file(self.path)
         self.refused: dict[str, dict[str, tried.Tried]] = {}
         self.took: dict[str, int] = {}
         self.seconds = 0.0
@@ -78,6 +80,7 @@ class Run:
             crate, edit = name.split("/")
             made = tried.Tried(self.sums.of_edit(crate, edit), round(outcome.seconds))
             self.refused.setdefault(crate, {})[edit] = made
+            self.keep_what_was_seen()
 
     def tasks(self, crates: Sequence[str], names: Sequence[str], known: dict[str, int]) -> list[Task]:
         """The tasks of these crates, lowest first, with these edits."""
@@ -86,10 +89,10 @@ class Run:
         return [task for crate in order for task in tasks_of(crate, self.steps, of[crate], known)]
 
     def keep_what_was_seen(self) -> None:
-        """Leaves for `record` which edits were refused, and how long the steps took."""
+        """Leaves for `record` which edits were refused, by this run and by those before it, and how long the steps took."""
         seconds.write_file(os.path.join(self.tree.top, seconds.SEEN), self.took)
         record = {crate: tried.Entry(self.sums.of_crate(crate), names) for crate, names in self.refused.items()}
-        tried.write_file(os.path.join(self.tree.top, tried.REFUSED), record)
+        tried.write_file(self.path, tried.merged(self.before, record, *self.sums.of_all()))
 
     def take_programs(self) -> None:
         """Puts the programs that were proved into bin/, for the checks."""
@@ -154,7 +157,6 @@ def prove(options: argparse.Namespace) -> Counts:
 
 def prove_alone(options: argparse.Namespace) -> Counts:
     begun = time.monotonic()
-    shutil.rmtree(os.path.join(options.top, "out", "prove"), ignore_errors=True)
     whole = rt_ci.run(options.rt, options.top) if options.all else rt_ci.Whole(Counts(), frozenset())
     run = Run(options.top, options.rt, options.anew)
     run.counts += whole.counts

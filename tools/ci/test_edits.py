@@ -164,14 +164,7 @@ def test_record_joins_what_was_tried(tree: SmallTree) -> None:
 def test_record_leaves_out_what_has_changed_since(tree: SmallTree) -> None:
     whole = all_as_tried(tree)
     tree.change("crates/low/proofs/next/Answers.antt", "tt", "refl")
-    assert set(tried.merged({}, whole, *now(tree))) == {"high", "apart"}
-
-
-def now(tree: SmallTree) -> tuple[dict[str, str], dict[str, dict[str, str]]]:
-    of = sums(tree)
-    return {crate: of.of_crate(crate) for crate in of.tree.uses}, {
-        crate: {name: of.of_edit(crate, name) for name in of.tree.edits(crate)} for crate in of.tree.uses
-    }
+    assert set(tried.merged({}, whole, *sums(tree).of_all())) == {"high", "apart"}
 
 
 def test_records_are_read_as_they_are_written(tree: SmallTree) -> None:

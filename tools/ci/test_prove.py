@@ -131,6 +131,12 @@ def test_programs_are_left_for_the_checks(tree: SmallTree, capsys: pytest.Captur
     assert not os.listdir(os.path.join(tree.top, "bin"))
 
 
+def test_what_several_runs_saw_refused_is_kept(tree: SmallTree, capsys: pytest.CaptureFixture[str]) -> None:
+    for crate in ("high", "low"):
+        Proved(tree, capsys, crate)
+    assert set(tried.read_file(os.path.join(tree.top, tried.REFUSED))) == {"high", "low"}
+
+
 def test_a_second_run_in_a_checkout_is_refused(tree: SmallTree, capsys: pytest.CaptureFixture[str]) -> None:
     with prove.alone(tree.top), pytest.raises(SystemExit, match="already runs"):
         Proved(tree, capsys)

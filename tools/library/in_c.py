@@ -153,4 +153,4 @@ def c_cases() -> Iterator[Case]:
     for way in MEMCHECKED:
         yield case(f"memcheck finds nothing in {way}", check_watched, "memcheck", way, needs=built)
     for way in WITH_THREADS:
-        yield case(f"drd finds nothing in {way}", check_watched, "drd", way, needs=built)
+        yield case(f"drd finds nothing in {way}", check_watched, "drd", way, needs=built, is_long=way == "canvases")
