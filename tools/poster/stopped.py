@@ -309,7 +309,8 @@ def cases(options: Options) -> Iterator[Case]:
     yield case("a stopped run of another list", check_other_list, runs)
     for number in range(options.kills):
         yield case(f"a worker killed every three seconds, run {number + 1}", check_killed_workers, runs, number)
-    yield case("all workers killed as they start", check_killed_as_they_start, runs)
+    if options.kills_all:
+        yield case("all workers killed as they start", check_killed_as_they_start, runs)
     yield case("the scheduler killed", check_killed_scheduler, runs)
     yield case("workers that die with each window", check_lost_for_good, runs)
     yield case("no scheduler", check_no_scheduler, runs)

@@ -21,7 +21,7 @@ from tools.poster.common import Options
 
 FOLDER = os.path.join(places.OUT, "check-poster")
 SHORT = Options(FOLDER)
-LONG = Options(FOLDER, lists=60, dask_lists=16, kills=2, rounds=20)
+LONG = Options(FOLDER, lists=60, dask_lists=16, kills=2, rounds=20, kills_all=True)
 
 
 def pytest_generate_tests(metafunc: pytest.Metafunc) -> None:
