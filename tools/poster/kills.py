@@ -83,6 +83,11 @@ class Kills:
                 if text in content(path):
                     return
 
+    def let_run(self, child: subprocess.Popen[bytes], seconds: float) -> None:
+        """Waits for some time. On a machine that was busy when a whole run was timed the run may end before."""
+        with contextlib.suppress(subprocess.TimeoutExpired):
+            child.wait(seconds)
+
     def kill(self, is_late: bool, *words: str) -> None:
         """Starts a run, and kills it: at any time, most often as it draws; or as it gives its files their names."""
         child = self.start(*words)
@@ -90,10 +95,10 @@ class Kills:
             if is_late:
                 self.wait_for(self.journal, child, b'"whole"')
             elif self.pick.random() < 0.2:
-                time.sleep(self.pick.random() * self.seconds)
+                self.let_run(child, self.pick.random() * self.seconds)
             else:
                 self.wait_for(self.journal, child)
-                time.sleep(self.pick.random() * 1.2 * self.drawing)
+                self.let_run(child, self.pick.random() * 1.2 * self.drawing)
         finally:
             child.kill()
             child.wait()
