@@ -232,8 +232,8 @@ CHECKS = (
     Check(
         name="check-poster",
         about="posters against the program, stopped and resumed",
-        command="pytest tools/poster", seconds=100,
-        long="--long", long_seconds=300,
+        command="pytest tools/poster", seconds=230,
+        long="--long -m 'long or not long'", long_seconds=900,
         runs=EVERYTHING, needs=COMPILER,
     ),
     Check(

@@ -28,8 +28,6 @@ class Options:
     # Runs in which a worker is killed every three seconds, and of each kind of output runs that are killed at any moment.
     kills: int = 1
     rounds: int = 1
-    # Whether all workers are killed as they start, after which Dask takes minutes on a busy machine.
-    kills_all: bool = False
 
 
 def generated(seed: object) -> tuple[DrawList, int]:

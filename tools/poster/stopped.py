@@ -304,13 +304,13 @@ def cases(options: Options) -> Iterator[Case]:
     runs = Runs(options.folder)
     for kind in ("ppm", "png"):
         yield case(f"a killed run that is resumed, {kind}", check_resume, runs, kind)
-        yield case(f"a killed run whose file is damaged, {kind}", check_damaged, runs, kind)
+        yield case(f"a killed run whose file is damaged, {kind}", check_damaged, runs, kind, is_long=kind == "png")
     yield case("a killed run that is resumed, tiles", check_resumed_tiles, runs)
     yield case("a stopped run of another list", check_other_list, runs)
     for number in range(options.kills):
         yield case(f"a worker killed every three seconds, run {number + 1}", check_killed_workers, runs, number)
-    if options.kills_all:
-        yield case("all workers killed as they start", check_killed_as_they_start, runs)
-    yield case("the scheduler killed", check_killed_scheduler, runs)
-    yield case("workers that die with each window", check_lost_for_good, runs)
+    # After these Dask takes minutes on a busy machine.
+    yield case("all workers killed as they start", check_killed_as_they_start, runs, is_long=True)
+    yield case("the scheduler killed", check_killed_scheduler, runs, is_long=True)
+    yield case("workers that die with each window", check_lost_for_good, runs, is_long=True)
     yield case("no scheduler", check_no_scheduler, runs)

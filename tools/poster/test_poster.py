@@ -1,6 +1,6 @@
 """Draws posters in all their ways, and compares every byte with the program's.
 
-    PYTHONPATH=python/src python3 -m pytest tools/poster [--long] [--rounds N]
+    PYTHONPATH=python/src python3 -m pytest tools/poster [--long -m 'long or not long'] [--rounds N]
 
 It needs numpy. Dask's checks are skipped if Dask is not installed, and those of the tiles' page without Chromium. What
 is drawn is left in out/check-poster/.
@@ -21,7 +21,7 @@ from tools.poster.common import Options
 
 FOLDER = os.path.join(places.OUT, "check-poster")
 SHORT = Options(FOLDER)
-LONG = Options(FOLDER, lists=60, dask_lists=16, kills=2, rounds=20, kills_all=True)
+LONG = Options(FOLDER, lists=60, dask_lists=16, kills=2, rounds=20)
 
 
 def pytest_generate_tests(metafunc: pytest.Metafunc) -> None:
