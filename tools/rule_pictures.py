@@ -40,7 +40,7 @@ def pixel_colors(value: DrawList) -> list[list[tuple[float, ...]]]:
 
 
 def axes_of(value: DrawList, pixel: float) -> tuple[Figure, Any]:
-    """A figure with the list's pixels as squares of so many inches, each with its centre."""
+    """A figure with the list's pixels as squares of `pixel` inches, each with its centre."""
     width, height = value["width"], value["height"]
     figure = Figure(figsize=((width + 0.3) * pixel, (height + 0.3) * pixel))
     axes = figure.add_axes((0, 0, 1, 1), xlim=(-0.15, width + 0.15), ylim=(height + 0.15, -0.15))

@@ -35,7 +35,7 @@ class PartFile:
         self._write_start(MARK + self._header[len(MARK) :])
 
     def finish(self, size: int) -> None:
-        """Gives the picture of so many bytes its header and its name."""
+        """Gives the picture, which has this number of bytes, its header and its name."""
         self.file.truncate(size)
         self._write_start(self._header)
         check_file(self._path)
