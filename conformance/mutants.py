@@ -78,6 +78,28 @@ def coarse_depths(draw: Draw) -> Draw:
     return {**draw, "vertices": [[x, y, z // 256 * 256, *rest] for x, y, z, *rest in draw["vertices"]]}
 
 
+def depths_elsewhere(place_of: Callable[[reference.Point], reference.Point]) -> Callable[[DrawList], DrawList]:
+    """Takes depths of sloping planes at a sample's other place: a draw becomes one for each sample, its plane moved. Its outline moves
+    too, by less than a pixel."""
+
+    def by_samples(draw: Draw) -> list[Draw]:
+        if len({vertex[2] for vertex in draw["vertices"]}) <= 1:
+            return [draw]
+        made = []
+        for sample, place in enumerate(FOUR):
+            right, down = (there - taken for there, taken in zip(place, place_of(place)))
+            corners = [[x + right, y + down, *rest] for x, y, *rest in draw["vertices"]]
+            made.append({**draw, "vertices": corners, "sample_mask": draw.get("sample_mask", 15) & 1 << sample})
+        return made
+
+    return lambda scene: {**scene, "draws": [one for draw in scene["draws"] for one in by_samples(draw)]}
+
+
+def mirrored(place: reference.Point) -> reference.Point:
+    """The place from left to right, as SwiftShader takes it for depths."""
+    return (256 - place[0], *place[1:])
+
+
 def write_mask_ignored(draw: Draw) -> Draw:
     return {**draw, "write": [True] * 3}
 
@@ -139,6 +161,10 @@ MUTANTS: dict[str, Mutant] = {
     "front orientation ignored": Mutant(setting=lambda setting: replace(setting, anticlockwise_front=False)),
     "equality of depths turned": Mutant(in_each_draw(equality_turned)),
     "coarse float depths": Mutant(float_depths=in_each_draw(coarse_depths)),
+    "floating point of 16 bits": Mutant(setting=lambda setting: replace(setting, depth_bits=16)),
+    "depths mirrored": Mutant(for_samples(4, depths_elsewhere(mirrored))),
+    "depths at the centre": Mutant(for_samples(4, depths_elsewhere(lambda _place: (128, 128)))),
+    "last vertex leads": Mutant(setting=lambda setting: replace(setting, leading=None if setting.leading is None else 2)),
     "mask ignored": Mutant(mask_ignored),
     "mask of one sample ignored": Mutant(for_samples(1, mask_ignored)),
     "write mask ignored": Mutant(in_each_draw(write_mask_ignored)),

@@ -5,7 +5,7 @@ from __future__ import annotations
 from typing import Callable, Sequence
 
 from conformance.d3d11 import pictures
-from conformance.d3d11.requests import request
+from conformance.d3d11.requests import request, version_of
 from conformance.d3d11.streams import REFUSED, Answer, Answers, read_answers, write_requests
 from conformance.renderer import Candidate, CannotAsk, require_powers_of_two
 from conformance.suites import DIRECT3D_LEFT_OUT
@@ -80,4 +80,4 @@ def asked(compare: Callable[[Questions], object]) -> list[bytes]:
 
 def drawn_by(draw: Callable[[bytes], bytes], requests: Sequence[bytes]) -> Direct3D:
     """Direct3D by what takes a stream of requests and gives a stream of answers. Raises `StreamError`."""
-    return Direct3D(requests, read_answers(draw(write_requests(requests)), requests))
+    return Direct3D(requests, read_answers(draw(write_requests(requests, version_of(requests))), requests))

@@ -25,6 +25,7 @@ from typing import Sequence
 from conformance import suites
 from conformance.d3d11 import process
 from conformance.d3d11.direct3d import Direct3D, Questions, asked, drawn_by
+from conformance.d3d11.requests import version_of
 from conformance.d3d11.streams import StreamError, read_answers, write_requests
 from conformance.program import Program, Refused
 from conformance.run import add_shared, measure, publish
@@ -88,7 +89,7 @@ def main() -> int:
     try:
         if options.write:
             with open(options.write, "wb") as file:
-                file.write(write_requests(requests))
+                file.write(write_requests(requests, version_of(requests)))
             return 0
         driver = answered(options, requests)
         program = Program(os.path.abspath(options.program))

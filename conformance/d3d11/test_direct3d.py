@@ -41,7 +41,7 @@ from tools import reference
 from tools.draw_list import DrawList
 from tools.places import TOP
 
-BY_NAME = {suite.name: suite for suite in suites.DIRECT3D}
+BY_NAME = {suite.name: suite for suite in suites.VULKAN}
 RECORDED = os.path.join(TOP, "conformance", "d3d11", "recorded", "wine-llvmpipe.bin.z")
 
 
@@ -105,6 +105,10 @@ OWN: dict[str, tuple[str, ...]] = {
     "order reversed": ("order-1",),
     "clear by one": ("clear-1",),
     "clear depth by one": ("depth-tests-1", "float-depths-1"),
+    "floating point of 16 bits": ("float-planes-1",),
+    "depths mirrored": ("steep-depths-4",),
+    "depths at the centre": ("steep-depths-4",),
+    "last vertex leads": ("leading-vertex-1",),
 }
 # Of these rows, whose lists have rectangles of whole pixels, the first list must be equal unless it is named here.
 STATES = ("culling-1", "anticlockwise-1", "scissor-1", "scissor-4", "depth-tests-1", "float-depths-1")
@@ -177,7 +181,7 @@ class Streams(unittest.TestCase):
 
     def test_of_another_version(self) -> None:
         for stream, read in self.STREAMS:
-            for version in (0, streams.VERSION + 1):
+            for version in (0, streams.LAST_VERSION + 1):
                 with self.assertRaises(OtherVersion):
                     read(with_version(stream, version))
 
@@ -411,7 +415,7 @@ class Command(unittest.TestCase):
                 listed = read_requests(file.read())[1]
             whole = write_answers(identity_of(listed), Answers("", [Answer(REFUSED, b"") for _ in listed]))
             for name, stream in (
-                ("CutShort", whole[:-1]), ("CutShort", b""), ("OtherVersion", with_version(whole, 2)), ("NotAStream", b"\0" * 100),
+                ("CutShort", whole[:-1]), ("CutShort", b""), ("OtherVersion", with_version(whole, 3)), ("NotAStream", b"\0" * 100),
                 ("OtherSuite", small_answers(Streams.LISTED)), ("BadChecksum", whole + b"\0"),
             ):
                 with open(path, "wb") as file:
@@ -436,7 +440,7 @@ class Rasterize(unittest.TestCase):
     def test_a_named_error(self) -> None:
         whole = write_requests(small_lists())
         for name, stream in (
-            ("CutShort", whole[:-1]), ("CutShort", whole[:70]), ("CutShort", b""), ("OtherVersion", with_version(whole, 2)),
+            ("CutShort", whole[:-1]), ("CutShort", whole[:70]), ("CutShort", b""), ("OtherVersion", with_version(whole, 3)),
             ("NotAStream", small_answers(Streams.LISTED)), ("BadChecksum", whole[:-1] + b"\0"), ("BadChecksum", whole + bytes(4)),
         ):
             with self.assertRaises(process.CannotRun) as raised:

@@ -7,7 +7,7 @@ from dataclasses import dataclass, replace
 from typing import Callable
 
 from conformance.suites.setting import PLAIN, Setting
-from conformance.suites import coverage, states, values
+from conformance.suites import coverage, planes, states, values
 from conformance.suites.shapes import Lists, coarser
 
 # A viewport that holds every vertex of most lists, so that nothing is clipped.
@@ -93,6 +93,21 @@ DIRECT3D = (
     Suite("one-layer", "Blending, one layer", values.one_layer, (1,), exact=False, tolerances=(1,)),
 )
 
+# What any interface of the requests can be asked, and only Vulkan is so far.
+MORE = (
+    Suite("steep-depths", "Depths of steep planes", planes.steep_depths, settings=(WIDE,)),
+    Suite("float-planes", "Planes finer than depths of 16 bits", planes.float_planes, settings=(replace(WIDE, depth_bits=32),)),
+    Suite("leading-vertex", "Flat colours of the first vertex", planes.leading_colours, settings=(Setting(leading=0),)),
+    Suite("blend-table", "Blending, every alpha over every value", planes.blend_table, (1,), exact=False, tolerances=(1,)),
+)
+PERSPECTIVE = replace(WIDE, perspective=True)
+VULKAN = (
+    *DIRECT3D,
+    *MORE,
+    Suite("perspective-edges", "Shared edges in perspective", coverage.shared_edges, settings=(PERSPECTIVE,)),
+    Suite("perspective-depths", "Depths of steep planes in perspective", planes.steep_depths, settings=(PERSPECTIVE,)),
+)
+
 OPENGL_LEFT_OUT = (
     ("sample mask with one sample", "OpenGL ignores the mask where a frame has one sample"),
     ("a scissor that runs backwards", "OpenGL takes a width and a height; an empty box stands in its place"),
@@ -101,6 +116,11 @@ OPENGL_LEFT_OUT = (
     ("the place of the resolve's rounding", "colours are compared after the resolve, in 1/255 of a channel"),
     ("pictures whose size is no power of two", "a driver's floats would round the positions before it sees them"),
     ("refused lists and the picture's file", "OpenGL has neither"),
+)
+VULKAN_LEFT_OUT = (
+    ("a scissor that runs backwards", "Vulkan takes a width and a height; an empty box stands in its place"),
+    *OPENGL_LEFT_OUT[2:-1],
+    ("refused lists and the picture's file", "Vulkan has neither"),
 )
 DIRECT3D_LEFT_OUT = (
     ("a scissor that runs backwards", "Direct3D does not say what such a rectangle holds"),

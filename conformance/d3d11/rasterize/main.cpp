@@ -39,7 +39,7 @@ Shading shading_of(const State& state, const Target& target) { return !state.is_
 
 void set_state(Device& device, const Request& request, const State& state) {
     ID3D11DeviceContext* context = device.context.get();
-    context->RSSetState(device.rasterizer(state, request.is_anticlockwise_front, request.target.samples > 1));
+    context->RSSetState(device.rasterizer(state, request.is_anticlockwise_front(), request.target.samples > 1));
     context->OMSetDepthStencilState(device.depth_test(state), 0);
     context->OMSetBlendState(device.blend(state), nullptr, state.sample_mask == 15 ? 0xffffffff : state.sample_mask);
     context->PSSetShader(device.shader(shading_of(state, request.target)), nullptr, 0);
@@ -49,6 +49,7 @@ void set_state(Device& device, const Request& request, const State& state) {
 
 // Throws `Refusal` before anything is drawn.
 void draw(Device& device, Sheet& sheet, const Request& request) {
+    if (request.output != RESOLVED) throw Refusal("each sample by itself: not by Direct3D's program");
     Frame& frame = device.frame(request.target);
     for (const State& state : request.draws) device.shader(shading_of(state, request.target));
     Held<ID3D11Buffer> vertices, indices;
@@ -67,17 +68,17 @@ void draw(Device& device, Sheet& sheet, const Request& request) {
 void run(const std::string& asked) {
     RequestStream requests(stdin);
     Device device(asked);
-    AnswerStream answers(stdout, requests, about(device, asked));
+    AnswerStream answers(requests, about(device, asked));
     Sheet sheet(device, answers);
     for (const Words& words : requests.requests) {
         try {
-            draw(device, sheet, Request(words));
+            draw(device, sheet, Request(words, requests.version(), -1));
         } catch (const Refusal& refusal) {
             sheet.refuse(refusal.what());
         }
     }
     sheet.flush();
-    answers.end();
+    answers.write(stdout);
 }
 
 bool is_device(const std::string& word) {

@@ -45,7 +45,7 @@ public:
         uint32_t cell = 0;
         for (const std::string& reason : waiting) {
             if (reason.empty()) write_cell(seen, cell++);
-            else answers.answer(1, reason.data(), reason.size());
+            else answers.answer(REFUSED, reason.data(), reason.size());
         }
         if (used) device.context->Unmap(staging.get(), 0);
         waiting.clear();
@@ -65,7 +65,7 @@ private:
             const uint8_t* line = (const uint8_t*)seen.pData + (cell / columns * cell_height + row) * (size_t)seen.RowPitch;
             runs.add((const uint32_t*)line + cell % columns * cell_width, cell_width);
         }
-        answers.answer(0, runs.words.data(), 4 * runs.words.size());
+        answers.answer(PICTURE, runs.words.data(), 4 * runs.words.size());
     }
 
     void make(uint32_t width, uint32_t height) {
