@@ -7,6 +7,7 @@ from dataclasses import dataclass, replace
 from typing import Callable, ContextManager
 from unittest import mock
 
+from conformance.blending import ADD, REVERSE_SUBTRACT, SUBTRACT, Equation, equation_of
 from conformance.suites.setting import Setting, move, turn_culling
 from conformance.suites.shapes import coarser, each_draw
 from tools import reference
@@ -34,14 +35,21 @@ def with_edges(kind: type[reference.Edge]) -> Callable[[], ContextManager[object
     return lambda: mock.patch.object(reference, "Edge", kind)
 
 
-def with_pattern(places: tuple[reference.Point, ...]) -> Callable[[], ContextManager[object]]:
-    return lambda: mock.patch.dict(reference.SAMPLES, {4: places})
+def with_patterns(change: Callable[[tuple[reference.Point, ...]], tuple[reference.Point, ...]]) -> Callable[[], ContextManager[object]]:
+    changed = {count: change(places) for count, places in reference.SAMPLES.items() if count > 1}
+    return lambda: mock.patch.dict(reference.SAMPLES, changed)
+
+
+def turned(places: tuple[reference.Point, ...]) -> tuple[reference.Point, ...]:
+    """A quarter of a turn around the pixel's centre."""
+    return tuple((256 - y, x) for x, y in places)
+
+
+def swapped(places: tuple[reference.Point, ...]) -> tuple[reference.Point, ...]:
+    return (places[1], places[0], *places[2:])
 
 
 FOUR = reference.SAMPLES[4]
-# A quarter of a turn around the pixel's centre.
-TURNED = tuple((256 - y, x) for x, y in FOUR)
-SWAPPED = (FOUR[1], FOUR[0], *FOUR[2:])
 OTHER_EQUALITY = {"less": "less_equal", "less_equal": "less", "greater": "greater_equal", "greater_equal": "greater"}
 
 
@@ -100,6 +108,48 @@ def mirrored(place: reference.Point) -> reference.Point:
     return (256 - place[0], *place[1:])
 
 
+def scissor_of_16_bits(draw: Draw) -> Draw:
+    """A scissor whose sides keep 16 bits, of which one is the sign."""
+    if "scissor" not in draw:
+        return draw
+    return {**draw, "scissor": [(side + 32768) % 65536 - 32768 for side in draw["scissor"]]}
+
+
+def turns_ignored(draw: Draw) -> Draw:
+    """A strip whose triangles all have their vertices in the strip's order."""
+    if "strip" not in draw:
+        return draw
+    state = {key: value for key, value in draw.items() if key != "strip"}
+    return {**state, "triangles": [list(draw["strip"][k : k + 3]) for k in range(len(draw["strip"]) - 2)]}
+
+
+def with_equation(change: Callable[[Equation], Equation]) -> Callable[[DrawList], DrawList]:
+    """Draws each equation as another one."""
+
+    def changed(draw: Draw) -> Draw:
+        return {**draw, "equation": list(change(equation_of(draw)))} if "equation" in draw else draw
+
+    return in_each_draw(changed)
+
+
+def factors_swapped(equation: Equation) -> Equation:
+    return equation._replace(color_source=equation.color_stored, color_stored=equation.color_source)
+
+
+def subtract_turned(equation: Equation) -> Equation:
+    """Takes the new value from the stored one if the stored one is to be taken from the new one, and the reverse."""
+    other = {SUBTRACT: REVERSE_SUBTRACT, REVERSE_SUBTRACT: SUBTRACT}
+    return equation._replace(color_operation=other.get(equation.color_operation, equation.color_operation))
+
+
+def alpha_kept(equation: Equation) -> Equation:
+    return equation._replace(alpha_source=1, alpha_stored=2, alpha_operation=ADD)
+
+
+def constant_ignored(equation: Equation) -> Equation:
+    return equation._replace(red=0, green=0, blue=0, alpha=0)
+
+
 def write_mask_ignored(draw: Draw) -> Draw:
     return {**draw, "write": [True] * 3}
 
@@ -132,22 +182,24 @@ def for_samples(count: int, change: Callable[[DrawList], DrawList]) -> Callable[
 
 @dataclass(frozen=True)
 class Mutant:
-    """What is otherwise: the list that is drawn, the setting, the setting's floating point depths, or the rules themselves."""
+    """What is otherwise: the list that is drawn, the list that is asked for, the setting, the setting's floating point depths, or the
+    rules themselves."""
 
     change: Callable[[DrawList], DrawList] = lambda scene: scene
+    asked: Callable[[DrawList], DrawList] = lambda scene: scene
     setting: Callable[[Setting], Setting] = lambda setting: setting
     float_depths: Callable[[DrawList], DrawList] = lambda scene: scene
     rules: Callable[[], ContextManager[object]] = contextlib.nullcontext
 
     def drawn(self, scene: DrawList, setting: Setting) -> DrawList:
         """The list that is drawn in place of this one."""
-        made = self.change(self.setting(setting).by_rules(scene))
+        made = self.change(self.setting(setting).by_rules(self.asked(scene)))
         return self.float_depths(made) if setting.depth_bits == 32 else made
 
 
 MUTANTS: dict[str, Mutant] = {
-    "turned pattern": Mutant(rules=with_pattern(TURNED)),
-    "swapped samples": Mutant(rules=with_pattern(SWAPPED)),
+    "turned pattern": Mutant(rules=with_patterns(turned)),
+    "swapped samples": Mutant(rules=with_patterns(swapped)),
     "bottom-right rule": Mutant(rules=with_edges(BottomRightEdge)),
     "bottom-left rule": Mutant(rules=with_edges(BottomLeftEdge)),
     "seven subpixel bits": Mutant(lambda scene: coarser(scene, 7)),
@@ -169,6 +221,13 @@ MUTANTS: dict[str, Mutant] = {
     "mask of one sample ignored": Mutant(for_samples(1, mask_ignored)),
     "write mask ignored": Mutant(in_each_draw(write_mask_ignored)),
     "order reversed": Mutant(reversed_order),
+    "depths clamped": Mutant(setting=lambda setting: replace(setting, beyond="clamped" if setting.beyond else "")),
+    "scissor of 16 bits": Mutant(asked=in_each_draw(scissor_of_16_bits)),
+    "turns of strips ignored": Mutant(asked=in_each_draw(turns_ignored)),
+    "blend factors swapped": Mutant(with_equation(factors_swapped)),
+    "subtraction turned": Mutant(with_equation(subtract_turned)),
+    "alpha kept": Mutant(with_equation(alpha_kept)),
+    "blend constant ignored": Mutant(with_equation(constant_ignored)),
     "clear by one": Mutant(clear_by_one),
     "clear depth by one": Mutant(clear_depth_by_one),
 }

@@ -41,7 +41,7 @@ from tools import reference
 from tools.draw_list import DrawList
 from tools.places import TOP
 
-BY_NAME = {suite.name: suite for suite in suites.VULKAN}
+BY_NAME = {suite.name: suite for suite in suites.DIRECT3D}
 RECORDED = os.path.join(TOP, "conformance", "d3d11", "recorded", "wine-llvmpipe.bin.z")
 
 
@@ -84,8 +84,8 @@ def first_list_differs(row: str, mutant: str) -> bool:
 
 # The rows under which each mutant must be found in the first tenth of the lists.
 OWN: dict[str, tuple[str, ...]] = {
-    "turned pattern": ("sample-positions-4",),
-    "swapped samples": ("sample-positions-4",),
+    "turned pattern": ("sample-positions-4", "pattern-positions-2", "pattern-positions-8", "pattern-positions-16"),
+    "swapped samples": ("sample-positions-4", "pattern-positions-2", "pattern-positions-8", "pattern-positions-16"),
     "bottom-right rule": ("top-left-1",),
     "bottom-left rule": ("top-left-1",),
     "seven subpixel bits": ("subpixel-bits-1",),
@@ -108,7 +108,14 @@ OWN: dict[str, tuple[str, ...]] = {
     "floating point of 16 bits": ("float-planes-1",),
     "depths mirrored": ("steep-depths-4",),
     "depths at the centre": ("steep-depths-4",),
-    "last vertex leads": ("leading-vertex-1",),
+    "last vertex leads": ("leading-vertex-1", "strips-1"),
+    "depths clamped": ("depth-ends-1",),
+    "scissor of 16 bits": ("large-scissors-1",),
+    "turns of strips ignored": ("strips-1",),
+    "blend factors swapped": ("equations-1",),
+    "subtraction turned": ("equations-1",),
+    "alpha kept": ("equations-1", "layered-alpha-1"),
+    "blend constant ignored": ("equations-1",),
 }
 # Of these rows, whose lists have rectangles of whole pixels, the first list must be equal unless it is named here.
 STATES = ("culling-1", "anticlockwise-1", "scissor-1", "scissor-4", "depth-tests-1", "float-depths-1")

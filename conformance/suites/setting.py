@@ -4,6 +4,7 @@ from __future__ import annotations
 
 from dataclasses import dataclass
 
+from conformance.suites.depth_ends import within_depths
 from conformance.suites.shapes import each_draw
 from tools.draw_list import Draw, DrawList, Vertex, triangles_of
 
@@ -55,16 +56,26 @@ def colour_by(scene: DrawList, leading: int) -> DrawList:
             vertices = [draw["vertices"][corner] for corner in triangle]
             faces.append([len(corners), len(corners) + 1, len(corners) + 2])
             corners += [[*vertex[:3], *vertices[leading][3:]] for vertex in vertices]
-        return {**draw, "vertices": corners, "triangles": faces}
+        state = {key: value for key, value in draw.items() if key not in ("strip", "quads")}
+        return {**state, "vertices": corners, "triangles": faces}
 
     return each_draw(scene, change)
+
+
+def within_picture(draw: Draw, width: int, height: int) -> Draw:
+    """The draw with its scissor's part in the picture."""
+    if "scissor" not in draw:
+        return draw
+    sides = (width, height, width, height)
+    return {**draw, "scissor": [min(max(0, place), side) for place, side in zip(draw["scissor"], sides)]}
 
 
 @dataclass(frozen=True)
 class Setting:
     """The viewport is the picture, or a square of `viewport` pixels around it; then it is moved by `moved`, in 1/256 pixel. Depths
     are kept in integers of 16 bits, or in floating point of 32 bits. With `leading` a triangle has the colour of this one of its
-    vertices. In perspective vertices have a w, which the rules' coverage, depths and flat colours do not see."""
+    vertices. In perspective vertices have a w, which the rules' coverage, depths and flat colours do not see. With `strips` a strip is
+    drawn as one. Depths past their ends are `cut`, by the triangle's part that has them, or `clamped`."""
 
     viewport: int | None = None
     moved: tuple[int, int] = (0, 0)
@@ -72,13 +83,18 @@ class Setting:
     depth_bits: int = 16
     leading: int | None = None
     perspective: bool = False
+    strips: bool = False
+    beyond: str = ""
 
     def by_rules(self, scene: DrawList) -> DrawList:
         """The list that the rules draw if an interface draws this one under this setting."""
         if self.moved != (0, 0):
             scene = move(scene, *self.moved)
+        if self.beyond:
+            scene = within_depths(scene, self.beyond == "clamped")
         if self.depth_bits == 32:
             scene = finest_depths(scene)
+        scene = each_draw(scene, lambda draw: within_picture(draw, scene["width"], scene["height"]))
         if self.leading is not None:
             scene = colour_by(scene, self.leading)
         return turn_culling(scene) if self.anticlockwise_front else scene

@@ -29,7 +29,7 @@ from conformance.mutants import MUTANTS
 from conformance.suites.setting import PLAIN, WS, Setting, finest_depths
 from conformance.suites.shapes import PLACES, Triangle, draw, flat, own_colour, rectangle, scene, vertex
 from conformance.vulkan import process, samples
-from conformance.vulkan.samples import OTHERS, PATTERNS, RULES, SUBJECTS, Places, Plane, compare, lists_of
+from conformance.vulkan.samples import OTHERS, RULES, SUBJECTS, Places, Plane, compare, lists_of
 from tools.draw_list import DrawList
 from tools.places import TOP
 
@@ -116,7 +116,7 @@ class Subjects(unittest.TestCase):
     def test_depths_keep_their_margin(self) -> None:
         for _title, listed in list(BY_NAME["steep-depths"].lists(4))[::8]:
             for triangle in corners_of(listed)[::5]:
-                for places in PATTERNS.values():
+                for places in PLACES.values():
                     for place in places:
                         self.assertEqual(depth_at(triangle, place) % 8, 4)
 
@@ -155,14 +155,9 @@ class Samples(unittest.TestCase):
 
     SMALL = [replace(subject, side=8) for subject in SUBJECTS]
 
-    def test_patterns(self) -> None:
-        self.assertEqual({count: PATTERNS[count] for count in (1, 4)}, PLACES)
-        for count, places in PATTERNS.items():
-            self.assertEqual(len(set(places)), count)
-
     def test_the_rules_agree(self) -> None:
         for subject in self.SMALL:
-            for count in PATTERNS:
+            for count in PLACES:
                 lists = lists_of(subject, count)[:2]
                 tally = compare(subject, count, lists, [drawn_at(subject, one, RULES) for one in lists])
                 self.assertTrue(tally.agrees, tally)
