@@ -27,7 +27,7 @@
 #   make conformance        compare the machine's OpenGL driver with the program, sample by sample; out/conformance.html.
 #                  With DEVICE=d3d11 Direct3D 11, here by Wine: out/conformance-d3d11.html; ADAPTER=warp or a number, else hardware
 #                  With DEVICE=vulkan Vulkan: out/conformance-vulkan.html; ADAPTER is a number or a part of a device's name
-#   make conformance-windows  write dist/trirast-conformance-windows.zip, which asks Direct3D on a Windows machine
+#   make conformance-windows  write dist/trirast-conformance-windows.zip, which asks Direct3D and Vulkan on a Windows machine
 #   make clean     remove what this file made; what rt keeps in crates/*/out/ stays
 
 RT ?= rt
@@ -287,7 +287,7 @@ $(RASTERIZE): $(wildcard conformance/rasterize/* conformance/d3d11/rasterize/*)
 	@mkdir -p $(@D)
 	$(WINDOWS_CXX) -std=c++17 -O2 -Wall -Wextra -static -s -I conformance/rasterize -o $@ conformance/d3d11/rasterize/main.cpp -ld3d11 -ldxgi
 
-conformance-windows: $(RASTERIZE)
+conformance-windows: $(RASTERIZE) conformance/out/rasterize-vulkan.exe
 	$(PYTHON) -m conformance.d3d11.windows dist/trirast-conformance-windows.zip
 
 include conformance/vulkan/rasterize.mk

@@ -109,10 +109,10 @@ def mirrored(place: reference.Point) -> reference.Point:
 
 
 def scissor_of_16_bits(draw: Draw) -> Draw:
-    """A scissor whose sides keep 16 bits, of which one is the sign."""
+    """A scissor whose sides keep 16 bits, as those of llvmpipe do."""
     if "scissor" not in draw:
         return draw
-    return {**draw, "scissor": [(side + 32768) % 65536 - 32768 for side in draw["scissor"]]}
+    return {**draw, "scissor": [max(0, side) % 65536 for side in draw["scissor"]]}
 
 
 def turns_ignored(draw: Draw) -> Draw:

@@ -35,8 +35,9 @@ from conformance.mutants import MUTANTS
 from conformance.program import as_bytes
 from conformance.report import page, text
 from conformance.run import measure
+from conformance.sample_counts import OF_LISTS, alone
 from conformance.suites.setting import PLAIN, Setting
-from conformance.suites.shapes import draw, flat, rectangle, scene, vertex
+from conformance.suites.shapes import PLACES, draw, flat, rectangle, scene, vertex
 from tools import reference
 from tools.draw_list import DrawList
 from tools.places import TOP
@@ -279,11 +280,16 @@ class Settings(unittest.TestCase):
                 self.assertGreaterEqual(count, len(suite.settings), suite.name)
 
     def test_no_list_is_refused(self) -> None:
-        for suite in suites.DIRECT3D[len(suites.OPENGL) :]:
+        asked_of_opengl = {suite.name for suite in suites.OPENGL}
+        for suite in suites.DIRECT3D:
+            if suite.name in asked_of_opengl:
+                continue
             for samples in suite.samples:
                 for number, (title, listed) in enumerate(suite.lists(samples)):
                     with self.subTest(suite=suite.name, title=title):
-                        self.assertEqual(reference.read(as_bytes(suite.setting(number).by_rules(listed))).samples, samples)
+                        drawn = suite.setting(number).by_rules(listed)
+                        alone_ = drawn if samples in OF_LISTS else alone(drawn, 0, PLACES[samples][0])
+                        self.assertEqual(reference.read(as_bytes(alone_)).samples, samples if samples in OF_LISTS else 1)
 
     def test_the_first_tenth_has_all_parts(self) -> None:
         titles = [title for title, _ in BY_NAME["depth-tests"].lists(1)]
@@ -386,12 +392,15 @@ class RecordedAnswers(unittest.TestCase):
 class Archive(unittest.TestCase):
     def test_its_files(self) -> None:
         listed = small_lists()
-        found = windows.contents(b"MZ", listed)
-        self.assertEqual(set(found), {"README.txt", "draw.cmd", "rasterize.exe", "requests.bin"})
+        found = windows.contents(b"MZ", listed, b"MZ", listed[:1])
+        programs = {"rasterize.exe", "requests.bin", "rasterize-vulkan.exe", "requests-vulkan.bin"}
+        self.assertEqual(set(found), {"README.txt", "draw.cmd", *programs})
         self.assertEqual(read_requests(found["requests.bin"])[1], listed)
-        self.assertEqual(found["draw.cmd"].count(b"\r\n"), 3)
-        self.assertIn(identity_of(listed).hex().encode(), found["README.txt"])
-        for name in (b"answers-warp.bin", b"answers-hardware.bin"):
+        self.assertEqual(read_requests(found["requests-vulkan.bin"])[1], listed[:1])
+        self.assertEqual(found["draw.cmd"].count(b"\r\n"), 4)
+        for each in (listed, listed[:1]):
+            self.assertIn(identity_of(each).hex().encode(), found["README.txt"])
+        for name in (b"answers-warp.bin", b"answers-hardware.bin", b"answers-vulkan.bin"):
             self.assertIn(name, found["draw.cmd"])
             self.assertIn(name, found["README.txt"])
 

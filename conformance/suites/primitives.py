@@ -37,7 +37,7 @@ def far_side(rng: random.Random, place: int, first: bool) -> int:
 
 
 def large_scissors(rng: random.Random, samples: int) -> Lists:
-    """Scissors each of whose sides lies within the picture or far past it, across rectangles and, with one sample, across edges."""
+    """Scissors each of whose sides lies within the picture or far past it, across rectangles and across edges."""
     for n in range(24):
         draws = []
         for k in range(6):

@@ -6,6 +6,7 @@ streams and devices that it must refuse. What needs a device is left out where t
 
 from __future__ import annotations
 
+import contextlib
 import os
 import shutil
 import struct
@@ -14,18 +15,23 @@ import tempfile
 import unittest
 from dataclasses import replace
 from fractions import Fraction
-from typing import Sequence
+from typing import Iterator, Sequence
+
+import pytest
 
 from conformance import suites
-from conformance.comparison import compare_suite, planes
+from conformance.comparison import Tally, compare_suite, planes
 from conformance.d3d11 import pictures, requests
 from conformance.d3d11.direct3d import Direct3D, asked, drawn_by
+from conformance.d3d11.process import CannotRun, ran
 from conformance.d3d11.requests import COLOURS, DEPTHS, HAS_MORE, RESOLVED, request, version_of
 from conformance.d3d11.run import Black
 from conformance.d3d11.stand_in import draw_by
 from conformance.d3d11.streams import PICTURE, REFUSED, VALUES, Answer, ended, identity_of, read_answers, write_requests
 from conformance.model import Model
 from conformance.mutants import MUTANTS
+from conformance.renderer import Candidate
+from conformance.sample_counts import alone
 from conformance.suites.setting import PLAIN, WS, Setting, finest_depths
 from conformance.suites.shapes import PLACES, Triangle, draw, flat, own_colour, rectangle, scene, vertex
 from conformance.vulkan import process, samples
@@ -34,7 +40,6 @@ from tools.draw_list import DrawList
 from tools.places import TOP
 
 BY_NAME = {suite.name: suite for suite in suites.VULKAN}
-NEW = suites.VULKAN[len(suites.DIRECT3D) :]
 PERSPECTIVE = Setting(perspective=True)
 
 
@@ -92,13 +97,17 @@ def found(name: str, samples_: int, mutant: str, limit: int = 1) -> bool:
     return not compare_suite(suite, samples_, Model(), drawn_by(draw_by(Model(mutant)), listed), limit=limit).agrees
 
 
-# Where each mutant of the new subjects must be found.
+# In the first list of these subjects each mutant must be found; conformance/d3d11/test_direct3d.py tries all subjects' first tenths.
 OWN = {
     "depths mirrored": ("steep-depths", 4),
-    "depths at the centre": ("steep-depths", 4),
     "floating point of 16 bits": ("float-planes", 1),
+    "depths clamped": ("depth-ends", 1),
     "last vertex leads": ("leading-vertex", 1),
+    "turns of strips ignored": ("strips", 1),
+    "scissor of 16 bits": ("large-scissors", 1),
     "seven subpixel bits": ("perspective-edges", 1),
+    "swapped samples": ("pattern-positions", 2),
+    "alpha kept": ("layered-alpha", 1),
 }
 
 
@@ -112,6 +121,27 @@ class Subjects(unittest.TestCase):
             self.assertIn(mutant, MUTANTS)
             with self.subTest(mutant=mutant):
                 self.assertTrue(found(name, count, mutant))
+
+    def test_mutants_of_equations(self) -> None:
+        suite = BY_NAME["equations"]
+        for mutant in ("blend factors swapped", "subtraction turned", "alpha kept", "blend constant ignored"):
+            with self.subTest(mutant=mutant):
+                self.assertFalse(compare_suite(suite, 1, Model(), Model(mutant), limit=suite.tenth(1)).agrees)
+
+    def test_colours_of_eight_and_sixteen_samples_have_shares(self) -> None:
+        for name in ("pattern-positions", "pattern-edges", "pattern-scissor"):
+            for count in (8, 16):
+                lists = [listed for _title, listed in BY_NAME[name].lists(count)]
+                channels = {channel for one in lists for drawn in one["draws"] for corner in drawn["vertices"] for channel in corner[3:6]}
+                self.assertEqual({channel % count for channel in channels}, {0})
+                self.assertNotIn(0, channels)
+
+    def test_a_list_of_one_sample_by_each_place(self) -> None:
+        edge = scene([draw([flat([(40, -512), (2560, -512), (40, 2560)])])], 16, 2, 2)
+        for count in (2, 8, 16):
+            listed = {**edge, "samples": count}
+            drawn = [n for n, (x, y) in enumerate(PLACES[count]) if any(Model().picture(alone(listed, n, (x, y)))[:3])]
+            self.assertEqual(drawn, [n for n, (x, _y) in enumerate(PLACES[count]) if x >= 40])
 
     def test_depths_keep_their_margin(self) -> None:
         for _title, listed in list(BY_NAME["steep-depths"].lists(4))[::8]:
@@ -208,7 +238,7 @@ def why_no_device() -> str:
         return NO_PROGRAM
     try:
         return "" if process.devices(process.PROGRAM) else "Vulkan's loader finds no device"
-    except process.CannotRun as error:
+    except CannotRun as error:
         return str(error)
 
 
@@ -269,9 +299,12 @@ class Refused(unittest.TestCase):
     @unittest.skipIf(NO_DEVICE, NO_DEVICE)
     def test_requests(self) -> None:
         plain, more = request(square(), PLAIN), request(square(), PERSPECTIVE, COLOURS)
+        blended = request({**square(), "clear_alpha": 0}, PLAIN)
         for version, data in (
             (1, more),  # version 1 has no such flag
-            (2, with_words(plain, 4, 4)), (2, with_words(more, 16, 3)), (2, with_words(more, 17, 6)),
+            (1, with_words(plain, 4, 4)), (2, with_words(plain, 4, 8)), (2, with_words(more, 16, 4)), (2, with_words(more, 17, 6)),
+            *((2, with_words(blended, place, 16)) for place in range(32, 38)), (2, with_words(blended, 31, 2)),
+            (2, with_words(blended, 16, 256)),  # the clear colour's alpha
             (2, with_words(more, 36, 0)), (2, with_words(more, 36, -256)),  # w is not positive
             (1, with_words(plain, 0, 0)), (1, with_words(plain, 0, 16385)), (1, with_words(plain, 2, 33)), (1, with_words(plain, 3, 24)),
             (1, with_words(plain, 11, 256)), (1, with_words(plain, 14, 65536)),
@@ -304,17 +337,35 @@ class CallsThatFail(unittest.TestCase):
 
     STREAM = write_requests([request(square(), PLAIN), request(square(), PERSPECTIVE, COLOURS), request(square(1), PLAIN, DEPTHS)], 2)
 
+    def test_a_device_that_is_lost_in_the_middle(self) -> None:
+        with self.library() as library:
+            for call in ("vkQueueSubmit", "vkWaitForFences"):
+                for number in (1, 2, 3):
+                    self.fails(library, f"{call}:{number}:-4", "DeviceLost")
+
+    def test_memory_that_is_short(self) -> None:
+        with self.library() as library:
+            self.fails(library, "vkAllocateMemory:1:-2", "OutOfDeviceMemory")
+            self.fails(library, "vkAllocateMemory:2:-1", "OutOfMemory")
+
+    @pytest.mark.long
     def test_each_call(self) -> None:
-        with tempfile.TemporaryDirectory() as folder:
-            library = os.path.join(folder, "failing.so")
-            source = os.path.join(os.path.dirname(os.path.abspath(__file__)), "failing.c")
-            subprocess.run(["cc", "-shared", "-fPIC", "-o", library, source, "-ldl"], check=True)
+        with self.library() as library:
             for times, calls in CALLS.items():
                 for call in calls:
                     for number in range(1, times + 1):
                         for result, name in RESULTS.items():
                             with self.subTest(call=call, number=number, result=name):
                                 self.fails(library, f"{call}:{number}:{result}", name)
+
+    @contextlib.contextmanager
+    def library(self) -> Iterator[str]:
+        """The library of calls that fail, built."""
+        with tempfile.TemporaryDirectory() as folder:
+            made = os.path.join(folder, "failing.so")
+            source = os.path.join(os.path.dirname(os.path.abspath(__file__)), "failing.c")
+            subprocess.run(["cc", "-shared", "-fPIC", "-o", made, source, "-ldl"], check=True)
+            yield made
 
     def fails(self, library: str, failing: str, name: str) -> None:
         given = {**os.environ, "LD_PRELOAD": library, "VULKAN_FAILS": failing}
@@ -328,7 +379,7 @@ class Drawn(unittest.TestCase):
     """What a device draws, whichever it is."""
 
     def answers(self, listed: Sequence[bytes], *arguments: str) -> list[Answer]:
-        stream = process.ran([process.PROGRAM, *arguments], write_requests(listed, version_of(listed)))
+        stream = ran([process.PROGRAM, *arguments], write_requests(listed, version_of(listed)))
         return read_answers(stream, listed).answers
 
     def test_the_three_ways_to_read_samples(self) -> None:
@@ -337,7 +388,7 @@ class Drawn(unittest.TestCase):
         whole = [request(one, PLAIN, COLOURS) for one in lists]
         ways = {way: self.answers(whole, "--read", way) for way in ("sampled", "input")}
         masked = asked(lambda questions: [planes(questions, one) for one in lists])
-        driver = Direct3D(masked, read_answers(process.ran([process.PROGRAM], write_requests(masked)), masked))
+        driver = Direct3D(masked, read_answers(ran([process.PROGRAM], write_requests(masked)), masked))
         for n, listed in enumerate(lists):
             quarters = b"".join(planes(driver, listed))
             for way, answered in ways.items():
@@ -346,6 +397,22 @@ class Drawn(unittest.TestCase):
                     self.assertEqual(bytes(channel // 4 for channel in found_), quarters, way)
                 else:
                     self.assertEqual(answered[n].status, REFUSED, way)
+
+    def test_a_small_suite(self) -> None:
+        """Subjects of which the rules leave nothing open to a device with eight subpixel bits, first lists, against the rules."""
+        chosen = [BY_NAME[name] for name in ("sample-positions", "leading-vertex", "depth-ends", "strips", "layered-alpha")]
+
+        def compare_all(driver: Candidate) -> list[Tally]:
+            return [compare_suite(suite, count, Model(), driver, limit=1) for suite in chosen for count in suite.samples]
+
+        listed = asked(lambda questions: [compare_suite(suite, n, Black(), questions, limit=1) for suite in chosen for n in suite.samples])
+        stream = ran([process.PROGRAM], write_requests(listed, version_of(listed)))
+        answers = read_answers(stream, listed)
+        if "subpixel bits\t8\n" not in answers.about:
+            self.skipTest("the device has other than eight subpixel bits")
+        for tally in compare_all(Direct3D(listed, answers)):
+            self.assertTrue(tally.agrees, tally.name)
+            self.assertEqual((tally.lists, tally.compared > 0), (1, True), tally.name)
 
     def test_a_stored_depth(self) -> None:
         for bits, expected in ((16, struct.pack("<I", 12345)), (32, struct.pack("<f", 12345 / 65535))):
@@ -366,6 +433,6 @@ class Drawn(unittest.TestCase):
     def test_a_device_by_its_number_and_its_name(self) -> None:
         listed = [request(square(1), PLAIN)]
         number, name, _kind = process.devices(process.PROGRAM)[0].split("\t")
-        by_number = process.ran([process.PROGRAM, "--device", number], write_requests(listed))
+        by_number = ran([process.PROGRAM, "--device", number], write_requests(listed))
         self.assertIn(f"renderer\t{name}\n", read_answers(by_number, listed).about)
 

@@ -5,10 +5,8 @@
 // The requests are read and checked whole, then drawn one after another. Exit status 0 if every request has its answer; 2 if
 // not, with one line on standard error that begins with the error's name. docs/conformance.md says how the streams are made and
 // compared.
-#include <fcntl.h>
-#include <io.h>
-
 #include "about.hpp"
+#include "binary.hpp"
 #include "sheet.hpp"
 
 namespace {
@@ -99,8 +97,8 @@ int main(int count, char** arguments) {
         std::fprintf(stderr, "usage: rasterize.exe [--device hardware|warp|N] < requests > answers\n");
         return 2;
     }
-    _setmode(_fileno(stdin), _O_BINARY);
-    _setmode(_fileno(stdout), _O_BINARY);
+    set_binary(stdin);
+    set_binary(stdout);
     static char out[1 << 20];
     std::setvbuf(stdout, out, _IOFBF, sizeof out);
     try {
