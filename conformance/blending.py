@@ -95,8 +95,9 @@ def pixels(scene: DrawList) -> bytes:
     """Red, green, blue and alpha of a list's pixels, row by row, one after another. Its triangles are pairs that make rectangles of whole
     pixels, each of one colour."""
     width = scene["width"]
-    cleared = (*scene.get("clear", (0, 0, 0)), scene.get("clear_alpha", 0))
-    stored: list[Pixel] = [cleared] * (width * scene["height"])
+    red, green, blue = scene.get("clear", (0, 0, 0))
+    cleared: Pixel = (red, green, blue, scene.get("clear_alpha", 0))
+    stored = [cleared] * (width * scene["height"])
     for draw in scene["draws"]:
         equation, triangles = equation_of(draw), triangles_of(draw)
         for first, second in zip(triangles[::2], triangles[1::2]):

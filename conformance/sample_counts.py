@@ -5,7 +5,7 @@ from __future__ import annotations
 from typing import Callable, Mapping, Sequence
 
 from conformance.suites.setting import move
-from conformance.suites.shapes import Point, all_samples, each_draw
+from conformance.suites.shapes import all_samples, each_draw
 from tools.draw_list import Draw, DrawList
 
 OF_LISTS = (1, 4)
@@ -21,7 +21,7 @@ def alone(scene: DrawList, sample: int, place: Sequence[int]) -> DrawList:
     return {**move(each_draw(scene, masked), 128 - place[0], 128 - place[1]), "samples": 1}
 
 
-def resolved(scene: DrawList, patterns: Mapping[int, Sequence[Point]], picture: Callable[[DrawList], bytes]) -> bytes:
+def resolved(scene: DrawList, patterns: Mapping[int, Sequence[Sequence[int]]], picture: Callable[[DrawList], bytes]) -> bytes:
     """The picture of a list with any number of samples, by what draws lists with one and with four: the mean, to the nearest."""
     count = scene.get("samples", 1)
     if count in OF_LISTS:

@@ -62,7 +62,8 @@ class Data(unittest.TestCase):
         schema = json.loads(text_of("docs", "conformance.schema.json"))
         for mutant in ("", "moved scissor"):
             jsonschema.validate(results_of(mutant), schema)
-        for change in ({"format": 2}, {"more": 1}, {"subjects": [{}]}, {"interface": "Metal"}):
+        changes: tuple[Json, ...] = ({"format": 2}, {"more": 1}, {"subjects": [{}]}, {"interface": "Metal"})
+        for change in changes:
             with self.assertRaises(jsonschema.ValidationError):
                 jsonschema.validate({**results_of(""), **change}, schema)
 

@@ -128,6 +128,11 @@ def equation_read(words: Iterator[int]) -> tuple[bool, list[int]]:
     return topology == STRIP, [*numbers, *(constant >> shift & 255 for shift in (0, 8, 16, 24))]
 
 
+def faces_of(is_strip: bool, indices: list[int]) -> Draw:
+    """A draw's strip or its triangles, under their key."""
+    return {"strip": indices} if is_strip else {"triangles": [indices[k : k + 3] for k in range(0, len(indices), 3)]}
+
+
 def draw_of(words: Iterator[int], vertex_words: int, has_more: bool) -> tuple[Draw, bool]:
     """The draw of its words, and whether its colours are interpolated."""
     cull, test, write_depth, blend, write, mask, is_shaded, is_scissored, *rest = taken(words, DRAW_WORDS)
@@ -144,7 +149,7 @@ def draw_of(words: Iterator[int], vertex_words: int, has_more: bool) -> tuple[Dr
         "sample_mask": mask,
         **({"scissor": box} if is_scissored else {}),
         "vertices": [vertex_of(corners[k : k + VERTEX_WORDS]) for k in range(0, len(corners), vertex_words)],
-        **({"strip": faces} if is_strip else {"triangles": [faces[k : k + 3] for k in range(0, len(faces), 3)]}),
+        **faces_of(is_strip, faces),
         **({} if equation == list(NONE) else {"equation": equation}),
     }
     return draw, bool(is_shaded)

@@ -72,7 +72,8 @@ def scene(draws: list[Draw], samples: int, width: int = SIDE, height: int = SIDE
 
 def all_samples(scene: DrawList) -> int:
     """The sample mask of a draw that names none."""
-    return max(15, (1 << scene.get("samples", 1)) - 1)
+    samples: int = scene.get("samples", 1)
+    return max(15, (1 << samples) - 1)
 
 
 def colours_of_steps(scene: DrawList, step: int) -> DrawList:
