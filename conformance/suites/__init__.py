@@ -128,7 +128,9 @@ DIRECT3D = (
 )
 VULKAN = DIRECT3D
 
+CENTROID = ("interpolation at a centroid", "each interface lets a driver choose the place")
 OPENGL_LEFT_OUT = (
+    CENTROID,
     ("sample mask with one sample", "OpenGL ignores the mask where a frame has one sample"),
     ("a scissor that runs backwards", "OpenGL takes a width and a height; an empty box stands in its place"),
     ("positions finer than 1/256 pixel", "a list has none, so more than 8 subpixel bits would be reported as 8"),
@@ -138,12 +140,14 @@ OPENGL_LEFT_OUT = (
     ("refused lists and the picture's file", "OpenGL has neither"),
 )
 VULKAN_LEFT_OUT = (
+    CENTROID,
     ("a scissor that runs backwards", "Vulkan takes a width and a height; an empty box stands in its place"),
-    *OPENGL_LEFT_OUT[2:-1],
+    OPENGL_LEFT_OUT[3], *OPENGL_LEFT_OUT[5:-1],
     ("refused lists and the picture's file", "Vulkan has neither"),
 )
 DIRECT3D_LEFT_OUT = (
+    CENTROID,
     ("a scissor that runs backwards", "Direct3D does not say what such a rectangle holds"),
-    *OPENGL_LEFT_OUT[2:-1],
+    *OPENGL_LEFT_OUT[3:-1],
     ("refused lists and the picture's file", "Direct3D has neither"),
 )

@@ -27,14 +27,15 @@ from conformance.d3d11.process import CannotRun, ran
 from conformance.d3d11.requests import COLOURS, DEPTHS, HAS_MORE, RESOLVED, request, version_of
 from conformance.d3d11.run import Black
 from conformance.d3d11.stand_in import draw_by
-from conformance.d3d11.streams import PICTURE, REFUSED, VALUES, Answer, ended, identity_of, read_answers, write_requests
+from conformance.d3d11.streams import PICTURE, REFUSED, VALUES, Answer, Answers, read_answers, write_requests
 from conformance.model import Model
 from conformance.mutants import MUTANTS
-from conformance.renderer import Candidate
+from conformance.renderer import Candidate, CannotAsk
 from conformance.sample_counts import alone
 from conformance.suites.setting import PLAIN, WS, Setting, finest_depths
 from conformance.suites.shapes import PLACES, Triangle, draw, flat, own_colour, rectangle, scene, vertex
 from conformance.vulkan import process, samples
+from conformance.vulkan.run import Vulkan, asks_values
 from conformance.vulkan.samples import OTHERS, RULES, SUBJECTS, Places, Plane, compare, lists_of
 from tools.draw_list import DrawList
 from tools.places import TOP
@@ -178,6 +179,24 @@ def drawn_at(subject: samples.Subject, listed: DrawList, places: Places) -> Answ
     if subject.is_float:
         return Answer(VALUES, struct.pack(f"<{len(channels[0])}f", *(value / 65535 for value in channels[0])))
     return Answer(VALUES, struct.pack(f"<{len(channels[0])}I", *(round(value) for value in channels[0])))
+
+
+class Comparing(unittest.TestCase):
+    def test_only_the_standard_locations_are_comparable(self) -> None:
+        listed = [request(square(count), PLAIN) for count in (1, 4)]
+        drawn = [Answer(PICTURE, pictures.encode(bytes(12))) for _ in listed]
+        for said, is_comparable in (("yes", True), ("no", False)):
+            driver = Vulkan(listed, Answers(f"standard sample locations\t{said}\n", drawn))
+            self.assertEqual(driver.picture(square(1)), bytes(12))
+            if is_comparable:
+                self.assertEqual(driver.picture(square(4)), bytes(12))
+            else:
+                with self.assertRaisesRegex(CannotAsk, "not comparable"):
+                    driver.picture(square(4))
+
+    def test_values_at_samples_are_asked_with_all_subjects_alone(self) -> None:
+        self.assertTrue(asks_values(suites.VULKAN))
+        self.assertFalse(asks_values(suites.VULKAN[1:]))
 
 
 class Samples(unittest.TestCase):
