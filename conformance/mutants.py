@@ -109,7 +109,7 @@ def mirrored(place: reference.Point) -> reference.Point:
 
 
 def scissor_of_16_bits(draw: Draw) -> Draw:
-    """A scissor whose sides keep 16 bits, as those of llvmpipe do."""
+    """A scissor whose sides keep 16 bits, as those of lavapipe do."""
     if "scissor" not in draw:
         return draw
     return {**draw, "scissor": [max(0, side) % 65536 for side in draw["scissor"]]}
