@@ -19,8 +19,8 @@ from conformance.d3d11 import process
 from conformance.d3d11.run import requests_of
 from conformance.d3d11.requests import version_of
 from conformance.d3d11.streams import identity_of, write_requests
+from conformance.vulkan import samples
 from conformance.vulkan.process import EXE as VULKAN_EXE
-from conformance.vulkan.run import requests_of as vulkan_requests
 from tools.places import bytes_of, text_of
 
 FOLDER = "trirast-conformance"
@@ -69,7 +69,8 @@ def main() -> int:
         print(f"conformance: {error}", file=sys.stderr)
         return 2
     requests = requests_of(suites.DIRECT3D)
-    write_archive(options.archive, contents(exe, requests, vulkan_exe, vulkan_requests(suites.VULKAN)))
+    # Vulkan is asked the same subjects, and values at samples.
+    write_archive(options.archive, contents(exe, requests, vulkan_exe, [*requests, *samples.requests()]))
     print(f"{options.archive}: {os.path.getsize(options.archive):,} bytes")
     return 0
 
