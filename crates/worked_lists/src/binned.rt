@@ -6,7 +6,11 @@ use list::{DrawList, Placed};
 use std::alloc::{AllocError, Global};
 
 /// The bins of a picture's tiles of this size, in order.
-pub(crate) fn bins_of(alloc: Global, list: &DrawList, side: TileSide) -> Result<String, AllocError> {
+pub(crate) fn bins_of(
+    alloc: Global,
+    list: &DrawList,
+    side: TileSide,
+) -> Result<String, AllocError> {
     let tiling = Tiling::new(list.width(), list.height(), side);
     let mut all = String::new(alloc);
     let Ok(bins) = Bins::build(alloc, list, &tiling, 0, tiling.rows()) else {

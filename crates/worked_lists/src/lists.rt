@@ -52,7 +52,11 @@ pub(crate) fn values_of(
 
 /// Which triangles are culled, the depth test, whether depths are written, which channels are, whether it blends, the sample mask
 /// and the scissor.
-pub(crate) fn state_of(alloc: Global, list: &DrawList, number: usize) -> Result<String, AllocError> {
+pub(crate) fn state_of(
+    alloc: Global,
+    list: &DrawList,
+    number: usize,
+) -> Result<String, AllocError> {
     if number >= list.triangles() {
         return Ok(String::new(alloc));
     }

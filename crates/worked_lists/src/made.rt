@@ -29,7 +29,11 @@ const BLACK: Sample = Sample {
 };
 
 /// What comes of a list of this size with these draws.
-fn made(alloc: Global, (width, height): (u32, u32), draws: Vec<Draw>) -> Result<String, AllocError> {
+fn made(
+    alloc: Global,
+    (width, height): (u32, u32),
+    draws: Vec<Draw>,
+) -> Result<String, AllocError> {
     let list = DrawList::new(
         alloc,
         width,

@@ -60,10 +60,7 @@ pub(crate) fn kind_of(alloc: Global, text: &str) -> Result<&'static str, AllocEr
     let text = expanded(alloc, text)?;
     Ok(match readings(alloc, text.as_str()) {
         [Some(fast), Some(value), Some(read)]
-            if are_same(&fast, &value) && are_same(&read, &value) =>
-        {
-            "both"
-        }
+            if are_same(&fast, &value) && are_same(&read, &value) => { "both" }
         [None, Some(value), Some(read)] if are_same(&read, &value) => "left",
         [None, None, None] => "none",
         _ => "other",
