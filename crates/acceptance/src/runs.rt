@@ -11,7 +11,7 @@ use std::sync::atomic::{AtomicU64, Ordering};
 use std::test::Fail;
 use std::thread;
 use std::thread::Threads;
-use trirast::{Counted, Fault, Options, run_with};
+use trirast::{Counted, Fault, Options, pgm_header, ppm_header, ppm_rows, run_with, write_ppm};
 
 /// 9 by 9 white pixels, so four tiles of 8 by 8 pixels.
 const WHITE: &str = r#"{"width":9,"height":9,"clear":[255,255,255],"draws":[]}"#;
@@ -130,5 +130,22 @@ fn two_at_once_picture(rt: HostRuntime) -> Result<(), Fail> {
     assert_eq!(rt; result, Ok(()));
     assert_eq!(rt; gate.met.load(Ordering::SeqCst), 1);
     assert_eq!(rt; sink.taken.as_slice(), white(rt.alloc())?.as_slice());
+    Ok(())
+}
+
+#[test]
+fn writes_files_headers_and_rows(rt: HostRuntime) -> Result<(), Fail> {
+    let mut out = Counted::new(Vec::new(rt.alloc()));
+    assert_eq!(rt; write_ppm(1, 1, &[1, 2, 3], &mut out), Ok(()));
+    assert_eq!(rt; ppm_header(4096, 65, &mut out), Ok(15));
+    assert_eq!(rt; ppm_rows(&[7, 8], 15, &mut out), Ok(17));
+    assert_eq!(rt; pgm_header(1, 1, &mut out), Ok(13));
+    assert_eq!(rt; ppm_rows(&[0, 95], 13, &mut out), Ok(15));
+    assert_eq!(rt; pgm_header(4096, 4095, &mut out), Ok(19));
+    assert_eq!(rt; out.failures(), 0);
+    let written: Vec<u8> = out.into_inner();
+    let expected =
+        b"P6\n1 1\n255\n\x01\x02\x03P6\n4096 65\n255\n\x07\x08P5\n1 1\n65535\n\0\x5FP5\n4096 4095\n65535\n";
+    assert_eq!(rt; written.as_slice(), expected.as_slice());
     Ok(())
 }
