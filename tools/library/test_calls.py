@@ -12,7 +12,7 @@ from typing import Any, Sequence, Tuple, Union
 import pytest
 
 from tests.acceptance.lists import CORNER, TRIANGLE
-from tests.acceptance.program import TILE_SIZES, colour_file
+from tests.acceptance.program import TILE_SIZES, check_written, colour_file
 from trirast import _ffi
 
 # An error's status, the number of the list's error, whether it lies in a draw, and that draw.
@@ -140,8 +140,6 @@ DEPTHS = (
 
 @pytest.mark.parametrize(("text", "length"), [(COLOURS, 12_688), (DEPTHS, 5_615)])
 def test_draws_the_bytes_of_the_workers(text: str, length: int) -> None:
-    from tests.acceptance.program import check_written
-
     error, file = drawn(text, 8, length)
     assert error == DONE
     for tile_size in TILE_SIZES:
