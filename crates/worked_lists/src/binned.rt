@@ -55,22 +55,33 @@ fn is_exact(list: &DrawList, tiling: &Tiling, k: u32, bin: &[u32]) -> bool {
     numbers.next().is_none()
 }
 
-/// Whether the bins of all tiles have exactly the triangles that belong to them, and those of each row of tiles by itself too.
+/// Whether the bins of all tiles have exactly the triangles that belong to them.
 pub(crate) fn are_exact(
     alloc: Global,
     list: &DrawList,
     side: TileSide,
 ) -> Result<bool, OutOfMemory> {
     let tiling = Tiling::new(list.width(), list.height(), side);
-    let all = Bins::build(alloc, list, &tiling, 0, tiling.rows())?;
+    let bins = Bins::build(alloc, list, &tiling, 0, tiling.rows())?;
     for k in 0..tiling.tiles() {
-        let row = k / tiling.columns();
-        if row >= tiling.rows() {
+        if !is_exact(list, &tiling, k, bins.bin(k)) {
             return Ok(false);
         }
-        let one = Bins::build(alloc, list, &tiling, row, 1)?;
-        if !is_exact(list, &tiling, k, all.bin(k)) || !is_exact(list, &tiling, k, one.bin(k)) {
-            return Ok(false);
+    }
+    Ok(true)
+}
+
+/// Whether the bins of each row of tiles by itself are those of all rows, for 100 by 70 pixels and tiles of 16.
+pub(crate) fn agree_by_rows(alloc: Global, list: &DrawList) -> Result<bool, OutOfMemory> {
+    let tiling = Tiling::new(100, 70, TileSide::T16);
+    let all = Bins::build(alloc, list, &tiling, 0, 5)?;
+    for row in 0..5 {
+        let bins = Bins::build(alloc, list, &tiling, row, 1)?;
+        for column in 0..7 {
+            let k = 7 * row + column;
+            if bins.bin(k) != all.bin(k) {
+                return Ok(false);
+            }
         }
     }
     Ok(true)

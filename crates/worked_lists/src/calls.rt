@@ -1,5 +1,5 @@
 //! The calls of a line, and whether they give what the line says.
-use crate::binned::{are_exact, bins_of};
+use crate::binned::{agree_by_rows, are_exact, bins_of};
 use crate::lists::{corners_of, head_of, list_of, rows_of, state_of, values_of};
 use crate::made::{made_of, quad_of};
 use crate::readers::kind_of;
@@ -34,13 +34,16 @@ fn made_by(alloc: Global, name: &str, numbers: &str) -> Result<Option<String>, A
     }
 }
 
-/// What a call gives that names a triangle of a list, or a tile size.
+/// What a call gives of a list.
 fn given_of(
     alloc: Global,
     name: &str,
     word: &str,
     list: &DrawList,
 ) -> Result<Option<String>, AllocError> {
+    if name == "head" {
+        return Ok(Some(head_of(alloc, list)?));
+    }
     if name == "bins" {
         return match side_of(word) {
             Some(side) => Ok(Some(bins_of(alloc, list, side)?)),
@@ -59,24 +62,16 @@ fn given_of(
     })
 }
 
-/// What a call gives, or `None` if there is no such call.
+/// What a call gives, or `None` if there is no such call. All but `head` have a word before the list.
 fn given(alloc: Global, name: &str, words: &str) -> Result<Option<String>, AllocError> {
-    if name == "new" || name == "quad" {
-        return made_by(alloc, name, words);
-    }
-    if name == "head" {
-        return match list_of(alloc, words) {
-            Some(list) => Ok(Some(head_of(alloc, &list)?)),
-            None => Ok(None),
-        };
-    }
-    let Some((word, text)) = words.split_once(' ') else {
+    let (word, text) = match words.split_once(' ') {
+        Some(parts) if name != "head" => parts,
+        _ => ("", words),
+    };
+    let Some(list) = list_of(alloc, text) else {
         return Ok(None);
     };
-    match list_of(alloc, text) {
-        Some(list) => given_of(alloc, name, word, &list),
-        None => Ok(None),
-    }
+    given_of(alloc, name, word, &list)
 }
 
 /// Whether the bins of the list are exact for tiles of this size.
@@ -90,19 +85,38 @@ fn has_exact_bins(alloc: Global, words: &str) -> bool {
     }
 }
 
+/// Whether the bins of the list agree by rows.
+fn has_bins_by_rows(alloc: Global, text: &str) -> bool {
+    match list_of(alloc, text) {
+        Some(list) => agree_by_rows(alloc, &list).unwrap_or(false),
+        None => false,
+    }
+}
+
+/// Whether a call gives this text.
+fn gives(alloc: Global, name: &str, words: &str, wanted: &str) -> Result<bool, AllocError> {
+    let given = match name {
+        "new" | "quad" => made_by(alloc, name, words)?,
+        _ => given(alloc, name, words)?,
+    };
+    Ok(match given {
+        Some(text) => text.as_str() == wanted,
+        None => false,
+    })
+}
+
 /// Whether the line is a call with what it gives.
 pub(crate) fn holds(alloc: Global, line: &str) -> Result<bool, AllocError> {
     let Some((name, words)) = line.split_once(' ') else {
         return Ok(false);
     };
-    if name == "exact" {
-        return Ok(has_exact_bins(alloc, words));
+    match name {
+        "exact" => return Ok(has_exact_bins(alloc, words)),
+        "by_rows" => return Ok(has_bins_by_rows(alloc, words)),
+        _ => {}
     }
     match words.split_once(" = ") {
-        Some((call, wanted)) => match given(alloc, name, call)? {
-            Some(text) => Ok(text.as_str() == wanted),
-            None => Ok(false),
-        },
+        Some((call, wanted)) => gives(alloc, name, call, wanted),
         None => Ok(kind_of(alloc, words)? == name),
     }
 }

@@ -19,19 +19,6 @@ fn expanded(alloc: Global, text: &str) -> Result<String, AllocError> {
     Ok(all)
 }
 
-/// The list that one pass over the tokens reads, that which the value of the text denotes, and that which `read` returns.
-fn readings(alloc: Global, text: &str) -> [Option<DrawList>; 3] {
-    let bytes = text.as_bytes();
-    if bytes.len() > MOST_BYTES {
-        return [None, None, None];
-    }
-    [
-        read_in_one_pass(alloc, bytes),
-        read_by_value(alloc, bytes).ok(),
-        read(alloc, bytes).ok(),
-    ]
-}
-
 fn have_same_head(one: &DrawList, other: &DrawList) -> bool {
     one.width() == other.width()
         && one.height() == other.height()
@@ -55,14 +42,30 @@ fn are_same(one: &DrawList, other: &DrawList) -> bool {
 }
 
 /// Which reader reads the text: `both` the same list, `left` is one that one pass leaves to the other reader, `none` one that neither
-/// reads.
+/// reads, and neither does `read`. The list that `read` returns is that of the value.
 pub(crate) fn kind_of(alloc: Global, text: &str) -> Result<&'static str, AllocError> {
     let text = expanded(alloc, text)?;
-    Ok(match readings(alloc, text.as_str()) {
-        [Some(fast), Some(value), Some(read)]
-            if are_same(&fast, &value) && are_same(&read, &value) => { "both" }
-        [None, Some(value), Some(read)] if are_same(&read, &value) => "left",
-        [None, None, None] => "none",
-        _ => "other",
+    let bytes = text.as_bytes();
+    if bytes.len() > MOST_BYTES {
+        return Ok("long");
+    }
+    let (fast, read) = (read_in_one_pass(alloc, bytes), read(alloc, bytes));
+    let Ok(value) = read_by_value(alloc, bytes) else {
+        let is_none = fast.is_none() && read.is_err();
+        return Ok(if is_none { "none" } else { "other" });
+    };
+    let Ok(read) = read else {
+        return Ok("other");
+    };
+    if !are_same(&read, &value) {
+        return Ok("other");
+    }
+    let Some(fast) = fast else {
+        return Ok("left");
+    };
+    Ok(if are_same(&fast, &value) {
+        "both"
+    } else {
+        "other"
     })
 }
