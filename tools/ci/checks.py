@@ -193,8 +193,8 @@ CHECKS = (
     ),
     Check(
         name="allocation-failures-inside",
-        about="tiles and readers by themselves where allocations fail",
-        command="pytest tools/allocation_failures.py -k 'Draws or Tiles'", seconds=8,
+        about="tiles and readers by themselves where allocations fail, and tiles beside the reference crate",
+        command="pytest tools/allocation_failures.py tools/test_tiles.py -k 'Draws or Tiles'", seconds=15,
         runs=("readers",), needs=COMPILER, only_if_built=True,
     ),
     Check(

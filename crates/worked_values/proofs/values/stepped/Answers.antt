@@ -2,7 +2,7 @@ use Rattle.std.proofs.Common.{◌≡◌, ap, ◌∙◌, sym, arith, rules}
 use Rattle.std.proofs.lemmas.Int.{ints}
 use Rattle.grid.specs.Position.{Position, right_of}
 use Rattle.grid.specs.Triangle.{Covers}
-use Rattle.core_tests.proofs.rows.stepped.Goals as goal
+use Rattle.worked_values.proofs.values.stepped.Goals as goal
 
 same : (p q : Position) → p.x ≡ q.x → p.y ≡ q.y → p ≡ q
 same p q e f = λ i. record { x = e i; y = f i }
