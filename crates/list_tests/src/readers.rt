@@ -1,4 +1,4 @@
-//! One pass over the tokens, compared with the tree of values.
+//! One pass over the tokens, compared with the tree of values. `tools/fuzz_reader.py` compares them on many texts.
 use list::{DrawList, MOST_BYTES, read, read_by_value, read_in_one_pass};
 use std::alloc::AllocGlobal;
 use std::process::Abort;
@@ -176,14 +176,18 @@ fn reads_strips_and_quads(rt: HostRuntime) {
         r#""strip":[3,2]"#,
         r#""strip":[0,1,2]"#,
         r#""strip":[0,1,3,2,0,1]"#,
-        r#""str\u0069p":[0,1,3,2]"#,
         r#""strip":[0,1,2],"strip":[3,2,1,0]"#,
         r#""quads":[]"#,
         r#""quads":[[0,1,2,3],[3,2,1,0]]"#,
-        r#""\u0071uads":[[1,2,3,0]]"#,
         r#""quads":[[0,1,2,3]],"cull":"back","quads":[[3,2,1,0],[1,2,3,0]]"#,
     ] {
         assert_both(&rt, square(&rt, members).as_str());
+    }
+    for members in [
+        r#""str\u0069p":[0,1,3,2]"#,
+        r#""\u0071uads":[[1,2,3,0]]"#,
+    ] {
+        assert_left_to_the_value(&rt, square(&rt, members).as_str());
     }
     for members in [
         r#""strip":[0,1,4]"#,
@@ -232,14 +236,28 @@ fn leaves_an_order_that_it_does_not_serve(rt: HostRuntime) {
 }
 
 #[test]
-fn reads_escaped_keys_and_words(rt: HostRuntime) {
+fn leaves_escaped_keys_and_words(rt: HostRuntime) {
     for text in [
         r#"{"\u0077idth":3,"heigh\u0074":2,"s\u0061mples":4,"cl\u0065ar":[1,2,3],"clear\u005fdepth":4,"o\u0075tput":"dep\u0074h","\u0064raws":[]}"#,
         r#"{"width":3,"height":2,"draws":[{"c\u0075ll":"b\u0061ck","depth\u005ftest":"less\u005Fequal","depth\u005fwrite":true,
             "\u0062lend":"\u006fver","writ\u0065":[false,true,false],"sample\u005fmask":5,"s\u0063issor":[1,1,2,2],
             "v\u0065rtices":[[0,0,0,0,0,0,0]],"tri\u0061ngles":[[0,0,0]]}]}"#,
     ] {
-        assert_both(&rt, text);
+        assert_left_to_the_value(&rt, text);
+    }
+}
+
+/// The numbers of blanks at the ends of what is passed at once, and a tab and line feeds among them.
+#[test]
+fn reads_blanks_between_all_tokens(rt: HostRuntime) {
+    let list = r#"{ "width" : 3 , "height" : 2 , "draws" : [ { "depth_write" : true , "vertices" : [ [ -1 , 22 , 333 , 4 , 5 , 6 , 7 ] ] , "triangles" : [ [ 0 , 0 , 0 ] ] } ] } "#;
+    for count in [0, 1, 2, 15, 16, 17, 33] {
+        let spaces = " ".repeat(rt.alloc(), count).expect(&rt, "memory");
+        for before in ["", "\n", "\r\n", "\t"] {
+            let blanks = format!(in rt.alloc(); "{before}{spaces}").expect(&rt, "memory");
+            let text = list.replace(rt.alloc(), " ", blanks.as_str()).expect(&rt, "memory");
+            assert_both(&rt, text.as_str());
+        }
     }
 }
 
