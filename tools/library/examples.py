@@ -14,7 +14,7 @@ from tools.library.commands import (
     OUT, PACKAGE_ENVIRONMENT, SHARED, WARNINGS, drawn_by_program, must_be_silent, must_be_the_programs, need, python_with, run,
 )
 from tools.library.lists import read_lists
-from tools.library.page_examples import SCENE
+from tools.pages.examples import SCENE
 from tools.cases import MAX_SECONDS, must
 from tools.places import EXAMPLES, INCLUDE, STATIC_LIBRARY
 

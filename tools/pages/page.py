@@ -16,7 +16,7 @@ PAGES = ("README.md", *(
 FENCE = re.compile(r"^```(\w*)\n(.*?)^```$", re.MULTILINE | re.DOTALL)
 # A command within a sentence. A goal of make alone, such as `make test`, is no example: tools/test_documents.py looks for it.
 INLINE = re.compile(
-    r"(?<!`)`((?:\w+=\S+ )*(?:python3 -m|/usr/bin/python3 [^`]|bin/\w+ [^`]|bench/out/\w+ |c?c(?:\+\+)? -|apt-get |pip install )[^`]*)`(?!`)"
+    r"(?<!`)`((?:\w+=\S+ )*(?:python3 -m|/usr/bin/python3 [^`]|bin/\w+ [^`]|make demo|bench/out/\w+ |c?c(?:\+\+)? -|apt-get |pip install )[^`]*)`(?!`)"
 )
 
 
