@@ -97,6 +97,11 @@ class Names(unittest.TestCase):
                 if not path.startswith(("out/", "conformance/out/", "crates/NAME/", "trirast/lib/")):
                     self.assertTrue(any(map(glob.glob, places)), f"{name}: {path}")
 
+    def test_lengths(self) -> None:
+        for name, text in documents().items():
+            limit = {"README.md": 140, "docs/statement.md": 3000}.get(name, 400)
+            self.assertLessEqual(text.count("\n"), limit, name)
+
     def test_links(self) -> None:
         texts = documents()
         for name, text in texts.items():
