@@ -61,7 +61,7 @@ def label(text: str) -> "memoryview":
         rows = LETTERS[letter].split("/")
         for y, row in enumerate(rows):
             for x in (x for x, square in enumerate(row) if square == "#"):
-                start = left + DOT * x, DOT * y
+                start = left + DOT * x, DOT * (y + 2)
                 canvas.draw(quad(start, (start[0] + DOT, start[1]), DARK, DOT), quads=[[0, 1, 2, 3]])
         left += DOT * (len(rows[0]) + 1)
     return memoryview(memoryview(canvas.rgb()).tobytes())

@@ -213,7 +213,7 @@ CHECKS = (
     Check(
         name="pages",
         about="each command and example of README and docs/, run as it stands",
-        command="pytest tools/pages", seconds=100,
+        command="pytest tools/pages", seconds=50,
         runs=(*EVERYTHING, "why"), needs=COMPILER,
     ),
     Check(

@@ -6,7 +6,6 @@ import re
 
 NOT_RUN = (
     (r"^(?:apt-get|pip|python3 -m pip) ", "installs packages"),
-    (r"^make (?:test|look)\b", "is this test, or begins the prover: `make test` builds what it needs before its checks"),
     (r"^make (?:deb|wheel)\b", "`make check-packages` builds the packages and installs them in clean folders"),
     (r"^make web$|http\.server", "`make check-web` builds the page, serves it and uses it in Chromium"),
     (r"^make conformance\b|\bpython3 -m conformance\.|conformance/out/", "asks the machine's driver, for minutes, or reads what that left"),

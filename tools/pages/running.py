@@ -6,6 +6,8 @@ import json
 import os
 import re
 import shutil
+import struct
+import zlib
 from typing import NamedTuple
 
 from tools import answers, picture_file, places
@@ -77,10 +79,22 @@ def environment_in(folder: str) -> dict[str, str]:
     return {**os.environ, "PATH": path, "HOME": os.path.join(folder, "home"), "PYTHONPATH": PYTHON_SOURCES}
 
 
+def pixels_of(png: bytes) -> bytes:
+    """The size and the filtered rows of a PNG file, however zlib packed them."""
+    at, found = 8, {b"IHDR": b"", b"IDAT": b""}
+    while at < len(png):
+        (length,), kind = struct.unpack(">I", png[at : at + 4]), png[at + 4 : at + 8]
+        found[kind] = found.get(kind, b"") + png[at + 8 : at + 8 + length]
+        at += 12 + length
+    return found[b"IHDR"] + zlib.decompress(found[b"IDAT"])
+
+
 def check_pictures(page: str, folder: str) -> None:
     """The pictures that the page's commands left are those of the documents."""
     for made, kept, part in PICTURES.get(page, ()):
         pair = [places.bytes_of(folder, made), places.bytes_of(kept)]
+        if made.endswith(".png"):
+            pair = [pixels_of(data) for data in pair]
         if part:
             pair = [b" ".join(re.findall(part.encode(), text)) for text in pair]
         must(pair[0] == pair[1] != b"", f"{made} is not {kept}")

@@ -9,6 +9,7 @@ no example. What is missing on a machine is skipped.
 
 from __future__ import annotations
 
+import os
 import re
 from typing import Iterator
 
@@ -71,7 +72,8 @@ def all_cases() -> Iterator[Case]:
 
 @pytest.fixture(scope="module", autouse=True)
 def built() -> None:
-    assert all(is_built(path) for path in (PROGRAM, WHY_PROGRAM, SHARED_LIBRARY)) and STATIC_LIBRARY
+    assert is_built(PROGRAM, WHY_PROGRAM)
+    assert all(map(os.path.isfile, (STATIC_LIBRARY, SHARED_LIBRARY))), "run make library first"
 
 
 @pytest.mark.parametrize("case", cases.parameters(all_cases()))
