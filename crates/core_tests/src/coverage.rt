@@ -81,16 +81,22 @@ fn compare_part(
     requires part { IsPart count from }
 {
     let plain = plain_masks(t, bx, by, from, count);
-    assert_eq!(rt; setup.masks(bx, by, from, count), plain, "block {bx}, {by}");
+    if from == 0 {
+        assert_eq!(rt; setup.masks(bx, by, count), plain, "block {bx}, {by}");
+    }
     let block = setup.square(bx, by, TileSide::T8, count);
-    assert_eq!(rt; block.masks::<0>(from), plain, "square {bx}, {by}");
+    assert_eq!(rt; block.masks_of_part::<0>(from), plain, "square {bx}, {by}");
     let class = setup.classify(bx, by, TileSide::T8, count);
     let (bx16, by16) = (bx / 2 * 2, by / 2 * 2);
     let around = setup.square(bx16, by16, TileSide::T16, count);
     let quarter = around.quarter(bx % 2 + by % 2 * 2);
     assert_eq!(rt; (quarter.bx(), quarter.by()), (bx, by));
     assert_eq!(rt; quarter.class(), class, "quarter {bx}, {by}");
-    assert_eq!(rt; quarter.masks::<0>(from), plain, "quarter {bx}, {by}");
+    assert_eq!(rt;
+        quarter.masks_of_part::<0>(from),
+        plain,
+        "quarter {bx}, {by}"
+    );
     match class {
         Class::Out => assert_eq!(rt; plain, one(0), "block {bx}, {by}"),
         Class::All => assert_eq!(rt; plain, full_masks(count), "block {bx}, {by}"),
@@ -184,19 +190,17 @@ fn agrees_with_the_plain_test(rt: HostRuntime) {
     }
 }
 
-/// The reference cover test of a quad at each sample of a part of a block's samples.
-fn plain_quad_masks(quad: &Quad, bx: u32, by: u32, from: u32, count: SampleCount) -> Masks
+/// The reference cover test of a quad at each sample of the first part of a block's samples.
+fn plain_quad_masks(quad: &Quad, bx: u32, by: u32, count: SampleCount) -> Masks
     requires column { bx < 512 }
     requires row { by < 512 }
 {
     let mut plane = [0u64; 4];
-    for s in from..count.count() {
-        let word = (s - from) as usize;
+    for s in 0..count.part_size() {
         for row in 0..8u32 {
             for column in 0..8u32 {
-                let covered = quad.covers(sample_at(8 * bx + column, 8 * by + row, s, count));
-                if word < 4 && covered {
-                    plane[word] |= 1 << (8 * row + column);
+                if quad.covers(sample_at(8 * bx + column, 8 * by + row, s, count)) {
+                    plane[s as usize] |= 1 << (8 * row + column);
                 }
             }
         }
@@ -204,17 +208,16 @@ fn plain_quad_masks(quad: &Quad, bx: u32, by: u32, from: u32, count: SampleCount
     Masks { plane }
 }
 
-/// Compares a quad's masks of a part with the reference test, and with those of the triangles of both diagonals.
-fn compare_quad_part(rt: &impl Abort, quad: &Quad, bx: u32, by: u32, from: u32, count: SampleCount)
+/// Compares a quad's masks with the reference test, and with those of the triangles of both diagonals.
+fn compare_quad_masks(rt: &impl Abort, quad: &Quad, bx: u32, by: u32, count: SampleCount)
     requires column { bx < 512 }
     requires row { by < 512 }
-    requires part { IsPart count from }
 {
     let (a, b, c, d) = (quad.a(), quad.b(), quad.c(), quad.d());
-    let masks = quad_masks(quad, bx, by, from, count);
+    let masks = quad_masks(quad, bx, by, count);
     assert_eq!(rt;
         masks,
-        plain_quad_masks(quad, bx, by, from, count),
+        plain_quad_masks(quad, bx, by, count),
         "block {bx}, {by}"
     );
     for (first, second) in [
@@ -223,8 +226,8 @@ fn compare_quad_part(rt: &impl Abort, quad: &Quad, bx: u32, by: u32, from: u32, 
     ] {
         let first = Setup::new(&first, Cull::None).expect(rt, "an area");
         let second = Setup::new(&second, Cull::None).expect(rt, "an area");
-        let [e, f, g, h] = first.masks(bx, by, from, count).plane;
-        let [i, j, k, l] = second.masks(bx, by, from, count).plane;
+        let [e, f, g, h] = first.masks(bx, by, count).plane;
+        let [i, j, k, l] = second.masks(bx, by, count).plane;
         assert_eq!(rt; [e & i, f & j, g & k, h & l], [0; 4], "block {bx}, {by}");
         assert_eq!(rt;
             [e | i, f | j, g | k, h | l],
@@ -234,17 +237,13 @@ fn compare_quad_part(rt: &impl Abort, quad: &Quad, bx: u32, by: u32, from: u32, 
     }
 }
 
-/// Compares a quad's masks of each part of a block.
+/// Compares a quad's masks of a block with each number of samples a pixel.
 fn compare_quad(rt: &impl Abort, quad: &Quad, bx: u32, by: u32)
     requires column { bx < 512 }
     requires row { by < 512 }
 {
     for count in COUNTS {
-        for from in 0..16u32 {
-            if is_part(count, from) {
-                compare_quad_part(rt, quad, bx, by, from, count);
-            }
-        }
+        compare_quad_masks(rt, quad, bx, by, count);
     }
 }
 
