@@ -218,6 +218,12 @@ CHECKS = (
         runs=EVERYTHING, needs=COMPILER,
     ),
     Check(
+        name="pages",
+        about="each command and example of README and docs/, run as it stands",
+        command="pytest tools/pages", seconds=50,
+        runs=(*EVERYTHING, "why"), needs=COMPILER,
+    ),
+    Check(
         name="package",
         about="the tests of the Python package",
         command="pytest python/tests", seconds=28,

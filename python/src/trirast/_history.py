@@ -13,6 +13,11 @@ Color = Tuple[int, int, int]
 # The names of an event's result, by its number in C, and those of its reasons, by their bits.
 RESULTS = ("missed", "depth_failed", "drawn")
 REASONS = ("culled", "zero_area", "not_covered", "outside_scissor", "masked", "depth_failed")
+# How a reason is printed, if not by its name. That of the depth test has the stored depth behind it.
+PRINTED = {
+    "zero_area": "zero area", "not_covered": "not covered", "outside_scissor": "outside the scissor",
+    "depth_failed": "fails the depth test against",
+}
 # As many events as the array of a first call holds. Few samples have more.
 FEW = 64
 DEPTHS = 1  # the output of a list that shows depths
@@ -54,8 +59,10 @@ class Event(NamedTuple):
 
     def __str__(self) -> str:
         fragment = f"  {self.fragment}" if self.fragment else ""
-        parts = [f"draw {self.draw:>4} triangle {self.triangle:>5}  {self.result:<12}{fragment}"]
-        parts += [", ".join(self.reasons)] if self.reasons else []
+        parts = [f"draw {self.draw:>4} triangle {self.triangle:>5}  {self.result.replace('_', ' '):<12}{fragment}"]
+        for reason in self.reasons:
+            against = f" {self.before.depth}" if reason == "depth_failed" else ""
+            parts += [PRINTED.get(reason, reason) + against]
         parts += [f"now {self.after}"] if self.result == "drawn" else []
         return "; ".join(parts)
 

@@ -25,6 +25,10 @@ class Places(NamedTuple):
         return f"{self.file or self.folder}{JOURNAL}"
 
 
+# The ends of a picture's name, in small letters.
+ENDS = (".png", ".ppm", ".pgm", "")
+
+
 def places_of(out: Optional[Path], tiles: Optional[Path], source: Optional[str]) -> Places:
     """The places of a run that reads the file `source`. Raises OutputError if what is there would be lost or is in the way."""
     places = Places(*(None if path is None else without_slash(os.fsdecode(path)) for path in (out, tiles)))
@@ -39,6 +43,8 @@ def places_of(out: Optional[Path], tiles: Optional[Path], source: Optional[str])
             raise OutputError(f"{places.file}: the list itself, which stays")
     for path in (places.journal, *([places.file + PART] if places.file else ())):
         check_file(path)
+    if places.file is not None and os.path.splitext(places.file)[1].lower() not in ENDS:
+        raise OutputError(f"{places.file}: a name that ends in .png, in .ppm or of depths in .pgm, or without an end")
     return places
 
 
