@@ -18,7 +18,7 @@ from tools.public_calls import CRATES, calls_of
 
 # The rows of the table of wrong bodies, and the edits and tests that they name: a wrong body that was named once stays named. Raise them
 # with each new row or name.
-ROWS, NAMES = 79, 181
+ROWS, NAMES = 84, 192
 
 
 def edits() -> list[str]:

@@ -198,6 +198,13 @@ CHECKS = (
         runs=("readers",), needs=COMPILER, only_if_built=True,
     ),
     Check(
+        name="fuzz-reader",
+        about="made-up texts, right, nearly right and cut, by both readers of draw lists",
+        command="tools.fuzz_reader --texts 20000", seconds=4,
+        long="--texts 1000000", long_seconds=150,
+        runs=("readers",), only_if_built=True,
+    ),
+    Check(
         name="fault-injection",
         about="readers, writers, devices and threads that fail, and lists at their limits",
         command="pytest tools/fault_injection.py", seconds=70,
@@ -209,6 +216,12 @@ CHECKS = (
         command="pytest tools/library", seconds=350,
         long="-m 'long or not long'", long_seconds=390,
         runs=EVERYTHING, needs=COMPILER,
+    ),
+    Check(
+        name="pages",
+        about="each command and example of README and docs/, run as it stands",
+        command="pytest tools/pages", seconds=50,
+        runs=(*EVERYTHING, "why"), needs=COMPILER,
     ),
     Check(
         name="package",

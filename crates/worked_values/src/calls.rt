@@ -45,6 +45,7 @@ fn given_of_blocks(name: &str, words: &mut Words<'_>) -> Option<Answer> {
         "is_set_up" => blocks::is_set_up_of(words),
         "bounds" => blocks::bounds_of(words),
         "masks" => blocks::masks_of(words),
+        "masks_of_part" => blocks::masks_of_part_of(words),
         "pair_masks" => blocks::pair_masks_of(words),
         "quad_masks" => blocks::quad_masks_of(words),
         "class" => blocks::class_of(words),
