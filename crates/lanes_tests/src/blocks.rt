@@ -52,15 +52,20 @@ fn plane_of(t: &Tri, p: Point) -> u64
 
 /// The samples of block (10, 15) that the triangle covers, with one sample a pixel.
 fn mask_of(t: &Tri) -> BlockMask {
-    let mut mask = BlockMask {
+    let empty = BlockMask {
         bx: 10,
         by: 15,
         count: SampleCount::One,
         from: 0,
         plane: [0; 4],
     };
-    mask.plane[0] = plane_of(t, mask.first(0));
-    mask
+    BlockMask {
+        bx: 10,
+        by: 15,
+        count: SampleCount::One,
+        from: 0,
+        plane: [plane_of(t, empty.first(0)), 0, 0, 0],
+    }
 }
 
 /// What the block stores before it is drawn.
