@@ -133,6 +133,7 @@ def test_passes_over_a_usage_line_that_cannot_be_written() -> None:
         (("--tile", "8"), "[]", "", 1, b"", b"trirast: list fault 4 WrongKind\n"),
         (("--tile", "9"), TRIANGLE, "", 2, b"", b"trirast: command line refused\n"),
     ],
+    ids=["a picture", "a failed write", "no list", "refused arguments"],
 )
 def test_passes_over_a_line_that_cannot_be_written(
     arguments: tuple[str, ...], text: str, output: str, status: int, wanted: bytes, line: bytes
@@ -153,6 +154,7 @@ def test_passes_over_a_line_that_cannot_be_written(
         ((4096, 65), "depth", b"P5\n4096 65\n65535\n"),
         ((4096, 4095), "depth", b"P5\n4096 4095\n65535\n"),
     ],
+    ids=lambda value: value if isinstance(value, str) else "",
 )
 def test_reports_how_much_of_a_header_went_out(size: tuple[int, int], output: str, header: bytes) -> None:
     text = draw_list(*size, keys=f',"output":"{output}"')

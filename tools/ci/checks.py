@@ -113,8 +113,8 @@ CHECKS = (
     ),
     Check(
         name="acceptance",
-        about="the program's pictures, lines and statuses, by lists and lines",
-        command="pytest tests/acceptance", seconds=5,
+        about="the program's pictures, lines and statuses, by lists, arguments and devices that fail",
+        command="pytest tests/acceptance", seconds=8,
         runs=("program", "why"),
     ),
     Check(

@@ -60,8 +60,11 @@ fn mask_of(t: &Tri) -> BlockMask {
         plane: [0; 4],
     };
     BlockMask {
+        bx: 10,
+        by: 15,
+        count: SampleCount::One,
+        from: 0,
         plane: [plane_of(t, empty.first(0)), 0, 0, 0],
-        ..empty
     }
 }
 
