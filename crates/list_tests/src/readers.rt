@@ -183,10 +183,7 @@ fn reads_strips_and_quads(rt: HostRuntime) {
     ] {
         assert_both(&rt, square(&rt, members).as_str());
     }
-    for members in [
-        r#""str\u0069p":[0,1,3,2]"#,
-        r#""\u0071uads":[[1,2,3,0]]"#,
-    ] {
+    for members in [r#""str\u0069p":[0,1,3,2]"#, r#""\u0071uads":[[1,2,3,0]]"#] {
         assert_left_to_the_value(&rt, square(&rt, members).as_str());
     }
     for members in [
@@ -250,12 +247,15 @@ fn leaves_escaped_keys_and_words(rt: HostRuntime) {
 /// The numbers of blanks at the ends of what is passed at once, and a tab and line feeds among them.
 #[test]
 fn reads_blanks_between_all_tokens(rt: HostRuntime) {
-    let list = r#"{ "width" : 3 , "height" : 2 , "draws" : [ { "depth_write" : true , "vertices" : [ [ -1 , 22 , 333 , 4 , 5 , 6 , 7 ] ] , "triangles" : [ [ 0 , 0 , 0 ] ] } ] } "#;
+    let list =
+        r#"{ "width" : 3 , "height" : 2 , "draws" : [ { "depth_write" : true , "vertices" : [ [ -1 , 22 , 333 , 4 , 5 , 6 , 7 ] ] , "triangles" : [ [ 0 , 0 , 0 ] ] } ] } "#;
     for count in [0, 1, 2, 15, 16, 17, 33] {
         let spaces = " ".repeat(rt.alloc(), count).expect(&rt, "memory");
         for before in ["", "\n", "\r\n", "\t"] {
             let blanks = format!(in rt.alloc(); "{before}{spaces}").expect(&rt, "memory");
-            let text = list.replace(rt.alloc(), " ", blanks.as_str()).expect(&rt, "memory");
+            let text = list
+                .replace(rt.alloc(), " ", blanks.as_str())
+                .expect(&rt, "memory");
             assert_both(&rt, text.as_str());
         }
     }
