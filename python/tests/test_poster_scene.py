@@ -13,7 +13,7 @@ import numpy as np
 import trirast
 from trirast import poster
 
-from .common import DRAW_LIST, FILE, VERTICES
+from .common import DRAW_LIST, FILE, VERTICES, run
 from .poster_common import Files
 
 SHEET = poster.Sheet(3, 3)
@@ -110,6 +110,53 @@ class Scenes(Files):
         self.assertTrue(np.shares_memory(scene.vertices, vertices) and np.shares_memory(scene.triangles, triangles))
         self.assertFalse(scene.vertices.flags.writeable)
         self.assertTrue(vertices.flags.writeable)
+        poster.draw_poster(scene, self.path("a.ppm"))
+        self.assertEqual(self.content("a.ppm"), FILE)
+
+    def must_not_crash(self, change: str) -> None:
+        """Arrays of the caller's own that another thread changes while they are drawn: a poster, or an error by name."""
+        done = run(f"""
+            import os, sys, threading, time, numpy as np, trirast
+            from trirast import poster
+            count, side = 20000, 512
+            pick = np.random.default_rng(1)
+            places = pick.integers(0, 256 * side, (3 * count, 2))
+            vertices = np.concatenate((places, pick.integers(0, 256, (3 * count, 5))), 1).astype(np.int32)
+            triangles = np.arange(3 * count, dtype=np.int32).reshape(-1, 3)
+            scene = poster.scene_of_arrays(
+                vertices, triangles, {{"width": side, "height": side, "samples": 4, "draws": [{{"triangles": count}}]}}, copy=False
+            )
+            is_over = False
+
+            def flip():
+                while not is_over:
+                    for k in range(0, count, 97):
+                        {change}
+
+            flipping = threading.Thread(target=flip)
+            sys.setswitchinterval(1e-5)
+            flipping.start()
+            end, ended = time.monotonic() + 2, 0
+            while time.monotonic() < end or not ended:
+                try:
+                    poster.draw_poster(scene, os.environ["OUT"], window=64, workers=3)
+                except (trirast.DrawListError, trirast.CanvasError, poster.PosterError, IndexError):
+                    pass
+                ended += 1
+            is_over = True
+            flipping.join()
+            print("ended")
+        """, OUT=self.path("changed.ppm"))
+        self.assertEqual((done.returncode, done.stdout, done.stderr), (0, b"ended\n", b""))
+
+    def test_positions_that_another_thread_changes(self) -> None:
+        self.must_not_crash("vertices[k, 0] = 0x7fffffff; vertices[k, 0] = -0x80000000; vertices[k, 0] = 9")
+
+    def test_indices_that_another_thread_changes(self) -> None:
+        self.must_not_crash("triangles[k, 1] = 0x7fffffff; triangles[k, 1] = -5; triangles[k, 1] = 2")
+
+    def test_colours_that_another_thread_changes(self) -> None:
+        self.must_not_crash("vertices[k, 2:] = 0x7fffffff; vertices[k, 2:] = -1; vertices[k, 2:] = 7")
 
 
 class Texts(unittest.TestCase):
