@@ -55,6 +55,7 @@ of_moved l q past rest stored split ends is = record {
   sample = is.sample;
   count = is.count;
   left = sym (sym (drop-drop (length past) q.number l.triangles) ∙ ap (drop (length past)) (sym is.left ∙ split) ∙ drop_at past rest (length past) refl);
+  within = omega (arith, is.within, ap length is.left ∙ length-drop q.number l.triangles, ap length split ∙ length-append past rest);
   ends = λ end h. is.ends end (ends end h);
 }
 

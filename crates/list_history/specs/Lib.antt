@@ -15,7 +15,7 @@
 -- Walk.antt
 --   ListPlace: Where the history of a sample of a list's picture stands.
 --   start_of: Where the history of sample s of pixel (i, j) begins: before the first triangle, with the clear colour and depth.
---   IsOfList: The place is of a sample of the list's picture: the triangles to come are those from the number on, and they end with the picture's sample.
+--   IsOfList: The triangles to come are those of the list from the number on, and they end with the picture's sample.
 --   IsNextOfList: The event is that of the next triangle, with its draw and what that writes, and the history stands behind it.
 --   IsNextCoveredOfList: The event is that of the first triangle to come that covers the sample, and the history stands behind it.
 

@@ -1,4 +1,4 @@
-use Rattle.std.specs.Prelude.{◌≡◌, ℕ, ◌<◌, drop, IsSome}
+use Rattle.std.specs.Prelude.{◌≡◌, ℕ, ◌<◌, ◌≤◌, drop, length, IsSome}
 use Rattle.grid.specs.Samples.{count_of}
 use Rattle.shade.specs.declared.sample.Sample.{Sample}
 use Rattle.history.specs.History.{Place, EndsWith, IsNext, IsPast}
@@ -19,14 +19,14 @@ start_of l i j s = record {
   history = record { left = l.triangles; number = 0; count = l.count; i = i; j = j; s = s; stored = l.clear };
 }
 
--- The place is of a sample of the list's picture: the triangles to come are those from the number on, and they end with the picture's
--- sample.
+-- The triangles to come are those of the list from the number on, and they end with the picture's sample.
 pub record IsOfList (l : Scene) (q : Place) : Type 0 where
   pub column : q.i < 4096
   pub row : q.j < 4096
   pub sample : q.s < count_of q.count
   pub count : q.count ≡ l.count
   pub left : q.left ≡ drop q.number l.triangles
+  pub within : q.number ≤ length l.triangles
   pub ends : (end : Sample) → EndsWith q end → IsEnd l q.i q.j q.s end
 
 -- The event is that of the next triangle, with its draw and what that writes, and the history stands behind it.

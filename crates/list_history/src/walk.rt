@@ -88,7 +88,8 @@ impl<'a> ListHistory<'a> {
 
     /// The number of the next triangle in draw order, or how many there are.
     pub fn number(&self) -> usize
-        ensures { result ≡ self.now.history.number }
+        ensures value { result ≡ self.now.history.number }
+        ensures list { IsOfList self.now.scene self.now.history }
     {
         self.history.number()
     }
