@@ -1,5 +1,5 @@
 -- The events that are written so far, one after another.
-use Rattle.std.proofs.Common.{◌≡◌, refl, sym, ap, subst, ◌∙◌, ℕ, ◌+◌, ◌-◌, ◌<◌, ◌≤◌, Bool, true, false, List, [], ◌∷◌, ◌++◌, append_assoc, append-nil, length, length-append, set, arith}
+use Rattle.std.proofs.Common.{◌≡◌, refl, sym, ap, subst, ◌∙◌, ℕ, ◌+◌, ◌<◌, ◌≤◌, Bool, true, false, List, [], ◌∷◌, ◌++◌, append_assoc, append-nil, length, length-append, set, arith}
 use Rattle.shade.specs.declared.sample.Sample.{Sample}
 use Rattle.list_history.specs.Walk.{ListPlace}
 use Rattle.list_history.specs.declared.list_event.ListEvent.{ListEvent}

@@ -1,4 +1,4 @@
-use Rattle.std.proofs.Common.{◌≤◌, ◌∙◌, length, arith}
+use Rattle.std.proofs.Common.{◌∙◌, arith}
 use Rattle.list_history.specs.Walk.{start_of}
 use Rattle.sample_events.proofs.Walking.{shorter, put_more, pass_more, all_walked}
 use Rattle.sample_events.proofs.walk.write_events.Goals as goal
