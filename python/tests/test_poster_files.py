@@ -340,23 +340,20 @@ class Journals(Runs):
 
     def test_a_journal_with_more_rows_than_there_are(self) -> None:
         scene = random_scene(6, 270, 192, 50)
+        kind: Any
         for kind in Stops.KINDS:
             out, tiles = (name and self.path(name) for name in kind)
-
-            def draw(**more: Any) -> None:
-                poster.draw_poster(scene, out, tiles=tiles, window=64, workers=1, **more)
-
-            journal = self.path((kind[0] or kind[1]) + ".resume")
+            journal = f"{out or tiles}.resume"
             with mock.patch.object(_poster, "finish", side_effect=OSError("stopped")), self.assertRaises(OSError):
-                draw()
+                poster.draw_poster(scene, out, tiles=tiles, window=64)
             with open(journal, "ab") as file:
                 # What no rows have is the checksum of no bytes.
                 file.write(b'{"row": "00000000"}\n' * 3)
-            draw(resume=True)
+            poster.draw_poster(scene, out, tiles=tiles, window=64, resume=True)
             self.assertFalse(os.path.exists(journal))
             if out:
-                poster.draw_poster(scene, self.path("wanted" + kind[0]), window=64)
-                self.assertTrue(self.content(kind[0]) == self.content("wanted" + kind[0]), kind)
+                poster.draw_poster(scene, f"{out}.wanted{kind[0]}", window=64)
+                self.assertTrue(self.content(kind[0]) == self.content(f"{kind[0]}.wanted{kind[0]}"), kind)
             self.remove_all()
 
 

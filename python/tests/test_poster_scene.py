@@ -12,6 +12,7 @@ import numpy as np
 
 import trirast
 from trirast import poster
+from trirast.poster import _index, _part, _scene, _windows
 
 from .common import DRAW_LIST, FILE, VERTICES, run
 from .poster_common import Files
@@ -116,9 +117,9 @@ class Scenes(Files):
     def must_not_crash(self, change: str) -> None:
         """Arrays of the caller's own that another thread changes while they are drawn: a poster, or an error by name."""
         done = run(f"""
-            import os, sys, threading, time, numpy as np, trirast
+            import os, threading, time, numpy as np, trirast
             from trirast import poster
-            count, side = 20000, 512
+            count, side = 9000, 256
             pick = np.random.default_rng(1)
             places = pick.integers(0, 256 * side, (3 * count, 2))
             vertices = np.concatenate((places, pick.integers(0, 256, (3 * count, 5))), 1).astype(np.int32)
@@ -130,11 +131,11 @@ class Scenes(Files):
 
             def flip():
                 while not is_over:
-                    for k in range(0, count, 97):
+                    for k in range(0, count, 997):
                         {change}
+                    time.sleep(0.0002)
 
             flipping = threading.Thread(target=flip)
-            sys.setswitchinterval(1e-5)
             flipping.start()
             end, ended = time.monotonic() + 2, 0
             while time.monotonic() < end or not ended:
@@ -149,14 +150,34 @@ class Scenes(Files):
         """, OUT=self.path("changed.ppm"))
         self.assertEqual((done.returncode, done.stdout, done.stderr), (0, b"ended\n", b""))
 
-    def test_positions_that_another_thread_changes(self) -> None:
-        self.must_not_crash("vertices[k, 0] = 0x7fffffff; vertices[k, 0] = -0x80000000; vertices[k, 0] = 9")
+    def test_arrays_that_another_thread_changes(self) -> None:
+        self.must_not_crash(
+            "vertices[k, 0] = 0x7fffffff; vertices[k, 0] = -0x80000000; vertices[k, 0] = 9; vertices[k, 2:] = -1; vertices[k, 2:] = 7;"
+            "triangles[k, 1] = 0x7fffffff; triangles[k, 1] = -5; triangles[k, 1] = 2"
+        )
 
-    def test_indices_that_another_thread_changes(self) -> None:
-        self.must_not_crash("triangles[k, 1] = 0x7fffffff; triangles[k, 1] = -5; triangles[k, 1] = 2")
+    def test_windows_of_arrays_that_others_have_are_copies(self) -> None:
+        vertices, triangles = np.array(VERTICES, np.int32), TRIANGLE.astype(np.int32)
+        windows = _windows.Windows(SHEET, 64)
+        for copy in (False, True):
+            scene = scene_of(vertices, triangles, copy=copy)
+            part = _part.part_of(scene, _index.Index.of(scene, windows), windows.span(0, 0, 1))
+            for array in (part.vertices, part.triangles):
+                self.assertFalse(np.shares_memory(array, vertices) or np.shares_memory(array, triangles))
+            self.assertEqual(part.vertices[part.triangles].tolist(), [VERTICES])
+            # Arrays that are the scene's own are copied once.
+            self.assertEqual(np.shares_memory(part.vertices, scene.vertices), copy)
+        index = _index.Index.of(scene_of(vertices, triangles), windows)
+        mine = scene_of(vertices, triangles, copy=False)
+        for wrong in (3, -1, 0x7fffffff):
+            triangles[0, 1] = wrong
+            with self.assertRaisesRegex(poster.ArraysError, "an index"):
+                _part.part_of(mine, index, windows.span(0, 0, 1))
 
-    def test_colours_that_another_thread_changes(self) -> None:
-        self.must_not_crash("vertices[k, 2:] = 0x7fffffff; vertices[k, 2:] = -1; vertices[k, 2:] = 7")
+    def test_other_samples_of_the_same_arrays(self) -> None:
+        for copy in (False, True):
+            scene = scene_of(np.array(VERTICES, np.int32), TRIANGLE.astype(np.int32), copy=copy)
+            self.assertEqual((scene.is_own, _scene.with_samples(scene, 16).is_own), (copy, copy))
 
 
 class Texts(unittest.TestCase):

@@ -100,6 +100,14 @@ def check_pictures(page: str, folder: str) -> None:
         must(pair[0] == pair[1] != b"", f"{made} is not {kept}")
 
 
+def compare(page: str, steps: list[Step], found: list[tuple[int, str]]) -> None:
+    """Each step ended well and printed what the page shows."""
+    for step, (status, printed) in zip(steps, found):
+        must(status == 0, f"{page}:{step.line}: status {status}: {step.text}: {printed[-600:]}")
+        must(step.printed in (None, printed), f"{page}:{step.line}: it printed\n{printed}\nand not\n{step.printed}")
+    must(len(steps) == len(found), f"{page}: {len(found)} of {len(steps)} steps")
+
+
 def check(page: str) -> str:
     """Each command and each example in Python of a page ends well and prints what the page shows."""
     steps = steps_of(blocks_of(page))
@@ -107,10 +115,7 @@ def check(page: str) -> str:
     folder = folder_for(page, python)
     session = os.path.join(os.path.dirname(os.path.abspath(__file__)), "session.py")
     text = json.dumps([(step.kind, step.text) for step in steps]).encode()
-    found = json.loads(run([python, session], input=text, cwd=folder, env=environment_in(folder)))
-    for step, (status, printed) in zip(steps, found):
-        must(status == 0, f"{page}:{step.line}: status {status}: {step.text}: {printed[-600:]}")
-        must(step.printed in (None, printed), f"{page}:{step.line}: it printed\n{printed}\nand not\n{step.printed}")
+    compare(page, steps, json.loads(run([python, session], input=text, cwd=folder, env=environment_in(folder))))
     check_pictures(page, folder)
     return f"{len(steps)} steps"
 

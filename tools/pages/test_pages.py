@@ -53,14 +53,24 @@ def check_blocks() -> None:
     must(list(commands_of(shown)) == ["echo a"] and answer_of(shown) == "a\n", "console")
     example = Block(1, "python", "print(1)  # 1\nif x:\n    print(f(2))      # 4\nprint(3)\n")
     must(printed_by(example, None) == ["1", "4"] and printed_by(example, Block(5, "text", "5\n")) == ["5"], "python")
-    steps = running.steps_of([example, Block(5, "sh", "make test\ntrue\n"), shown])
+    steps = running.steps_of([example, Block(5, "sh", "make web\ntrue\n"), shown])
     must([(step.text, step.printed) for step in steps[1:]] == [("true", None), ("echo a", "a\n")], f"{steps}")
+
+
+def check_differences() -> None:
+    """Another status, another output and a step that was not taken are found."""
+    steps = [running.Step(1, "sh", "true", None), running.Step(2, "sh", "echo a", "a\n")]
+    running.compare("page", steps, [(0, "of no account"), (0, "a\n")])
+    for found in ([(1, ""), (0, "a\n")], [(0, ""), (0, "b\n")], [(0, "")]):
+        with pytest.raises(cases.CheckError):
+            running.compare("page", steps, found)
 
 
 def all_cases() -> Iterator[Case]:
     yield case("each block of each page is run", check_covered)
     yield case("what is not run is there", check_not_run)
     yield case("blocks are read as they stand", check_blocks)
+    yield case("differences are found", check_differences)
     for page in PAGES:
         if running.steps_of(blocks_of(page)):
             yield case(f"{page}: commands", running.check, page)

@@ -37,6 +37,8 @@ KILLED = 8
 WITHOUT_WORKERS, ENDED = 5, 120
 # The sheet that is drawn: enough triangles that a run lasts longer than Dask takes to start.
 SIDE, TRIANGLES, WINDOW = 8192, 400_000, 256
+# A smaller one, for runs whose workers die before they draw.
+SMALL_SIDE, SMALL_TRIANGLES = 2048, 20_000
 
 
 def write_scene(path: str, seed: int = 1, side: int = SIDE, triangles: int = TRIANGLES) -> None:
@@ -60,6 +62,12 @@ class Runs:
     def scene(self) -> str:
         path = self.path("scene.npz")
         write_scene(path)
+        return path
+
+    @functools.cached_property
+    def small_scene(self) -> str:
+        path = self.path("small.npz")
+        write_scene(path, side=SMALL_SIDE, triangles=SMALL_TRIANGLES)
         return path
 
     def path(self, name: str) -> str:
@@ -215,14 +223,16 @@ def kill_workers(child: subprocess.Popen[bytes], seconds: float, most: int = 1 <
 def check_killed_as_they_start(runs: Runs) -> str:
     """All workers are killed as they start, and those that are started in their place: the same bytes."""
     dask()
-    out = runs.path("starting.ppm")
+    out, wanted = runs.path("starting.ppm"), runs.path("small.ppm")
+    command = [sys.executable, "-m", "trirast.poster", runs.small_scene, "--workers", "2", "-o"]
+    must(subprocess.run([*command, wanted], timeout=SECONDS).returncode == 0, "the run failed")
     begun = time.monotonic()
-    with runs.start("-o", out, "--scheduler", "local", "--workers", "2") as child:
+    with subprocess.Popen([*command, out, "--scheduler", "local"], stdout=subprocess.DEVNULL, stderr=subprocess.PIPE) as child:
         killed = kill_workers(child, SECONDS, KILLED)
         _, errors = child.communicate(timeout=SECONDS)
     must(child.returncode == 0 and errors == b"", f"status {child.returncode}: {errors[-500:]!r}")
     must(killed >= KILLED, f"the run ended, and {killed} were killed")
-    must(content(out) == runs.wanted_of("ppm"), "other bytes")
+    must(content(out) == content(wanted), "other bytes")
     return f"{killed} killed, {time.monotonic() - begun:.0f} s"
 
 
@@ -232,7 +242,7 @@ def check_none_starts(runs: Runs) -> str:
     out = runs.path("none_starts.ppm")
     program = ("import sys, trirast.poster._dask as engine, trirast.poster._command as command\n"
                f"engine.WITHOUT_WORKERS = {WITHOUT_WORKERS}\n"
-               f"sys.exit(command.main([{runs.scene!r}, '-o', {out!r}, '--scheduler', 'local', '--workers', '2']))")
+               f"sys.exit(command.main([{runs.small_scene!r}, '-o', {out!r}, '--scheduler', 'local', '--workers', '2']))")
     begun = time.monotonic()
     with subprocess.Popen([sys.executable, "-c", program], stdout=subprocess.DEVNULL, stderr=subprocess.PIPE) as child:
         try:

@@ -175,7 +175,7 @@ string_lexed text from end within quote after plain inside closing =
     let tail : drop end text ≡ 34 ∷ r = next_byte text end inside ∙ ap (λ x. x ∷ r) closing in
     let e : from + 1 + (end - (from + 1)) ≡ end = omega arith in
     let same : drop (from + 1) text ≡ s ++ 34 ∷ r =
-        sym (take-append-drop (end - (from + 1)) (drop (from + 1) text)) ∙ ap (λ t. s ++ t) (drop-drop (end - (from + 1)) (from + 1) text ∙ ap (λ j. drop j text) e ∙ tail) in
+    sym (take-append-drop (end - (from + 1)) (drop (from + 1) text)) ∙ ap (λ t. s ++ t) (drop-drop (end - (from + 1)) (from + 1) text ∙ ap (λ j. drop j text) e ∙ tail) in
     let whole : drop from text ≡ 34 ∷ (escape s ++ 34 ∷ r) = next_byte text from within ∙ ap (λ x. x ∷ drop (from + 1) text) quote ∙ ap (λ t. 34 ∷ t) (same ∙ ap (λ u. u ++ 34 ∷ r) (sym (escaped s plain))) in
     ap (lex between) whole ∙ ap (λ o. token (string_token o) ∷ lex in_string (escape s ++ 34 ∷ r)) (content-escape s r) ∙ ap (λ ls. token (string s) ∷ ls) (lex-escape s r)
 

@@ -6,8 +6,8 @@ ghost use Rattle.fast_reader.specs.Took.{Took};
 
 use crate::number::{take_between, take_channel};
 use crate::word::take_truth;
-use grid::PixelBox;
 use cursor::Cursor;
+use grid::PixelBox;
 use model::MOST_PIXELS;
 
 /// Takes the bracket that opens an array, if it is next.

@@ -2,8 +2,8 @@ ghost use Rattle.std.specs.Prelude.{IfSome, Some, pos};
 ghost use Rattle.model.specs.Denotes.{IsWhole, IsDepthNumber, IsChannel, IsIndex, IsSize, IsSampleMask, IsSampleCount};
 ghost use Rattle.fast_reader.specs.Took.{Took, IsNumber};
 
-use grid::SampleCount;
 use cursor::Cursor;
+use grid::SampleCount;
 use model::{ALL_SAMPLES, MOST_PIXELS, MOST_VERTICES};
 
 /// Takes an integer.

@@ -5,8 +5,8 @@ ghost use Rattle.fast_reader.specs.Took.{Took};
 
 use crate::array::take_begin_array;
 use crate::number::{take_channel, take_depth, take_i32};
-use grid::Point;
 use cursor::Cursor;
+use grid::Point;
 use model::{MOST_VERTICES, Vertex};
 use std::alloc::Global;
 

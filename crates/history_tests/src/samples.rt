@@ -1,5 +1,5 @@
 use grid::{Cull, PixelBox, Point, SampleCount, Tri};
-use history::{Event, Outcome, SampleHistory, changes, events_of, meets, samples_met};
+use history::{Event, Outcome, SampleHistory, changes, events_of, samples_met};
 use shade::{DepthTest, Merge, Placed, Sample, State};
 use std::process::Abort;
 
@@ -75,8 +75,8 @@ fn follows_a_sample(rt: HostRuntime) {
 #[test]
 fn counts_samples(rt: HostRuntime) {
     let triangle = corner(&rt, 5);
-    assert!(rt; meets(&triangle, SampleCount::One, 1, 0, 0));
-    assert!(rt; !meets(&triangle, SampleCount::One, 2, 0, 0));
+    assert!(rt; triangle.meets(SampleCount::One, 1, 0, 0));
+    assert!(rt; !triangle.meets(SampleCount::One, 2, 0, 0));
     assert_eq!(rt; samples_met(&triangle, SampleCount::One, 4, 4), 3);
     assert_eq!(rt; samples_met(&triangle, SampleCount::One, 1, 4), 2);
 }

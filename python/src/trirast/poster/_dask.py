@@ -176,6 +176,9 @@ class Sending:
                     raise WorkerLostError(f"window {window.column}, {window.row} was lost {times} times: {error}") from error
                 self._under_way.appendleft(self._send(window, times + 1))
             except (CancelledError, OSError) as error:
+                if future.status == "error":
+                    # The worker's own, as of one that has no library.
+                    raise
                 raise self._lost(error) from error
 
     def _wait(self, future: Any) -> Any:

@@ -31,18 +31,14 @@ class LocalWorkers:
 
     def renew(self, scheduler: str) -> None:
         """Has as many processes as are wanted, for the scheduler at this address. One that cannot be started is left for the next time."""
-        still = [each for each in self._running if each.poll() is None]
-        for each in self._running:
-            if each.returncode is not None:
-                self._ended += 1
-                self._why = f"status {each.returncode}"
-        self._running = still
-        # The package is found where this process finds it.
-        environment = {**os.environ, "PYTHONPATH": os.pathsep.join(os.path.abspath(each) for each in sys.path)}
-        quiet = {"stdin": subprocess.DEVNULL, "stdout": subprocess.DEVNULL, "stderr": subprocess.DEVNULL}
+        ended = [each.returncode for each in self._running if each.poll() is not None]
+        self._running = [each for each in self._running if each.returncode is None]
+        if ended:
+            self._ended += len(ended)
+            self._why = f"status {ended[-1]}"
         try:
             while len(self._running) < self._count:
-                self._running.append(subprocess.Popen([sys.executable, *WORDS, *PLACE, scheduler], env=environment, **quiet))
+                self._running.append(started([sys.executable, *WORDS, *PLACE, scheduler]))
         except OSError as error:
             self._why = str(error)
 
@@ -62,3 +58,10 @@ class LocalWorkers:
             for each in self._running:
                 each.kill()
                 each.wait()
+
+
+def started(command: List[str]) -> subprocess.Popen[bytes]:
+    """A process that finds the package where this one finds it, and says nothing."""
+    environment = {**os.environ, "PYTHONPATH": os.pathsep.join(map(os.path.abspath, sys.path))}
+    quiet = subprocess.DEVNULL
+    return subprocess.Popen(command, env=environment, stdin=quiet, stdout=quiet, stderr=quiet)

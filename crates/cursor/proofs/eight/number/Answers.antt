@@ -17,5 +17,5 @@ pub returns-clause-below : goal.returns-clause-below
 returns-clause-below c =
     let v = c.args.offsets in
     let value : c.eight.result ≡ number_from_digits 10 (take c.args.count v) =
-        c.eight.ensures (moved c.args.count v) (moved_is v c.args.count c.index-word.result.now c.requires c.index-word.ensures) ∙ moved_value v c.args.count in
+    c.eight.ensures (moved c.args.count v) (moved_is v c.args.count c.index-word.result.now c.requires c.index-word.ensures) ∙ moved_value v c.args.count in
     subst (λ n. n < 100000000) (sym value) (moved_below v c.args.count c.index-word.result.now c.requires c.index-word.ensures)

@@ -1,7 +1,7 @@
 //! Where triangles come from.
 ghost use Rattle.std.specs.Prelude.{◌≡◌, ◌+◌, ◌<◌, ◌≤◌, length, take, drop};
 
-use shade::Placed;
+use crate::Placed;
 
 /// Triangles in draw order, each of which is made when it is asked for.
 pub trait Triangles {

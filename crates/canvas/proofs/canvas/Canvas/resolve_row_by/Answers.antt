@@ -6,15 +6,15 @@ use Rattle.canvas.specs.Colours.{IsPixelOf}
 use Rattle.canvas.proofs.Places.{tile_of}
 use Rattle.canvas.proofs.PixelColours.{pixel_same, pixel_in_row}
 use Rattle.canvas.proofs.Units.{AreUnits, no_units, more_units, all_units}
-use Rattle.canvas.proofs.canvas.Canvas.resolve_row.Goals as goal
+use Rattle.canvas.proofs.canvas.Canvas.resolve_row_by.Goals as goal
 
 pub loop-block-init : goal.loop-block-init
-loop-block-init c =
+loop-block-init g c =
     let none : min (8 * 0) c.args.self.now.width ≡ 0 = omega arith in
     rw none (no_units (pixel_bytes c.args.format) (λ i. IsPixelOf c.args.self.now (c.args.j / 64) c.args.samples.now c.args.format i c.args.j) c.args.bytes.now)
 
 pub loop-block-preserved : goal.loop-block-preserved
-loop-block-preserved c =
+loop-block-preserved g c =
     let self = c.args.self.now in
     let j : ℕ = c.args.j in
     let xs = c.args.samples.now in
@@ -48,5 +48,5 @@ loop-block-preserved c =
     (omega (arith, c.resolve_eight.auto.bytes, room)) (subst (λ m. AreUnits w (λ i. IsPixelOf self (j / 64) xs format i j) m c.loop-block.bytes) before c.loop-block.invariant) here (min (8 * (block + 1)) self.width) (omega (arith, is, some))
 
 pub returns : goal.returns
-returns c =
+returns g c =
     all_units (pixel_bytes c.args.format) (λ i. IsPixelOf c.args.self.now (c.args.j / 64) c.args.samples.now c.args.format i c.args.j) (min (8 * c.loop-block.block) c.args.self.now.width) c.args.self.now.width _ (omega (arith, c.loop-block-test.false)) c.loop-block.invariant
