@@ -252,7 +252,8 @@ def check_none_starts(runs: Runs) -> str:
             child.kill()
         _, errors = child.communicate()
     must(child.returncode == 1 and errors.count(b"\n") == 1, f"status {child.returncode}: {errors[-500:]!r}")
-    must(b"WorkerLostError: no window was drawn: " in errors and b"ended, the last with status -9" in errors, f"{killed} killed: {errors!r}")
+    for text in (b"WorkerLostError: no window was drawn: ", b"ended, the last with status -9"):
+        must(text in errors, f"{killed} killed: {errors!r}")
     must(not os.path.exists(out), "a file stands under the final name")
     return f"{killed} killed, {time.monotonic() - begun:.0f} s"
 
