@@ -375,7 +375,8 @@ class Processes(Runs):
 
     def test_many_interrupts_are_one_line(self) -> None:
         scene = random_scene(1, 2000, 2000, 20_000)
-        value = {"width": 2000, "height": 2000, "samples": 4, "draws": [{**draw.state, "triangles": draw.triangles} for draw in scene.draws]}
+        draws = [{**draw.state, "triangles": draw.triangles} for draw in scene.draws]
+        value = {"width": 2000, "height": 2000, "samples": 4, "draws": draws}
         self.list = self.path("scene.npz")
         poster.save_arrays(self.list, scene.vertices, scene.triangles, value)
         for out in (("-o", "a.png"), ("--tiles", "tiles")):

@@ -33,8 +33,8 @@ SECONDS = 600
 KILL_EVERY = 3
 # How many workers are killed as soon as they are there, so that they die as they start.
 KILLED = 8
-# Seconds without a worker that are an error in a check, and seconds after which that run has to have ended.
-WITHOUT_WORKERS, ENDED = 5, 120
+# Seconds after which a run has to have ended of whose workers none starts.
+ENDED = 120
 # The sheet that is drawn: enough triangles that a run lasts longer than Dask takes to start.
 SIDE, TRIANGLES, WINDOW = 8192, 400_000, 256
 # A smaller one, for runs whose workers die before they draw.
@@ -240,8 +240,8 @@ def check_none_starts(runs: Runs) -> str:
     """No worker lives: one line and status 1, within a bounded time, and no file."""
     dask()
     out = runs.path("none_starts.ppm")
-    program = ("import sys, trirast.poster._dask as engine, trirast.poster._command as command\n"
-               f"engine.WITHOUT_WORKERS = {WITHOUT_WORKERS}\n"
+    program = ("import sys, trirast.poster._local_workers as local, trirast.poster._command as command\n"
+               "local.ENDED = 3\n"
                f"sys.exit(command.main([{runs.small_scene!r}, '-o', {out!r}, '--scheduler', 'local', '--workers', '2']))")
     begun = time.monotonic()
     with subprocess.Popen([sys.executable, "-c", program], stdout=subprocess.DEVNULL, stderr=subprocess.PIPE) as child:
@@ -252,7 +252,8 @@ def check_none_starts(runs: Runs) -> str:
             child.kill()
         _, errors = child.communicate()
     must(child.returncode == 1 and errors.count(b"\n") == 1, f"status {child.returncode}: {errors[-500:]!r}")
-    must(b"WorkerLostError: there was no worker" in errors and killed > 0, f"{killed} killed: {errors!r}")
+    for text in (b"WorkerLostError: no window was drawn: ", b"ended, the last with status -9"):
+        must(text in errors, f"{killed} killed: {errors!r}")
     must(not os.path.exists(out), "a file stands under the final name")
     return f"{killed} killed, {time.monotonic() - begun:.0f} s"
 

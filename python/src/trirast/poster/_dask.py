@@ -30,7 +30,7 @@ LOCAL = "local"
 AHEAD = 4
 # How often a window is sent before its loss is an error. Dask itself tries a task that dies with its worker several times.
 SENT = 10
-# Seconds after the last window that came back: as many without a worker are an error, and so are as many in all.
+# Seconds after the last window that came back: as many without a worker of a cluster are an error, and so are as many in all.
 WITHOUT_WORKERS = 60
 WITHOUT_WINDOW = 600
 # Seconds from one look at the workers to the next. What takes longer than STOOD_STILL counts as this: then the machine stood still.
@@ -191,13 +191,15 @@ class Sending:
                 with contextlib.suppress(self._distributed.TimeoutError):
                     result = future.result(timeout=COME_BACK)
                     self._without_window = self._without_workers = 0.0
+                    if self._local is not None:
+                        self._local.come_back()
                     return result
             self._look_after_workers()
 
     def _look_after_workers(self) -> None:
         """Looks which workers are there, if the last look was some time ago, and starts those of this run's own that have ended.
 
-        Raises WorkerLostError if no window came back for long. Workers that come and go are not there for most of this time.
+        Raises WorkerLostError if no window came back for long, or before too many of this run's own ended.
         """
         now = time.monotonic()
         passed = min(now - self._looked, STOOD_STILL)
@@ -209,10 +211,12 @@ class Sending:
         self._threads = self._threads_now()
         self._without_window += passed
         self._without_workers += 0 if self._threads else passed
-        if self._without_workers > WITHOUT_WORKERS:
-            raise WorkerLostError(f"there was no worker for {WITHOUT_WORKERS} seconds{self._local or ''}")
+        if self._local is not None and self._local.are_lost():
+            raise WorkerLostError(f"no window was drawn: {self._local}")
+        if self._local is None and self._without_workers > WITHOUT_WORKERS:
+            raise WorkerLostError(f"there was no worker for {WITHOUT_WORKERS} seconds")
         if self._without_window > WITHOUT_WINDOW:
-            raise WorkerLostError(f"no window was drawn for {WITHOUT_WINDOW} seconds{self._local or ''}")
+            raise WorkerLostError(f"no window was drawn for {WITHOUT_WINDOW} seconds")
 
     def _threads_now(self) -> int:
         """How many threads the workers have."""

@@ -15,6 +15,9 @@ from typing import List
 
 # Seconds for which a worker looks for its scheduler, and seconds that workers have to end by themselves.
 LOOKS, ENDS = 60, 5
+# How many processes may end for each worker before a window comes back. On a busy machine a worker may take a minute to start, so no time
+# says that none will.
+ENDED = 25
 # As many arguments as a worker needs: one thread, and no process that looks after it. Dask stops no worker for its memory.
 WORDS = ("-m", "distributed.cli.dask_worker", "--no-nanny", "--nthreads", "1", "--no-dashboard", "--memory-limit", "0")
 PLACE = ("--host", "127.0.0.1", "--death-timeout", str(LOOKS))
@@ -26,8 +29,8 @@ class LocalWorkers:
     def __init__(self, count: int) -> None:
         self._count = count
         self._running: List[subprocess.Popen[bytes]] = []
-        self._ended = 0
-        self._why = ""
+        # How many ended since the last window came back, and why the last one did, or could not be started.
+        self._ended, self._why = 0, ""
 
     def renew(self, scheduler: str) -> None:
         """Has as many processes as are wanted, for the scheduler at this address. One that cannot be started is left for the next time."""
@@ -42,9 +45,17 @@ class LocalWorkers:
         except OSError as error:
             self._why = str(error)
 
+    def come_back(self) -> None:
+        """Says that a window came back."""
+        self._ended = 0
+
+    def are_lost(self) -> bool:
+        """Whether more ended since the last window came back than may."""
+        return self._ended > ENDED * self._count
+
     def __str__(self) -> str:
-        """How many ended, and why the last one did, for the text of an error."""
-        return f"; {self._ended} of this run's own ended, the last with {self._why}" if self._why else ""
+        """What became of them, for the text of an error."""
+        return f"{self._ended} of this run's own workers ended, the last with {self._why}"
 
     def close(self) -> None:
         """Ends all processes. Those whose scheduler has gone end by themselves."""
