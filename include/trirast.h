@@ -20,7 +20,9 @@
  *   other memory that is passed to the same call, and no other thread may use it during the call.
  * - Threads. No call starts a thread or keeps a state, so any number of threads may call at once. No call may be made from a
  *   signal handler, or in the forked child of a process with threads.
- * - Stack. A call needs at most TRIRAST_STACK bytes of stack. This is measured with a margin, and not proved.
+ * - Stack. Who calls on a thread with less stack than a call needs may end the process. TRIRAST_STACK bytes are enough for each call,
+ *   TRIRAST_STACK_TEXT for one that reads a draw list, and TRIRAST_STACK_SCENE for trirast_draw_scene. The calls that draw on a canvas
+ *   need the first. This is measured with a margin, and not proved.
  *
  * Rules of every call that returns a trirast_status:
  *
@@ -47,8 +49,10 @@ extern "C" {
  * release, as 0.1.0, is what pkg-config and CMake give. */
 #define TRIRAST_VERSION 1
 
-/* Bytes of stack that are enough for each call: docs/library.md. */
+/* Bytes of stack that are enough for each call, for a call that reads a draw list, and for trirast_draw_scene: docs/library.md. */
 #define TRIRAST_STACK 262144
+#define TRIRAST_STACK_TEXT 196608
+#define TRIRAST_STACK_SCENE 65536
 
 /* Bytes that are enough for each line of trirast_error_line. */
 #define TRIRAST_ERROR_LINE_SIZE 96

@@ -6,6 +6,7 @@ from typing import Any, List, NamedTuple, Optional, SupportsIndex, Tuple
 from ._arguments import flag, number
 from ._draw_list import DrawList, as_bytes
 from ._ffi import CError, CEvent, CFragment, CHistoryRequest, CSampleCounts, CSampleInfo, CStored, library
+from ._threads import with_stack
 
 Color = Tuple[int, int, int]
 
@@ -111,6 +112,7 @@ class TriangleSamples(NamedTuple):
         return f"draw {self.draw} triangle {self.triangle} covers {self.covered}, changes {self.changed}, shown by {self.shown} samples"
 
 
+@with_stack
 def why(
     draw_list: DrawList, x: SupportsIndex, y: SupportsIndex, sample: Optional[SupportsIndex] = None, all_triangles: bool = False
 ) -> PixelHistory:
@@ -137,6 +139,7 @@ def why(
     return PixelHistory(column, row, resolved([end.color for end in ends.values()]), None, samples)
 
 
+@with_stack
 def triangle_samples(draw_list: DrawList, draw: SupportsIndex, triangle: SupportsIndex) -> TriangleSamples:
     """Returns how many samples of the picture this triangle of this draw covers, how many it changes, and how many still show it:
     it is the last triangle that changes them. Both numbers count from 0; a strip and quads count the triangles as which they are drawn.

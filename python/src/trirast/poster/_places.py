@@ -4,11 +4,11 @@ from __future__ import annotations
 
 import os
 import stat
-from typing import NamedTuple, Optional, Union
+from typing import Any, NamedTuple, Optional, Union
 
 from ._errors import OutputError
 
-Path = Union[str, "os.PathLike[str]"]
+Path = Union[str, bytes, "os.PathLike[Any]"]
 # What a picture or a folder of tiles is before it is whole, and the journal of its run.
 PART, JOURNAL = ".part", ".resume"
 
@@ -31,7 +31,7 @@ ENDS = (".png", ".ppm", ".pgm", "")
 
 def places_of(out: Optional[Path], tiles: Optional[Path], source: Optional[str]) -> Places:
     """The places of a run that reads the file `source`. Raises OutputError if what is there would be lost or is in the way."""
-    places = Places(*(None if path is None else without_slash(os.fspath(path)) for path in (out, tiles)))
+    places = Places(*(None if path is None else without_slash(os.fsdecode(path)) for path in (out, tiles)))
     if places.file is None and places.folder is None:
         raise ValueError("a poster goes to a file, to a folder of tiles, or to both")
     if "" in places:
