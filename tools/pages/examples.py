@@ -13,6 +13,7 @@ from tools.draw_list import DrawList, encode
 from tools.library.commands import WARNINGS, drawn_by_program, need, run
 from tools.library.from_rust import CRATES, cargo
 from tools.packages.common import write
+from tools.pages.page import blocks_of
 from tools.places import INCLUDE, STATIC_LIBRARY
 
 OUT = os.path.join(places.OUT, "pages", "programs")
@@ -110,6 +111,17 @@ edition = "2021"
 trirast = {{ path = "{}" }}
 [workspace]
 """
+# What stands around a part of a program in C, so that it compiles.
+PART = """\
+#include <stdio.h>
+#include <trirast.h>
+void part(const char *json, size_t json_len, uint32_t width, uint32_t height, size_t pixel_bytes, uint32_t tile_size, uint32_t k,
+          uint32_t threads, uint8_t *pixels, trirast_error error);
+void part(const char *json, size_t json_len, uint32_t width, uint32_t height, size_t pixel_bytes, uint32_t tile_size, uint32_t k,
+          uint32_t threads, uint8_t *pixels, trirast_error error) {{
+{}
+}}
+"""
 COMPILERS = {"c": ("gcc", "-std=c99"), "cpp": ("g++", "-std=c++17")}
 
 
@@ -125,6 +137,17 @@ def written_by(name: str, language: str, text: str, draw_list: bytes) -> bytes:
     write(source, text.encode())
     run([need(compiler), standard, *WARNINGS, "-I", INCLUDE, "-o", program, source, STATIC_LIBRARY])
     return run([program], input=draw_list)
+
+
+def check_compiles(page: str) -> str:
+    """Each example in C of a page, a program or a part of one, is C99 without a warning."""
+    blocks = [block.text for block in blocks_of(page) if block.language == "c"]
+    for text in blocks:
+        whole = text if "int main" in text else PART.format(text)
+        flags = ("-std=c99", *WARNINGS, "-Wno-unused-parameter", "-fsyntax-only", "-I", INCLUDE)
+        run([need("gcc"), *flags, "-x", "c", "-"], input=whole.encode())
+    must(len(blocks) > 0, "no example in C")
+    return f"{len(blocks)} examples"
 
 
 def program_of(page: str, language: str) -> str:

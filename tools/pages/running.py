@@ -7,12 +7,13 @@ import os
 import re
 import shutil
 import struct
+import subprocess
 import zlib
 from typing import NamedTuple
 
 from tools import answers, picture_file, places
-from tools.cases import must
-from tools.library.commands import python_with, run
+from tools.cases import MissingError, must
+from tools.library.commands import need, python_with, run
 from tools.packages.common import write
 from tools.pages import examples
 from tools.pages.not_run import reason_of
@@ -100,6 +101,15 @@ def check_pictures(page: str, folder: str) -> None:
         must(pair[0] == pair[1] != b"", f"{made} is not {kept}")
 
 
+def check_needs(steps: list[Step]) -> None:
+    """Raises `MissingError` if the machine lacks a command or a library that the steps use."""
+    words = {word for step in steps if step.kind == "sh" for word in re.findall(r"[\w+-]+", step.text.split("#")[0])}
+    for name in sorted(words & {"cc", "c++", "make", "pkg-config", "pnmtopng"}):
+        need(name)
+    if "sdl2" in words and subprocess.run(["pkg-config", "--exists", "sdl2"], check=False).returncode:
+        raise MissingError("SDL 2")
+
+
 def compare(page: str, steps: list[Step], found: list[tuple[int, str]]) -> None:
     """Each step ended well and printed what the page shows."""
     for step, (status, printed) in zip(steps, found):
@@ -111,6 +121,7 @@ def compare(page: str, steps: list[Step], found: list[tuple[int, str]]) -> None:
 def check(page: str) -> str:
     """Each command and each example in Python of a page ends well and prints what the page shows."""
     steps = steps_of(blocks_of(page))
+    check_needs(steps)
     python = python_with(*NEEDS.get(page, ("json",)))
     folder = folder_for(page, python)
     session = os.path.join(os.path.dirname(os.path.abspath(__file__)), "session.py")

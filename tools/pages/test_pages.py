@@ -24,7 +24,7 @@ from tools.places import PROGRAM, SHARED_LIBRARY, STATIC_LIBRARY, WHY_PROGRAM, i
 
 # Examples that other checks build: of a page and a language.
 ELSEWHERE = {
-    ("docs/library.md", "c"): "tools/library/install.py, and in parts examples/c/frames.c",
+    ("docs/library.md", "c"): "tools/library/install.py, whose programs are these; here each is compiled",
     ("docs/library.md", "rust"): "bindings/rust/trirast, whose documentation has them",
     ("docs/library.md", "cmake"): "tools/packages",
     ("README.md", "json"): "run as a list", ("docs/draw-list.md", "json"): "run as a list",
@@ -76,6 +76,7 @@ def all_cases() -> Iterator[Case]:
             yield case(f"{page}: commands", running.check, page)
     for page in ("README.md", "docs/draw-list.md"):
         yield case(f"{page}: lists", running.check_lists, page)
+    yield case("docs/library.md: the examples in C compile", examples.check_compiles, "docs/library.md")
     for page, language in examples.AROUND:
         yield case(f"{page}: the example in {language}", examples.check, page, language)
 
