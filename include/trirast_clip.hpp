@@ -1,5 +1,5 @@
-/* trirast_clip.hpp: trirast_clip.h for C++17 and later, with vectors that grow. The header in C says what is computed, with which
- * errors, and why no crack comes about; docs/clipping.md has an example.
+/* trirast_clip.hpp: trirast_clip.h for C++17 and later, with vectors that grow. The header in C says what is computed,
+ * with which errors, and why no crack comes about; docs/clipping.md has an example.
  *
  *     trirast::Clip clip{};
  *     clip.width = 1280, clip.height = 720;
@@ -24,8 +24,8 @@ using Clip = trirast_clip;
 using ClipPosition = trirast_clip_position;
 using Cut = trirast_clip_cut;
 
-/* Triangles on the screen. Vertex `first_cut + k` was made by cuts[k]; those before it are the projected positions, at their own
- * indices. The rest is as in trirast_clipped. One that is used again keeps its memory. */
+/* Triangles on the screen. Vertex `first_cut + k` was made by cuts[k]; those before it are the projected positions, at
+ * their own indices. The rest is as in trirast_clipped. One that is used again keeps its memory. */
 struct Clipped {
     std::vector<trirast_vertex> vertices;
     std::vector<float> w;
@@ -40,7 +40,8 @@ struct Clipped {
 namespace detail {
 
 /* Gives the arrays these capacities. What is in them stays. */
-inline void enlarge(Clipped &arrays, std::size_t positions, std::size_t cuts, std::size_t triangles, trirast_clipped &in_c) {
+inline void enlarge(Clipped &arrays, std::size_t positions, std::size_t cuts, std::size_t triangles,
+                    trirast_clipped &in_c) {
     arrays.vertices.resize(positions + cuts), arrays.w.resize(positions + cuts), arrays.cuts.resize(cuts);
     arrays.indices.resize(3 * triangles), arrays.sources.resize(triangles);
     in_c.vertices = arrays.vertices.data(), in_c.w = arrays.w.data(), in_c.cuts = arrays.cuts.data();
@@ -48,13 +49,14 @@ inline void enlarge(Clipped &arrays, std::size_t positions, std::size_t cuts, st
     in_c.cut_capacity = cuts, in_c.triangle_capacity = triangles;
 }
 
-}  // namespace detail
+} // namespace detail
 
 /* Makes the triangles on the screen of triangles in clip space, as trirast_clip_triangles does.
  *
  * Throws std::invalid_argument if there is no such viewport or option, std::out_of_range if an index names no position,
  * std::length_error if there are too many positions or triangles, and std::bad_alloc. Then `out` is unspecified. */
-inline void clip_triangles(const Clip &clip, Span<const ClipPosition> positions, Span<const std::uint32_t> indices, Clipped &out) {
+inline void clip_triangles(const Clip &clip, Span<const ClipPosition> positions, Span<const std::uint32_t> indices,
+                           Clipped &out) {
     const std::size_t count = positions.size();
     std::size_t cuts = TRIRAST_CLIP_MAX_CORNERS, triangles = indices.size() / 3 + TRIRAST_CLIP_MAX_CORNERS;
     trirast_clipped in_c{};
@@ -73,6 +75,6 @@ inline void clip_triangles(const Clip &clip, Span<const ClipPosition> positions,
     out.first_cut = static_cast<std::uint32_t>(count), out.folded = in_c.folded;
 }
 
-}  // namespace trirast
+} // namespace trirast
 
 #endif

@@ -52,7 +52,8 @@ inline std::int64_t doubled_area(const trirast_vertex &a, const trirast_vertex &
     return doubled_area(a, b, c.x, c.y);
 }
 
-// The layers of the four samples of each pixel of the viewport, by exact edge functions and the top-left rule: docs/rules.md.
+// The layers of the four samples of each pixel of the viewport, by exact edge functions and the top-left rule:
+// docs/rules.md.
 class Screen {
 public:
     explicit Screen(const trirast_clip &clip)
@@ -64,8 +65,8 @@ public:
     }
 
 private:
-    // 0 if a sample on the edge is covered, else 1: the edge function has to be at least that. Clockwise triangles have top edges that
-    // go to the right and left edges that go up.
+    // 0 if a sample on the edge is covered, else 1: the edge function has to be at least that. Clockwise triangles have
+    // top edges that go to the right and left edges that go up.
     static std::int64_t least(const trirast_vertex &a, const trirast_vertex &b) {
         return (a.y == b.y && b.x > a.x) || b.y < a.y ? 0 : 1;
     }
@@ -76,18 +77,23 @@ private:
         if (area < 0) std::swap(b, c);
         const std::int64_t bound[3] = {least(a, b), least(b, c), least(c, a)};
         const auto first = [](std::int32_t least, std::int32_t start) { return std::max(0, (least >> 8) - start); };
-        const auto end = [](std::int32_t most, std::int32_t start, std::int32_t size) { return std::min(size, (most >> 8) + 1 - start); };
+        const auto end = [](std::int32_t most, std::int32_t start, std::int32_t size) {
+            return std::min(size, (most >> 8) + 1 - start);
+        };
         const int right = end(std::max({a.x, b.x, c.x}), clip_.left, clip_.width);
         const int bottom = end(std::max({a.y, b.y, c.y}), clip_.top, clip_.height);
         static constexpr std::int64_t samples[4][2] = {{96, 32}, {224, 96}, {32, 160}, {160, 224}};
         for (int j = first(std::min({a.y, b.y, c.y}), clip_.top); j < bottom; j++)
             for (int i = first(std::min({a.x, b.x, c.x}), clip_.left); i < right; i++)
                 for (std::size_t s = 0; s < 4; s++) {
-                    const std::int64_t x = 256 * (clip_.left + i) + samples[s][0], y = 256 * (clip_.top + j) + samples[s][1];
-                    if (doubled_area(a, b, x, y) < bound[0] || doubled_area(b, c, x, y) < bound[1] || doubled_area(c, a, x, y) < bound[2])
+                    const std::int64_t x = 256 * (clip_.left + i) + samples[s][0],
+                                       y = 256 * (clip_.top + j) + samples[s][1];
+                    if (doubled_area(a, b, x, y) < bound[0] || doubled_area(b, c, x, y) < bound[1] ||
+                        doubled_area(c, a, x, y) < bound[2])
                         continue;
                     Layers &layer = layers[4 * (static_cast<std::size_t>(j) * static_cast<std::size_t>(clip_.width) +
-                                                static_cast<std::size_t>(i)) + s];
+                                                static_cast<std::size_t>(i)) +
+                                           s];
                     (area > 0 ? layer.clockwise : layer.others)++;
                 }
     }
@@ -100,42 +106,58 @@ public:
 
 // ---- Cuts
 
-// How far cuts lie from the weighted sums of the corners that they name.
+// How far cuts lie from the weighted sums of the corners that they name, beside the bounds that the header states.
 struct Off {
-    double w = 0;     // as a share of the greatest coordinate of the corners; or the sum of the weights from 1
-    double place = 0; // in 1/256 pixel: half of one by rounding
+    double bound = 0;             // the greatest share that was used of a bound of w or of the weights' sum
+    double place = 0;             // in 1/256 pixel, without the bound of a cut's own error: half of one by rounding
     std::size_t parts_turned = 0; // triangles of the source with parts of both senses
 };
+
+constexpr long double UNIT = 0x1p-53L, PLANES = TRIRAST_CLIPPING_PLANES;
+
+inline void add_cut(const std::vector<trirast_clip_position> &positions, const std::uint32_t *corners,
+                    const trirast_clip &clip, const trirast_clip_cut &cut, const trirast_vertex &vertex, float w_found,
+                    Off &found) {
+    trirast_clipping view;
+    begin_under_test(&clip, &view);
+    const long double guard = view.planes[TRIRAST_CLIPPING_LEFT].factor, high = view.planes[TRIRAST_CLIPPING_TOP].factor;
+    long double x = 0, y = 0, w = 0, size = 0, sum = 0;
+    for (std::size_t c = 0; c < 3; c++) {
+        const trirast_clip_position &p = positions[corners[c]];
+        const long double weight = cut.weights[c], wide = std::max(guard, high) * p.w;
+        found.bound = weight < 0 || weight > 1 ? 1e9 : found.bound;
+        x += weight * p.x, y += weight * p.y, w += weight * p.w, sum += weight;
+        for (const long double coordinate : {static_cast<long double>(p.x), static_cast<long double>(p.y),
+                                             static_cast<long double>(p.z), wide})
+            size = std::max(size, std::fabs(coordinate));
+    }
+    // w is a float, and the sum of the weights is one of exact numbers.
+    const long double error = 32 * PLANES * UNIT * size, of_float = 0x1p-24L * std::fabs(w);
+    const long double w_off = std::max(std::fabs(w - w_found) - of_float, 0.0L) / error;
+    const long double sum_off = std::fabs(sum - 1) / (9 * PLANES * UNIT);
+    found.bound = std::max({found.bound, static_cast<double>(w_off), static_cast<double>(sum_off)});
+    const long double half[2] = {128.0L * clip.width, 128.0L * clip.height}, far[2] = {x / w * half[0], -(y / w) * half[1]};
+    const long double start[2] = {256.0L * clip.left, 256.0L * clip.top}, at[2] = {vertex.x + 0.0L, vertex.y + 0.0L};
+    for (int k = 0; k < 2; k++) {
+        const long double own = error / w * (half[k] + std::fabs(far[k]));
+        const long double off = std::fabs(at[k] - (start[k] + half[k] + far[k]));
+        found.place = std::max(found.place, static_cast<double>(off - own));
+    }
+}
 
 inline Off off(const std::vector<trirast_clip_position> &positions, const std::vector<std::uint32_t> &indices,
                const trirast_clip &clip, const trirast::Clipped &out) {
     Off found;
     for (std::size_t k = 0; k < out.cuts.size(); k++) {
-        const trirast_clip_cut &cut = out.cuts[k];
-        if (3 * std::size_t{cut.triangle} >= indices.size()) return {1, 1, 1};
-        long double x = 0, y = 0, w = 0, size = 0, sum = 0;
-        for (std::size_t c = 0; c < 3; c++) {
-            const trirast_clip_position &p = positions[indices[3 * cut.triangle + c]];
-            const long double weight = cut.weights[c];
-            if (weight < -1e-12L) return {1, 1, 1};
-            x += weight * p.x, y += weight * p.y, w += weight * p.w, sum += weight;
-            for (const float coordinate : {p.x, p.y, p.z, p.w}) size = std::max(size, std::fabs(static_cast<long double>(coordinate)));
-        }
-        const trirast_vertex &v = out.vertices[out.first_cut + k];
-        found.w = std::max({found.w, static_cast<double>(std::fabs(w - out.w[out.first_cut + k]) / size),
-                            static_cast<double>(std::fabs(sum - 1))});
-        // The error of a cut that the header states, for seven planes and divided by w, has to be less than 1/1000 of 1/256 pixel.
-        const long double far_x = x / w * 128 * clip.width, far_y = -(y / w) * 128 * clip.height;
-        const long double doubt = 7 * 14 * 0x1p-53L * size / w * (std::fabs(far_x) + std::fabs(far_y) + 128 * (clip.width + clip.height));
-        if (doubt > 1e-3L) continue;
-        const long double dx = v.x - (256.0L * clip.left + 128 * clip.width + far_x);
-        const long double dy = v.y - (256.0L * clip.top + 128 * clip.height + far_y);
-        found.place = std::max({found.place, static_cast<double>(std::fabs(dx)), static_cast<double>(std::fabs(dy))});
+        const std::size_t first = 3 * std::size_t{out.cuts[k].triangle}, vertex = out.first_cut + k;
+        if (first >= indices.size()) return {1e9, 1e9, 1};
+        add_cut(positions, &indices[first], clip, out.cuts[k], out.vertices[vertex], out.w[vertex], found);
     }
     std::map<std::uint32_t, unsigned> senses;
     for (std::size_t t = 0; t < out.sources.size(); t++) {
-        const std::int64_t area = doubled_area(out.vertices[out.indices[3 * t]], out.vertices[out.indices[3 * t + 1]],
-                                               out.vertices[out.indices[3 * t + 2]]);
+        const std::uint32_t *corners = &out.indices[3 * t];
+        const std::int64_t area =
+            doubled_area(out.vertices[corners[0]], out.vertices[corners[1]], out.vertices[corners[2]]);
         senses[out.sources[t]] |= area > 0 ? 1u : area < 0 ? 2u : 0u;
     }
     for (const auto &[source, sense] : senses) found.parts_turned += sense == 3;
@@ -148,22 +170,23 @@ struct Total {
     const char *name;
     std::size_t pictures = 0, triangles = 0, cuts = 0, folded = 0, parts_turned = 0;
     std::size_t samples = 0, cracks = 0, doubles = 0, turned = 0;
-    double w_off = 0, place_off = 0;
+    double bound = 0, place_off = 0;
 
-    void add(const std::vector<trirast_clip_position> &positions, const std::vector<std::uint32_t> &indices, const trirast_clip &clip,
-             const trirast::Clipped &out) {
+    void add(const std::vector<trirast_clip_position> &positions, const std::vector<std::uint32_t> &indices,
+             const trirast_clip &clip, const trirast::Clipped &out) {
         const Off more = off(positions, indices, clip, out);
         pictures++, triangles += out.sources.size(), cuts += out.cuts.size(), folded += out.folded;
-        w_off = std::max(w_off, more.w), place_off = std::max(place_off, more.place), parts_turned += more.parts_turned;
+        bound = std::max(bound, more.bound), place_off = std::max(place_off, more.place), parts_turned += more.parts_turned;
         expect(std::is_sorted(out.sources.begin(), out.sources.end()), name, "triangles out of order");
     }
 
-    // A sample that has to be covered once. Layers in both senses add up to 1 by their signs, also where rounding has turned a triangle
-    // over; a double is one that no such triangle explains.
+    // A sample that has to be covered once. Layers in both senses add up to 1 by their signs, also where rounding has
+    // turned a triangle over; a double is one that no such triangle explains.
     void add(const Layers &layer) {
         const bool once = layer.clockwise == layer.others + 1 || layer.others == layer.clockwise + 1;
         const bool mixed = layer.clockwise > 0 && layer.others > 0;
-        samples++, cracks += layer.clockwise + layer.others == 0, doubles += !once && layer.clockwise + layer.others > 0;
+        samples++, cracks += layer.clockwise + layer.others == 0,
+            doubles += !once && layer.clockwise + layer.others > 0;
         turned += once && mixed;
     }
 
@@ -175,15 +198,16 @@ struct Total {
     }
 
     void finish() const {
-        std::printf("%-36s %3zu pictures, %7zu triangles, %6zu cuts, %9zu samples: %zu cracks, %zu doubles, %zu turned over; "
-                    "%zu folded, %zu with parts turned over; cuts off by %.3f/256 pixel, w by %.0e\n",
-                    name, pictures, triangles, cuts, samples, cracks, doubles, turned, folded, parts_turned, place_off, w_off);
+        std::printf(
+            "%-36s %3zu pictures, %7zu triangles, %6zu cuts, %9zu samples: %zu cracks, %zu doubles, %zu turned over; "
+            "%zu folded, %zu with parts turned over; cuts off by %.6f/256 pixel, w by %.3f of its bound\n",
+            name, pictures, triangles, cuts, samples, cracks, doubles, turned, folded, parts_turned, place_off, bound);
         expect(cracks == 0, name, "a sample that no triangle covers");
         expect(doubles == 0, name, "a sample that several triangles cover");
         expect(turned == 0 || folded > 0, name, "a sample in a triangle that is turned over, where nothing is folded");
         expect(cuts > 0, name, "nothing was cut");
-        expect(w_off < 1e-6, name, "w or weights of a cut");
-        expect(place_off < 0.501, name, "the place of a cut");
+        expect(bound <= 1, name, "w or weights of a cut");
+        expect(place_off < 0.5 + 1e-6, name, "the place of a cut");
         expect(parts_turned <= folded, name, "a part of a triangle that is turned over");
     }
 };

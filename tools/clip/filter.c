@@ -8,7 +8,8 @@ static void clip_task(const task *now) {
     out.marks = memory_of(now->position_count, sizeof *out.marks), out.cuts = memory_of(most, sizeof *out.cuts);
     out.indices = memory_of(3 * most, sizeof *out.indices), out.sources = memory_of(most, sizeof *out.sources);
     out.cut_capacity = out.triangle_capacity = most;
-    if (trirast_clip_triangles(&now->clip, now->positions, now->position_count, now->indices, now->index_count, &out)) exit(1);
+    if (trirast_clip_triangles(&now->clip, now->positions, now->position_count, now->indices, now->index_count, &out))
+        exit(1);
     answer(&out, now->position_count);
     free(out.vertices), free(out.w), free(out.marks), free(out.cuts), free(out.indices), free(out.sources);
 }

@@ -10,6 +10,7 @@ static void clip_task(const task *now) {
     out.vertices = result.vertices.data(), out.w = result.w.data(), out.cuts = result.cuts.data();
     out.indices = result.indices.data(), out.sources = result.sources.data(), out.folded = result.folded;
     out.cut_count = result.cuts.size(), out.triangle_count = result.sources.size();
-    if (result.vertices.size() != result.first_cut + out.cut_count || result.w.size() != result.vertices.size()) std::exit(1);
+    if (result.vertices.size() != result.first_cut + out.cut_count || result.w.size() != result.vertices.size())
+        std::exit(1);
     answer(&out, result.first_cut);
 }

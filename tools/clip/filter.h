@@ -1,8 +1,9 @@
-/* A program that clips what it reads: the same source for the header in C and for the one in C++, which define clip_task.
+/* A program that clips what it reads: the same source for the header in C and for the one in C++, which define
+ * clip_task.
  *
- * A task on standard input is 10 integers of 32 bits, those of trirast_clip in their order, the number of positions and that of
- * indices; then the positions and the indices. The answer is four integers of 32 bits, the numbers of vertices, cuts and triangles
- * and the folded polygons, and the arrays. Numbers have the order of the machine. */
+ * A task on standard input is 10 integers of 32 bits, those of trirast_clip in their order, the number of positions and
+ * that of indices; then the positions and the indices. The answer is four integers of 32 bits, the numbers of vertices,
+ * cuts and triangles and the folded polygons, and the arrays. Numbers have the order of the machine. */
 #ifndef FILTER_H
 #define FILTER_H
 
@@ -28,8 +29,8 @@ static void read_all(void *data, size_t size, size_t count) {
 
 /* Writes an answer. */
 static void answer(const trirast_clipped *out, size_t position_count) {
-    const uint32_t counts[4] = {(uint32_t)(position_count + out->cut_count), (uint32_t)out->cut_count, (uint32_t)out->triangle_count,
-                                (uint32_t)out->folded};
+    const uint32_t counts[4] = {(uint32_t)(position_count + out->cut_count), (uint32_t)out->cut_count,
+                                (uint32_t)out->triangle_count, (uint32_t)out->folded};
     size_t k;
     write_all(counts, sizeof counts[0], 4);
     write_all(out->vertices, sizeof *out->vertices, counts[0]);
@@ -53,7 +54,8 @@ int main(void) {
     int32_t numbers[10];
     while (fread(numbers, sizeof numbers[0], 10, stdin) == 10) {
         task now;
-        now.clip.left = numbers[0], now.clip.top = numbers[1], now.clip.width = numbers[2], now.clip.height = numbers[3];
+        now.clip.left = numbers[0], now.clip.top = numbers[1], now.clip.width = numbers[2],
+        now.clip.height = numbers[3];
         now.clip.near_plane = (uint32_t)numbers[4], now.clip.sides = (uint32_t)numbers[5];
         now.clip.near_depth = (uint16_t)numbers[6], now.clip.far_depth = (uint16_t)numbers[7];
         now.position_count = (size_t)numbers[8], now.index_count = (size_t)numbers[9];

@@ -2,8 +2,8 @@
 //
 //     clip [--seeds COUNT]
 //
-// Each line says what was counted. Exit status 1 if a count is another than it has to be; what is wrong is a line that begins with
-// FAILED.
+// Each line says what was counted. Exit status 1 if a count is another than it has to be; what is wrong is a line that
+// begins with FAILED.
 #include <array>
 #include <cstdlib>
 #include <cstring>
@@ -182,10 +182,12 @@ void floor_below(const char *name, int seeds, Sides sides) {
         Numbers numbers(31 * static_cast<std::uint64_t>(seed) + 11);
         const trirast_clip clip = clip_of(0, 0, 200, 150, sides);
         const double height = numbers.within(0.2, 3), pitch = numbers.within(-0.3, 0.3), turn = numbers.within(0, 6.28);
-        const Vector ahead = std::cos(pitch) * Vector{std::cos(turn), 0, std::sin(turn)} + std::sin(pitch) * Vector{0, 1, 0};
+        const Vector ahead =
+            std::cos(pitch) * Vector{std::cos(turn), 0, std::sin(turn)} + std::sin(pitch) * Vector{0, 1, 0};
         const Vector right = unit(cross(ahead, {0, 1, 0}));
         const double near_distance = 0.05, far_distance = 1e5;
-        const Camera camera{right, cross(right, ahead), ahead, 1.2, 200.0 / 150, near_distance, far_distance, TRIRAST_CLIP_NEAR_AT_ZERO};
+        const Camera camera{right,       cross(right, ahead), ahead,        1.2,
+                            200.0 / 150, near_distance,       far_distance, TRIRAST_CLIP_NEAR_AT_ZERO};
         const Mesh mesh = floor_of(numbers, height);
         const Positions positions = mesh.seen(camera);
         const trirast::Clipped out = clipped(clip, positions, mesh.indices);
@@ -194,7 +196,8 @@ void floor_below(const char *name, int seeds, Sides sides) {
         screen.add(out);
         for (std::size_t k = 0; k < screen.layers.size(); k++) {
             static constexpr double samples[4][2] = {{0.375, 0.125}, {0.875, 0.375}, {0.125, 0.625}, {0.625, 0.875}};
-            const double i = static_cast<double>(k / 4 % 200) + samples[k % 4][0], j = static_cast<double>(k / 800) + samples[k % 4][1];
+            const double i = static_cast<double>(k / 4 % 200) + samples[k % 4][0],
+                         j = static_cast<double>(k / 800) + samples[k % 4][1];
             const Vector ray = camera.ahead + ((i / 100 - 1) * camera.aspect / camera.zoom) * camera.right +
                                ((1 - j / 75) / camera.zoom) * camera.up;
             // The distance along the axis at which the ray meets the floor.
@@ -231,12 +234,13 @@ struct Body {
         }
         det = dot(a, cross(b, c));
         holds_eye = std::fabs(dot(middle, cross(b, c)) / det) + std::fabs(dot(middle, cross(c, a)) / det) +
-                        std::fabs(dot(middle, cross(a, b)) / det) < 1.02;
+                        std::fabs(dot(middle, cross(a, b)) / det) <
+                    1.02;
     }
 };
 
-// The front layer and the back layer of a body cover a sample once at most. They cover the same samples if the near plane cuts nothing
-// off; else the back layer covers those of the front layer.
+// The front layer and the back layer of a body cover a sample once at most. They cover the same samples if the near
+// plane cuts nothing off; else the back layer covers those of the front layer.
 void bodies(const char *name, int seeds, Sides sides) {
     Total total{name};
     std::size_t covered = 0, opened = 0, whole = 0;
@@ -253,7 +257,8 @@ void bodies(const char *name, int seeds, Sides sides) {
         const Positions positions = body.mesh.seen(camera);
         const trirast::Clipped out = clipped(clip, positions, body.mesh.indices);
         total.add(positions, body.mesh.indices, clip, out);
-        const bool is_whole = std::all_of(positions.begin(), positions.end(), [](const trirast_clip_position &p) { return p.z >= 0; });
+        const bool is_whole =
+            std::all_of(positions.begin(), positions.end(), [](const trirast_clip_position &p) { return p.z >= 0; });
         whole += is_whole;
         const bool front_is_clockwise = body.det < 0;
         Screen screen(clip);
@@ -267,7 +272,8 @@ void bodies(const char *name, int seeds, Sides sides) {
         }
     }
     total.finish();
-    std::printf("%-36s %zu samples covered, %zu where the near plane opens a body; %zu bodies whole\n", "", covered, opened, whole);
+    std::printf("%-36s %zu samples covered, %zu where the near plane opens a body; %zu bodies whole\n", "", covered,
+                opened, whole);
     expect(covered > 1000 && opened > 1000 && whole > 0, name, "bodies of one kind alone");
 }
 
@@ -292,9 +298,11 @@ void cuts_both_ways(std::uint32_t rounds) {
         for (unsigned plane = 0; plane < TRIRAST_CLIPPING_PLANES; plane++) {
             const trirast_clipping_plane *by = &view.planes[plane];
             const bool behind = distance_under_test(by, one.place) < 0;
-            expect((marks_under_test(&view, one.place) >> plane & 1) == behind, "both ways", "marks and distances differ");
+            expect((marks_under_test(&view, one.place) >> plane & 1) == behind, "both ways",
+                   "marks and distances differ");
             if (behind == (distance_under_test(by, other.place) < 0)) continue;
-            const trirast_clipping_corner there = cut_under_test(by, &one, &other), back = cut_under_test(by, &other, &one);
+            const trirast_clipping_corner there = cut_under_test(by, &one, &other),
+                                          back = cut_under_test(by, &other, &one);
             cuts++, apart += std::memcmp(&there, &back, offsetof(trirast_clipping_corner, vertex)) != 0;
             expect(distance_under_test(by, there.place) == 0, "both ways", "a cut that does not lie on its plane");
         }
@@ -320,7 +328,8 @@ std::vector<trirast_vertex> small_polygon(Numbers &numbers) {
     return found;
 }
 
-// Polygons that rounding has not folded are cut into triangles none of which is turned over, where fans would have some.
+// Polygons that rounding has not folded are cut into triangles none of which is turned over, where fans would have
+// some.
 void small_polygons(int rounds) {
     Numbers numbers(4);
     std::size_t folded = 0, turned = 0, fans_turned = 0, lost = 0;
@@ -332,14 +341,16 @@ void small_polygons(int rounds) {
         const std::size_t folds = ears_under_test(corners.data(), corners.size(), ears.data());
         for (std::size_t k = 0; k + 2 < corners.size(); k++) {
             const std::int64_t of_fan = doubled_area(corners[0], corners[k + 1], corners[k + 2]);
-            const std::int64_t area = doubled_area(corners[ears[3 * k]], corners[ears[3 * k + 1]], corners[ears[3 * k + 2]]);
+            const std::int64_t area =
+                doubled_area(corners[ears[3 * k]], corners[ears[3 * k + 1]], corners[ears[3 * k + 2]]);
             left += of_fan - area;
             fan[of_fan > 0] |= of_fan != 0, sense[area > 0] |= area != 0;
         }
-        folded += folds > 0, turned += folds == 0 && sense[0] && sense[1], fans_turned += fan[0] && fan[1], lost += left != 0;
+        folded += folds > 0, turned += folds == 0 && sense[0] && sense[1], fans_turned += fan[0] && fan[1],
+            lost += left != 0;
     }
-    std::printf("%d small polygons: %zu folded by rounding, %zu others with a triangle turned over (of fans %zu)\n", rounds, folded,
-                turned, fans_turned);
+    std::printf("%d small polygons: %zu folded by rounding, %zu others with a triangle turned over (of fans %zu)\n",
+                rounds, folded, turned, fans_turned);
     expect(turned == 0, "small polygons", "a triangle that is turned over");
     expect(lost == 0, "small polygons", "areas that do not add up");
     expect(fans_turned > 4 * folded && fans_turned > 100, "small polygons", "fans would do");
@@ -355,8 +366,10 @@ void near_plane_by_hand() {
     expect(two, "by hand", "another number of cuts");
     if (!two) return;
     expect(out.w[3] == 1 && out.w[4] == 1, "by hand", "w of a cut");
-    expect(out.vertices[3].x == 128 * 256 + 6 * 128 * 256 && out.vertices[3].y == 128 * 256, "by hand", "the first cut");
-    expect(out.vertices[4].x == 128 * 256 && out.vertices[4].y == 128 * 256 - 6 * 128 * 256, "by hand", "the second cut");
+    expect(out.vertices[3].x == 128 * 256 + 6 * 128 * 256 && out.vertices[3].y == 128 * 256, "by hand",
+           "the first cut");
+    expect(out.vertices[4].x == 128 * 256 && out.vertices[4].y == 128 * 256 - 6 * 128 * 256, "by hand",
+           "the second cut");
     expect(out.vertices[3].depth == 0 && out.vertices[4].depth == 0, "by hand", "the depth of a cut");
     const double *weights = out.cuts[0].weights;
     expect(weights[0] == 0.25 && weights[1] == 0.75 && weights[2] == 0, "by hand", "weights of the first cut");
@@ -369,7 +382,8 @@ void touching_by_hand() {
     const Positions positions = {{0, 0, 0, 1}, {0.5, 0, 1, 2}, {0, 0.5, 1, 2}, {0.5, 0, -1, 1}, {0, 0.5, -1, 1}};
     const trirast::Clipped out = clipped(clip, positions, {0, 1, 2, 0, 3, 4, 0, 1, 4});
     expect(out.sources == Indices{0, 2}, "by hand", "triangles that touch the near plane");
-    expect(out.indices == Indices{0, 1, 2, 0, 1, 5} && out.cuts.size() == 1, "by hand", "a triangle with a corner on the near plane");
+    expect(out.indices == Indices{0, 1, 2, 0, 1, 5} && out.cuts.size() == 1, "by hand",
+           "a triangle with a corner on the near plane");
 }
 
 void depths_by_hand() {
@@ -422,11 +436,12 @@ void odd_numbers() {
     const trirast_clip clip = clip_of(0, 0, 256, 256, TRIRAST_CLIP_GUARD_BAND);
     const float infinity = std::numeric_limits<float>::infinity(), nan = std::numeric_limits<float>::quiet_NaN();
     for (const float odd : {infinity, -infinity, nan})
-        for (float trirast_clip_position::*axis :
-             {&trirast_clip_position::x, &trirast_clip_position::y, &trirast_clip_position::z, &trirast_clip_position::w}) {
+        for (float trirast_clip_position::*axis : {&trirast_clip_position::x, &trirast_clip_position::y,
+                                                   &trirast_clip_position::z, &trirast_clip_position::w}) {
             Positions positions = {{0, 0, 0, 1}, {1, 0, 0, 1}, {0, 1, 0, 1}};
             positions[1].*axis = odd;
-            expect(clipped(clip, positions, {0, 1, 2}).sources.empty(), "odd numbers", "a triangle with no finite position");
+            expect(clipped(clip, positions, {0, 1, 2}).sources.empty(), "odd numbers",
+                   "a triangle with no finite position");
         }
     Numbers numbers(8);
     std::size_t triangles = 0;
@@ -437,7 +452,9 @@ void odd_numbers() {
                 const std::uint32_t bits = static_cast<std::uint32_t>(numbers.next());
                 std::memcpy(coordinate, &bits, sizeof bits);
             }
-        triangles += clipped(clip, positions, {0, 1, 2}).sources.size();
+        const trirast::Clipped out = clipped(clip, positions, {0, 1, 2});
+        triangles += out.sources.size();
+        for (const std::uint32_t index : out.indices) expect(out.w[index] > 0, "odd numbers", "a w that is not positive");
     }
     std::printf("%zu triangles of positions of any bits\n", triangles);
     expect(triangles > 100, "odd numbers", "no triangle of positions of any bits is left");
@@ -454,7 +471,8 @@ void run(int seeds) {
     inside_a_star({"star, far outside of the band", 8 * seeds, 5, 4, 1, 3e4, 0.02, band, zero, false});
     inside_a_star({"star, vertices of each triangle", 4 * seeds, 6, 5, 1, 300, 0.02, band, minus_one, true});
     inside_a_star({"star, all planes", seeds, 40, 24, 1, 4, 0.02, viewport, zero, false});
-    inside_a_star({"star, all planes, small triangles", seeds / 4 + 1, 240, 160, 1, 1.2, 0.02, viewport, minus_one, true});
+    inside_a_star(
+        {"star, all planes, small triangles", seeds / 4 + 1, 240, 160, 1, 1.2, 0.02, viewport, minus_one, true});
     bodies("bodies, guard band", 8 * seeds, band);
     bodies("bodies, all planes", 8 * seeds, viewport);
     sky("sky, guard band", 2 * seeds, band);
@@ -465,7 +483,7 @@ void run(int seeds) {
     floor_below("floor, all planes", seeds, viewport);
 }
 
-}  // namespace
+} // namespace
 
 int main(int count, char **arguments) {
     std::setvbuf(stdout, nullptr, _IOLBF, 0);

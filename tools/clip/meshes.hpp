@@ -34,7 +34,9 @@ struct Vector {
 inline Vector operator+(Vector a, Vector b) { return {a.x + b.x, a.y + b.y, a.z + b.z}; }
 inline Vector operator*(double s, Vector a) { return {s * a.x, s * a.y, s * a.z}; }
 inline double dot(Vector a, Vector b) { return a.x * b.x + a.y * b.y + a.z * b.z; }
-inline Vector cross(Vector a, Vector b) { return {a.y * b.z - a.z * b.y, a.z * b.x - a.x * b.z, a.x * b.y - a.y * b.x}; }
+inline Vector cross(Vector a, Vector b) {
+    return {a.y * b.z - a.z * b.y, a.z * b.x - a.x * b.z, a.x * b.y - a.y * b.x};
+}
 inline Vector unit(Vector a) { return 1 / std::sqrt(dot(a, a)) * a; }
 
 inline Vector vector_of(Numbers &numbers, double z = 0) {
@@ -48,7 +50,8 @@ struct Camera {
     double zoom, aspect, near_distance, far_distance;
     trirast_clip_near plane;
 
-    static Camera turned(Numbers &numbers, double aspect, double near_distance, double far_distance, trirast_clip_near plane) {
+    static Camera turned(Numbers &numbers, double aspect, double near_distance, double far_distance,
+                         trirast_clip_near plane) {
         const Vector ahead = unit(vector_of(numbers, 1e-3));
         const Vector right = unit(cross(ahead, vector_of(numbers) + Vector{0, 2, 0}));
         return {right, cross(right, ahead), ahead, numbers.within(0.7, 2), aspect, near_distance, far_distance, plane};
@@ -58,8 +61,8 @@ struct Camera {
         const double n = near_distance, f = far_distance, w = dot(p, ahead);
         const bool at_zero = plane == TRIRAST_CLIP_NEAR_AT_ZERO;
         const double z = at_zero ? (w - n) * f / (f - n) : ((f + n) * w - 2 * f * n) / (f - n);
-        return {static_cast<float>(zoom * dot(p, right) / aspect), static_cast<float>(zoom * dot(p, up)), static_cast<float>(z),
-                static_cast<float>(w)};
+        return {static_cast<float>(zoom * dot(p, right) / aspect), static_cast<float>(zoom * dot(p, up)),
+                static_cast<float>(z), static_cast<float>(w)};
     }
 };
 
@@ -97,7 +100,8 @@ struct Mesh {
     }
 };
 
-// A closed surface round the origin that each direction from there meets once. Its radius jumps between `least` and `greatest`.
+// A closed surface round the origin that each direction from there meets once. Its radius jumps between `least` and
+// `greatest`.
 class Star {
 public:
     Star(Numbers &numbers, std::uint32_t along, std::uint32_t around, double least, double greatest)
@@ -107,8 +111,10 @@ public:
         mesh_.points.push_back({0, radius(), 0});
         for (std::uint32_t j = 1; j < around; j++)
             for (std::uint32_t i = 0; i < along; i++) {
-                const double a = 2 * pi * (i + numbers.within(0, 0.4)) / along, b = pi * (j + numbers.within(-0.2, 0.2)) / around;
-                mesh_.points.push_back(radius() * Vector{std::cos(a) * std::sin(b), std::cos(b), std::sin(a) * std::sin(b)});
+                const double a = 2 * pi * (i + numbers.within(0, 0.4)) / along,
+                             b = pi * (j + numbers.within(-0.2, 0.2)) / around;
+                mesh_.points.push_back(radius() *
+                                       Vector{std::cos(a) * std::sin(b), std::cos(b), std::sin(a) * std::sin(b)});
             }
         mesh_.points.push_back({0, -radius(), 0});
         for (std::uint32_t j = 0; j < around; j++)
@@ -126,7 +132,8 @@ private:
         return 1 + (j - 1) * along_ + i % along_;
     }
 
-    // Adds a quad by either diagonal by which both triangles are seen in the same sense; one that is not convex has one alone.
+    // Adds a quad by either diagonal by which both triangles are seen in the same sense; one that is not convex has one
+    // alone.
     void add_quad(Numbers &numbers, std::uint32_t i, std::uint32_t j) {
         const std::uint32_t quad[4] = {at(i, j), at(i + 1, j), at(i + 1, j + 1), at(i, j + 1)};
         static constexpr int diagonals[2][2][3] = {{{0, 1, 2}, {0, 2, 3}}, {{0, 1, 3}, {1, 2, 3}}};

@@ -11,19 +11,18 @@ from __future__ import annotations
 import os
 import re
 import shutil
-import struct
-from typing import Any, Iterator
 
 import pytest
 
-from tools import cases
+from tools import cases, places
 from tools.cases import Case, MissingError, case, must
-from tools.clip import programs
+from tools.clip import picture, programs
 from tools.clip.programs import OUT, compiled, edited, edits, failures, filter_by, linked
-from tools.clip.tasks import Task, all_tasks
+from tools.clip.tasks import all_tasks
 from tools.library.arm64 import COMPILER as ARM64, QEMU
-from tools.library.commands import PACKAGE_ENVIRONMENT, need, python_with, run
+from tools.library.commands import PACKAGE_ENVIRONMENT, WARNINGS, need, python_with, run
 from tools.library.sanitized import SANITIZERS
+from tools.places import INCLUDE, STATIC_LIBRARY, TOP
 
 SEEDS, LONG_SEEDS, EDIT_SEEDS, SANITIZED_SEEDS = 40, 400, 4, 2
 # The processors of the level that the library asks for, and those with a product that is fused with a sum.
@@ -42,7 +41,7 @@ BY_BYTES = {"between.may_be_fused": "c", "hpp.leaves_arrays_as_they_are": "cpp",
 # ---- No cracks
 
 
-def tests_of(*flags: str, include: str = programs.INCLUDE, name: str = "tests") -> str:
+def tests_of(*flags: str, include: str = INCLUDE, name: str = "tests") -> str:
     """Builds the tests in C++ over the header in C. Returns the program."""
     main = os.path.join(OUT, f"main{''.join(flags)}".replace("=", "-").replace(",", "-"))
     if not os.path.exists(f"{main}.o"):
@@ -135,9 +134,46 @@ for task in all_tasks():
 
 def check_python() -> str:
     """trirast.clip gives the bytes of the header in C, but for the vertices that it says are unspecified."""
-    found = run([python_with("numpy"), "-c", ANSWERS, programs.TOP], env=PACKAGE_ENVIRONMENT)
+    found = run([python_with("numpy"), "-c", ANSWERS, TOP], env=PACKAGE_ENVIRONMENT)
     must(found == wanted(), "other bytes")
     return f"{len(found)} bytes"
+
+
+# ---- The page and its example
+
+PAGE = os.path.join("docs", "clipping.md")
+COMPILERS = {"c": ("gcc", "-std=c99"), "cpp": ("g++", "-std=c++17")}
+
+
+def drawn_by_the_page(language: str) -> bytes:
+    """The pixels that the page's program in a language writes."""
+    (text,) = re.findall(rf"```{language}\n(.*?)```", places.text_of(PAGE), re.DOTALL)
+    if language == "python":
+        return run([python_with("numpy"), "-c", text], env=PACKAGE_ENVIRONMENT)
+    program, source = os.path.join(OUT, f"page-{language}"), os.path.join(OUT, f"page.{language}")
+    with open(source, "w", encoding="ascii") as file:
+        file.write(text)
+    compiler, standard = COMPILERS[language]
+    run([need(compiler), standard, *WARNINGS, "-I", INCLUDE, source, STATIC_LIBRARY, "-o", program, "-lm"])
+    return run([program])
+
+
+def check_page(language: str) -> None:
+    """The program of the page in a language draws the picture of that in C++: sky above, and a floor without a gap below."""
+    pixels = drawn_by_the_page("cpp")
+    must(drawn_by_the_page(language) == pixels, "another picture")
+    row, sky = 3 * 320, bytes((24, 24, 32))
+    must(pixels[:row] == 320 * sky and all(pixels[k + 1 : k + 3] != sky[1:] for k in range(179 * row, 180 * row, 3)), "no floor")
+
+
+def check_example() -> str:
+    """The example draws the page's picture, and cuts as many triangles as the page says. Returns the line."""
+    found, line = picture.drawn()
+    must(found == places.bytes_of(picture.PICTURE), "another picture than docs/clipping.png")
+    page, counts = places.text_of(PAGE), re.findall(r"\d+", line)
+    of_page = re.findall(r"`examples/cpp/clip.cpp`: ([\d,]+) triangles, (\d+) of them on the screen, after (\d+) cuts", page)
+    must([each.replace(",", "") for each in of_page[0]] == counts, f"{of_page}, and not {line}")
+    return line.strip()
 
 
 # ---- Wrong edits
@@ -166,6 +202,8 @@ CASES = [
     case("standards of C and C++", check_standards),
     case("fast-math is refused", check_fast_math),
     case("the same bytes: Python", check_python),
+    *(case(f"the program of the page in {language}", check_page, language) for language in ("c", "python")),
+    case("the example", check_example),
     *(case(f"wrong edit: {name}", check_edit, name) for name in edits()),
 ]
 

@@ -1,7 +1,8 @@
 #include "under_test.h"
 
-trirast_clip_status clip_under_test(const trirast_clip *clip, const trirast_clip_position *positions, size_t position_count,
-                                    const uint32_t *indices, size_t index_count, trirast_clipped *out) {
+trirast_clip_status clip_under_test(const trirast_clip *clip, const trirast_clip_position *positions,
+                                    size_t position_count, const uint32_t *indices, size_t index_count,
+                                    trirast_clipped *out) {
     return trirast_clip_triangles(clip, positions, position_count, indices, index_count, out);
 }
 
@@ -9,7 +10,9 @@ trirast_clip_status begin_under_test(const trirast_clip *clip, trirast_clipping 
     return trirast_clipping_begin(clip, view);
 }
 
-unsigned marks_under_test(const trirast_clipping *view, const double place[4]) { return trirast_clipping_marks(view, place); }
+unsigned marks_under_test(const trirast_clipping *view, const double place[4]) {
+    return trirast_clipping_marks(view, place);
+}
 
 double distance_under_test(const trirast_clipping_plane *plane, const double place[4]) {
     return trirast_clipping_distance(plane, place);

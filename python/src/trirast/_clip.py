@@ -121,8 +121,8 @@ class Parts:
         for bit, plane in enumerate(self._view.planes):
             if marks >> bit & 1:
                 corners = tuple(kept(plane, corners))
-        if len(corners) < 3:
-            return
+            if len(corners) < 3:
+                return
         count = len(self._vertices) + len(self.made)
         made = [corner for corner in corners if corner.vertex == MADE]
         numbers = iter(range(count, count + len(made)))
@@ -189,13 +189,16 @@ def joined(
     import numpy as np
 
     made = np.array([corner.place for corner in parts.made]).reshape(-1, 4).T
+    # A w that no float holds is that of a position which is left out.
+    with np.errstate(all="ignore"):
+        w = np.concatenate([places[3], made[3]]).astype(np.float32)
     cuts = np.array(parts.cuts, np.uint32)
     sources = np.concatenate([uncut, np.array(parts.sources, np.int64)])
     triangles = np.concatenate([rows[uncut], np.array(parts.triangles, np.uint32).reshape(-1, 3)])
     order = np.argsort(sources, kind="stable")
     return Clipped(
         np.concatenate([vertices, view.snapped(made)]),
-        np.concatenate([places[3], made[3]]).astype(np.float32),
+        w,
         triangles[order],
         sources[order].astype(np.uint32),
         cuts,

@@ -42,7 +42,8 @@ def cut(plane: Plane, one: Corner, other: Corner) -> Corner:
     share = behind / (behind - plane.distance(last.place))
 
     def between(ends: Tuple[Place, Place]) -> List[float]:
-        return [a + share * (b - a) for a, b in zip(*ends)]
+        # Not beyond the ends whatever is rounded: so w stays positive.
+        return [min(max(a + share * (b - a), min(a, b)), max(a, b)) for a, b in zip(*ends)]
 
     place = between((first.place, last.place))
     # What the plane says of a coordinate holds to the last bit.
