@@ -33,6 +33,7 @@ FILTERS = (
     *((compiler, "c", level, fused, "-O2") for compiler in ("gcc", "clang") for level in (V2, V3) for fused in (OFF, FAST)),
     *((compiler, "cpp", V3, fused, "-O2") for compiler in ("g++", "clang++") for fused in (OFF, FAST)),
     ("gcc", "c", "-O0"), ("gcc", "c", "-O3", "-march=native"), ("clang", "c", "-O3", "-march=native"),
+    ("gcc", "c", "-O1", *SANITIZERS), ("g++", "cpp", "-O1", *SANITIZERS),
 )
 # An edit of these is found by the bytes that a filter writes, and of any other by the tests in C++.
 BY_BYTES = {"between.may_be_fused": "c", "hpp.leaves_arrays_as_they_are": "cpp", "hpp.forgets_folds": "cpp"}
@@ -41,13 +42,12 @@ BY_BYTES = {"between.may_be_fused": "c", "hpp.leaves_arrays_as_they_are": "cpp",
 # ---- No cracks
 
 
-def tests_of(*flags: str, include: str = INCLUDE, name: str = "tests") -> str:
-    """Builds the tests in C++ over the header in C. Returns the program."""
-    main = os.path.join(OUT, f"main{''.join(flags)}".replace("=", "-").replace(",", "-"))
-    if not os.path.exists(f"{main}.o"):
-        compiled("g++", "main.cpp", os.path.basename(main), "-O2", *flags)
-    parts = compiled("gcc", "under_test.c", f"{name}-parts", "-O2", *flags, include=include)
-    return linked("g++", name, f"{main}.o", parts, *flags)
+def tests_of(name: str = "tests", *flags: str, include: str = INCLUDE) -> str:
+    """Builds the tests in C++ over the header in C, which flags are for. Returns the program."""
+    main = os.path.join(OUT, "main.o")
+    if not os.path.exists(main):
+        compiled("g++", "main.cpp", "main", "-O2", V2)
+    return linked("g++", name, main, compiled("gcc", "under_test.c", f"{name}-parts", "-O2", *flags, include=include), *flags)
 
 
 def check_tests(seeds: int) -> str:
@@ -61,7 +61,7 @@ def check_tests(seeds: int) -> str:
 
 def check_sanitized() -> None:
     """AddressSanitizer and UndefinedBehaviorSanitizer find nothing in the tests."""
-    status, text = failures([tests_of(*SANITIZERS, name="sanitized")], SANITIZED_SEEDS)
+    status, text = failures([tests_of("sanitized", *SANITIZERS)], SANITIZED_SEEDS)
     must(status == 0, text[-1500:])
 
 
@@ -187,7 +187,7 @@ def check_edit(name: str) -> str:
         program = filter_by({"c": "gcc", "cpp": "g++"}[language], language, V3, FAST, "-O2", include=folder)
         must(run([program], input=question()) != wanted(), "the edit is not found")
         return "other bytes"
-    status, text = failures([tests_of(include=folder, name=f"{name}-tests")], EDIT_SEEDS)
+    status, text = failures([tests_of(f"{name}-tests", include=folder)], EDIT_SEEDS)
     found = re.findall(r"^FAILED (.*)$", text, re.MULTILINE)
     must(status == 1 and found != [], f"status {status}: the edit is not found")
     return str(found[0])

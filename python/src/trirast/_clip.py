@@ -1,15 +1,14 @@
 """Triangles in clip space, cut and projected for a canvas: include/trirast_clip.h over arrays of numpy."""
 
-from typing import TYPE_CHECKING, Any, List, NamedTuple, Sequence, SupportsIndex, Tuple
+from typing import Any, List, NamedTuple, Sequence, SupportsIndex, Tuple
 
 from ._arguments import between, named, of_length, shown
 from ._buffers import HIGH, LOW, index_columns, refuse_masked, rows_of
 from ._draw import VERTEX_BYTES
 from ._polygon import MADE, Corner, Ears, Plane, kept
 
-if TYPE_CHECKING:
-    import numpy as np
-
+# One of numpy, which the package does without until a call needs it.
+Array = Any
 NEAR_PLANES = ("zero", "minus_one")
 SIDES = ("guard_band", "viewport")
 LARGEST = 16384
@@ -23,16 +22,16 @@ class Clipped(NamedTuple):
     """Triangles on the screen. The first vertices are the projected positions, at their own indices; those that a plane does not keep are
     unspecified. Behind them lie those that cuts made."""
 
-    vertices: "np.ndarray"  # int32, rows of x, y, depth and colours of 0, as Canvas.draw takes them
-    w: "np.ndarray"  # float32, of each vertex
-    triangles: "np.ndarray"  # uint32, rows of three indices, in the order of the source
-    sources: "np.ndarray"  # uint32, of each triangle that of the source of which it is a part
-    cuts: "np.ndarray"  # uint32, of each vertex that a cut made the triangle of the source in which it lies
-    corners: "np.ndarray"  # uint32, rows of the three indices of that triangle
-    weights: "np.ndarray"  # float64, rows of the weights of its corners
+    vertices: Array  # int32, rows of x, y, depth and colours of 0, as Canvas.draw takes them
+    w: Array  # float32, of each vertex
+    triangles: Array  # uint32, rows of three indices, in the order of the source
+    sources: Array  # uint32, of each triangle that of the source of which it is a part
+    cuts: Array  # uint32, of each vertex that a cut made the triangle of the source in which it lies
+    corners: Array  # uint32, rows of the three indices of that triangle
+    weights: Array  # float64, rows of the weights of its corners
     folded: int  # polygons that rounding to 1/256 pixel has folded: thinner than that, a sample in one may be drawn twice
 
-    def attributes(self, values: Any) -> "np.ndarray":
+    def attributes(self, values: Any) -> Array:
         """Attributes of all vertices: those of the positions, a row each, and then weighted sums for those that cuts made."""
         import numpy as np
 
@@ -51,7 +50,7 @@ class View:
         starts = tuple(between("viewport", each, -LARGEST, LARGEST) for each in (left, top))
         sizes = tuple(between("viewport", each, 1, LARGEST) for each in (width, height))
         self.near_depth, far_depth = (between("depths", each, 0, 65535) for each in of_length("depths", depths, 2))
-        self.depth_range = sorted((self.near_depth, far_depth))
+        self.least_depth, self.greatest_depth = sorted((self.near_depth, far_depth))
         self.near_factor = float(near_plane)
         self.scales = (*(128.0 * size for size in sizes), (far_depth - self.near_depth) / (1 + self.near_factor))
         self.centre = tuple(256.0 * start + 128.0 * size for start, size in zip(starts, sizes))
@@ -60,7 +59,7 @@ class View:
         # In the order in which they cut.
         self.planes = (Plane(self.near_factor, 1.0, 2), Plane(0.0, 1.0, 3, LEAST_W), Plane(1.0, -1.0, 2), *beside)
 
-    def marks(self, places: "np.ndarray") -> "np.ndarray":
+    def marks(self, places: Array) -> Array:
         """A bit for each plane that does not keep the position, then for each side of the viewport that it lies beyond, then one if a
         coordinate is infinite or not a number."""
         import numpy as np
@@ -80,7 +79,7 @@ class View:
     def not_finite(self) -> int:
         return 1 << (len(self.planes) + 4)
 
-    def snapped(self, places: "np.ndarray") -> "np.ndarray":
+    def snapped(self, places: Array) -> Array:
         """The vertices of positions that all planes keep."""
         import numpy as np
 
@@ -90,7 +89,7 @@ class View:
         found = np.zeros((places.shape[1], COLUMNS), np.int32)
         found[:, 0] = np.clip(right + self.centre[0], LOW, HIGH)
         found[:, 1] = np.clip(down + self.centre[1], LOW, HIGH)
-        found[:, 2] = np.clip(self.near_depth + depth, *self.depth_range)
+        found[:, 2] = np.clip(self.near_depth + depth, self.least_depth, self.greatest_depth)
         return found
 
 
@@ -105,7 +104,7 @@ def guard(half: float, middle: float) -> float:
 class Parts:
     """What is left of triangles that planes cut: rows of the arrays of `Clipped`."""
 
-    def __init__(self, view: View, vertices: "np.ndarray") -> None:
+    def __init__(self, view: View, vertices: Array) -> None:
         self._view, self._vertices = view, vertices
         self.made: List[Corner] = []
         self.cuts: List[int] = []
@@ -183,7 +182,7 @@ def clip(
 
 
 def joined(
-    view: View, places: "np.ndarray", vertices: "np.ndarray", rows: "np.ndarray", uncut: "np.ndarray", parts: Parts
+    view: View, places: Array, vertices: Array, rows: Array, uncut: Array, parts: Parts
 ) -> Clipped:
     """Triangles that no plane cuts and parts of others, in the order of the source."""
     import numpy as np
@@ -208,7 +207,7 @@ def joined(
     )
 
 
-def places_of(positions: Any) -> "np.ndarray":
+def places_of(positions: Any) -> Array:
     """Positions as four rows of doubles: x, y, z and w."""
     import numpy as np
 
@@ -227,7 +226,7 @@ def places_of(positions: Any) -> "np.ndarray":
     return np.ascontiguousarray(given.T, np.float64)
 
 
-def check_indices(rows: "np.ndarray", count: int) -> None:
+def check_indices(rows: Array, count: int) -> None:
     """Raises ValueError at an index that names no position."""
     import numpy as np
 

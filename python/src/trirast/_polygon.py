@@ -3,7 +3,7 @@
 The header says why no crack comes about. A float of Python is a double, and no product is fused with a sum.
 """
 
-from typing import Iterator, List, NamedTuple, Sequence, Tuple
+from typing import Any, Iterator, List, NamedTuple, Sequence, Tuple
 
 Place = Tuple[float, ...]
 # The vertex of a corner that a cut made.
@@ -19,8 +19,8 @@ class Plane(NamedTuple):
     axis: int
     constant: float = 0.0
 
-    def distance(self, place: Sequence[float]) -> float:
-        """Not negative if the plane keeps the position. Its sign is exact."""
+    def distance(self, place: Any) -> Any:
+        """Not negative if the plane keeps the position, which is four floats, or four arrays of them. Its sign is exact."""
         return self.factor * place[3] + self.sign * place[self.axis] - self.constant
 
 
