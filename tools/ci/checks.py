@@ -230,6 +230,13 @@ CHECKS = (
         runs=EVERYTHING, needs=COMPILER,
     ),
     Check(
+        name="clip",
+        about="clipping in C, C++ and Python: samples covered once, the same bytes by every compiler, wrong edits",
+        command="pytest tools/clip", seconds=80,
+        long="-m 'long or not long'", long_seconds=110,
+        runs=("library",), needs=(*COMPILER, "g++"),
+    ),
+    Check(
         name="fuzz-package",
         about="calls of the Python package that are made up, each picture against a plain one",
         command="tools.fuzz_package --calls 400", seconds=4,
