@@ -3,7 +3,7 @@ use history::{
     EdgeAt, EdgeReason, Event, Followed, Outcome, SampleHistory, changes, event_of, events_of,
     follow, samples_met,
 };
-use shade::{DepthTest, Merge, Placed, Sample, State};
+use shade::{DepthTest, Merge, Placed, Sample, State, Stored};
 use std::process::Abort;
 
 const BLACK: Sample = Sample {
@@ -103,7 +103,10 @@ fn reports_every_reason(rt: HostRuntime) {
 #[test]
 fn follows_a_sample(rt: HostRuntime) {
     let triangles = [corner(&rt, 500), corner(&rt, 700), corner(&rt, 300)];
-    let mut history = SampleHistory::new(&triangles, SampleCount::One, 0, 0, 0, BLACK);
+    let source = Stored {
+        triangles: &triangles,
+    };
+    let mut history = SampleHistory::new(&source, SampleCount::One, 0, 0, 0, BLACK);
     let white = Sample {
         r: 255,
         g: 255,
