@@ -1,6 +1,6 @@
 use grid::{Cull, PixelBox, Point, SampleCount, Tri};
 use history::{Event, Outcome, SampleHistory, changes, events_of, samples_met};
-use shade::{DepthTest, Merge, Placed, Sample, State};
+use shade::{DepthTest, Merge, Placed, Sample, State, Stored};
 use std::process::Abort;
 
 const BLACK: Sample = Sample {
@@ -46,7 +46,10 @@ fn point(rt: &impl Abort, x: i32, y: i32) -> Point {
 #[test]
 fn follows_a_sample(rt: HostRuntime) {
     let triangles = [corner(&rt, 500), corner(&rt, 700), corner(&rt, 300)];
-    let mut history = SampleHistory::new(&triangles, SampleCount::One, 0, 0, 0, BLACK);
+    let source = Stored {
+        triangles: &triangles,
+    };
+    let mut history = SampleHistory::new(&source, SampleCount::One, 0, 0, 0, BLACK);
     let white = Sample {
         r: 255,
         g: 255,
