@@ -14,7 +14,7 @@ from tools import places
 # The crates that the program and the library are made of.
 CRATES = (
     "grid", "shade", "history", "planes", "lanes", "cover", "raster", "reach", "canvas", "model", "canvas_picture", "checking_reader",
-    "fast_reader", "list", "scene", "list_history", "plain", "bins", "pool", "picture_file", "command_line", "program_input", "tile_row",
+    "cursor", "fast_reader", "list", "scene", "list_history", "plain", "bins", "pool", "picture_file", "command_line", "program_input", "tile_row",
     "tile", "tile_rows", "trirast", "sample_events", "trirast_c", "why", "batch", "canvas_c",
 )
 HEAD = re.compile(r"(?:pub )?(impl|trait)\b(?:<(?:[^<>]|<[^<>]*>)*>)? (?!.* for )(\w+)")

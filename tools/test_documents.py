@@ -97,6 +97,11 @@ class Names(unittest.TestCase):
                 if not path.startswith(("out/", "conformance/out/", "crates/NAME/", "trirast/lib/")):
                     self.assertTrue(any(map(glob.glob, places)), f"{name}: {path}")
 
+    def test_lengths(self) -> None:
+        for name, text in documents().items():
+            limit = {"README.md": 140, "docs/statement.md": 3000}.get(name, 400)
+            self.assertLessEqual(text.count("\n"), limit, name)
+
     def test_links(self) -> None:
         texts = documents()
         for name, text in texts.items():
@@ -155,14 +160,6 @@ class Names(unittest.TestCase):
         of_toolchain = set[str]().union(*named.values()) - set(named)
         self.assertLessEqual(of_toolchain, set(re.findall(r"`(\w+)`", trusted)))
 
-    def test_quoted_programs(self) -> None:
-        for page, language, *path in (
-            ("docs/canvas.md", "c", "examples", "c", "canvas.c"),
-            ("docs/canvas.md", "python", "examples", "python", "canvas.py"),
-        ):
-            quoted = re.search(rf"```{language}\n(.*?)```", text_of(page), re.DOTALL)
-            self.assertTrue(quoted and quoted[1] == text_of(*path), f"{page} does not begin with {os.path.join(*path)}")
-
     def test_number_of_mutants(self) -> None:
         self.assertIn(f"that {len(mutants.MUTANTS)} wrong rules", text_of("docs/tested.md"))
         self.assertIn(f"finds {len(canvas_mutants.MUTANTS)} wrong rules", text_of("docs/tested.md"))
@@ -183,7 +180,7 @@ class Proofs(unittest.TestCase):
         types = set(re.findall(r"\b(?:struct|enum|trait) (\w+)", "".join(sources("src/**/*.rt").values())))
         types |= definitions()
         clauses: set[str | None] = set()
-        for *_promise, carriers in rows(text_of("docs/proofs.md").split("## What no public clause says")[0]):
+        for *_promise, carriers in rows(text_of("docs/proofs.md").split("## Every promise")[1].split("## What no public clause says")[0]):
             carriers = re.sub(r"\(.*?\)", "", carriers)
             words = [word.split("::")[-1] for word in re.findall(r"`([\w:]+)`", carriers)]
             # "The same" calls are those of the row above.

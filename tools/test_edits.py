@@ -18,7 +18,7 @@ from tools.public_calls import CRATES, calls_of
 
 # The rows of the table of wrong bodies, and the edits and tests that they name: a wrong body that was named once stays named. Raise them
 # with each new row or name.
-ROWS, NAMES = 79, 182
+ROWS, NAMES = 84, 192
 
 
 def edits() -> list[str]:
@@ -41,15 +41,16 @@ def pairs_of(edit: str) -> list[tuple[str, str, str]]:
 
 def tests() -> set[str]:
     """The tests of all crates, as crate::function, those of the whole program in Python, as acceptance::function without `test_`, and the
-    calls that have worked values, as worked_values::call."""
+    calls that have worked values, as worked_values::call and worked_lists::call."""
     found: set[str] = set()
     for path in places.files("tests", "acceptance", "*.py"):
         found.update(f"acceptance::{name}" for name in re.findall(r"^def test_(\w+)", text_of(path), re.MULTILINE))
     for path in places.files("crates", "*", "src", "**", "*.rt"):
         crate = path.split(os.sep)[1]
         found.update(f"{crate}::{name}" for name in re.findall(r"#\[test\]\s+fn (\w+)", text_of(path)))
-    lines = text_of("crates", "worked_values", "stdin").splitlines()
-    found.update(f"worked_values::{line.split()[0]}" for line in lines if line and not line.startswith("#"))
+    for crate in ("worked_values", "worked_lists"):
+        lines = text_of("crates", crate, "stdin").splitlines()
+        found.update(f"{crate}::{line.split()[0]}" for line in lines if line and not line.startswith("#"))
     return found
 
 

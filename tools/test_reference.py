@@ -404,7 +404,7 @@ class Documents(unittest.TestCase):
     def test_accepted_examples(self) -> None:
         rows = re.findall(r"^\| `({.*?})` \| (?!`trirast)", self.page, re.MULTILINE)
         rows += re.findall(r"^```json\n(.*?)\n```$", self.page, re.MULTILINE | re.DOTALL)
-        self.assertEqual(len(rows), 10)
+        self.assertEqual(len(rows), 11)
         for text in rows:
             self.assertIsNone(error_of(text), text)
 

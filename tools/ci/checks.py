@@ -113,8 +113,8 @@ CHECKS = (
     ),
     Check(
         name="acceptance",
-        about="the program's pictures, lines and statuses, by lists and lines",
-        command="pytest tests/acceptance", seconds=5,
+        about="the program's pictures, lines and statuses, by lists, arguments and devices that fail",
+        command="pytest tests/acceptance", seconds=8,
         runs=("program", "why"),
     ),
     Check(
@@ -193,9 +193,16 @@ CHECKS = (
     ),
     Check(
         name="allocation-failures-inside",
-        about="tiles and readers by themselves where allocations fail",
-        command="pytest tools/allocation_failures.py -k 'Draws or Tiles'", seconds=8,
+        about="tiles and readers by themselves where allocations fail, and tiles beside the reference crate",
+        command="pytest tools/allocation_failures.py tools/test_tiles.py -k 'Draws or Tiles'", seconds=15,
         runs=("readers",), needs=COMPILER, only_if_built=True,
+    ),
+    Check(
+        name="fuzz-reader",
+        about="made-up texts, right, nearly right and cut, by both readers of draw lists",
+        command="tools.fuzz_reader --texts 20000", seconds=4,
+        long="--texts 1000000", long_seconds=150,
+        runs=("readers",), only_if_built=True,
     ),
     Check(
         name="fault-injection",
@@ -209,6 +216,12 @@ CHECKS = (
         command="pytest tools/library", seconds=350,
         long="-m 'long or not long'", long_seconds=390,
         runs=EVERYTHING, needs=COMPILER,
+    ),
+    Check(
+        name="pages",
+        about="each command and example of README and docs/, run as it stands",
+        command="pytest tools/pages", seconds=50,
+        runs=(*EVERYTHING, "why"), needs=COMPILER,
     ),
     Check(
         name="package",

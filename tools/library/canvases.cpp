@@ -147,6 +147,10 @@ static void compare_moves() {
     static_assert(!std::is_constructible_v<TileRows, const Canvas &> && !std::is_constructible_v<TileRows, const TileRows &> &&
                       !std::is_assignable_v<TileRows &, const Canvas &> && !std::is_constructible_v<TileRows, const Canvas>,
                   "a const canvas has no tile rows that can be written to");
+    static_assert(!std::is_constructible_v<TileRows, Canvas> && !std::is_assignable_v<TileRows &, Canvas>,
+                  "a canvas's tile rows do not leave its memory behind");
+    static_assert(std::is_move_constructible_v<Canvas> && std::is_move_assignable_v<Canvas> && std::is_move_assignable_v<TileRows>,
+                  "both are moved");
     Canvas first = cleared();
     const void *memory = first.in_c().memory;
     Canvas second = std::move(first);

@@ -74,6 +74,9 @@ void compare_large_batches(void);
 // The way that asks for histories of samples, in histories.c.
 void compare_histories(void);
 
+// The way that measures the stack of each call, in stack.c.
+void compare_stack(void);
+
 // Asks for the history of a sample of a case, and for the samples of a triangle.
 void ask_for_history(const list_case *one);
 

@@ -14,7 +14,7 @@ from tools.library.commands import (
     OUT, PACKAGE_ENVIRONMENT, SHARED, WARNINGS, drawn_by_program, must_be_silent, must_be_the_programs, need, python_with, run,
 )
 from tools.library.lists import read_lists
-from tools.library.page_examples import SCENE
+from tools.pages.examples import SCENE
 from tools.cases import MAX_SECONDS, must
 from tools.places import EXAMPLES, INCLUDE, STATIC_LIBRARY
 
@@ -178,16 +178,17 @@ def check_viewer_refuses() -> None:
 
 
 def check_edges() -> str:
-    """edges.py draws two colours on a third with one sample, and with n of them at most n - 1 steps from each colour to the third."""
+    """edges.py draws two colours on a third with one sample, and with n of them at most n - 1 steps from each colour to the third. Above
+    each picture stands a label."""
     path = os.path.join(OUT, "edges.ppm")
     run([sys.executable, os.path.join(PYTHON_EXAMPLES, "edges.py"), path], env=PACKAGE_ENVIRONMENT)
     picture = picture_file.decode(places.bytes_of(path))
-    pixels, parts, part = list(picture.pixels()), (1, 4, 16), 300
-    must((picture.width, picture.height) == (920, 300), f"{picture.width} by {picture.height} pixels")
+    pixels, parts, part, label = list(picture.pixels()), (1, 4, 16), 300, 25
+    must((picture.width, picture.height) == (920, label + part), f"{picture.width} by {picture.height} pixels")
     found = []
     for k, samples in enumerate(parts):
         left = k * (part + 10)
-        seen = {pixels[row * picture.width + column] for row in range(picture.height) for column in range(left, left + part)}
+        seen = {pixels[row * picture.width + column] for row in range(label, label + part) for column in range(left, left + part)}
         must(samples < len(seen) <= 3 + 2 * (samples - 1), f"{len(seen)} colours with {samples} samples")
         found.append(f"{len(seen)} colours with {samples}")
     return ", ".join(found)

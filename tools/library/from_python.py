@@ -6,14 +6,13 @@ import importlib
 import importlib.util
 import json
 import os
-import sys
 import threading
 from typing import Any, Callable, Iterator
 
 import trirast
 
 from tools.draw_list import Draw, DrawList
-from tools.library.commands import OUT, PACKAGE_ENVIRONMENT, blocks_of_the_page, run
+from tools.library.commands import OUT
 from tools.library.lists import Lists, read_lists
 from tools.cases import Case, CheckError, MissingError, case, must
 from tools.places import bytes_of
@@ -123,19 +122,11 @@ def check_errors(lists: Lists) -> str:
     return f"{len(lists.refused)} lists refused"
 
 
-# ---- The package's tests, and its page
+# ---- The package's tests
 
 
 def of_lists(check: Callable[[Lists], object]) -> None:
     check(read_lists("all.txt"))
-
-
-def check_page() -> None:
-    """The program in Python of docs/library.md prints and writes what its text says."""
-    text = "".join(blocks_of_the_page("python"))
-    printed = run([sys.executable, "-c", text], cwd=OUT, env=PACKAGE_ENVIRONMENT).decode().splitlines()
-    wanted = ["64 64 (24, 24, 32) 12288", "trirast: list fault 3 MissingKey 3 MissingKey None", "(255, 255, 255)"]
-    must(printed == wanted and os.path.exists(os.path.join(OUT, "picture.ppm")), f"it printed {printed}")
 
 
 # ---- numpy
@@ -187,7 +178,6 @@ def cases() -> Iterator[Case]:
     yield case("Python draws the program's bytes, of lists and of arrays", of_lists, check_pictures)
     yield case("Python raises the program's errors", of_lists, check_errors)
     yield case("Python draws in four threads at the same time", of_lists, check_threads)
-    yield case("Python of docs/library.md", check_page)
     yield case("Python offers numpy's array protocol", check_array_interface)
     yield case("numpy takes a picture", check_numpy)
     yield case("numpy takes and gives what a canvas has", check_numpy_canvas)

@@ -37,11 +37,11 @@ def check_declared() -> str:
     return f"{len(header)} declarations"
 
 
-def cargo(folder: str, *arguments: str, kind: str = "static") -> bytes:
-    """Runs cargo in a folder over the static or the shared library. Returns its standard output."""
+def cargo(folder: str, *arguments: str, kind: str = "static", out: str = OUT) -> bytes:
+    """Runs cargo in a folder over the static or the shared library, which leaves its work in `out`. Returns its standard output."""
     more = {"TRIRAST_SHARED": "1", "LD_LIBRARY_PATH": LIB} if kind == "shared" else {}
     lists = {"TRIRAST_LIB_DIR": LIB, "TRIRAST_LISTS": os.path.join(OUT, "lists", "all.txt")}
-    target = {"CARGO_TARGET_DIR": os.path.join(OUT, f"rust-{kind}"), "CARGO_HOME": os.path.join(OUT, "cargo")}
+    target = {"CARGO_TARGET_DIR": os.path.join(out, f"rust-{kind}"), "CARGO_HOME": os.path.join(out, "cargo")}
     environment = {key: value for key, value in os.environ.items() if key != "TRIRAST_SHARED"}
     environment = {**environment, **lists, **target, **more}
     command = [need("cargo"), *arguments]

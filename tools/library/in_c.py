@@ -15,7 +15,7 @@ from tools.places import INCLUDE, LEVEL, LIB, SECOND_LEVEL, SHARED_LIBRARY, STAT
 
 SOURCES = os.path.join(TOP, "tools", "library")
 # The parts of the test but the way in which allocations fail.
-PARTS = ("main", "cases", "scenes", "canvases", "samples", "refused_canvases", "large_batch", "histories")
+PARTS = ("main", "cases", "scenes", "canvases", "samples", "refused_canvases", "large_batch", "histories", "stack")
 WAYS = (
     "pictures", "rows", "buffers", "refused", "lines", "odd", "scenes", "canvases", "large", "histories", "threads", "stack", "memory",
 )

@@ -10,11 +10,10 @@
 #include <stdio.h>
 #include <stdlib.h>
 #include <string.h>
-#include <sys/mman.h>
 
 #include "cases.h"
 
-enum { THREADS = 4, STACK_SIZE = 1 << 23 };
+enum { THREADS = 4 };
 
 static const uint32_t TILE_SIZES[] = {8, 16, 32, 64};
 
@@ -282,56 +281,6 @@ static void compare_threads(void) {
         free(pixels.all);
     }
     report("four threads draw one picture, each a part of it");
-}
-
-// ---- The stack ----------------------------------------------------------------------------------------------------
-
-static void *draw_every_way(void *argument) {
-    const list_case *one = argument;
-    trirast_error error;
-    trirast_image_info info;
-    uint8_t *bytes = malloc(one->wanted.length + 4096);
-    if (!bytes) stop("out of memory", "a buffer");
-    trirast_read_image_info(one->list.bytes, one->list.length, &info, &error);
-    trirast_draw(one->list.bytes, one->list.length, 64, bytes, one->wanted.length + 4096, &error);
-    trirast_draw_rows(one->list.bytes, one->list.length, 64, 0, 1, bytes, one->wanted.length + 4096, &error);
-    trirast_error_line(&error, (char *)bytes, 4096);
-    ask_for_history(one);
-    marked buffer = {bytes, bytes, one->wanted.length + 4096};
-    if (one->arrays.bytes) draw_arrays(one, 64, &buffer, &error), draw_on_canvas(one);
-    free(bytes);
-    return NULL;
-}
-
-// How many bytes of stack a thread touched that made all calls on a case.
-static size_t stack_of(list_case *one) {
-    uint8_t *stack = mmap(NULL, STACK_SIZE, PROT_READ | PROT_WRITE, MAP_PRIVATE | MAP_ANONYMOUS | MAP_STACK, -1, 0);
-    pthread_attr_t attributes;
-    pthread_t thread;
-    if (stack == MAP_FAILED) stop("out of memory", "a stack");
-    memset(stack, MARK, STACK_SIZE);
-    pthread_attr_init(&attributes);
-    pthread_attr_setstack(&attributes, stack, STACK_SIZE);
-    if (pthread_create(&thread, &attributes, draw_every_way, one)) stop("cannot be started", "a thread");
-    pthread_join(thread, NULL);
-    pthread_attr_destroy(&attributes);
-    size_t untouched = 0;
-    while (untouched < STACK_SIZE && stack[untouched] == MARK) untouched++;
-    munmap(stack, STACK_SIZE);
-    return STACK_SIZE - untouched;
-}
-
-static void compare_stack(void) {
-    size_t most = 0;
-    const char *where = "";
-    for (int k = 0; k < drawn_count + refused_count; k++) {
-        list_case *one = k < drawn_count ? &drawn[k] : &refused[k - drawn_count];
-        size_t bytes = stack_of(one);
-        if (bytes > most) most = bytes, where = one->name;
-    }
-    printf("stack %zu bytes, the most of %d lists, by %s\n", most, drawn_count + refused_count, where);
-    expect(most <= TRIRAST_STACK, "%zu bytes", most);
-    report("the stack that a thread touches is less than the header's TRIRAST_STACK");
 }
 
 int main(int count, char **arguments) {

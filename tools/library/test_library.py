@@ -18,7 +18,7 @@ import pytest
 
 from tools import cases
 from tools.cases import Case, case
-from tools.library import arm64, canvas_examples, examples, from_python, from_rust, in_c, install, page_examples
+from tools.library import arm64, canvas_examples, examples, from_python, from_rust, in_c, install
 from tools.library.commands import OUT
 from tools.library.lists import write_lists
 from tools.places import PROGRAM, SECOND_LEVEL, SHARED_LIBRARY, STATIC_LIBRARY, is_built
@@ -28,8 +28,6 @@ SEED = 1
 
 
 def example_cases() -> Iterator[Case]:
-    for page, language in page_examples.AROUND:
-        yield case(f"{page}: the example in {language}", page_examples.check, page, language)
     for threads in (1, 4, 7):
         yield case(f"examples/c: frames by {threads} threads", examples.check_frames, threads)
     yield case("examples/c: canvas", examples.check_c_canvas)

@@ -31,10 +31,14 @@ from tools.processes import descendants
 
 SECONDS = 600
 KILL_EVERY = 3
-# For how long each worker is killed as soon as it is there, so that it dies as it starts.
-KILL_ALL = 4
+# How many workers are killed as soon as they are there, so that they die as they start.
+KILLED = 8
+# Seconds without a worker that are an error in a check, and seconds after which that run has to have ended.
+WITHOUT_WORKERS, ENDED = 5, 120
 # The sheet that is drawn: enough triangles that a run lasts longer than Dask takes to start.
 SIDE, TRIANGLES, WINDOW = 8192, 400_000, 256
+# A smaller one, for runs whose workers die before they draw.
+SMALL_SIDE, SMALL_TRIANGLES = 2048, 20_000
 
 
 def write_scene(path: str, seed: int = 1, side: int = SIDE, triangles: int = TRIANGLES) -> None:
@@ -58,6 +62,12 @@ class Runs:
     def scene(self) -> str:
         path = self.path("scene.npz")
         write_scene(path)
+        return path
+
+    @functools.cached_property
+    def small_scene(self) -> str:
+        path = self.path("small.npz")
+        write_scene(path, side=SMALL_SIDE, triangles=SMALL_TRIANGLES)
         return path
 
     def path(self, name: str) -> str:
@@ -168,7 +178,7 @@ def workers_of(process: int) -> List[int]:
     found = []
     for child in descendants(process):
         with contextlib.suppress(OSError):
-            if b"spawn_main" in content(f"/proc/{child}/cmdline"):
+            if b"dask_worker" in content(f"/proc/{child}/cmdline"):
                 found.append(child)
     return found
 
@@ -198,24 +208,53 @@ def check_killed_workers(runs: Runs, number: int) -> str:
     return f"{killed} killed in {time.monotonic() - begun:.0f} s"
 
 
+def kill_workers(child: subprocess.Popen[bytes], seconds: float, most: int = 1 << 30) -> int:
+    """Kills each worker of a run as soon as it is there, until the run ends or enough are killed. Returns how many were."""
+    killed, end = 0, time.monotonic() + seconds
+    while child.poll() is None and killed < most and time.monotonic() < end:
+        for worker in workers_of(child.pid):
+            with contextlib.suppress(ProcessLookupError):
+                os.kill(worker, signal.SIGKILL)
+                killed += 1
+        time.sleep(0.1)
+    return killed
+
+
 def check_killed_as_they_start(runs: Runs) -> str:
-    """All workers are killed, and those that are started in their place: the same bytes."""
+    """All workers are killed as they start, and those that are started in their place: the same bytes."""
     dask()
-    out = runs.path("starting.ppm")
-    killed = 0
-    with runs.start("-o", out, "--scheduler", "local", "--workers", "2") as child:
-        wait_for(lambda: lines_of(out + ".resume") > 1, child)
-        end = time.monotonic() + KILL_ALL
-        while child.poll() is None and time.monotonic() < end:
-            for worker in workers_of(child.pid):
-                with contextlib.suppress(ProcessLookupError):
-                    os.kill(worker, signal.SIGKILL)
-                    killed += 1
-            time.sleep(0.1)
+    out, wanted = runs.path("starting.ppm"), runs.path("small.ppm")
+    command = [sys.executable, "-m", "trirast.poster", runs.small_scene, "--workers", "2", "-o"]
+    must(subprocess.run([*command, wanted], timeout=SECONDS).returncode == 0, "the run failed")
+    begun = time.monotonic()
+    with subprocess.Popen([*command, out, "--scheduler", "local"], stdout=subprocess.DEVNULL, stderr=subprocess.PIPE) as child:
+        killed = kill_workers(child, SECONDS, KILLED)
         _, errors = child.communicate(timeout=SECONDS)
-    must(child.returncode == 0, f"status {child.returncode}: {errors[-500:]!r}")
-    must(content(out) == runs.wanted_of("ppm"), "other bytes")
-    return f"{killed} killed"
+    must(child.returncode == 0 and errors == b"", f"status {child.returncode}: {errors[-500:]!r}")
+    must(killed >= KILLED, f"the run ended, and {killed} were killed")
+    must(content(out) == content(wanted), "other bytes")
+    return f"{killed} killed, {time.monotonic() - begun:.0f} s"
+
+
+def check_none_starts(runs: Runs) -> str:
+    """No worker lives: one line and status 1, within a bounded time, and no file."""
+    dask()
+    out = runs.path("none_starts.ppm")
+    program = ("import sys, trirast.poster._dask as engine, trirast.poster._command as command\n"
+               f"engine.WITHOUT_WORKERS = {WITHOUT_WORKERS}\n"
+               f"sys.exit(command.main([{runs.small_scene!r}, '-o', {out!r}, '--scheduler', 'local', '--workers', '2']))")
+    begun = time.monotonic()
+    with subprocess.Popen([sys.executable, "-c", program], stdout=subprocess.DEVNULL, stderr=subprocess.PIPE) as child:
+        try:
+            killed = kill_workers(child, ENDED)
+            must(child.poll() is not None, f"it had not ended after {ENDED} seconds; {killed} were killed")
+        finally:
+            child.kill()
+        _, errors = child.communicate()
+    must(child.returncode == 1 and errors.count(b"\n") == 1, f"status {child.returncode}: {errors[-500:]!r}")
+    must(b"WorkerLostError: there was no worker" in errors and killed > 0, f"{killed} killed: {errors!r}")
+    must(not os.path.exists(out), "a file stands under the final name")
+    return f"{killed} killed, {time.monotonic() - begun:.0f} s"
 
 
 def a_free_port() -> int:
@@ -278,6 +317,21 @@ def check_killed_scheduler(runs: Runs) -> str:
     return f"reported after {seconds:.1f} s"
 
 
+def check_hung_scheduler(runs: Runs) -> None:
+    """A scheduler that is there and does not answer: a named error and status 1."""
+    out = runs.path("hung.ppm")
+    with a_cluster(runs) as (scheduler, address):
+        program = ("import sys, trirast.poster._dask as engine, trirast.poster._command as command\n"
+                   "engine.ANSWER = engine.COME_BACK = 3\n"
+                   f"sys.exit(command.main([{runs.scene!r}, '-o', {out!r}, '--scheduler', {address!r}]))")
+        with subprocess.Popen([sys.executable, "-c", program], stdout=subprocess.DEVNULL, stderr=subprocess.PIPE) as child:
+            wait_for(lambda: lines_of(out + ".resume") > 3, child)
+            scheduler.send_signal(signal.SIGSTOP)
+            _, errors = child.communicate(timeout=SECONDS)
+    must(child.returncode == 1 and b"SchedulerLostError" in errors, f"status {child.returncode}: {errors[-500:]!r}")
+    must(errors.count(b"\n") == 1, f"more than a line: {errors[-800:]!r}")
+
+
 def check_lost_for_good(runs: Runs) -> str:
     """Workers that die with each window: a named error and status 1, and no file."""
     dask()
@@ -309,8 +363,10 @@ def cases(options: Options) -> Iterator[Case]:
     yield case("a stopped run of another list", check_other_list, runs)
     for number in range(options.kills):
         yield case(f"a worker killed every three seconds, run {number + 1}", check_killed_workers, runs, number)
+    yield case("all workers killed as they start", check_killed_as_they_start, runs)
+    yield case("workers of which none starts", check_none_starts, runs)
     # After these Dask takes minutes on a busy machine.
-    yield case("all workers killed as they start", check_killed_as_they_start, runs, is_long=True)
     yield case("the scheduler killed", check_killed_scheduler, runs, is_long=True)
+    yield case("a scheduler that does not answer", check_hung_scheduler, runs, is_long=True)
     yield case("workers that die with each window", check_lost_for_good, runs, is_long=True)
     yield case("no scheduler", check_no_scheduler, runs)

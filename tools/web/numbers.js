@@ -47,5 +47,11 @@
   if (canvas.colors().join() !== filled('7,8,9') || canvas.depths(3).join() !== filled(100)) wrong.push('the samples');
   const typed = { ...draw, vertices: Int32Array.from(draw.vertices), indices: new Uint32Array(3) };
   if (canvas.draw(new Batch(core, [draw, typed])) !== null) wrong.push('a batch');
+  // What a call takes of the memory for itself it gives back.
+  const { top } = core;
+  for (const call of [() => canvas.clear([1, 2, 3], 4), () => canvas.colors(), () => canvas.ids(0), () => canvas.depths(1)]) {
+    call();
+    if (core.top !== top) wrong.push(`memory of ${call}`);
+  }
   return [calls.length + whole.length, wrong];
 })()

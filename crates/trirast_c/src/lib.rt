@@ -34,5 +34,3 @@ pub extern "C" fn trirast_version() -> u32
     VERSION
 }
 
-#[cfg(test)]
-mod tests;

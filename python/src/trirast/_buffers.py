@@ -163,6 +163,8 @@ VERTEX = (
     *(Column(name, 0, 255) for name in ("red", "green", "blue", "alpha")),
 )
 Columns = Sequence[Column]
+# Integers that are looked at and then copied, so that what is copied is still in a processor's cache.
+CHUNK = 1 << 15
 # Memory that nobody else has.
 Copy = Union[bytes, bytearray]
 
@@ -228,11 +230,18 @@ def converted(name: str, view: memoryview, columns: Columns) -> Copy:
         limits = numpy.iinfo(kind)
         # Indices of 32 bits with a sign are taken as they are: the library refuses those that are negative, and names them.
         fits = integers.dtype.itemsize == 4 and columns is not VERTEX
-        if fits or (limits.min <= integers.min() and integers.max() <= limits.max):
-            # New memory costs more than what is written to it, so there is no second copy.
-            made = bytearray(kind.itemsize * integers.size)
-            numpy.frombuffer(made, kind).reshape(integers.shape)[:] = integers
+        # New memory costs more than what is written to it, so there is no second copy.
+        made = bytearray(kind.itemsize * integers.size)
+        rows = numpy.frombuffer(made, kind).reshape(integers.shape)
+        step = max(1, CHUNK * len(integers) // integers.size)
+        for first in range(0, len(integers), step):
+            part = integers[first : first + step]
+            if not (fits or (limits.min <= part.min() and part.max() <= limits.max)):
+                break
+            rows[first : first + step] = part
+        else:
             return made
+        del rows, part
         flat = integers.ravel().tolist()
         del integers  # It holds the view.
         return of_numbers(name, flat, columns)
