@@ -24,7 +24,7 @@ from tools.library.commands import PACKAGE_ENVIRONMENT, WARNINGS, need, python_w
 from tools.library.sanitized import SANITIZERS
 from tools.places import INCLUDE, STATIC_LIBRARY, TOP
 
-SEEDS, LONG_SEEDS, EDIT_SEEDS, SANITIZED_SEEDS = 40, 400, 4, 2
+SEEDS, LONG_SEEDS, EDIT_SEEDS, SANITIZED_SEEDS = 40, 400, 4, 4
 # The processors of the level that the library asks for, and those with a product that is fused with a sum.
 V2, V3 = "-march=x86-64-v2", "-march=x86-64-v3"
 OFF, FAST = "-ffp-contract=off", "-ffp-contract=fast"
