@@ -34,7 +34,7 @@ KILL_EVERY = 3
 # How many workers are killed as soon as they are there, so that they die as they start.
 KILLED = 8
 # Seconds after which a run has to have ended of whose workers none starts.
-ENDED = 120
+ENDED = 300
 # The sheet that is drawn: enough triangles that a run lasts longer than Dask takes to start.
 SIDE, TRIANGLES, WINDOW = 8192, 400_000, 256
 # A smaller one, for runs whose workers die before they draw.
