@@ -81,7 +81,7 @@ def user_time(program: str, source: str) -> float:
     child.returncode = os.waitstatus_to_exitcode(status)
     if child.returncode:
         raise subprocess.CalledProcessError(child.returncode, program)
-    return usage.ru_utime * 1000 / 10
+    return float(usage.ru_utime) * 1000 / 10
 
 
 def user_cells(source: str, before: str, runs: int) -> list[str]:
