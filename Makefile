@@ -138,7 +138,7 @@ $(filter %/trirast_c.a,$(CORES)): $(ARCHIVE)
 $(filter %/canvas_c.a,$(CORES)): $(CANVAS_ARCHIVE)
 $(CORES):
 	@mkdir -p $(@D)
-	$(PYTHON) -m tools.archive $(basename $(@F)) $(notdir $(@D)) --rt $(RT) -o $@
+	$(PYTHON) -m tools.packaging.archive $(basename $(@F)) $(notdir $(@D)) --rt $(RT) -o $@
 
 # For ARM64 the tools of a cross compiler, and a heap in C: the toolchain's own is for x86-64.
 CROSS = aarch64-linux-gnu-
@@ -155,7 +155,7 @@ lib/aarch64/heap.o lib/aarch64/arguments.o: lib/aarch64/%.o: packaging/%.c
 # The program for ARM64, over what was proved for $(PROGRAM), with the heap, its arguments and errno in C.
 lib/aarch64/trirast_cli.o: $(PROGRAM)
 	@mkdir -p $(@D)
-	$(PYTHON) -m tools.archive trirast_cli aarch64 --rt $(RT) -o $@
+	$(PYTHON) -m tools.packaging.archive trirast_cli aarch64 --rt $(RT) -o $@
 
 $(PROGRAM_aarch64): $(addprefix lib/aarch64/,trirast_cli.o heap.o arguments.o)
 	@mkdir -p $(@D)
@@ -261,7 +261,7 @@ $(READER): $(SOURCES)
 	install -D -m 755 crates/list_bench/out/list_bench $@
 
 races: $(PROGRAM)
-	$(PYTHON) -m pytest tools/races.py
+	$(PYTHON) -m pytest tools/checks/races.py
 
 frames: $(PROGRAM)
 	cd crates/frames && $(RT) run $(if $(CPU),--cpu $(CPU)) < "$(CURDIR)/examples/triangle.json" > /dev/null

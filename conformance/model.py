@@ -1,4 +1,4 @@
-"""The rules as a renderer without a driver: tools/reference.py, or one of its mutants."""
+"""The rules as a renderer without a driver: tools/reference/renderer.py, or one of its mutants."""
 
 from __future__ import annotations
 
@@ -7,7 +7,8 @@ from typing import Sequence
 from conformance.mutants import MUTANTS, Mutant
 from conformance.renderer import Candidate
 from conformance.suites.setting import PLAIN, Setting
-from tools import picture_file, reference
+from tools import picture_file
+from tools.reference import renderer
 from tools.draw_list import DrawList, encode
 
 
@@ -32,5 +33,5 @@ class Model:
     def picture(self, scene: DrawList) -> bytes:
         drawn = self.mutant.drawn(scene, self.setting)
         with self.mutant.rules():
-            file = reference.render(reference.read(encode(drawn)))
+            file = renderer.render(renderer.read(encode(drawn)))
         return picture_file.decode(file).pixel_data

@@ -9,36 +9,36 @@ from unittest import mock
 
 from conformance.suites.setting import Setting, move, turn_culling
 from conformance.suites.shapes import coarser, each_draw
-from tools import reference
+from tools.reference import renderer
 from tools.draw_list import Draw, DrawList
 
 
-class BottomRightEdge(reference.Edge):
+class BottomRightEdge(renderer.Edge):
     """An edge that owns its points if the rules' edge does not, and the reverse."""
 
-    def __init__(self, a: reference.Point, b: reference.Point, c: reference.Point) -> None:
+    def __init__(self, a: renderer.Point, b: renderer.Point, c: renderer.Point) -> None:
         super().__init__(a, b, c)
         self.owns_its_points = not self.owns_its_points
 
 
-class BottomLeftEdge(reference.Edge):
+class BottomLeftEdge(renderer.Edge):
     """An edge that owns its points if it is a bottom or a left edge."""
 
-    def __init__(self, a: reference.Point, b: reference.Point, c: reference.Point) -> None:
+    def __init__(self, a: renderer.Point, b: renderer.Point, c: renderer.Point) -> None:
         super().__init__(a, b, c)
         if a[1] == b[1]:
             self.owns_its_points = c[1] < a[1]
 
 
-def with_edges(kind: type[reference.Edge]) -> Callable[[], ContextManager[object]]:
-    return lambda: mock.patch.object(reference, "Edge", kind)
+def with_edges(kind: type[renderer.Edge]) -> Callable[[], ContextManager[object]]:
+    return lambda: mock.patch.object(renderer, "Edge", kind)
 
 
-def with_pattern(places: tuple[reference.Point, ...]) -> Callable[[], ContextManager[object]]:
-    return lambda: mock.patch.dict(reference.SAMPLES, {4: places})
+def with_pattern(places: tuple[renderer.Point, ...]) -> Callable[[], ContextManager[object]]:
+    return lambda: mock.patch.dict(renderer.SAMPLES, {4: places})
 
 
-FOUR = reference.SAMPLES[4]
+FOUR = renderer.SAMPLES[4]
 # A quarter of a turn around the pixel's centre.
 TURNED = tuple((256 - y, x) for x, y in FOUR)
 SWAPPED = (FOUR[1], FOUR[0], *FOUR[2:])

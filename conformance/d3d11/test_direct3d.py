@@ -37,7 +37,7 @@ from conformance.report import page, text
 from conformance.run import measure
 from conformance.suites.setting import PLAIN, Setting
 from conformance.suites.shapes import draw, flat, rectangle, scene, vertex
-from tools import reference
+from tools.reference import renderer
 from tools.draw_list import DrawList
 from tools.places import TOP
 
@@ -272,7 +272,7 @@ class Settings(unittest.TestCase):
             for samples in suite.samples:
                 for number, (title, listed) in enumerate(suite.lists(samples)):
                     with self.subTest(suite=suite.name, title=title):
-                        self.assertEqual(reference.read(as_bytes(suite.setting(number).by_rules(listed))).samples, samples)
+                        self.assertEqual(renderer.read(as_bytes(suite.setting(number).by_rules(listed))).samples, samples)
 
     def test_the_first_tenth_has_all_parts(self) -> None:
         titles = [title for title, _ in BY_NAME["depth-tests"].lists(1)]

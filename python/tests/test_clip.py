@@ -1,4 +1,4 @@
-"""Clipping: worked values, what is refused, attributes, and no crack. tools/clip compares the same calls with the headers in C and C++."""
+"""Clipping: worked values, what is refused, attributes, and no crack. tools/checks/clip compares the same calls with the headers in C and C++."""
 
 import importlib.util
 import unittest

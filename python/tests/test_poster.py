@@ -1,4 +1,4 @@
-"""Posters: what is read, chosen, written and refused. tools/poster compares their pictures with the program's."""
+"""Posters: what is read, chosen, written and refused. tools/checks/poster compares their pictures with the program's."""
 
 import importlib.util
 import io

@@ -35,7 +35,7 @@ from tools.ci import seconds, tried
 from tools.ci.edit import applied
 from tools.ci.reads import Reads
 from tools.ci.sources import normal, sources_in
-from tools.crates import PARTS, Tree, text_of
+from tools.sources.crates import PARTS, Tree, text_of
 from tools.places import TOP
 
 SAMPLE = 24

@@ -8,7 +8,7 @@ import pytest
 
 from tools.ci.reads import Reads, items_of
 from tools.ci.small_tree import SmallTree
-from tools.crates import Tree
+from tools.sources.crates import Tree
 
 STEP = """\
 ghost use Rattle.low.specs.Near.{IsNear};
