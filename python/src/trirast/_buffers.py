@@ -225,31 +225,32 @@ def converted(name: str, view: memoryview, columns: Columns) -> Copy:
     """Integers of another type as integers of 32 bits."""
     numpy = sys.modules.get("numpy")
     if numpy is not None:
-        integers = numpy.asarray(view)
-        kind = numpy.dtype(code_of(columns))
-        limits = numpy.iinfo(kind)
-        # Indices of 32 bits with a sign are taken as they are: the library refuses those that are negative, and names them.
-        fits = integers.dtype.itemsize == 4 and columns is not VERTEX
-        # New memory costs more than what is written to it, so there is no second copy.
-        made = bytearray(kind.itemsize * integers.size)
-        rows = numpy.frombuffer(made, kind).reshape(integers.shape)
-        step = max(1, CHUNK * len(integers) // integers.size)
-        for first in range(0, len(integers), step):
-            part = integers[first : first + step]
-            if not (fits or (limits.min <= part.min() and part.max() <= limits.max)):
-                break
-            rows[first : first + step] = part
-        else:
-            return made
-        del rows, part
-        flat = integers.ravel().tolist()
-        del integers  # It holds the view.
-        return of_numbers(name, flat, columns)
+        made = narrowed(numpy, view, columns)
+        return of_numbers(name, numpy.asarray(view).ravel().tolist(), columns) if made is None else made
     try:
         rows: List[Any] = view.tolist()
     except NotImplementedError:
         raise TypeError(f"{name}: integers in the machine's order, and not {kind_of(view)}") from None
     return of_numbers(name, [each for row in rows for each in row] if view.ndim == 2 else rows, columns)
+
+
+def narrowed(numpy: Any, view: memoryview, columns: Columns) -> Optional[bytearray]:
+    """Integers of another type as integers of 32 bits by numpy, or `None` if one of them does not fit."""
+    integers = numpy.asarray(view)
+    kind = numpy.dtype(code_of(columns))
+    limits = numpy.iinfo(kind)
+    # Indices of 32 bits with a sign are taken as they are: the library refuses those that are negative, and names them.
+    fits = integers.dtype.itemsize == 4 and columns is not VERTEX
+    # New memory costs more than what is written to it, so there is no second copy.
+    made = bytearray(kind.itemsize * integers.size)
+    rows = numpy.frombuffer(made, kind).reshape(integers.shape)
+    step = max(1, CHUNK * len(integers) // max(1, integers.size))
+    for first in range(0, len(integers), step):
+        part = integers[first : first + step]
+        if not (fits or (limits.min <= part.min() and part.max() <= limits.max)):
+            return None
+        rows[first : first + step] = part
+    return made
 
 
 def code_of(columns: Columns) -> str:
