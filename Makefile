@@ -26,7 +26,8 @@
 #   make model     build the same rules in C++ to time beside, for python3 -m bench.llvmpipe: g++ 12 or clang++ 14, or later, on x86-64
 #   make conformance        compare the machine's OpenGL driver with the program, sample by sample; out/conformance.html.
 #                  With DEVICE=d3d11 Direct3D 11, here by Wine: out/conformance-d3d11.html; ADAPTER=warp or a number, else hardware
-#   make conformance-windows  write dist/trirast-conformance-windows.zip, which asks Direct3D on a Windows machine
+#                  With DEVICE=vulkan Vulkan: out/conformance-vulkan.html; ADAPTER is a number or a part of a device's name
+#   make conformance-windows  write dist/trirast-conformance-windows.zip, which asks Direct3D and Vulkan on a Windows machine
 #   make clean     remove what this file made; what rt keeps in crates/*/out/ stays
 
 RT ?= rt
@@ -52,6 +53,8 @@ READER := bin/list_bench
 FRAMES := bin/$(if $(CPU),$(CPU)/)frames
 MODEL := bench/out/model
 RASTERIZE := conformance/out/rasterize.exe
+RASTERIZE_d3d11 := $(RASTERIZE)
+RASTERIZE_vulkan := conformance/out/rasterize
 ARCHIVE := crates/trirast_c/out/libtrirast_c.a
 CANVAS_ARCHIVE := crates/canvas_c/out/libcanvas_c.a
 SOURCES := crates.txt $(shell find crates -name out -prune -o -type f \( -name '*.rt' -o -name '*.antt' \) -print)
@@ -276,18 +279,19 @@ $(MODEL): bench/draw_list.hpp $(wildcard bench/model/*)
 bench: $(PROGRAM)
 	$(PYTHON) -m bench.run
 
-conformance: $(PROGRAM) $(if $(filter d3d11,$(DEVICE)),$(RASTERIZE))
+conformance: $(PROGRAM) $(RASTERIZE_$(DEVICE))
 	@mkdir -p out
-	$(if $(filter d3d11,$(DEVICE)),$(PYTHON) -m conformance.d3d11.run --device $(ADAPTER) --html out/conformance-d3d11.html,\
+	$(if $(RASTERIZE_$(DEVICE)),$(PYTHON) -m conformance.$(DEVICE).run --device "$(ADAPTER)" --html out/conformance-$(DEVICE).html,\
 	    $(PYTHON) -m conformance.run --html out/conformance.html)
 
-$(RASTERIZE): $(wildcard conformance/d3d11/rasterize/*)
+$(RASTERIZE): $(wildcard conformance/rasterize/* conformance/d3d11/rasterize/*)
 	@mkdir -p $(@D)
-	$(WINDOWS_CXX) -std=c++17 -O2 -Wall -Wextra -static -s -o $@ conformance/d3d11/rasterize/main.cpp -ld3d11 -ldxgi
+	$(WINDOWS_CXX) -std=c++17 -O2 -Wall -Wextra -static -s -I conformance/rasterize -o $@ conformance/d3d11/rasterize/main.cpp -ld3d11 -ldxgi
 
-conformance-windows: $(RASTERIZE)
+conformance-windows: $(RASTERIZE) conformance/out/rasterize-vulkan.exe
 	$(PYTHON) -m conformance.d3d11.windows dist/trirast-conformance-windows.zip
 
+include conformance/vulkan/rasterize.mk
 include packaging/packages.mk
 include packaging/web.mk
 

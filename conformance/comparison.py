@@ -1,19 +1,20 @@
-"""A driver's pictures compared with the program's, list by list, and what is counted of them.
+"""A driver's pictures compared with the program's, or with another driver's, list by list, and what is counted of them.
 
-With four samples the samples are compared
-one by one: a list is drawn with one sample index left in its masks and a black clear, so that the resolved pixel is a
-quarter of that sample's colour. The suites' exact lists have colours of which a quarter is a whole number.
+With several samples the samples are compared one by one: a list is drawn with one sample index left in its masks and a black clear, so
+that the resolved pixel is a share of that sample's colour, of four samples a quarter. The suites' exact lists have colours whose shares
+are integers.
 """
 
 from __future__ import annotations
 
+import hashlib
 from collections import Counter
 from dataclasses import dataclass, field
 
 from conformance.renderer import Candidate, CannotAsk, Renderer
 from conformance.suites import Suite
-from conformance.suites.shapes import each_draw
-from tools.draw_list import Draw, DrawList
+from conformance.suites.shapes import all_samples, each_draw
+from tools.draw_list import Draw, DrawList, encode
 
 
 def samples_of(scene: DrawList) -> int:
@@ -21,12 +22,12 @@ def samples_of(scene: DrawList) -> int:
 
 
 def only_sample(scene: DrawList, sample: int) -> DrawList:
-    """The list of one sample index, which the program draws to that sample's colour, or a quarter of it."""
+    """The list of one sample index, which the program draws to that sample's colour, or a share of it."""
     if samples_of(scene) == 1:
         return scene
 
     def masked(draw: Draw) -> Draw:
-        return {**draw, "sample_mask": draw.get("sample_mask", 15) & 1 << sample}
+        return {**draw, "sample_mask": draw.get("sample_mask", all_samples(scene)) & 1 << sample}
 
     return {**each_draw(scene, masked), "clear": [0, 0, 0]}
 
@@ -93,6 +94,16 @@ class Example:
         return expected, drawn
 
 
+@dataclass(frozen=True)
+class Case:
+    """What was seen of one list: its number in its subject, its title, and how many samples or channels differ, of channels those that
+    differ by more than is allowed."""
+
+    number: int
+    title: str
+    differ: int
+
+
 @dataclass
 class Tally:
     """What was seen of one subject with one number of samples."""
@@ -106,6 +117,8 @@ class Tally:
     examples: dict[str, Example] = field(default_factory=dict)  # one of each kind, in the order in which they were found
     errors: Counter[int] = field(default_factory=Counter)  # of subjects that are not exact, by size
     left_out: Counter[str] = field(default_factory=Counter)
+    cases: list[Case] = field(default_factory=list)  # the lists that differ
+    identity: str = ""  # of the subject's lists
 
     @property
     def name(self) -> str:
@@ -151,9 +164,9 @@ def by_kind(differing: list[list[int]], expected: list[bytes], drawn: list[bytes
 
 
 def compare_exactly(tally: Tally, title: str, scene: DrawList, rules: DrawList, program: Renderer, driver: Renderer) -> None:
-    """Compares what the driver makes of a list with what the program makes of the list that the rules draw."""
+    """Compares what the driver makes of a list with what the program does. The example is the list that the rules draw."""
     drawn = planes(driver, scene)
-    expected = planes(program, rules)
+    expected = planes(program, scene)
     differing = [pixels_that_differ(*pair) for pair in zip(expected, drawn)]
     tally.compared += samples_of(scene) * scene["width"] * scene["height"]
     tally.differ += sum(map(len, differing))
@@ -163,33 +176,54 @@ def compare_exactly(tally: Tally, title: str, scene: DrawList, rules: DrawList, 
             tally.examples[kind] = Example(title, kind, rules, *worst(pixels), expected, drawn)
 
 
-def compare_values(tally: Tally, title: str, scene: DrawList, rules: DrawList, program: Renderer, driver: Renderer) -> None:
-    drawn = driver.picture(scene)
-    expected = program.picture(rules)
+def compare_values(tally: Tally, title: str, scene: DrawList, rules: DrawList, program: Candidate, driver: Candidate) -> None:
+    """Compares channels: red, green and blue, or alpha too."""
+    drawn, expected = ((one.pixels if tally.suite.has_alpha else one.picture)(scene) for one in (driver, program))
+    channels = 4 if tally.suite.has_alpha else 3
     tally.compared += len(expected)
     errors = Counter({0: len(expected)}) if expected == drawn else Counter(abs(a - b) for a, b in zip(expected, drawn))
     greatest = max(errors)
     if greatest > max(tally.errors, default=0):
         place = next(k for k, (a, b) in enumerate(zip(expected, drawn)) if abs(a - b) == greatest)
-        tally.examples = {VALUE: Example(title, VALUE, rules, 0, place // 3, [expected], [drawn])}
+        shown = [as_colours(one, channels, place % channels) for one in (expected, drawn)]
+        tally.examples = {VALUE: Example(title, VALUE, rules, 0, place // channels, shown[:1], shown[1:])}
     tally.differ += len(expected) - errors[0]
     tally.errors += errors
 
 
+def as_colours(picture: bytes, channels: int, worst_channel: int) -> bytes:
+    """A picture as it is shown: its colours, or its alpha as grey if that is what differs most."""
+    if channels == 3:
+        return picture
+    order = (3, 3, 3) if worst_channel == 3 else (0, 1, 2)
+    return bytes(channel for at in range(0, len(picture), 4) for channel in (picture[at + k] for k in order))
+
+
+def beyond(tally: Tally) -> int:
+    """How many of a subject's samples differ, or of its channels by more than is allowed."""
+    allowed = tally.suite.tolerance(tally.samples)
+    return tally.differ if tally.suite.exact else sum(n for size, n in tally.errors.items() if size > (allowed or 0))
+
+
 def compare_suite(
-    suite: Suite, samples: int, program: Renderer, driver: Candidate, bits: int = 8, limit: int | None = None
+    suite: Suite, samples: int, program: Candidate, driver: Candidate, bits: int = 8, limit: int | None = None
 ) -> Tally:
-    """The tally of one subject, or of its first lists, with positions of this number of subpixel bits. A list that the
-    driver cannot be asked is left out."""
+    """The tally of one subject, or of its first lists, with positions of this number of subpixel bits. A list that one of
+    the two cannot be asked is left out."""
     tally = Tally(suite, samples)
     compare = compare_exactly if suite.exact else compare_values
+    identity = hashlib.sha256()
     for number, (title, scene) in enumerate(suite.lists(samples, bits)):
         if limit is not None and number >= limit:
             break
-        setting = suite.setting(number)
+        setting, before = suite.setting(number), beyond(tally)
+        identity.update(f"{setting}{encode(scene).decode()}".encode())
         try:
-            compare(tally, title, scene, setting.by_rules(scene), program, driver.through(setting))
+            compare(tally, title, scene, setting.by_rules(scene), program.through(setting), driver.through(setting))
             tally.lists += 1
         except CannotAsk as error:
             tally.left_out[str(error)] += 1
+        if beyond(tally) > before:
+            tally.cases.append(Case(number, title, beyond(tally) - before))
+    tally.identity = identity.hexdigest()
     return tally

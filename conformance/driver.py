@@ -1,20 +1,49 @@
 """The machine's OpenGL driver as a renderer of draw lists.
 
-Depths have 16 bits. A draw whose triangles have one colour each is shaded flat; any other is shaded at each sample.
+A draw whose triangles have one colour each, or that of their first vertex, is shaded flat; any other is shaded at each sample. With
+`glClipControl` depths reach the driver as they do by Direct3D and Vulkan, from 0 to 1.
 """
 
 from __future__ import annotations
 
 import ctypes
+from array import array
 from typing import Sequence
 
+from conformance.blending import ADD, MAX, MIN, REVERSE_SUBTRACT, SUBTRACT, Equation, equation_of
 from conformance.renderer import Candidate, CannotAsk, require_powers_of_two
 from conformance.suites.setting import PLAIN, Setting
 from conformance.suites import OPENGL_LEFT_OUT
 from conformance.suites.shapes import is_flat
 from tools.draw_list import Draw, DrawList
 from tools.opengl import gl
-from tools.opengl.frames import DrawState, Frames, Mesh, NoFrame, Viewport, set_up
+from tools.opengl.frames import DrawState, Frames, Mesh, NoFrame, Viewport, address, set_up
+
+
+FIRST_VERTEX, LOWER_LEFT, ZERO_TO_ONE = 0x8E4D, 0x8CA1, 0x935F
+DEPTH_COMPONENT32F, TRIANGLE_STRIP = 0x8CAC, 5
+# OpenGL's numbers of the factors and the operations of an equation.
+FACTORS = {
+    1: 0, 2: 1, 3: 0x0300, 4: 0x0301, 5: gl.SRC_ALPHA, 6: gl.ONE_MINUS_SRC_ALPHA, 7: 0x0304, 8: 0x0305, 9: 0x0306, 10: 0x0307,
+    11: 0x0308, 14: 0x8001, 15: 0x8002,
+}
+OPERATIONS = {ADD: 0x8006, SUBTRACT: 0x800A, REVERSE_SUBTRACT: 0x800B, MIN: 0x8007, MAX: 0x8008}
+
+
+class DirectMesh(Mesh):
+    """A mesh whose depths reach from 0 to 1, and whose strips may be drawn as strips."""
+
+    def __init__(self, draw: Draw, viewport: Viewport, draws_strips: bool) -> None:
+        super().__init__(draw, viewport)
+        self.positions[2::3] = array("f", (vertex[2] / 65535 for vertex in draw["vertices"]))
+        self.mode = gl.TRIANGLES
+        if draws_strips and "strip" in draw:
+            self.mode, self.indices = TRIANGLE_STRIP, array("I", draw["strip"])
+
+    def draw(self, library: ctypes.CDLL) -> None:
+        library.glVertexPointer(3, gl.FLOAT, 0, address(self.positions))
+        library.glColorPointer(4, gl.UNSIGNED_BYTE, 0, address(self.colours))
+        library.glDrawElements(self.mode, len(self.indices), gl.UNSIGNED_INT, address(self.indices))
 
 
 class Driver:
@@ -24,8 +53,13 @@ class Driver:
         self.setting = PLAIN
         self.library = gl.open_driver(kind)
         self.name = gl.text(self.library, gl.RENDERER)
-        self.frames: dict[tuple[int, int, int], Frames] = {}
+        self.frames: dict[tuple[int, int, int, int], Frames] = {}
         set_up(self.library)
+        self.library.glBlendColor.argtypes = [ctypes.c_float] * 4
+        self.library.glProvokingVertex(FIRST_VERTEX)
+        self.library.glClipControl(LOWER_LEFT, ZERO_TO_ONE)
+        if self.library.glGetError():
+            raise gl.Unavailable("OpenGL 4.5 is needed, for glClipControl")
 
     def said(self) -> list[tuple[str, str]]:
         asked = (("vendor", gl.VENDOR), ("renderer", gl.RENDERER), ("version", gl.VERSION))
@@ -54,35 +88,62 @@ class Driver:
         self.setting = setting
         return self
 
-    def frame(self, width: int, height: int, samples: int) -> Frames:
+    def frame(self, width: int, height: int, samples: int, depth_bits: int = 16) -> Frames:
         """The frame of this size, which is made once. Raises `CannotAsk` if the driver has none."""
-        key = (width, height, samples)
+        key = (width, height, samples, depth_bits)
         if key not in self.frames:
             try:
-                self.frames[key] = Frames(self.library, *key, gl.DEPTH_COMPONENT16)
+                form = gl.DEPTH_COMPONENT16 if depth_bits == 16 else DEPTH_COMPONENT32F
+                self.frames[key] = Frames(self.library, width, height, samples, form)
             except NoFrame as error:
                 raise CannotAsk(str(error)) from None
         return self.frames[key]
 
     def picture(self, scene: DrawList) -> bytes:
+        return self.drawn(scene).colours()
+
+    def pixels(self, scene: DrawList) -> bytes:
+        frames = self.drawn(scene)
+        return frames.pixels.raw[: 4 * frames.width * frames.height]
+
+    def drawn(self, scene: DrawList) -> Frames:
+        """The frame in which a list was drawn and resolved."""
         width, height, samples = scene["width"], scene["height"], scene.get("samples", 1)
         require_powers_of_two(scene)
-        if self.setting != Setting(self.setting.viewport):
-            raise CannotAsk("another front, another format of depths, or a viewport that is moved")
-        frames, viewport = self.frame(width, height, samples), Viewport.around(width, height, self.setting.viewport)
+        if self.setting.moved != (0, 0) or self.setting.anticlockwise_front or self.setting.perspective:
+            raise CannotAsk("another front, perspective, or a viewport that is moved")
+        frames = self.frame(width, height, samples, self.setting.depth_bits)
+        viewport = Viewport.around(width, height, self.setting.viewport)
         frames.begin(viewport)
         frames.clear(scene.get("clear", (0, 0, 0)), scene.get("clear_depth", 65535))
+        if "clear_alpha" in scene:
+            self.library.glClearColor(*(channel / 255 for channel in (*scene.get("clear", (0, 0, 0)), scene["clear_alpha"])))
+            self.library.glClear(gl.COLOR_BUFFER_BIT)
         for draw in scene["draws"]:
             self.set_state(draw, samples)
-            Mesh(draw, viewport).draw(self.library)
+            self.set_equation(equation_of(draw) if "equation" in draw else None)
+            DirectMesh(draw, viewport, self.setting.strips).draw(self.library)
         frames.resolve()
         error = self.library.glGetError()
         if error:
             raise CannotAsk(f"OpenGL's error {error:#x}")
-        return frames.colours()
+        return frames
+
+    def set_equation(self, equation: Equation | None) -> None:
+        """Sets how colours are blended; without an equation as `over`, if the draw's state says so."""
+        library = self.library
+        if equation is None:
+            library.glBlendEquation(OPERATIONS[ADD])
+            library.glBlendFunc(gl.SRC_ALPHA, gl.ONE_MINUS_SRC_ALPHA)
+            return
+        gl.switch(library, gl.BLEND, True)
+        library.glBlendEquationSeparate(OPERATIONS[equation.color_operation], OPERATIONS[equation.alpha_operation])
+        factors = (equation.color_source, equation.color_stored, equation.alpha_source, equation.alpha_stored)
+        library.glBlendFuncSeparate(*(FACTORS[number] for number in factors))
+        library.glBlendColor(*(channel / 255 for channel in equation[6:]))
 
     def set_state(self, draw: Draw, samples: int) -> None:
-        state, flat = DrawState.of(draw), is_flat(draw)
+        state, flat = DrawState.of(draw), self.setting.leading is not None or is_flat(draw)
         if samples == 1 and not state.sample_mask & 1:
             raise CannotAsk("a sample mask with one sample")
         state.set(self.library, samples)

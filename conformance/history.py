@@ -10,6 +10,7 @@ from typing import Any
 
 from conformance.comparison import Example, samples_of
 from conformance.program import as_bytes
+from conformance.sample_counts import OF_LISTS
 from tools.draw_list import triangles_of
 
 MAX_SECONDS = 60
@@ -63,6 +64,8 @@ def read(example: Example, answer: bytes) -> History:
 
 def history(program: str, example: Example) -> History | None:
     """The history of an example's sample in the whole list, or `None` if the program gives none."""
+    if samples_of(example.scene) not in OF_LISTS:
+        return None
     column, row = example.place
     command = [program, f"{column},{row}", "--sample", str(example.sample), "--all", "--json"]
     try:

@@ -4,8 +4,10 @@ from __future__ import annotations
 
 from typing import Sequence
 
+from conformance import blending
 from conformance.mutants import MUTANTS, Mutant
 from conformance.renderer import Candidate
+from conformance.sample_counts import resolved
 from conformance.suites.setting import PLAIN, Setting
 from tools import picture_file
 from tools.reference import renderer
@@ -33,5 +35,12 @@ class Model:
     def picture(self, scene: DrawList) -> bytes:
         drawn = self.mutant.drawn(scene, self.setting)
         with self.mutant.rules():
-            file = renderer.render(renderer.read(encode(drawn)))
-        return picture_file.decode(file).pixel_data
+            return resolved(drawn, renderer.SAMPLES, rendered)
+
+    def pixels(self, scene: DrawList) -> bytes:
+        return blending.pixels(self.mutant.drawn(scene, self.setting))
+
+
+def rendered(scene: DrawList) -> bytes:
+    """The reference's picture of a list."""
+    return picture_file.decode(renderer.render(renderer.read(encode(scene)))).pixel_data

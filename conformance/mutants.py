@@ -7,6 +7,7 @@ from dataclasses import dataclass, replace
 from typing import Callable, ContextManager
 from unittest import mock
 
+from conformance.blending import ADD, REVERSE_SUBTRACT, SUBTRACT, Equation, equation_of
 from conformance.suites.setting import Setting, move, turn_culling
 from conformance.suites.shapes import coarser, each_draw
 from tools.reference import renderer
@@ -34,14 +35,21 @@ def with_edges(kind: type[renderer.Edge]) -> Callable[[], ContextManager[object]
     return lambda: mock.patch.object(renderer, "Edge", kind)
 
 
-def with_pattern(places: tuple[renderer.Point, ...]) -> Callable[[], ContextManager[object]]:
-    return lambda: mock.patch.dict(renderer.SAMPLES, {4: places})
+def with_patterns(change: Callable[[tuple[renderer.Point, ...]], tuple[renderer.Point, ...]]) -> Callable[[], ContextManager[object]]:
+    changed = {count: change(places) for count, places in renderer.SAMPLES.items() if count > 1}
+    return lambda: mock.patch.dict(renderer.SAMPLES, changed)
+
+
+def turned(places: tuple[renderer.Point, ...]) -> tuple[renderer.Point, ...]:
+    """A quarter of a turn around the pixel's centre."""
+    return tuple((256 - y, x) for x, y in places)
+
+
+def swapped(places: tuple[renderer.Point, ...]) -> tuple[renderer.Point, ...]:
+    return (places[1], places[0], *places[2:])
 
 
 FOUR = renderer.SAMPLES[4]
-# A quarter of a turn around the pixel's centre.
-TURNED = tuple((256 - y, x) for x, y in FOUR)
-SWAPPED = (FOUR[1], FOUR[0], *FOUR[2:])
 OTHER_EQUALITY = {"less": "less_equal", "less_equal": "less", "greater": "greater_equal", "greater_equal": "greater"}
 
 
@@ -78,6 +86,70 @@ def coarse_depths(draw: Draw) -> Draw:
     return {**draw, "vertices": [[x, y, z // 256 * 256, *rest] for x, y, z, *rest in draw["vertices"]]}
 
 
+def depths_elsewhere(place_of: Callable[[renderer.Point], renderer.Point]) -> Callable[[DrawList], DrawList]:
+    """Takes depths of sloping planes at a sample's other place: a draw becomes one for each sample, its plane moved. Its outline moves
+    too, by less than a pixel."""
+
+    def by_samples(draw: Draw) -> list[Draw]:
+        if len({vertex[2] for vertex in draw["vertices"]}) <= 1:
+            return [draw]
+        made = []
+        for sample, place in enumerate(FOUR):
+            right, down = (there - taken for there, taken in zip(place, place_of(place)))
+            corners = [[x + right, y + down, *rest] for x, y, *rest in draw["vertices"]]
+            made.append({**draw, "vertices": corners, "sample_mask": draw.get("sample_mask", 15) & 1 << sample})
+        return made
+
+    return lambda scene: {**scene, "draws": [one for draw in scene["draws"] for one in by_samples(draw)]}
+
+
+def mirrored(place: renderer.Point) -> renderer.Point:
+    """The place from left to right, as SwiftShader takes it for depths."""
+    return (256 - place[0], *place[1:])
+
+
+def scissor_of_16_bits(draw: Draw) -> Draw:
+    """A scissor whose sides keep 16 bits, as those of lavapipe do."""
+    if "scissor" not in draw:
+        return draw
+    return {**draw, "scissor": [max(0, side) % 65536 for side in draw["scissor"]]}
+
+
+def turns_ignored(draw: Draw) -> Draw:
+    """A strip whose triangles all have their vertices in the strip's order."""
+    if "strip" not in draw:
+        return draw
+    state = {key: value for key, value in draw.items() if key != "strip"}
+    return {**state, "triangles": [list(draw["strip"][k : k + 3]) for k in range(len(draw["strip"]) - 2)]}
+
+
+def with_equation(change: Callable[[Equation], Equation]) -> Callable[[DrawList], DrawList]:
+    """Draws each equation as another one."""
+
+    def changed(draw: Draw) -> Draw:
+        return {**draw, "equation": list(change(equation_of(draw)))} if "equation" in draw else draw
+
+    return in_each_draw(changed)
+
+
+def factors_swapped(equation: Equation) -> Equation:
+    return equation._replace(color_source=equation.color_stored, color_stored=equation.color_source)
+
+
+def subtract_turned(equation: Equation) -> Equation:
+    """Takes the new value from the stored one if the stored one is to be taken from the new one, and the reverse."""
+    other = {SUBTRACT: REVERSE_SUBTRACT, REVERSE_SUBTRACT: SUBTRACT}
+    return equation._replace(color_operation=other.get(equation.color_operation, equation.color_operation))
+
+
+def alpha_kept(equation: Equation) -> Equation:
+    return equation._replace(alpha_source=1, alpha_stored=2, alpha_operation=ADD)
+
+
+def constant_ignored(equation: Equation) -> Equation:
+    return equation._replace(red=0, green=0, blue=0, alpha=0)
+
+
 def write_mask_ignored(draw: Draw) -> Draw:
     return {**draw, "write": [True] * 3}
 
@@ -110,22 +182,24 @@ def for_samples(count: int, change: Callable[[DrawList], DrawList]) -> Callable[
 
 @dataclass(frozen=True)
 class Mutant:
-    """What is otherwise: the list that is drawn, the setting, the setting's floating point depths, or the rules themselves."""
+    """What is otherwise: the list that is drawn, the list that is asked for, the setting, the setting's floating point depths, or the
+    rules themselves."""
 
     change: Callable[[DrawList], DrawList] = lambda scene: scene
+    asked: Callable[[DrawList], DrawList] = lambda scene: scene
     setting: Callable[[Setting], Setting] = lambda setting: setting
     float_depths: Callable[[DrawList], DrawList] = lambda scene: scene
     rules: Callable[[], ContextManager[object]] = contextlib.nullcontext
 
     def drawn(self, scene: DrawList, setting: Setting) -> DrawList:
         """The list that is drawn in place of this one."""
-        made = self.change(self.setting(setting).by_rules(scene))
+        made = self.change(self.setting(setting).by_rules(self.asked(scene)))
         return self.float_depths(made) if setting.depth_bits == 32 else made
 
 
 MUTANTS: dict[str, Mutant] = {
-    "turned pattern": Mutant(rules=with_pattern(TURNED)),
-    "swapped samples": Mutant(rules=with_pattern(SWAPPED)),
+    "turned pattern": Mutant(rules=with_patterns(turned)),
+    "swapped samples": Mutant(rules=with_patterns(swapped)),
     "bottom-right rule": Mutant(rules=with_edges(BottomRightEdge)),
     "bottom-left rule": Mutant(rules=with_edges(BottomLeftEdge)),
     "seven subpixel bits": Mutant(lambda scene: coarser(scene, 7)),
@@ -139,10 +213,21 @@ MUTANTS: dict[str, Mutant] = {
     "front orientation ignored": Mutant(setting=lambda setting: replace(setting, anticlockwise_front=False)),
     "equality of depths turned": Mutant(in_each_draw(equality_turned)),
     "coarse float depths": Mutant(float_depths=in_each_draw(coarse_depths)),
+    "floating point of 16 bits": Mutant(setting=lambda setting: replace(setting, depth_bits=16)),
+    "depths mirrored": Mutant(for_samples(4, depths_elsewhere(mirrored))),
+    "depths at the centre": Mutant(for_samples(4, depths_elsewhere(lambda _place: (128, 128)))),
+    "last vertex leads": Mutant(setting=lambda setting: replace(setting, leading=None if setting.leading is None else 2)),
     "mask ignored": Mutant(mask_ignored),
     "mask of one sample ignored": Mutant(for_samples(1, mask_ignored)),
     "write mask ignored": Mutant(in_each_draw(write_mask_ignored)),
     "order reversed": Mutant(reversed_order),
+    "depths clamped": Mutant(setting=lambda setting: replace(setting, beyond="clamped" if setting.beyond else "")),
+    "scissor of 16 bits": Mutant(asked=in_each_draw(scissor_of_16_bits)),
+    "turns of strips ignored": Mutant(asked=in_each_draw(turns_ignored)),
+    "blend factors swapped": Mutant(with_equation(factors_swapped)),
+    "subtraction turned": Mutant(with_equation(subtract_turned)),
+    "alpha kept": Mutant(with_equation(alpha_kept)),
+    "blend constant ignored": Mutant(with_equation(constant_ignored)),
     "clear by one": Mutant(clear_by_one),
     "clear depth by one": Mutant(clear_depth_by_one),
 }

@@ -1,7 +1,14 @@
-"""The measure: bin/trirast as a renderer of draw lists."""
+"""The measure: bin/trirast as a renderer of draw lists, and the rule of blend equations, which lists do not have."""
 
 from __future__ import annotations
 
+from typing import Sequence
+
+from conformance import blending
+from conformance.renderer import Candidate
+from conformance.sample_counts import resolved
+from conformance.suites.setting import PLAIN, Setting
+from conformance.suites.shapes import PLACES
 from tools import answers, picture_file
 from tools.draw_list import DrawList, encode
 
@@ -16,12 +23,30 @@ class Refused(Exception):
 
 
 class Program:
-    """A renderer by a program."""
+    """A renderer by a program. Under a setting it draws what the rules make of a list."""
 
     def __init__(self, path: str) -> None:
         self.path = self.name = path
+        self.setting = PLAIN
+
+    def said(self) -> list[tuple[str, str]]:
+        return [("renderer", self.name)]
+
+    def left_out(self) -> Sequence[tuple[str, str]]:
+        return ()
+
+    def through(self, setting: Setting) -> Candidate:
+        self.setting = setting
+        return self
+
+    def pixels(self, scene: DrawList) -> bytes:
+        return blending.pixels(self.setting.by_rules(scene))
 
     def picture(self, scene: DrawList) -> bytes:
+        return resolved(self.setting.by_rules(scene), PLACES, self.drawn)
+
+    def drawn(self, scene: DrawList) -> bytes:
+        """The program's own picture of a list."""
         answer = answers.drawn(self.path, as_bytes(scene))
         if answer.status != 0:
             raise Refused(str(answer))

@@ -20,7 +20,7 @@ class Renderer(Protocol):
 
 
 class Candidate(Renderer, Protocol):
-    """A renderer that is compared with the program: an interface and the driver behind it."""
+    """A renderer under a setting: an interface and the driver behind it, or the rules themselves."""
 
     def said(self) -> list[tuple[str, str]]:
         """What the renderer says of itself, as pairs of a question and its answer."""
@@ -30,6 +30,9 @@ class Candidate(Renderer, Protocol):
 
     def through(self, setting: Setting) -> Candidate:
         """The renderer under this setting."""
+
+    def pixels(self, scene: DrawList) -> bytes:
+        """Red, green, blue and alpha of the list's pixels. Raises `CannotAsk` too."""
 
 
 def require_powers_of_two(scene: DrawList) -> None:

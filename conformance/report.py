@@ -31,6 +31,26 @@ KEY = """<p class="key">Left and middle: a sample has the colour of its triangle
 pixel is the worst.</p>"""
 
 
+@dataclass(frozen=True)
+class Values:
+    """Values of one kind at samples against exact fractions: how many, the greatest error in its unit, how many are wrong, and why."""
+
+    title: str
+    samples: int
+    values: int
+    greatest: float
+    wrong: int
+    unit: str
+    explained: str = ""
+    refused: str = ""  # why nothing was asked
+
+    def row(self) -> Row:
+        if self.refused:
+            return self.title, str(self.samples), "0", "-", "-", self.unit, f"not asked: {self.refused}"
+        numbers = (f"{self.values:,}", f"{self.greatest:,.2f}", f"{self.wrong:,}")
+        return self.title, str(self.samples), *numbers, self.unit, self.explained or "-"
+
+
 @dataclass
 class Report:
     """All that was measured of a driver."""
@@ -42,6 +62,13 @@ class Report:
     never_asked: Sequence[tuple[str, str]] = ()
     histories: dict[str, History] = field(default_factory=dict)  # by an example's name
     no_histories: str = ""  # why there is none
+    interface: str = "OpenGL"
+    compared_with: str = "the rules"
+    bits: int = 8
+    values: list[Values] = field(default_factory=list)
+
+    def device(self) -> str:
+        return dict(self.said).get("renderer", "driver")
 
     def exact(self) -> list[Tally]:
         return [tally for tally in self.tallies if tally.suite.exact]
@@ -132,6 +159,7 @@ def near_rows(report: Report) -> Iterator[Row]:
 
 EXACT_HEAD = ("subject", "samples a pixel", "lists", "compared", "differ", "share", "of these", "first list that differs")
 NEAR_HEAD = ("subject", "samples a pixel", "lists", "channels", "greatest difference", "allowed", "channels by difference")
+VALUES_HEAD = ("values", "samples a pixel", "compared", "greatest error", "wrong", "unit", "explained")
 FINDINGS_HEAD = ("read from pictures", "the program", "the driver")
 
 
@@ -152,6 +180,10 @@ SECTIONS = (
     Section(
         "Colours and depths, in 1/255 of a channel", NEAR_HEAD, near_rows,
         lambda row: row[5] != "-" and int(row[4]) > int(row[5]),
+    ),
+    Section(
+        "Values at samples against exact fractions", VALUES_HEAD, lambda report: (row.row() for row in report.values),
+        lambda row: row[4] not in ("0", "-"),
     ),
     Section("Not asked", (), Report.left_out),
 )
@@ -228,30 +260,35 @@ def html_history(found: History) -> str:
 def html_example(report: Report, tally: Tally, name: str, example: Example) -> str:
     kind = f", {KINDS[example.kind]}" if example.kind in KINDS else ""
     place = f"{example.title}, sample {example.sample}, around pixel {example.place}: "
+    command = "" if tally.suite.has_alpha else f"bin/trirast < {report.files[name]}"
     panels = coverage_panels if tally.suite.exact else value_panels
     shown = html_history(report.histories[name]) if name in report.histories else ""
     return (
         f'<h3 id="{name}">{html.escape(tally.suite.title)}, samples a pixel: {tally.samples}{kind}</h3>'
-        f"<p>{html.escape(place)}<code>{html.escape(f'bin/trirast < {report.files[name]}')}</code></p>"
+        f"<p>{html.escape(place)}<code>{html.escape(command)}</code></p>"
         f'<div class="figures">{panels(example)}</div>{shown}'
     )
 
 
+def document(title: str, parts: Sequence[str]) -> str:
+    """An HTML file of these parts that needs no other file."""
+    head = f'<meta charset="utf-8"><title>{html.escape(title)}</title><style>{STYLE}</style>'
+    body = [f"<h1>{html.escape(title)}</h1>", *parts]
+    return "\n".join([f'<!doctype html><html lang="en"><head>{head}</head><body>', *body, "</body></html>", ""])
+
+
 def page(report: Report) -> str:
-    """The report as one HTML file that needs no other."""
+    """The report as one HTML file: the count, the pictures, and then all tables."""
     kind = "agrees" if report.agrees() else "differs"
-    name = dict(report.said).get("renderer", "driver")
-    parts = [f"<h1>{html.escape(name)}, sample by sample</h1>"]
-    parts.append(f'<p class="{kind}">{html.escape(report.summary())}</p>')
-    for section in SECTIONS:
-        rows = list(section.rows(report))
-        if rows:
-            parts += [f"<h2>{section.title}</h2>", html_table(section, rows)]
+    parts = [f'<p class="{kind}">{html.escape(report.summary())}</p>']
     shown = [tally for tally in [*report.differing(), *report.near()] if tally.first]
     if shown:
         parts += ["<h2>Where they differ</h2>", KEY]
         parts += [f"<p>{html.escape(report.no_histories)}</p>"] if report.no_histories else []
     for tally in shown:
         parts += [html_example(report, tally, name, example) for name, example in tally.named_examples()]
-    head = f'<meta charset="utf-8"><title>{html.escape(name)}</title><style>{STYLE}</style>'
-    return "\n".join([f'<!doctype html><html lang="en"><head>{head}</head><body>', *parts, "</body></html>", ""])
+    for section in SECTIONS:
+        rows = list(section.rows(report))
+        if rows:
+            parts += [f"<h2>{section.title}</h2>", html_table(section, rows)]
+    return document(f"{report.device()}, sample by sample", parts)

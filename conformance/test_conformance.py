@@ -58,6 +58,9 @@ class Remembering:
     def through(self, _setting: Setting) -> Candidate:
         return self
 
+    def pixels(self, scene: DrawList) -> bytes:
+        return self.renderer.pixels(scene)
+
     def picture(self, scene: DrawList) -> bytes:
         key = as_bytes(scene)
         if key not in self.drawn:
@@ -124,10 +127,13 @@ class SuiteLists(unittest.TestCase):
 
     def test_no_list_is_refused(self) -> None:
         for suite in suites.OPENGL:
+            if suite.has_alpha:
+                continue  # draw lists have no such equations
             for samples in suite.samples:
-                for title, listed in suite.lists(samples):
+                for number, (title, listed) in enumerate(suite.lists(samples)):
                     with self.subTest(suite=suite.name, title=title):
-                        self.assertEqual(renderer.read(as_bytes(listed)).samples, samples)
+                        drawn = suite.setting(number).by_rules(listed)
+                        self.assertEqual(renderer.read(as_bytes(drawn)).samples, samples)
 
     def test_positions_of_fewer_bits(self) -> None:
         points = [(0, 7), (8, -8), (-9, 24), (8388607, -8388608)]
@@ -239,7 +245,7 @@ class Counting(unittest.TestCase):
     def test_differences_of_values_by_size(self) -> None:
         listed = scene([draw(rectangle(0, 0, 1, 1, (10, 20, 255)))], 1, 2, 2)
         for change, errors in ((lambda v: v, {0: 12}), (lambda v: min(255, v + 2), {0: 1, 2: 11})):
-            tally = Tally(suites.OPENGL[-1], 1)
+            tally = Tally(Reports.NEAR, 1)
             compare_values(tally, "two more", listed, listed, Model(), Painted(change))
             self.assertEqual(tally.errors, errors)
             self.assertEqual((tally.compared, tally.differ), (12, 12 - errors[0]))

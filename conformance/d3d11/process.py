@@ -6,7 +6,7 @@ import os
 import shlex
 import shutil
 import subprocess
-from typing import Sequence
+from typing import Mapping, Sequence
 
 from tools.places import OUT, TOP
 
@@ -40,12 +40,17 @@ def environment() -> dict[str, str]:
 
 def draw(requests: bytes, arguments: Sequence[str]) -> bytes:
     """The stream of answers to a stream of requests. Raises `CannotRun` with the program's line."""
+    return ran(arguments, requests, environment())
+
+
+def ran(arguments: Sequence[str], requests: bytes = b"", given: Mapping[str, str] | None = None) -> bytes:
+    """What a program writes to standard output, in this environment or in this process's own. Raises `CannotRun` with its line."""
     try:
-        run = subprocess.run(arguments, input=requests, capture_output=True, timeout=MAX_SECONDS, env=environment())
+        run = subprocess.run(arguments, input=requests, capture_output=True, timeout=MAX_SECONDS, env=given)
     except (OSError, subprocess.TimeoutExpired) as error:
         raise CannotRun(str(error)) from None
     if run.returncode != 0:
         lines = run.stderr.decode(errors="replace").strip().splitlines()
-        said = [line for line in lines if line.startswith("rasterize: ")] or lines[-1:] or ["it wrote no line"]
+        said = [line for line in lines if line.startswith(("rasterize: ", "usage: "))] or lines[-1:] or ["it wrote no line"]
         raise CannotRun(f"{os.path.basename(arguments[0])} ended with status {run.returncode}: {said[-1]}")
     return run.stdout

@@ -2,11 +2,11 @@
 
     python3 -m conformance.d3d11.run [--device hardware|warp|N] [--suite NAME ..] [--bits N] [--html report.html]
     python3 -m conformance.d3d11.run --write requests.bin
-    python3 -m conformance.d3d11.run --read answers.bin
+    python3 -m conformance.d3d11.run --read answers.bin [--against others.bin]
 
 By itself it runs rasterize.exe, on Windows directly and elsewhere under Wine. With --write the requests go to a file, which
-rasterize.exe draws on any machine, and --read compares its answers, with the same --suite and --bits. docs/conformance.md says what is
-asked and what equal means.
+rasterize.exe draws on any machine, and --read compares its answers, with the same --suite and --bits. With --against they are compared
+with other answers to the same requests, and not with the program. docs/conformance.md says what is asked and what equal means.
 
 Exit status 0: coverage agreed, and values did within what Direct3D allows. 1: a sample differed. 2: no sample was compared; a line on
 standard error has the cause, for streams with the name of the error: `NotAStream`, `OtherVersion`, `OtherSuite`, `CutShort`,
@@ -20,14 +20,18 @@ import os
 import re
 import sys
 import tempfile
-from typing import Sequence
+from typing import Callable, Sequence
 
 from conformance import suites
 from conformance.d3d11 import process
-from conformance.d3d11.direct3d import Direct3D, Questions, asked, drawn_by
+from conformance.d3d11.direct3d import Direct3D, Questions, asked
+from conformance.d3d11.requests import version_of
 from conformance.d3d11.streams import StreamError, read_answers, write_requests
+from conformance.expected import BadLine
 from conformance.program import Program, Refused
+from conformance.renderer import Candidate
 from conformance.run import add_shared, measure, publish
+from conformance.suites.setting import Setting
 from tools.draw_list import DrawList
 from tools.places import is_built
 
@@ -55,24 +59,61 @@ def requests_of(chosen: Sequence[suites.Suite], bits: int = 8, limit: int | None
 class Black:
     """A renderer whose pictures are black."""
 
+    def said(self) -> list[tuple[str, str]]:
+        return []
+
+    def left_out(self) -> Sequence[tuple[str, str]]:
+        return ()
+
+    def through(self, _setting: Setting) -> Black:
+        return self
+
     def picture(self, scene: DrawList) -> bytes:
         return bytes(3 * scene["width"] * scene["height"])
+
+    def pixels(self, scene: DrawList) -> bytes:
+        return bytes(4 * scene["width"] * scene["height"])
 
 
 def answered(options: argparse.Namespace, requests: Sequence[bytes]) -> Direct3D:
     """Direct3D's answers, from a file or by the program. Raises `StreamError`, `CannotRun` or `OSError`."""
+    stream = write_requests(requests, version_of(requests))
+    drawn = read_or_drawn(options, lambda: process.draw(stream, process.command(options.exe, options.device, options.run)))
+    return Direct3D(requests, read_answers(drawn, requests))
+
+
+def read_or_drawn(options: argparse.Namespace, draw: Callable[[], bytes]) -> bytes:
+    """The answers of a file, or those that are drawn, which are kept if a file is named for them."""
     if options.read:
         with open(options.read, "rb") as file:
-            return Direct3D(requests, read_answers(file.read(), requests))
-    command = process.command(options.exe, options.device, options.run)
-    return drawn_by(lambda stream: process.draw(stream, command), requests)
+            return file.read()
+    drawn = draw()
+    if options.keep:
+        with open(options.keep, "wb") as file:
+            file.write(drawn)
+    return drawn
+
+
+def add_streams(parser: argparse.ArgumentParser) -> None:
+    """The options of interfaces whose requests and answers are streams."""
+    parser.add_argument("--write", metavar="FILE", help="write the requests, and compare nothing")
+    parser.add_argument("--read", metavar="FILE", help="compare answers that were drawn elsewhere")
+    parser.add_argument("--keep", metavar="FILE", help="write the answers too, for --read and --against")
+    parser.add_argument("--against", metavar="FILE", help="compare with these answers, and not with the program")
+
+
+def rules_of(options: argparse.Namespace, requests: Sequence[bytes]) -> Candidate:
+    """What answers are compared with: the program, or other answers. Raises `StreamError` or `OSError`."""
+    if not options.against:
+        return Program(os.path.abspath(options.program))
+    with open(options.against, "rb") as file:
+        return Direct3D(requests, read_answers(file.read(), requests))
 
 
 def arguments() -> argparse.Namespace:
     parser = argparse.ArgumentParser(description="Compares Direct3D 11's samples with the program's.")
     parser.add_argument("--device", type=device, default="hardware", help="hardware, warp, or the number of an adapter")
-    parser.add_argument("--write", metavar="FILE", help="write the requests, and compare nothing")
-    parser.add_argument("--read", metavar="FILE", help="compare answers that were drawn elsewhere")
+    add_streams(parser)
     parser.add_argument("--exe", default=process.EXE, help="default conformance/out/rasterize.exe")
     parser.add_argument("--run", metavar="COMMAND", help=f"what runs the .exe; default {' '.join(process.WINE)}, nothing on Windows")
     add_shared(parser, NAMES)
@@ -82,18 +123,18 @@ def arguments() -> argparse.Namespace:
 def main() -> int:
     options = arguments()
     chosen = [suite for suite in suites.DIRECT3D if suite.name in options.suite]
-    if not options.write and not is_built(options.program):
+    if not (options.write or options.against) and not is_built(options.program):
         return 2
     requests = requests_of(chosen, options.bits)
     try:
         if options.write:
             with open(options.write, "wb") as file:
-                file.write(write_requests(requests))
+                file.write(write_requests(requests, version_of(requests)))
             return 0
         driver = answered(options, requests)
-        program = Program(os.path.abspath(options.program))
-        return publish(measure(program, driver, chosen, options.lists, options.bits), options.html)
-    except (StreamError, process.CannotRun, Refused, OSError) as error:
+        program = rules_of(options, requests)
+        return publish(measure(program, driver, chosen, options.lists, options.bits, interface="Direct3D 11"), options)
+    except (StreamError, process.CannotRun, Refused, OSError, BadLine) as error:
         print(f"conformance: {error}", file=sys.stderr)
         return 2
 

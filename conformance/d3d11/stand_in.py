@@ -10,7 +10,7 @@ import sys
 from typing import Callable
 
 from conformance.d3d11 import pictures, requests
-from conformance.d3d11.streams import PICTURE, Answer, Answers, StreamError, read_requests, write_answers
+from conformance.d3d11.streams import PICTURE, VALUES, Answer, Answers, StreamError, read_requests, write_answers
 from conformance.model import Model
 from conformance.mutants import MUTANTS
 from conformance.renderer import Candidate
@@ -19,13 +19,16 @@ from conformance.renderer import Candidate
 def draw_by(renderer: Candidate) -> Callable[[bytes], bytes]:
     """Draws a stream of requests by a renderer."""
 
-    def picture(request: bytes) -> bytes:
+    def answer(request: bytes) -> Answer:
         scene, setting = requests.read(request)
-        return renderer.through(setting).picture(scene)
+        drawn = renderer.through(setting)
+        if requests.output_of(request) == requests.PIXELS:
+            return Answer(VALUES, drawn.pixels(scene))
+        return Answer(PICTURE, pictures.encode(drawn.picture(scene)))
 
     def draw(stream: bytes) -> bytes:
         identity, listed = read_requests(stream)
-        answers = [Answer(PICTURE, pictures.encode(picture(request))) for request in listed]
+        answers = [answer(request) for request in listed]
         about = "".join(f"{question}\t{answer}\n" for question, answer in renderer.said())
         return write_answers(identity, Answers(about, answers))
 

@@ -3,8 +3,8 @@
 All numbers are little-endian words of 32 bits. A stream of requests: its magic of 8 bytes, the version, the suite's identity of 32
 bytes, the count of requests, and for each its count of words and these. A stream of answers: its magic, the version, the identity of
 the requests, their count, the count of bytes that follow and in these what the device says of itself; then for each request a status,
-a count of bytes and the bytes: 0 and a picture's runs, or 1 and in UTF-8 why there is none. Both end in the mark `ENDS` and the CRC-32
-of all bytes before it. conformance/d3d11/rasterize/streams.hpp is the other side.
+a count of bytes and the bytes: 0 and a picture's runs, 1 and in UTF-8 why there is none, or 2 and a word for each sample. Both end in the mark `ENDS` and the CRC-32
+of all bytes before it. conformance/rasterize/streams.hpp is the other side.
 
 The identity is the SHA-256 of the requests, so that answers cannot be compared with another suite than they were made for. A magic
 has the bytes that a system changes where it takes a stream for text.
@@ -19,10 +19,11 @@ from dataclasses import dataclass
 from typing import NamedTuple, Sequence
 
 REQUESTS, ANSWERS = b"\x89TRQ\r\n\x1a\n", b"\x89TRA\r\n\x1a\n"
-VERSION = 1
+# Version 2 is for requests of which one asks for more than version 1 has; the others are the same bytes.
+VERSION, LAST_VERSION = 1, 2
 END = b"ENDS"
 IDENTITY_BYTES = 32
-PICTURE, REFUSED = 0, 1
+PICTURE, REFUSED, VALUES = 0, 1, 2
 
 
 class StreamError(Exception):
@@ -80,9 +81,9 @@ def ended(parts: list[bytes]) -> bytes:
     return body + struct.pack("<I", zlib.crc32(body))
 
 
-def write_requests(requests: Sequence[bytes]) -> bytes:
+def write_requests(requests: Sequence[bytes], version: int = VERSION) -> bytes:
     """The stream of requests, each of them whole words."""
-    parts = [REQUESTS, struct.pack("<I", VERSION), identity_of(requests), struct.pack("<I", len(requests))]
+    parts = [REQUESTS, struct.pack("<I", version), identity_of(requests), struct.pack("<I", len(requests))]
     for request in requests:
         parts += [struct.pack("<I", len(request) // 4), request]
     return ended(parts)
@@ -105,8 +106,8 @@ class Reader:
             raise NotAStream(f"these bytes are no stream of {what}")
         self.take(len(magic))
         version = self.number()
-        if version != VERSION:
-            raise OtherVersion(f"the {what} have version {version}, and this program reads {VERSION}")
+        if not VERSION <= version <= LAST_VERSION:
+            raise OtherVersion(f"the {what} have version {version}, and this program reads {VERSION} to {LAST_VERSION}")
         self.identity = self.take(IDENTITY_BYTES)
 
     def take(self, count: int) -> bytes:

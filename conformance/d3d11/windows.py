@@ -1,9 +1,9 @@
-"""Writes the archive by which Direct3D is asked on a Windows machine that has nothing installed.
+"""Writes the archive by which Direct3D and Vulkan are asked on a Windows machine that has nothing installed.
 
     python3 -m conformance.d3d11.windows dist/trirast-conformance-windows.zip
 
-It has rasterize.exe, the requests of all subjects, a .cmd that draws them, and a page that says what to send back. The same sources
-give the same bytes. Exit status 2 if there is no rasterize.exe.
+It has rasterize.exe for Direct3D and rasterize-vulkan.exe, the requests of all subjects for each, a .cmd that draws them, and a page that
+says what to send back. The same sources give the same bytes. Exit status 2 if there is no such program.
 """
 
 from __future__ import annotations
@@ -17,8 +17,11 @@ from typing import Sequence
 from conformance import suites
 from conformance.d3d11 import process
 from conformance.d3d11.run import requests_of
+from conformance.d3d11.requests import version_of
 from conformance.d3d11.streams import identity_of, write_requests
-from tools.places import text_of
+from conformance.vulkan.process import EXE as VULKAN_EXE
+from conformance.vulkan.run import requests_of as vulkan_requests
+from tools.places import bytes_of, text_of
 
 FOLDER = "trirast-conformance"
 FILES = os.path.join("conformance", "d3d11", "windows_files")
@@ -31,14 +34,19 @@ def windows_text(name: str) -> str:
     return text_of(FILES, name).replace("\n", "\r\n")
 
 
-def contents(exe: bytes, requests: Sequence[bytes]) -> dict[str, bytes]:
+def contents(exe: bytes, requests: Sequence[bytes], vulkan_exe: bytes, vulkan_requests: Sequence[bytes]) -> dict[str, bytes]:
     """The files of the archive."""
-    page = windows_text("README.txt").format(requests=len(requests), identity=identity_of(requests).hex())
+    page = windows_text("README.txt").format(
+        requests=len(requests), identity=identity_of(requests).hex(), vulkan_requests=len(vulkan_requests),
+        vulkan_identity=identity_of(vulkan_requests).hex(),
+    )
     return {
         "README.txt": page.encode(),
         "draw.cmd": windows_text("draw.cmd").encode(),
         "rasterize.exe": exe,
-        "requests.bin": write_requests(requests),
+        "requests.bin": write_requests(requests, version_of(requests)),
+        "rasterize-vulkan.exe": vulkan_exe,
+        "requests-vulkan.bin": write_requests(vulkan_requests, version_of(vulkan_requests)),
     }
 
 
@@ -53,14 +61,15 @@ def main() -> int:
     parser = argparse.ArgumentParser(description="Writes the archive for Windows.")
     parser.add_argument("archive")
     parser.add_argument("--exe", default=process.EXE, help="default conformance/out/rasterize.exe")
+    parser.add_argument("--vulkan-exe", default=VULKAN_EXE, help="default conformance/out/rasterize-vulkan.exe")
     options = parser.parse_args()
     try:
-        with open(options.exe, "rb") as file:
-            exe = file.read()
+        exe, vulkan_exe = (bytes_of(path) for path in (options.exe, options.vulkan_exe))
     except OSError as error:
         print(f"conformance: {error}", file=sys.stderr)
         return 2
-    write_archive(options.archive, contents(exe, requests_of(suites.DIRECT3D)))
+    requests = requests_of(suites.DIRECT3D)
+    write_archive(options.archive, contents(exe, requests, vulkan_exe, vulkan_requests(suites.VULKAN)))
     print(f"{options.archive}: {os.path.getsize(options.archive):,} bytes")
     return 0
 

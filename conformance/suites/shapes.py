@@ -70,6 +70,27 @@ def scene(draws: list[Draw], samples: int, width: int = SIDE, height: int = SIDE
     return {"width": width, "height": height, "samples": samples, **more, "draws": draws}
 
 
+def all_samples(scene: DrawList) -> int:
+    """The sample mask of a draw that names none."""
+    samples: int = scene.get("samples", 1)
+    return max(15, (1 << samples) - 1)
+
+
+def colours_of_steps(scene: DrawList, step: int) -> DrawList:
+    """The list with other colours, each of them multiples of this step, and different where its own are."""
+    level = 255 // step
+    found: dict[tuple[int, ...], list[int]] = {}
+
+    def other(colour: Sequence[int]) -> list[int]:
+        n = len(found)
+        return found.setdefault(tuple(colour), [step * (1 + n // level**digit % level) for digit in range(3)])
+
+    def change(draw: Draw) -> Draw:
+        return {**draw, "vertices": [[*vertex[:3], *other(vertex[3:6]), *vertex[6:]] for vertex in draw["vertices"]]}
+
+    return each_draw(scene, change)
+
+
 def each_draw(scene: DrawList, change: Callable[[Draw], Draw]) -> DrawList:
     """The list with each of its draws changed."""
     return {**scene, "draws": [change(draw) for draw in scene["draws"]]}

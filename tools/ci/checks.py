@@ -176,7 +176,7 @@ CHECKS = (
     Check(
         name="check-conformance",
         about="the comparison with drivers, by mutants and by recorded answers",
-        command="pytest conformance/test_conformance.py conformance/d3d11/test_direct3d.py", seconds=65,
+        command="pytest conformance", seconds=65,
         long="-m 'long or not long'", long_seconds=155,
     ),
     Check(

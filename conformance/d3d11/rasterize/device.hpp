@@ -71,12 +71,13 @@ public:
         return made.get();
     }
 
-    ID3D11BlendState* blend(const State& state) {
-        Held<ID3D11BlendState>& made = blends[{state.blend, state.write_mask}];
+    ID3D11BlendState* blend(const State& state, const Equation& equation) {
+        Held<ID3D11BlendState>& made = blends[{state.blend, state.write_mask, equation.color_source, equation.color_stored,
+                                               equation.color_operation, equation.alpha_source, equation.alpha_stored,
+                                               equation.alpha_operation}];
         if (!made) {
             D3D11_BLEND_DESC asked = {};
-            asked.RenderTarget[0] = {(BOOL)state.blend, D3D11_BLEND_SRC_ALPHA, D3D11_BLEND_INV_SRC_ALPHA, D3D11_BLEND_OP_ADD,
-                                     D3D11_BLEND_ONE, D3D11_BLEND_ZERO, D3D11_BLEND_OP_ADD, (UINT8)state.write_mask};
+            asked.RenderTarget[0] = blend_of(state, equation);
             check(device->CreateBlendState(&asked, made.put()), "blend state");
         }
         return made.get();
@@ -102,7 +103,22 @@ private:
     std::map<Shading, Held<ID3D11PixelShader>> shaders;
     std::map<std::tuple<uint32_t, bool, uint32_t, bool>, Held<ID3D11RasterizerState>> rasterizers;
     std::map<std::pair<uint32_t, uint32_t>, Held<ID3D11DepthStencilState>> depth_tests;
-    std::map<std::pair<uint32_t, uint32_t>, Held<ID3D11BlendState>> blends;
+    std::map<std::array<uint32_t, 8>, Held<ID3D11BlendState>> blends;
+
+    static D3D11_RENDER_TARGET_BLEND_DESC blend_of(const State& state, const Equation& equation) {
+        if (state.blend)
+            return {TRUE, D3D11_BLEND_SRC_ALPHA, D3D11_BLEND_INV_SRC_ALPHA, D3D11_BLEND_OP_ADD,
+                    D3D11_BLEND_ONE, D3D11_BLEND_ZERO, D3D11_BLEND_OP_ADD, (UINT8)state.write_mask};
+        return {!equation.replaces(), (D3D11_BLEND)equation.color_source, (D3D11_BLEND)equation.color_stored,
+                (D3D11_BLEND_OP)equation.color_operation, of_alpha(equation.alpha_source), of_alpha(equation.alpha_stored),
+                (D3D11_BLEND_OP)equation.alpha_operation, (UINT8)state.write_mask};
+    }
+    // Direct3D has no factors of colours for alpha, in which they would be those of alpha.
+    static D3D11_BLEND of_alpha(uint32_t factor) {
+        if (factor == D3D11_BLEND_SRC_COLOR || factor == D3D11_BLEND_INV_SRC_COLOR) return (D3D11_BLEND)(factor + 2);
+        if (factor == D3D11_BLEND_DEST_COLOR || factor == D3D11_BLEND_INV_DEST_COLOR) return (D3D11_BLEND)(factor - 2);
+        return (D3D11_BLEND)factor;
+    }
 
     static Held<IDXGIAdapter1> numbered(const std::string& number) {
         Held<IDXGIFactory1> factory;
@@ -117,11 +133,10 @@ private:
         Held<ID3DBlob> code = compile(shader_source(""), "vertex", "vs_4_0");
         check(device->CreateVertexShader(code->GetBufferPointer(), code->GetBufferSize(), nullptr, vertex_shader.put()), "vertex shader");
         const D3D11_INPUT_ELEMENT_DESC layout[] = {
-            {"POSITION", 0, DXGI_FORMAT_R32G32B32_FLOAT, 0, 0, D3D11_INPUT_PER_VERTEX_DATA, 0},
-            {"COLOR", 0, DXGI_FORMAT_R8G8B8A8_UNORM, 0, 12, D3D11_INPUT_PER_VERTEX_DATA, 0}};
+            {"POSITION", 0, DXGI_FORMAT_R32G32B32A32_FLOAT, 0, 0, D3D11_INPUT_PER_VERTEX_DATA, 0},
+            {"COLOR", 0, DXGI_FORMAT_R8G8B8A8_UNORM, 0, 16, D3D11_INPUT_PER_VERTEX_DATA, 0}};
         check(device->CreateInputLayout(layout, 2, code->GetBufferPointer(), code->GetBufferSize(), input.put()), "layout");
         context->IASetInputLayout(input.get());
-        context->IASetPrimitiveTopology(D3D11_PRIMITIVE_TOPOLOGY_TRIANGLELIST);
         context->VSSetShader(vertex_shader.get(), nullptr, 0);
         has_standard_pattern = takes_standard_pattern();
     }

@@ -5,10 +5,8 @@
 // The requests are read and checked whole, then drawn one after another. Exit status 0 if every request has its answer; 2 if
 // not, with one line on standard error that begins with the error's name. docs/conformance.md says how the streams are made and
 // compared.
-#include <fcntl.h>
-#include <io.h>
-
 #include "about.hpp"
+#include "binary.hpp"
 #include "sheet.hpp"
 
 namespace {
@@ -27,7 +25,7 @@ void begin(Device& device, const Request& request, Frame& frame) {
     const Viewport& asked = request.viewport;
     D3D11_VIEWPORT viewport = {asked.left + asked.move_x / 256.f, asked.top + asked.move_y / 256.f, (float)asked.width, (float)asked.height, 0, 1};
     const Clear& clear = request.clear;
-    const float color[4] = {clear.red / 255.f, clear.green / 255.f, clear.blue / 255.f, 0};
+    const float color[4] = {clear.red / 255.f, clear.green / 255.f, clear.blue / 255.f, request.clear_alpha / 255.f};
     ID3D11RenderTargetView* view = frame.color_view.get();
     device.context->OMSetRenderTargets(1, &view, frame.depth_view.get());
     device.context->RSSetViewports(1, &viewport);
@@ -37,11 +35,14 @@ void begin(Device& device, const Request& request, Frame& frame) {
 
 Shading shading_of(const State& state, const Target& target) { return !state.is_shaded ? FLAT : target.samples > 1 ? BY_SAMPLE : BY_PIXEL; }
 
-void set_state(Device& device, const Request& request, const State& state) {
+void set_state(Device& device, const Request& request, const State& state, const Equation& equation) {
     ID3D11DeviceContext* context = device.context.get();
-    context->RSSetState(device.rasterizer(state, request.is_anticlockwise_front, request.target.samples > 1));
+    context->RSSetState(device.rasterizer(state, request.is_anticlockwise_front(), request.target.samples > 1));
     context->OMSetDepthStencilState(device.depth_test(state), 0);
-    context->OMSetBlendState(device.blend(state), nullptr, state.sample_mask == 15 ? 0xffffffff : state.sample_mask);
+    const float constant[4] = {equation.constant_channel(0), equation.constant_channel(1), equation.constant_channel(2),
+                               equation.constant_channel(3)};
+    context->OMSetBlendState(device.blend(state, equation), constant, mask_of(state, request.target));
+    context->IASetPrimitiveTopology(equation.topology == STRIP ? D3D11_PRIMITIVE_TOPOLOGY_TRIANGLESTRIP : D3D11_PRIMITIVE_TOPOLOGY_TRIANGLELIST);
     context->PSSetShader(device.shader(shading_of(state, request.target)), nullptr, 0);
     D3D11_RECT box = {state.scissor[0], state.scissor[1], state.scissor[2], state.scissor[3]};
     context->RSSetScissorRects(1, &box);
@@ -49,35 +50,39 @@ void set_state(Device& device, const Request& request, const State& state) {
 
 // Throws `Refusal` before anything is drawn.
 void draw(Device& device, Sheet& sheet, const Request& request) {
+    bool is_resolved = request.output == RESOLVED || request.output == PIXELS;
+    if (!is_resolved) throw Refusal("each sample by itself: not by Direct3D's program");
     Frame& frame = device.frame(request.target);
     for (const State& state : request.draws) device.shader(shading_of(state, request.target));
     Held<ID3D11Buffer> vertices, indices;
     set_buffers(device, request, vertices, indices);
     begin(device, request, frame);
     UINT first = 0;
-    for (const State& state : request.draws) {
-        set_state(device, request, state);
+    for (size_t k = 0; k < request.draws.size(); ++k) {
+        const State& state = request.draws[k];
+        set_state(device, request, state, request.equations[k]);
         if (state.indices) device.context->DrawIndexed(state.indices, first, 0);
         first += state.indices;
     }
     if (request.target.samples > 1) device.context->ResolveSubresource(frame.resolved.get(), 0, frame.drawn.get(), 0, COLORS);
-    sheet.take(request.target.samples > 1 ? frame.resolved.get() : frame.drawn.get(), request.target.width, request.target.height);
+    sheet.take(request.target.samples > 1 ? frame.resolved.get() : frame.drawn.get(), request.target.width, request.target.height,
+               request.output == PIXELS);
 }
 
 void run(const std::string& asked) {
     RequestStream requests(stdin);
     Device device(asked);
-    AnswerStream answers(stdout, requests, about(device, asked));
+    AnswerStream answers(requests, about(device, asked));
     Sheet sheet(device, answers);
     for (const Words& words : requests.requests) {
         try {
-            draw(device, sheet, Request(words));
+            draw(device, sheet, Request(words, requests.version(), -1));
         } catch (const Refusal& refusal) {
             sheet.refuse(refusal.what());
         }
     }
     sheet.flush();
-    answers.end();
+    answers.write(stdout);
 }
 
 bool is_device(const std::string& word) {
@@ -92,8 +97,8 @@ int main(int count, char** arguments) {
         std::fprintf(stderr, "usage: rasterize.exe [--device hardware|warp|N] < requests > answers\n");
         return 2;
     }
-    _setmode(_fileno(stdin), _O_BINARY);
-    _setmode(_fileno(stdout), _O_BINARY);
+    set_binary(stdin);
+    set_binary(stdout);
     static char out[1 << 20];
     std::setvbuf(stdout, out, _IOFBF, sizeof out);
     try {

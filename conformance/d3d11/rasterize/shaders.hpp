@@ -6,7 +6,7 @@
 #include <d3d11.h>
 #include <d3dcompiler.h>
 
-#include "failure.hpp"
+#include "check.hpp"
 #include "held.hpp"
 
 // How a draw's colours reach its samples: one for a triangle, by the pixel, or by each sample.
@@ -14,7 +14,7 @@ enum Shading { FLAT, BY_PIXEL, BY_SAMPLE };
 
 inline std::string shader_source(const char* interpolation) {
     return std::string("struct V { float4 p : SV_Position; ") + interpolation + " float4 c : COLOR; };"
-           "V vertex(float3 p : POSITION, float4 c : COLOR) { V v; v.p = float4(p, 1); v.c = c; return v; }"
+           "V vertex(float4 p : POSITION, float4 c : COLOR) { V v; v.p = p; v.c = c; return v; }"
            "float4 pixel(V v) : SV_Target { return v.c; }";
 }
 

@@ -24,8 +24,8 @@ class Sheet {
 public:
     Sheet(Device& device, AnswerStream& answers) : device(device), answers(answers) {}
 
-    // Takes the picture of one request, which is read back later.
-    void take(ID3D11Texture2D* picture, uint32_t width, uint32_t height) {
+    // Takes the picture of one request, which is read back later: as runs of colours, or with alpha as a word for each pixel.
+    void take(ID3D11Texture2D* picture, uint32_t width, uint32_t height, bool has_alpha) {
         if (width != cell_width || height != cell_height || used == columns * rows) {
             flush();
             make(width, height);
@@ -33,19 +33,20 @@ public:
         UINT x = used % columns * width, y = used / columns * height;
         device.context->CopySubresourceRegion(staging.get(), 0, x, y, 0, picture, 0, nullptr);
         ++used;
-        waiting.push_back("");
+        waiting.push_back({"", has_alpha});
     }
 
-    void refuse(const std::string& reason) { waiting.push_back(reason); }
+    void refuse(const std::string& reason) { waiting.push_back({reason, false}); }
 
     // Reads all pictures back, and writes all answers in the order of their requests.
     void flush() {
         D3D11_MAPPED_SUBRESOURCE seen = {};
         if (used) check(device.context->Map(staging.get(), 0, D3D11_MAP_READ, 0, &seen), "reading back");
         uint32_t cell = 0;
-        for (const std::string& reason : waiting) {
-            if (reason.empty()) write_cell(seen, cell++);
-            else answers.answer(1, reason.data(), reason.size());
+        for (const auto& [reason, has_alpha] : waiting) {
+            if (reason.empty() && has_alpha) write_words(seen, cell++);
+            else if (reason.empty()) write_cell(seen, cell++);
+            else answers.answer(REFUSED, reason.data(), reason.size());
         }
         if (used) device.context->Unmap(staging.get(), 0);
         waiting.clear();
@@ -57,15 +58,21 @@ private:
     AnswerStream& answers;
     Held<ID3D11Texture2D> staging;
     uint32_t cell_width = 0, cell_height = 0, columns = 0, rows = 0, used = 0;
-    std::vector<std::string> waiting;  // an empty string for a picture, else the reason of a refusal
+    std::vector<std::pair<std::string, bool>> waiting;  // an empty string for a picture, else the reason of a refusal; and its alpha
 
+    const uint32_t* row_of(const D3D11_MAPPED_SUBRESOURCE& seen, uint32_t cell, uint32_t row) const {
+        const uint8_t* line = (const uint8_t*)seen.pData + (cell / columns * cell_height + row) * (size_t)seen.RowPitch;
+        return (const uint32_t*)line + cell % columns * cell_width;
+    }
     void write_cell(const D3D11_MAPPED_SUBRESOURCE& seen, uint32_t cell) {
         Runs runs;
-        for (uint32_t row = 0; row < cell_height; ++row) {
-            const uint8_t* line = (const uint8_t*)seen.pData + (cell / columns * cell_height + row) * (size_t)seen.RowPitch;
-            runs.add((const uint32_t*)line + cell % columns * cell_width, cell_width);
-        }
-        answers.answer(0, runs.words.data(), 4 * runs.words.size());
+        for (uint32_t row = 0; row < cell_height; ++row) runs.add(row_of(seen, cell, row), cell_width);
+        answers.answer(PICTURE, runs.words.data(), 4 * runs.words.size());
+    }
+    void write_words(const D3D11_MAPPED_SUBRESOURCE& seen, uint32_t cell) {
+        std::vector<uint32_t> words;
+        for (uint32_t row = 0; row < cell_height; ++row) words.insert(words.end(), row_of(seen, cell, row), row_of(seen, cell, row) + cell_width);
+        answers.answer(VALUES, words.data(), 4 * words.size());
     }
 
     void make(uint32_t width, uint32_t height) {
