@@ -12,7 +12,7 @@
 #   make record    writes the edits that make prove saw refused into tests/edits_tried.json
 #   make library   prove and build the core for other programs: lib/libtrirast.a, lib/libtrirast.so and lib/trirast.pc, and for
 #                  the loader a second lib/x86-64-v3/libtrirast.so.1; with ARCH=aarch64 for ARM64 in lib/aarch64/, by a cross compiler
-#   make install   program, manual page, header, libraries, pkg-config and CMake files and schema below PREFIX (an absolute path,
+#   make install   program, manual page, headers, libraries, pkg-config and CMake files and schema below PREFIX (an absolute path,
 #                  /usr/local if not given), behind DESTDIR where that is given; make uninstall takes them away
 #   make web       the coverage explorer for browsers, in web/out, as python3 -m http.server -d web/out serves it
 #   make deb       the Debian packages of program, library and header, in dist/
@@ -69,7 +69,8 @@ LIBRARY_aarch64 := lib/aarch64/libtrirast.a lib/aarch64/libtrirast.so lib/aarch6
 PROGRAM_x86_64 := $(PROGRAM)
 PROGRAM_aarch64 := bin/aarch64/trirast
 CMAKE_FILES := trirast-config.cmake trirast-config-version.cmake
-INSTALLED := bin/trirast share/man/man1/trirast.1 share/trirast/draw-list.schema.json include/trirast.h include/trirast.hpp \
+HEADERS := trirast.h trirast.hpp trirast_clip.h trirast_clip.hpp
+INSTALLED := bin/trirast share/man/man1/trirast.1 share/trirast/draw-list.schema.json $(addprefix include/,$(HEADERS)) \
     bin/trirast_why share/man/man1/trirast_why.1 share/trirast/history.schema.json \
     $(addprefix $(LIBDIR)/,libtrirast.a $(SHARED) libtrirast.so pkgconfig/trirast.pc glibc-hwcaps/$(LEVEL)/$(SHARED) \
     $(addprefix cmake/trirast/,$(CMAKE_FILES)))
@@ -140,7 +141,7 @@ $(filter %/trirast_c.a,$(CORES)): $(ARCHIVE)
 $(filter %/canvas_c.a,$(CORES)): $(CANVAS_ARCHIVE)
 $(CORES):
 	@mkdir -p $(@D)
-	$(PYTHON) -m tools.archive $(basename $(@F)) $(notdir $(@D)) --rt $(RT) -o $@
+	$(PYTHON) -m tools.packaging.archive $(basename $(@F)) $(notdir $(@D)) --rt $(RT) -o $@
 
 # For ARM64 the tools of a cross compiler, and a heap in C: the toolchain's own is for x86-64.
 CROSS = aarch64-linux-gnu-
@@ -157,7 +158,7 @@ lib/aarch64/heap.o lib/aarch64/arguments.o: lib/aarch64/%.o: packaging/%.c
 # The program for ARM64, over what was proved for $(PROGRAM), with the heap, its arguments and errno in C.
 lib/aarch64/trirast_cli.o: $(PROGRAM)
 	@mkdir -p $(@D)
-	$(PYTHON) -m tools.archive trirast_cli aarch64 --rt $(RT) -o $@
+	$(PYTHON) -m tools.packaging.archive trirast_cli aarch64 --rt $(RT) -o $@
 
 $(PROGRAM_aarch64): $(addprefix lib/aarch64/,trirast_cli.o heap.o arguments.o)
 	@mkdir -p $(@D)
@@ -208,8 +209,8 @@ install: $(PROGRAM) $(WHY) $(LIBRARY_x86_64)
 	install -D -m 644 docs/history.schema.json "$(DESTDIR)$(PREFIX)/share/trirast/history.schema.json"
 	install -D -m 644 docs/trirast.1 "$(DESTDIR)$(PREFIX)/share/man/man1/trirast.1"
 	install -D -m 644 docs/draw-list.schema.json "$(DESTDIR)$(PREFIX)/share/trirast/draw-list.schema.json"
-	install -D -m 644 include/trirast.h "$(DESTDIR)$(PREFIX)/include/trirast.h"
-	install -D -m 644 include/trirast.hpp "$(DESTDIR)$(PREFIX)/include/trirast.hpp"
+	install -d "$(DESTDIR)$(PREFIX)/include"
+	install -m 644 $(addprefix include/,$(HEADERS)) "$(DESTDIR)$(PREFIX)/include"
 	install -D -m 644 lib/libtrirast.a "$(DESTDIR)$(PREFIX)/$(LIBDIR)/libtrirast.a"
 	install -D -m 755 lib/$(SHARED) "$(DESTDIR)$(PREFIX)/$(LIBDIR)/$(SHARED)"
 	install -D -m 755 lib/$(LEVEL)/$(SHARED) "$(DESTDIR)$(PREFIX)/$(LIBDIR)/glibc-hwcaps/$(LEVEL)/$(SHARED)"
@@ -263,7 +264,7 @@ $(READER): $(SOURCES)
 	install -D -m 755 crates/list_bench/out/list_bench $@
 
 races: $(PROGRAM)
-	$(PYTHON) -m pytest tools/races.py
+	$(PYTHON) -m pytest tools/checks/races.py
 
 frames: $(PROGRAM)
 	cd crates/frames && $(RT) run $(if $(CPU),--cpu $(CPU)) < "$(CURDIR)/examples/triangle.json" > /dev/null

@@ -28,7 +28,7 @@ from typing import Callable, Sequence
 
 from bench import llvmpipe, run, scenes
 from tools import places
-from tools.library.lists import arrays_of
+from tools.checks.library.lists import arrays_of
 from tools.places import BENCH_OUT, EXAMPLES, FRAMES_PROGRAM, INCLUDE, STATIC_LIBRARY, TOP, is_built
 
 SCENES = tuple(name for name in run.SCENES if name not in run.REFUSED)

@@ -165,7 +165,7 @@ inline Draw read_draw(Reader& in) {
                 in.array([&] { t[k++] = static_cast<uint32_t>(in.number()); });
                 draw.triangles.push_back(t);
             });
-        } else fail("an unknown key");
+        } else fail(("only plain triangles in colour are drawn, and no list with the key " + key).c_str());
     });
     return draw;
 }
@@ -181,7 +181,7 @@ inline Scene read_scene(const std::string& text) {
         else if (key == "clear") in.array([&] { scene.clear.c[n++] = static_cast<uint8_t>(in.number()); });
         else if (key == "clear_depth") scene.clear.z = static_cast<uint16_t>(in.number());
         else if (key == "draws") in.array([&] { scene.draws.push_back(read_draw(in)); });
-        else fail("an unknown key");
+        else fail(("only plain triangles in colour are drawn, and no list with the key " + key).c_str());
     });
     return scene;
 }

@@ -1,11 +1,13 @@
 """Times reading beside parsers that only parse, and prints one table.
 
-    python3 -m bench.reading [--runs 5] [--scenes long_list mesh small]
+    python3 -m bench.reading [--runs 5] [--scenes long_list mesh small] [--layouts plain commas lines] [--before PROGRAM]
 
 Needs `make bin/list_bench`. `list::read` checks a list and builds it; `serde_json` builds its tree of values, and simdjson its tape of
 values, or goes over all values on demand, and neither knows what a list is. The programs take turns, each reads the same bytes seven
 times a turn, and the least time of each counts. simdjson's columns need its library (Debian: libsimdjson-dev) and a C++ compiler, and
-are left out without them.
+are left out without them. A layout puts blanks into a scene's text: behind each comma, a vertex or a triangle a line with blanks
+behind commas, or an element a line. With --before the user time of ten readings is compared with that of another build's
+crates/list_bench, in turn.
 """
 
 from __future__ import annotations
@@ -23,7 +25,9 @@ from tools.places import BENCH_OUT, READER_PROGRAM, TOP, is_built
 
 SCENES = ("long_list", "mesh", "small")
 PARSER = os.path.join(BENCH_OUT, "simdjson")
+LAYOUTS = ("plain", "commas", "lines", "elements")
 COLUMNS = ("list", "MB", "`list::read`, ms", "GB/s", "serde_json's tree, ms", "by it")
+BEFORE_COLUMNS = ("user time, ms", "before, ms", "by it")
 PARSER_COLUMNS = ("simdjson's tape, ms", "by it", "parser kept, ms", "by it", "on demand, ms", "by it")
 
 
@@ -52,7 +56,42 @@ def times(command: list[str], source: str, count: int) -> list[int]:
     return found
 
 
-def row_of(source: str, with_parser: bool, runs: int) -> str:
+def laid_out(source: str, layout: str) -> str:
+    """The file of a scene in a layout, which is written if there are blanks in it."""
+    if layout == "plain":
+        return source
+    with open(source, encoding="utf-8") as file:
+        text = file.read()
+    if layout == "elements":
+        text = text.replace(",", ",\n" + " " * 10).replace("[", "[\n" + " " * 10).replace("]", "\n" + " " * 8 + "]")
+    else:
+        text = text.replace("],[", "],\n    [") if layout == "lines" else text
+        text = text.replace(",", ", ").replace(", \n", ",\n")
+    path = f"{os.path.splitext(source)[0]}_{layout}.json"
+    with open(path, "w", encoding="utf-8") as file:
+        file.write(text)
+    return path
+
+
+def user_time(program: str, source: str) -> float:
+    """The milliseconds of user time of one reading, by ten of them in one process."""
+    with open(source, "rb") as file:
+        child = subprocess.Popen([program, "--read"], stdin=file)
+    _pid, status, usage = os.wait4(child.pid, 0)
+    child.returncode = os.waitstatus_to_exitcode(status)
+    if child.returncode:
+        raise subprocess.CalledProcessError(child.returncode, program)
+    return float(usage.ru_utime) * 1000 / 10
+
+
+def user_cells(source: str, before: str, runs: int) -> list[str]:
+    """The least user times of this build and of another one, and their ratio."""
+    turns = [(user_time(READER_PROGRAM, source), user_time(before, source)) for _ in range(runs)]
+    ours, others = (min(each) for each in zip(*turns))
+    return [f"{ours:.1f}", f"{others:.1f}", f"{ours / others:.2f}"]
+
+
+def row_of(source: str, with_parser: bool, runs: int, before: str) -> str:
     """The table's row of a list: the least time of each way."""
     turns = []
     for _ in range(runs):
@@ -62,6 +101,8 @@ def row_of(source: str, with_parser: bool, runs: int) -> str:
     size = os.path.getsize(source)
     name = os.path.splitext(os.path.basename(source))[0]
     cells = [name, f"{size / 1e6:.1f}", f"{ours / 1e6:.1f}", f"{size / ours:.2f}"]
+    if before:
+        cells[2:2] = user_cells(source, before, runs)
     for other in others:
         cells += [f"{other / 1e6:.1f}", f"{ours / other:.2f}"]
     return f"| {' | '.join(cells)} |"
@@ -71,16 +112,20 @@ def main() -> int:
     parser = argparse.ArgumentParser(description="Times reading beside parsers that only parse.")
     parser.add_argument("--runs", type=int, default=5, help="turns of seven rounds, of which the least counts (default 5)")
     parser.add_argument("--scenes", nargs="+", choices=tuple(scenes.SCENES), default=SCENES, metavar="NAME", help="default " + ", ".join(SCENES))
+    parser.add_argument("--layouts", nargs="+", choices=LAYOUTS, default=LAYOUTS[:1], metavar="NAME", help="of " + ", ".join(LAYOUTS))
+    parser.add_argument("--before", default="", metavar="PROGRAM", help="crates/list_bench of another build")
     options = parser.parse_args()
     if not is_built(READER_PROGRAM, made_by="make bin/list_bench"):
         return 2
     sources = scenes.write_all(options.scenes)
     with_parser = built_parser()
     print(f"Machine: {processor_name()}; load before the run {load()}. Least of {options.runs} turns of seven rounds.\n")
-    columns = (*COLUMNS, *(PARSER_COLUMNS if with_parser else ()))
+    user_columns = BEFORE_COLUMNS if options.before else ()
+    columns = (*COLUMNS[:2], *user_columns, *COLUMNS[2:], *(PARSER_COLUMNS if with_parser else ()))
     print(f"| {' | '.join(columns)} |\n" + "|---" * len(columns) + "|")
     for source in sources:
-        print(row_of(source, with_parser, options.runs), flush=True)
+        for layout in options.layouts:
+            print(row_of(laid_out(source, layout), with_parser, options.runs, options.before), flush=True)
     print(f"\nLoad after the run {load()}.")
     return 0
 

@@ -1,4 +1,4 @@
-"""The rules as a renderer without a driver: tools/reference.py, or one of its mutants."""
+"""The rules as a renderer without a driver: tools/reference/renderer.py, or one of its mutants."""
 
 from __future__ import annotations
 
@@ -9,7 +9,8 @@ from conformance.mutants import MUTANTS, Mutant
 from conformance.renderer import Candidate
 from conformance.sample_counts import resolved
 from conformance.suites.setting import PLAIN, Setting
-from tools import picture_file, reference
+from tools import picture_file
+from tools.reference import renderer
 from tools.draw_list import DrawList, encode
 
 
@@ -34,7 +35,7 @@ class Model:
     def picture(self, scene: DrawList) -> bytes:
         drawn = self.mutant.drawn(scene, self.setting)
         with self.mutant.rules():
-            return resolved(drawn, reference.SAMPLES, rendered)
+            return resolved(drawn, renderer.SAMPLES, rendered)
 
     def pixels(self, scene: DrawList) -> bytes:
         return blending.pixels(self.mutant.drawn(scene, self.setting))
@@ -42,4 +43,4 @@ class Model:
 
 def rendered(scene: DrawList) -> bytes:
     """The reference's picture of a list."""
-    return picture_file.decode(reference.render(reference.read(encode(scene)))).pixel_data
+    return picture_file.decode(renderer.render(renderer.read(encode(scene)))).pixel_data

@@ -10,46 +10,46 @@ from unittest import mock
 from conformance.blending import ADD, REVERSE_SUBTRACT, SUBTRACT, Equation, equation_of
 from conformance.suites.setting import Setting, move, turn_culling
 from conformance.suites.shapes import coarser, each_draw
-from tools import reference
+from tools.reference import renderer
 from tools.draw_list import Draw, DrawList
 
 
-class BottomRightEdge(reference.Edge):
+class BottomRightEdge(renderer.Edge):
     """An edge that owns its points if the rules' edge does not, and the reverse."""
 
-    def __init__(self, a: reference.Point, b: reference.Point, c: reference.Point) -> None:
+    def __init__(self, a: renderer.Point, b: renderer.Point, c: renderer.Point) -> None:
         super().__init__(a, b, c)
         self.owns_its_points = not self.owns_its_points
 
 
-class BottomLeftEdge(reference.Edge):
+class BottomLeftEdge(renderer.Edge):
     """An edge that owns its points if it is a bottom or a left edge."""
 
-    def __init__(self, a: reference.Point, b: reference.Point, c: reference.Point) -> None:
+    def __init__(self, a: renderer.Point, b: renderer.Point, c: renderer.Point) -> None:
         super().__init__(a, b, c)
         if a[1] == b[1]:
             self.owns_its_points = c[1] < a[1]
 
 
-def with_edges(kind: type[reference.Edge]) -> Callable[[], ContextManager[object]]:
-    return lambda: mock.patch.object(reference, "Edge", kind)
+def with_edges(kind: type[renderer.Edge]) -> Callable[[], ContextManager[object]]:
+    return lambda: mock.patch.object(renderer, "Edge", kind)
 
 
-def with_patterns(change: Callable[[tuple[reference.Point, ...]], tuple[reference.Point, ...]]) -> Callable[[], ContextManager[object]]:
-    changed = {count: change(places) for count, places in reference.SAMPLES.items() if count > 1}
-    return lambda: mock.patch.dict(reference.SAMPLES, changed)
+def with_patterns(change: Callable[[tuple[renderer.Point, ...]], tuple[renderer.Point, ...]]) -> Callable[[], ContextManager[object]]:
+    changed = {count: change(places) for count, places in renderer.SAMPLES.items() if count > 1}
+    return lambda: mock.patch.dict(renderer.SAMPLES, changed)
 
 
-def turned(places: tuple[reference.Point, ...]) -> tuple[reference.Point, ...]:
+def turned(places: tuple[renderer.Point, ...]) -> tuple[renderer.Point, ...]:
     """A quarter of a turn around the pixel's centre."""
     return tuple((256 - y, x) for x, y in places)
 
 
-def swapped(places: tuple[reference.Point, ...]) -> tuple[reference.Point, ...]:
+def swapped(places: tuple[renderer.Point, ...]) -> tuple[renderer.Point, ...]:
     return (places[1], places[0], *places[2:])
 
 
-FOUR = reference.SAMPLES[4]
+FOUR = renderer.SAMPLES[4]
 OTHER_EQUALITY = {"less": "less_equal", "less_equal": "less", "greater": "greater_equal", "greater_equal": "greater"}
 
 
@@ -86,7 +86,7 @@ def coarse_depths(draw: Draw) -> Draw:
     return {**draw, "vertices": [[x, y, z // 256 * 256, *rest] for x, y, z, *rest in draw["vertices"]]}
 
 
-def depths_elsewhere(place_of: Callable[[reference.Point], reference.Point]) -> Callable[[DrawList], DrawList]:
+def depths_elsewhere(place_of: Callable[[renderer.Point], renderer.Point]) -> Callable[[DrawList], DrawList]:
     """Takes depths of sloping planes at a sample's other place: a draw becomes one for each sample, its plane moved. Its outline moves
     too, by less than a pixel."""
 
@@ -103,7 +103,7 @@ def depths_elsewhere(place_of: Callable[[reference.Point], reference.Point]) -> 
     return lambda scene: {**scene, "draws": [one for draw in scene["draws"] for one in by_samples(draw)]}
 
 
-def mirrored(place: reference.Point) -> reference.Point:
+def mirrored(place: renderer.Point) -> renderer.Point:
     """The place from left to right, as SwiftShader takes it for depths."""
     return (256 - place[0], *place[1:])
 

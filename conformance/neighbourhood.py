@@ -9,7 +9,8 @@ from conformance.suites.shapes import PIXEL, PLACES
 
 REACH = 4  # pixels on each side of the worst one
 SCALE = 34  # of a pixel in the drawing
-PALETTE = ("#4c78a8", "#f2a541", "#59a14f", "#b07aa1", "#76b7b2", "#9c755f", "#edc948", "#8c8c8c")
+# Of triangles; none looks like a kind of difference.
+PALETTE = ("#2a9d8f", "#f2a541", "#59a14f", "#9c755f", "#edc948", "#8c8c8c")
 Pixel = tuple[int, int]  # column and row
 # Of each kind of difference its character and its colour.
 MARKS = {EXTRA: ("+", "#d62728"), MISSING: ("-", "#1f3fd6"), OTHER: ("*", "#c21fd6")}

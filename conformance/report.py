@@ -24,7 +24,8 @@ svg { border: 1px solid #999; background: #fff; max-width: 100%; } code { font-s
 .scissor { fill: none; stroke: #00796b; stroke-width: 1.5; stroke-dasharray: 5 3; }
 .key span { display: inline-block; width: 0.8em; height: 0.8em; border-radius: 50%; margin: 0 0.3em 0 1em; }
 """
-KEY = """<p class="key"><span style="background:#d62728"></span>drawn by the driver alone
+KEY = """<p class="key">Left and middle: a sample has the colour of its triangle, and is a ring if nothing is drawn there. Right:
+<span style="background:#d62728"></span>drawn by the driver alone
 <span style="background:#1f3fd6"></span>missing <span style="background:#c21fd6"></span>of another triangle
 <span style="background:#bbbbbb"></span>equal. Lines are the list's triangles, dashed boxes its scissors, and the framed
 pixel is the worst.</p>"""

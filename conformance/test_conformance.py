@@ -1,4 +1,4 @@
-"""Tests of the comparison with a driver, without a driver: tools/reference.py stands on both sides, and on the
+"""Tests of the comparison with a driver, without a driver: tools/reference/renderer.py stands on both sides, and on the
 driver's side one of its mutants. Each mutant must be found under its own subject, and only if it can be seen there.
 conformance/d3d11/test_direct3d.py tries the others.
 
@@ -30,7 +30,7 @@ from conformance.report import Report, page, text
 from conformance.run import measure
 from conformance.suites.setting import Setting
 from conformance.suites.shapes import Lists, coarser, draw, rectangle, scene
-from tools import reference
+from tools.reference import renderer
 from tools.draw_list import DrawList
 from tools.opengl.frames import DrawState, Mesh, Viewport
 from tools.places import TOP
@@ -133,7 +133,7 @@ class SuiteLists(unittest.TestCase):
                 for number, (title, listed) in enumerate(suite.lists(samples)):
                     with self.subTest(suite=suite.name, title=title):
                         drawn = suite.setting(number).by_rules(listed)
-                        self.assertEqual(reference.read(as_bytes(drawn)).samples, samples)
+                        self.assertEqual(renderer.read(as_bytes(drawn)).samples, samples)
 
     def test_positions_of_fewer_bits(self) -> None:
         points = [(0, 7), (8, -8), (-9, 24), (8388607, -8388608)]

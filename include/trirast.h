@@ -20,7 +20,9 @@
  *   other memory that is passed to the same call, and no other thread may use it during the call.
  * - Threads. No call starts a thread or keeps a state, so any number of threads may call at once. No call may be made from a
  *   signal handler, or in the forked child of a process with threads.
- * - Stack. A call needs at most TRIRAST_STACK bytes of stack. This is measured with a margin, and not proved.
+ * - Stack. Who calls on a thread with less stack than a call needs may end the process. TRIRAST_STACK bytes are enough for each call,
+ *   TRIRAST_STACK_TEXT for one that reads a draw list, and TRIRAST_STACK_SCENE for trirast_draw_scene. The calls that draw on a canvas
+ *   need the first. This is measured with a margin, and not proved.
  *
  * Rules of every call that returns a trirast_status:
  *
@@ -47,8 +49,10 @@ extern "C" {
  * release, as 0.1.0, is what pkg-config and CMake give. */
 #define TRIRAST_VERSION 1
 
-/* Bytes of stack that are enough for each call: docs/library.md. */
+/* Bytes of stack that are enough for each call, for a call that reads a draw list, and for trirast_draw_scene: docs/library.md. */
 #define TRIRAST_STACK 262144
+#define TRIRAST_STACK_TEXT 196608
+#define TRIRAST_STACK_SCENE 65536
 
 /* Bytes that are enough for each line of trirast_error_line. */
 #define TRIRAST_ERROR_LINE_SIZE 96
@@ -83,6 +87,7 @@ typedef enum trirast_list_error {
     TRIRAST_LIST_OUT_OF_RANGE = 5,
     TRIRAST_LIST_BAD_INDEX = 6,
     TRIRAST_LIST_TOO_MANY = 7,
+    /* 8 is running out of memory, which is a status here */
     TRIRAST_LIST_TWO_LISTS = 9,
     TRIRAST_LIST_NOT_CONVEX = 10
 } trirast_list_error;
@@ -122,7 +127,7 @@ static inline const char *trirast_status_string(trirast_status status) {
 /* Writes the line that the program trirast has for an error, as "trirast: list fault 6 BadIndex in draw 1\n", or as much of
  * it as fits.
  *
- * @error: what a call wrote.
+ * @error: what a call wrote; not NULL.
  * @buffer: where the line goes. Bytes behind it are unchanged; no zero byte is written.
  * @buffer_size: the bytes of the buffer.
  *
@@ -150,7 +155,7 @@ typedef struct trirast_image_info {
  * @json: the draw list. No zero byte is needed behind it.
  * @json_len: its length in bytes: at most 67,108,864.
  * @info: where the size goes.
- * @error: why there is none.
+ * @error: why there is none; not NULL.
  *
  * Returns TRIRAST_STATUS_OK; TRIRAST_STATUS_INPUT_TOO_LONG if the list is too long; TRIRAST_STATUS_BAD_LIST if the bytes are
  * no draw list; or TRIRAST_STATUS_OUT_OF_MEMORY if an allocation fails. */
@@ -164,7 +169,7 @@ trirast_status trirast_read_image_info(const char *json, size_t json_len, triras
  * @buffer: where the file goes. The file is drawn into memory of the call's own and then copied, so drawing allocates as
  *     many bytes again.
  * @buffer_size: the bytes of the buffer: at least file_bytes of the picture's info.
- * @error: why nothing was drawn.
+ * @error: why nothing was drawn; not NULL.
  *
  * Returns TRIRAST_STATUS_OK; TRIRAST_STATUS_BAD_TILE_SIZE if the tile size is none of the four;
  * TRIRAST_STATUS_INPUT_TOO_LONG if the list is too long; TRIRAST_STATUS_BAD_LIST if the bytes are no draw list;
@@ -189,7 +194,7 @@ trirast_status trirast_draw(const char *json, size_t json_len, uint32_t tile_siz
  * @end: the tile row behind the last one: greater than first, and at most the number of tile rows.
  * @buffer: where the rows of pixels go. They are copied there, as the file of trirast_draw.
  * @buffer_size: the bytes of the buffer: at least as many as the call writes.
- * @error: why nothing was drawn.
+ * @error: why nothing was drawn; not NULL.
  *
  * Returns TRIRAST_STATUS_OK; TRIRAST_STATUS_BAD_TILE_SIZE if the tile size is none of the four;
  * TRIRAST_STATUS_INPUT_TOO_LONG if the list is too long; TRIRAST_STATUS_BAD_LIST if the bytes are no draw list;
@@ -304,7 +309,7 @@ typedef struct trirast_batch {
     {0, 0, TRIRAST_TOPOLOGY_TRIANGLES, TRIRAST_CULL_NONE, TRIRAST_DEPTH_ALWAYS, 0, TRIRAST_BLEND_NONE, 1, 1, 1, 65535, \
      0, 0, 4096, 4096}
 #define TRIRAST_BATCH_INIT \
-    {sizeof(trirast_batch), sizeof(trirast_batch_draw), sizeof(trirast_vertex), sizeof(uint32_t), 0, 0, 0, 0, 0, 0}
+    {sizeof(trirast_batch), sizeof(trirast_batch_draw), sizeof(trirast_vertex), sizeof(uint32_t), NULL, 0, NULL, 0, NULL, 0}
 
 /* Draws the picture of a scene, and writes its file, header and pixels, at the beginning of the buffer.
  *
@@ -316,7 +321,7 @@ typedef struct trirast_batch {
  * @tile_size: the width and height of a tile in pixels: 8, 16, 32 or 64.
  * @buffer: where the file goes. It is copied there, as by trirast_draw.
  * @buffer_size: the bytes of the buffer: at least as many as the file has.
- * @error: why nothing was drawn.
+ * @error: why nothing was drawn; not NULL.
  *
  * Returns TRIRAST_STATUS_OK; TRIRAST_STATUS_BAD_STRUCT_SIZE if a size member of head or batch is another than its comment
  * says; TRIRAST_STATUS_BAD_TILE_SIZE if the tile size is none of the four; TRIRAST_STATUS_BAD_LIST, with one of five list
@@ -440,7 +445,7 @@ typedef struct trirast_history_request {
  * @events: where the events go. Those behind the last one are unchanged.
  * @capacity: the number of events that the array holds. If it is 0, events may be NULL.
  * @info: where the number of all events goes, and what the sample begins and ends with.
- * @error: why nothing was written.
+ * @error: why nothing was written; not NULL.
  *
  * Returns TRIRAST_STATUS_OK, also if the array is too small for all events; TRIRAST_STATUS_BAD_STRUCT_SIZE if a size member of
  * request is another than its comment says; TRIRAST_STATUS_INPUT_TOO_LONG if the list is too long; TRIRAST_STATUS_BAD_LIST if
@@ -463,7 +468,7 @@ typedef struct trirast_sample_counts {
  * @draw: the index of the triangle's draw, from 0.
  * @triangle: its number in the draw, from 0. A strip and quads count the triangles as which they are drawn.
  * @counts: where the counts go.
- * @error: why there are none.
+ * @error: why there are none; not NULL.
  *
  * Returns TRIRAST_STATUS_OK; TRIRAST_STATUS_INPUT_TOO_LONG if the list is too long; TRIRAST_STATUS_BAD_LIST if the bytes are no
  * draw list; TRIRAST_STATUS_BAD_TRIANGLE if the list has no such draw, or the draw no such triangle; or
@@ -498,7 +503,7 @@ typedef struct trirast_canvas {
     size_t plane_count;   /* its size in units of TRIRAST_PLANE_BYTES: trirast_canvas_bytes(..) / TRIRAST_PLANE_BYTES */
 } trirast_canvas;
 
-#define TRIRAST_CANVAS_INIT {sizeof(trirast_canvas), 0, 0, 1, 0, 0, 0, 0, 0, 0}
+#define TRIRAST_CANVAS_INIT {sizeof(trirast_canvas), 0, 0, 1, 0, 0, 0, 0, NULL, 0}
 
 /* Bytes of one sample index over a block of 8 by 8 pixels, 64 samples of 5 bytes: the unit of a canvas's memory. */
 #define TRIRAST_PLANE_BYTES 320
@@ -584,7 +589,7 @@ trirast_status trirast_canvas_load(trirast_canvas *canvas, trirast_format format
  *
  * @canvas: the tile rows.
  * @batch: what is drawn on them.
- * @error: why nothing was drawn.
+ * @error: why nothing was drawn; not NULL.
  *
  * Returns TRIRAST_STATUS_OK; or the first check that fails, then TRIRAST_STATUS_BAD_STRUCT_SIZE if a size member of batch is
  * another than its comment says, then TRIRAST_STATUS_BAD_LIST with the first error of the first draw that has one:

@@ -163,12 +163,18 @@ inline trirast_batch_draw new_draw() noexcept {
 
 /* ---- Canvases ---- */
 
+class Canvas;
+
 /* Some tile rows of a canvas. The memory of their samples is the Canvas's, which has to outlive them. One thread at a time may use
  * them, and others may use tile rows of which these have none. They are moved and not copied, so that const ones stay as they are. */
 class TileRows {
 public:
     TileRows(const TileRows &) = delete;
     TileRows &operator=(const TileRows &) = delete;
+
+    /* The rows of a canvas without its memory would be left behind when it goes. */
+    TileRows(Canvas &&) = delete;
+    TileRows &operator=(Canvas &&) = delete;
 
     /* Those that were moved from are none. */
     TileRows(TileRows &&other) noexcept { std::swap(rows_, other.rows_); }

@@ -6,10 +6,10 @@
 WITH_ARM64 := $(shell command -v aarch64-linux-gnu-gcc)
 
 deb: $(PROGRAM) $(LIBRARY_x86_64)
-	$(PYTHON) -m tools.packages.debian
+	$(PYTHON) -m tools.packaging.debian
 
 wheel: $(LIBRARY_x86_64) $(if $(WITH_ARM64),$(LIBRARY_aarch64))
-	$(PYTHON) -m tools.packages.wheel x86_64 $(if $(WITH_ARM64),aarch64)
+	$(PYTHON) -m tools.packaging.wheel x86_64 $(if $(WITH_ARM64),aarch64)
 
 release: deb wheel
-	$(PYTHON) -m tools.packages.release
+	$(PYTHON) -m tools.packaging.release

@@ -18,8 +18,8 @@ web/out/canvas.wasm: lib/wasm64/canvas_c.a
 
 lib/wasm64/canvas_c.a: $(CANVAS_ARCHIVE)
 	@mkdir -p $(@D)
-	$(PYTHON) -m tools.archive canvas_c wasm64 --rt $(RT) -o $@
+	$(PYTHON) -m tools.packaging.archive canvas_c wasm64 --rt $(RT) -o $@
 
-web/out/examples.json.gz: $(LISTS) examples/README.md tools/web/examples.py
+web/out/examples.json.gz: $(LISTS) examples/README.md tools/checks/web/examples.py
 	@mkdir -p $(@D)
-	$(PYTHON) -m tools.web.examples $@
+	$(PYTHON) -m tools.checks.web.examples $@

@@ -5,7 +5,7 @@ from __future__ import annotations
 import subprocess
 from typing import NamedTuple, Sequence
 
-from tools import reference
+from tools.reference import renderer
 
 MAX_SECONDS = 60
 
@@ -36,6 +36,6 @@ def drawn(program: str, text: bytes, arguments: Sequence[str] = (), seconds: int
 def expected(text: bytes) -> Answer:
     """The answer of the reference renderer."""
     try:
-        return Answer(0, reference.render(reference.read(text)), b"")
-    except reference.ListFault as error:
+        return Answer(0, renderer.render(renderer.read(text)), b"")
+    except renderer.ListFault as error:
         return Answer(1, b"", str(error).encode() + b"\n")

@@ -29,7 +29,7 @@ SPLIT_FROM = {
     "reach": "canvas",
 }
 # Crates of tests and benchmarks, which promise nothing; so do those whose name ends in _tests.
-WITHOUT_PROMISES = ("acceptance", "cover_bench", "frames", "list_bench", "refused_tiles", "worked_values")
+WITHOUT_PROMISES = ("acceptance", "cover_bench", "frames", "list_bench", "refused_tiles", "worked_lists", "worked_values")
 
 # The texts of each contract and definition, by its name. Those that share a name are in the order of their texts.
 Items = dict[str, list[str]]

@@ -21,7 +21,7 @@ import sys
 import time
 from typing import Collection, Sequence, TextIO
 
-from tools.crates import Tree, Uses, below
+from tools.sources.crates import Tree, Uses, below
 from tools.places import OUT, TOP
 
 WAITING = 2

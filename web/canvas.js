@@ -67,7 +67,8 @@ export class Canvas {
   clear(color, depth) {
     integers('color', color, [0, 255], 3);
     integer('depth', depth, [0, 65535]);
-    this.#done('clear', this.core.calls.trirast_canvas_clear(BigInt(this.address), BigInt(this.core.put(Uint8Array, color)), depth));
+    const { core } = this;
+    this.#done('clear', core.within(() => core.calls.trirast_canvas_clear(BigInt(this.address), BigInt(core.put(Uint8Array, color)), depth)));
   }
 
   /** Draws a batch. Returns `null`, or the error of the list if the batch is refused. */
@@ -85,10 +86,12 @@ export class Canvas {
   /** Three bytes a pixel: the mean of its samples' colours. */
   colors() {
     const size = 3 * this.width * this.height;
-    const pixels = this.core.take(size);
-    const { calls } = this.core;
-    this.#done('colors', calls.trirast_canvas_resolve(BigInt(this.address), RGB8, BigInt(pixels), BigInt(size), BigInt(3 * this.width)));
-    return this.core.view(Uint8Array, pixels, size).slice();
+    return this.core.within(() => {
+      const pixels = this.core.take(size);
+      const { calls } = this.core;
+      this.#done('colors', calls.trirast_canvas_resolve(BigInt(this.address), RGB8, BigInt(pixels), BigInt(size), BigInt(3 * this.width)));
+      return this.core.view(Uint8Array, pixels, size).slice();
+    });
   }
 
   /** The id of a sample of each pixel. */
@@ -109,9 +112,11 @@ export class Canvas {
   #entries(name, call, Numbers, sample) {
     integer('sample', sample, [0, this.samples - 1]);
     const count = this.width * this.height;
-    const entries = this.core.take(Numbers.BYTES_PER_ELEMENT * count);
-    this.#done(name, call(BigInt(this.address), sample, BigInt(entries), BigInt(count), BigInt(this.width)));
-    return this.core.view(Numbers, entries, count).slice();
+    return this.core.within(() => {
+      const entries = this.core.take(Numbers.BYTES_PER_ELEMENT * count);
+      this.#done(name, call(BigInt(this.address), sample, BigInt(entries), BigInt(count), BigInt(this.width)));
+      return this.core.view(Numbers, entries, count).slice();
+    });
   }
 
   #error(name, status) {

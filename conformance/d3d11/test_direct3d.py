@@ -38,7 +38,7 @@ from conformance.run import measure
 from conformance.sample_counts import OF_LISTS, alone
 from conformance.suites.setting import PLAIN, Setting
 from conformance.suites.shapes import PLACES, draw, flat, rectangle, scene, vertex
-from tools import reference
+from tools.reference import renderer
 from tools.draw_list import DrawList
 from tools.places import TOP
 
@@ -289,7 +289,7 @@ class Settings(unittest.TestCase):
                     with self.subTest(suite=suite.name, title=title):
                         drawn = suite.setting(number).by_rules(listed)
                         alone_ = drawn if samples in OF_LISTS else alone(drawn, 0, PLACES[samples][0])
-                        self.assertEqual(reference.read(as_bytes(alone_)).samples, samples if samples in OF_LISTS else 1)
+                        self.assertEqual(renderer.read(as_bytes(alone_)).samples, samples if samples in OF_LISTS else 1)
 
     def test_the_first_tenth_has_all_parts(self) -> None:
         titles = [title for title, _ in BY_NAME["depth-tests"].lists(1)]

@@ -11,12 +11,19 @@ from typing import List, Tuple
 
 import trirast
 
-# In pixels: the side of a picture, the side of one of its pixels when it is enlarged, and the room between two pictures.
-SIDE, ZOOM, GAP = 60, 5, 10
+# In pixels: the side of a picture, the side of one of its pixels when it is enlarged, the gap between two pictures, and the height
+# of the label above each and the side of the squares of which its letters are made.
+SIDE, ZOOM, GAP, LABEL, DOT = 60, 5, 10, 25, 3
 UNIT = 256
 DARK, LIGHT, WARM = (18, 26, 44), (235, 240, 250), (255, 176, 64)
 PAPER = (255, 255, 255)
 COUNTS = (1, 4, 16)
+# Letters of five rows of squares, joined by slashes.
+LETTERS = {
+    "1": " # /## / # / # /###", "4": "# #/# #/###/  #/  #", "6": "###/#  /###/# #/###", " ": "  /  /  /  /  ",
+    "S": "###/#  /###/  #/###", "A": "###/# #/###/# #/# #", "M": "#   #/## ##/# # #/#   #/#   #", "P": "###/# #/###/#  /#  ",
+    "L": "#  /#  /#  /#  /###", "E": "###/#  /## /#  /###",
+}
 
 Bar = Tuple[Tuple[float, float], Tuple[float, float], Tuple[int, int, int]]
 
@@ -45,6 +52,21 @@ def picture(samples: int) -> "memoryview":
     return memoryview(memoryview(canvas.rgb()).tobytes())
 
 
+def label(text: str) -> "memoryview":
+    """The pixels of a label, whose letters are squares that are drawn as quads."""
+    canvas = trirast.Canvas(SIDE * ZOOM, LABEL)
+    canvas.clear(PAPER)
+    left = 0
+    for letter in text:
+        rows = LETTERS[letter].split("/")
+        for y, row in enumerate(rows):
+            for x in (x for x, square in enumerate(row) if square == "#"):
+                start = left + DOT * x, DOT * (y + 2)
+                canvas.draw(quad(start, (start[0] + DOT, start[1]), DARK, DOT), quads=[[0, 1, 2, 3]])
+        left += DOT * (len(rows[0]) + 1)
+    return memoryview(memoryview(canvas.rgb()).tobytes())
+
+
 def enlarged(row: "memoryview") -> bytes:
     """A row of pixels in which each is ZOOM pixels wide."""
     return b"".join(bytes(row[k : k + 3]) * ZOOM for k in range(0, len(row), 3))
@@ -52,10 +74,14 @@ def enlarged(row: "memoryview") -> bytes:
 
 def main(path: str) -> None:
     pictures = [picture(samples) for samples in COUNTS]
+    labels = [label(f"{samples} SAMPLE{'S' if samples > 1 else ''}") for samples in COUNTS]
     between = bytes(PAPER) * GAP
     with open(path, "wb") as file:
         width = len(COUNTS) * SIDE * ZOOM + (len(COUNTS) - 1) * GAP
-        file.write(b"P6\n%d %d\n255\n" % (width, SIDE * ZOOM))
+        file.write(b"P6\n%d %d\n255\n" % (width, LABEL + SIDE * ZOOM))
+        for row in range(LABEL):
+            part = slice(3 * SIDE * ZOOM * row, 3 * SIDE * ZOOM * (row + 1))
+            file.write(between.join(bytes(pixels[part]) for pixels in labels))
         for row in range(SIDE):
             part = slice(3 * SIDE * row, 3 * SIDE * (row + 1))
             file.write(between.join(enlarged(pixels[part]) for pixels in pictures) * ZOOM)

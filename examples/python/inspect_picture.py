@@ -1,11 +1,11 @@
 #!/usr/bin/env python3
-"""Draws a part of a list's picture enlarged, with samples and triangle edges, and the history of one pixel beside it, as an SVG file.
+"""Draws a part of a list's picture enlarged, with samples and triangle edges, and the history of one pixel below it, as an SVG file.
 
     PYTHONPATH=python/src python3 examples/python/inspect_picture.py list.json X,Y [--around 5] [--all] [--out out/inspect.svg]
 
-The squares are the pixels of the picture, the dots its samples; those of the chosen pixel have the colours that they store. Lines are
-the edges of the triangles whose vertices bound some of the pixels shown. Beside it stands what `trirast.why` reports: an event for
-each triangle that covers a sample of the pixel, and with --all for every triangle. Needs the library.
+The drawing says what its shapes are. Its lines are the edges of the triangles whose vertices bound some of the pixels shown. Below it
+stands what `trirast.why` reports: an event for each triangle that covers a sample of the pixel, and with --all for every triangle.
+Needs the library.
 """
 
 import argparse
@@ -19,6 +19,10 @@ import trirast
 # The side of a pixel, the width of a letter and the height of a line in the drawing.
 SIDE, LETTER, LINE = 56, 7.3, 17
 MARGIN = 12
+LEGEND = (
+    "squares     pixels of the picture", "small dots  their samples", "lines       edges of triangles", "red frame   the pixel asked for",
+    "large dots  its samples, in their colours",
+)
 # How many lines of a history are shown at most.
 MOST_LINES = 60
 OFFSETS = {1: [(128, 128)], 4: [(96, 32), (224, 96), (32, 160), (160, 224)]}
@@ -77,18 +81,19 @@ class Drawing:
         for color, width in (("#000000", 2.2), ("#ffd000", 1.1)):
             self.shapes.append(f'<polygon points="{points}" fill="none" stroke="{color}" stroke-width="{width}"/>')
 
-    def text(self, lines: List[str]) -> None:
-        left = 2 * MARGIN + self.size[0]
+    def text(self, left: int, top: int, lines: Sequence[str]) -> None:
         for k, line in enumerate(lines):
-            self.shapes.append(f'<text x="{left}" y="{MARGIN + LINE * (k + 1)}" xml:space="preserve">{escape(line)}</text>')
+            self.shapes.append(f'<text x="{left}" y="{top + LINE * (k + 1)}" xml:space="preserve">{escape(line)}</text>')
 
     def svg(self, lines: List[str]) -> str:
-        """The file: the window, cut at its border, and the lines beside it."""
+        """The file: the window, cut at its border, what its shapes are beside it, and the lines below it."""
         picture, self.shapes = self.shapes, []
-        self.text(lines)
-        columns = max(map(len, lines))
         width, height = self.size
-        whole = (width + 3 * MARGIN + round(LETTER * columns), max(height, LINE * len(lines)) + 2 * MARGIN)
+        self.text(2 * MARGIN + width, MARGIN, LEGEND)
+        self.text(MARGIN, 2 * MARGIN + max(height, LINE * len(LEGEND)), lines)
+        beside = width + MARGIN + LETTER * max(map(len, LEGEND))
+        below = LETTER * max(map(len, lines))
+        whole = 2 * MARGIN + round(max(beside, below)), 4 * MARGIN + max(height, LINE * len(LEGEND)) + LINE * len(lines)
         parts = [
             f'<svg xmlns="http://www.w3.org/2000/svg" width="{whole[0]}" height="{whole[1]}" font-family="monospace" font-size="12">',
             f'<clipPath id="window"><rect x="{MARGIN}" y="{MARGIN}" width="{width}" height="{height}"/></clipPath>',

@@ -6,7 +6,7 @@ import os
 import subprocess
 import sys
 import textwrap
-from typing import Any, List
+from typing import Any, List, Sequence
 
 VERTICES: List[List[int]] = [
     [128, 128, 0, 255, 255, 255, 255],
@@ -24,10 +24,11 @@ PYTHON = os.path.dirname(os.path.dirname(os.path.abspath(__file__)))
 SECONDS = 120
 
 
-def run(text: str, **more: str) -> "subprocess.CompletedProcess[bytes]":
-    """Runs a program over the package in a process of its own."""
+def run(text: str, under: Sequence[str] = (), **more: str) -> "subprocess.CompletedProcess[bytes]":
+    """Runs a program over the package in a process of its own, by a command whose last words it is."""
     environment = {**os.environ, "PYTHONPATH": os.path.join(PYTHON, "src"), **more}
-    return subprocess.run([sys.executable, "-c", textwrap.dedent(text)], env=environment, capture_output=True, timeout=SECONDS)
+    command = [*under, sys.executable, "-c", textwrap.dedent(text)]
+    return subprocess.run(command, env=environment, capture_output=True, timeout=SECONDS)
 
 
 def bytes_of(buffer: Any) -> bytes:

@@ -336,6 +336,18 @@ class Files(Refusals):
                     each.save(os.path.join(folder, name))
             self.assertEqual(os.listdir(folder), [])
 
+    def test_of_canvases_are_those_of_their_colours(self) -> None:
+        canvas = trirast.Canvas(3, 3)
+        canvas.clear((0, 0, 0))
+        canvas.draw(VERTICES, [(0, 1, 2)])
+        with tempfile.TemporaryDirectory() as folder:
+            for name in ("a.ppm", "a.png"):
+                canvas.save(os.path.join(folder, name), threads=2)
+            with open(os.path.join(folder, "a.ppm"), "rb") as ppm, open(os.path.join(folder, "a.png"), "rb") as png:
+                self.assertEqual((ppm.read(), read_png(png.read())), (FILE, (3, 3, b"\x08\x02", FILE[-27:])))
+            with self.assertRaisesRegex(ValueError, "^path: an end of .png or .ppm, for a picture of colours, and not .*a.tif'$"):
+                canvas.save(os.path.join(folder, "a.tif"))
+
 
 def read_png(file: bytes) -> Tuple[int, int, bytes, bytes]:
     """Width, height, bits and colour type, and the pixels of a PNG file without filters. Each CRC must be right."""

@@ -2,7 +2,7 @@
 
 Each call is made on a canvas in the way that was made up, and on a second one in the plainest way: lists of integers, one thread. Both have
 the same picture after each call, and what one refuses the other does. TRIRAST_FUZZ_CALLS says how many calls there are, and then each run
-makes up other ones; python3 -m tools.fuzz_package does so with 10,000.
+makes up other ones; python3 -m tools.checks.fuzz_package does so with 10,000.
 """
 
 import copy

@@ -38,6 +38,14 @@ class History(unittest.TestCase):
         self.assertIn("drawn", lines[3])
         self.assertEqual(lines[-2:], ["  ends (255, 255, 255) depth 65535", "colour (255, 255, 255)"])
 
+    def test_a_reason_is_printed_as_the_program_does(self) -> None:
+        def drawn(**state: Any) -> str:
+            return str(trirast.why({**DRAW_LIST, "draws": [{**DRAW_LIST["draws"][0], **state}]}, 0, 0).samples[0].events[0])
+
+        self.assertIn("  depth failed  fragment (255, 255, 255) ", drawn(depth_test="greater"))
+        self.assertTrue(drawn(depth_test="greater").endswith("; fails the depth test against 65535"))
+        self.assertTrue(drawn(scissor=[1, 1, 2, 2], sample_mask=0).endswith("; outside the scissor; masked"))
+
     def test_the_colour_is_that_of_all_samples_if_one_is_asked_for(self) -> None:
         four: Any = {**DRAW_LIST, "samples": 4}
         picture = trirast.draw(four)

@@ -1,4 +1,4 @@
-"""Posters: what is read, chosen, written and refused. tools/poster compares their pictures with the program's."""
+"""Posters: what is read, chosen, written and refused. tools/checks/poster compares their pictures with the program's."""
 
 import importlib.util
 import io
@@ -20,7 +20,7 @@ from trirast import poster
 from trirast.poster import _command, _draw_list, _index, _journal, _part, _png, _scene, _threads, _tiles_writer, _windows
 from trirast.poster._dask import draw_by_dask
 
-from .common import DRAW_LIST, FILE, VERTICES
+from .common import DRAW_LIST, FILE, VERTICES, run
 from .poster_common import Files, as_list, random_scene
 
 SHEET = poster.Sheet(3, 3)
@@ -262,6 +262,23 @@ class Pictures(Files):
         for side in (0, 2, 63, 4097):
             with self.assertRaises(ValueError):
                 poster.draw_poster(random_scene(5), self.path("a.ppm"), window=side)
+
+    def test_threads_have_enough_stack(self) -> None:
+        scene = random_scene(5)
+        wanted = self.path("wanted.png")
+        poster.draw_poster(scene, wanted, window=64)
+        value = {"width": 300, "height": 200, "samples": 4, "draws": [{**draw.state, "triangles": draw.triangles} for draw in scene.draws]}
+        poster.save_arrays(self.path("scene.npz"), scene.vertices, scene.triangles, value)
+        done = run("""
+            import os, threading
+            from trirast import poster
+            threading.stack_size(32768)
+            scene = poster.scene_of(os.environ["SCENE"])
+            poster.draw_poster(scene, os.environ["OUT"], tiles=os.environ["OUT"] + "-tiles", window=64, workers=3)
+            print(threading.stack_size())
+        """, SCENE=self.path("scene.npz"), OUT=self.path("small.png"))
+        self.assertEqual((done.returncode, done.stdout, done.stderr), (0, b"32768\n", b""))
+        self.assertEqual(self.content("small.png"), self.content("wanted.png"))
 
     def test_without_dask_an_error_names_it(self) -> None:
         with mock.patch.dict("sys.modules", {"distributed": None}), self.assertRaises(poster.EngineMissingError):

@@ -5,8 +5,12 @@ import io
 import json
 import os
 import random
+import signal
 import stat
+import subprocess
+import sys
 import threading
+import time
 import unittest
 import zipfile
 from contextlib import redirect_stderr
@@ -23,7 +27,7 @@ from trirast import poster
 from trirast.poster import _arrays, _command, _journal, _poster, _threads, _tile_folder
 from trirast.poster._own_file import open_alone
 
-from .common import DRAW_LIST, FILE, VERTICES
+from .common import DRAW_LIST, FILE, PYTHON, SECONDS, VERTICES
 from .poster_common import Files, as_list, random_scene
 
 VALUE = {"width": 3, "height": 3, "draws": [{"triangles": 1}]}
@@ -86,6 +90,10 @@ class Outputs(Runs):
         self.must_refuse("OutputError", "-o", "/dev/null")
         self.must_refuse("OutputError", "-o", "")
 
+    def test_an_end_of_no_format_is_refused(self) -> None:
+        for name in ("a.tif", "a.jpg", "a.PNG.bak"):
+            self.must_refuse("OutputError", "-o", self.path(name))
+
     def test_the_list_is_not_replaced(self) -> None:
         os.link(self.list, self.path("other.json"))
         for name in ("list.json", "other.json"):
@@ -109,6 +117,10 @@ class Outputs(Runs):
             os.rename(self.list, self.path("a.ppm" + ending))
             self.list = self.path("a.ppm" + ending)
             self.must_refuse("OutputError", "-o", self.path("a.ppm"))
+
+    def test_names_may_be_bytes(self) -> None:
+        poster.draw_poster(poster.scene_of(os.fsencode(self.list)), os.fsencode(self.path("a.ppm")), tiles=os.fsencode(self.path("tiles")))
+        self.assertEqual(self.content("a.ppm"), FILE)
 
     def test_regular_files_are_replaced(self) -> None:
         self.write("a.ppm", b"older")
@@ -324,6 +336,61 @@ class Journals(Runs):
             else:
                 self.assertEqual(self.content("a.ppm"), FILE)
                 os.remove(self.path("a.ppm"))
+
+
+    def test_a_journal_with_more_rows_than_there_are(self) -> None:
+        scene = random_scene(6, 270, 192, 50)
+        kind: Any
+        for kind in Stops.KINDS:
+            out, tiles = (name and self.path(name) for name in kind)
+            journal = f"{out or tiles}.resume"
+            with mock.patch.object(_poster, "finish", side_effect=OSError("stopped")), self.assertRaises(OSError):
+                poster.draw_poster(scene, out, tiles=tiles, window=64)
+            with open(journal, "ab") as file:
+                # What no rows have is the checksum of no bytes.
+                file.write(b'{"row": "00000000"}\n' * 3)
+            poster.draw_poster(scene, out, tiles=tiles, window=64, resume=True)
+            self.assertFalse(os.path.exists(journal))
+            if out:
+                poster.draw_poster(scene, f"{out}.wanted{kind[0]}", window=64)
+                self.assertTrue(self.content(kind[0]) == self.content(f"{kind[0]}.wanted{kind[0]}"), kind)
+            self.remove_all()
+
+
+class Processes(Runs):
+    """The command as a process of its own."""
+
+    def command(self, *words: str) -> List[str]:
+        return [sys.executable, "-m", "trirast.poster", self.list, *words]
+
+    def environment(self) -> Dict[str, str]:
+        return {**os.environ, "PYTHONPATH": os.path.join(PYTHON, "src")}
+
+    def test_standard_streams_that_are_closed(self) -> None:
+        for closed in ("2>&-", ">&- 2>&-", "<&- >&- 2>&-"):
+            words = self.command("-o", self.path("a.ppm"))
+            done = subprocess.run(["sh", "-c", f'exec "$0" "$@" {closed}', *words], env=self.environment(), timeout=SECONDS)
+            self.assertEqual((done.returncode, self.content("a.ppm")), (0, FILE), closed)
+            self.remove("a.ppm")
+
+    def test_many_interrupts_are_one_line(self) -> None:
+        scene = random_scene(1, 2000, 2000, 20_000)
+        draws = [{**draw.state, "triangles": draw.triangles} for draw in scene.draws]
+        value = {"width": 2000, "height": 2000, "samples": 4, "draws": draws}
+        self.list = self.path("scene.npz")
+        poster.save_arrays(self.list, scene.vertices, scene.triangles, value)
+        for out in (("-o", "a.png"), ("--tiles", "tiles")):
+            words = self.command(out[0], self.path(out[1]), "--window", "64", "--workers", "3")
+            with subprocess.Popen(words, env=self.environment(), stderr=subprocess.PIPE) as child:
+                end = time.monotonic() + SECONDS
+                while child.poll() is None and time.monotonic() < end and not os.path.exists(self.path(out[1] + ".resume")):
+                    time.sleep(0.001)
+                while child.poll() is None and time.monotonic() < end:
+                    child.send_signal(signal.SIGINT)
+                    time.sleep(0.002)
+                _, errors = child.communicate(timeout=SECONDS)
+            self.assertEqual((child.returncode, errors), (130, b"poster: stopped; --resume goes on\n"))
+            self.assertEqual(subprocess.run([*words, "--resume"], env=self.environment(), timeout=SECONDS).returncode, 0)
 
 
 class BrokenArrays(Files):

@@ -12,8 +12,9 @@ import numpy as np
 
 import trirast
 from trirast import poster
+from trirast.poster import _index, _part, _scene, _windows
 
-from .common import DRAW_LIST, FILE, VERTICES
+from .common import DRAW_LIST, FILE, VERTICES, run
 from .poster_common import Files
 
 SHEET = poster.Sheet(3, 3)
@@ -110,6 +111,73 @@ class Scenes(Files):
         self.assertTrue(np.shares_memory(scene.vertices, vertices) and np.shares_memory(scene.triangles, triangles))
         self.assertFalse(scene.vertices.flags.writeable)
         self.assertTrue(vertices.flags.writeable)
+        poster.draw_poster(scene, self.path("a.ppm"))
+        self.assertEqual(self.content("a.ppm"), FILE)
+
+    def must_not_crash(self, change: str) -> None:
+        """Arrays of the caller's own that another thread changes while they are drawn: a poster, or an error by name."""
+        done = run(f"""
+            import os, threading, time, numpy as np, trirast
+            from trirast import poster
+            count, side = 9000, 256
+            pick = np.random.default_rng(1)
+            places = pick.integers(0, 256 * side, (3 * count, 2))
+            vertices = np.concatenate((places, pick.integers(0, 256, (3 * count, 5))), 1).astype(np.int32)
+            triangles = np.arange(3 * count, dtype=np.int32).reshape(-1, 3)
+            scene = poster.scene_of_arrays(
+                vertices, triangles, {{"width": side, "height": side, "samples": 4, "draws": [{{"triangles": count}}]}}, copy=False
+            )
+            is_over = False
+
+            def flip():
+                while not is_over:
+                    for k in range(0, count, 997):
+                        {change}
+                    time.sleep(0.0002)
+
+            flipping = threading.Thread(target=flip)
+            flipping.start()
+            end, ended = time.monotonic() + 2, 0
+            while time.monotonic() < end or not ended:
+                try:
+                    poster.draw_poster(scene, os.environ["OUT"], window=64, workers=3)
+                except (trirast.DrawListError, trirast.CanvasError, poster.PosterError, IndexError):
+                    pass
+                ended += 1
+            is_over = True
+            flipping.join()
+            print("ended")
+        """, OUT=self.path("changed.ppm"))
+        self.assertEqual((done.returncode, done.stdout, done.stderr), (0, b"ended\n", b""))
+
+    def test_arrays_that_another_thread_changes(self) -> None:
+        self.must_not_crash(
+            "vertices[k, 0] = 0x7fffffff; vertices[k, 0] = -0x80000000; vertices[k, 0] = 9; vertices[k, 2:] = -1; vertices[k, 2:] = 7;"
+            "triangles[k, 1] = 0x7fffffff; triangles[k, 1] = -5; triangles[k, 1] = 2"
+        )
+
+    def test_windows_of_arrays_that_others_have_are_copies(self) -> None:
+        vertices, triangles = np.array(VERTICES, np.int32), TRIANGLE.astype(np.int32)
+        windows = _windows.Windows(SHEET, 64)
+        for copy in (False, True):
+            scene = scene_of(vertices, triangles, copy=copy)
+            part = _part.part_of(scene, _index.Index.of(scene, windows), windows.span(0, 0, 1))
+            for array in (part.vertices, part.triangles):
+                self.assertFalse(np.shares_memory(array, vertices) or np.shares_memory(array, triangles))
+            self.assertEqual(part.vertices[part.triangles].tolist(), [VERTICES])
+            # Arrays that are the scene's own are copied once.
+            self.assertEqual(np.shares_memory(part.vertices, scene.vertices), copy)
+        index = _index.Index.of(scene_of(vertices, triangles), windows)
+        mine = scene_of(vertices, triangles, copy=False)
+        for wrong in (3, -1, 0x7fffffff):
+            triangles[0, 1] = wrong
+            with self.assertRaisesRegex(poster.ArraysError, "an index"):
+                _part.part_of(mine, index, windows.span(0, 0, 1))
+
+    def test_other_samples_of_the_same_arrays(self) -> None:
+        for copy in (False, True):
+            scene = scene_of(np.array(VERTICES, np.int32), TRIANGLE.astype(np.int32), copy=copy)
+            self.assertEqual((scene.is_own, _scene.with_samples(scene, 16).is_own), (copy, copy))
 
 
 class Texts(unittest.TestCase):

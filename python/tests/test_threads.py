@@ -278,6 +278,75 @@ class Starting(unittest.TestCase):
         """)
         self.assertEqual((done.returncode, done.stdout, done.stderr), (0, b"65536\n", b""))
 
+    def test_calls_on_a_thread_with_little_stack(self) -> None:
+        for stack in (32768, 65536, 262144):
+            done = run(f"""
+                import threading, trirast
+                from trirast import _stack
+                vertices = [[256 * x, 256 * y, 9, 1, 2, 3, 200] for x in range(0, 512, 8) for y in range(0, 512, 8)]
+                draw = trirast.Draw(vertices, [[k, k + 1, k + 70] for k in range(len(vertices) - 70)])
+                small, large = {DRAW_LIST}, {{**{DRAW_LIST}, "height": 512}}
+                calls = [
+                    lambda: trirast.draw_scene(512, 512, [draw]).bytes, lambda: trirast.draw_file(large), lambda: trirast.draw(large).bytes,
+                    lambda: trirast.draw(large, threads=3).bytes, lambda: trirast.image_info(small), lambda: trirast.why(small, 1, 1),
+                    lambda: trirast.triangle_samples(small, 0, 0),
+                ]
+                for depth in 63, 127, 500:
+                    for begin, end in (("[", "]"), ('{{"a":', "}}"), ('[{{"a":', '}}]'), ('{{"a":[', ']}}')):
+                        calls.append(lambda text=begin * depth + "0" + end * depth: trirast.draw_file(text))
+
+                def made(call):
+                    try:
+                        return call()
+                    except trirast.DrawListError as error:
+                        return str(error)
+
+                wanted, found = [made(call) for call in calls], []
+                threading.stack_size({stack})
+                calling = threading.Thread(target=lambda: found.extend([_stack.is_enough(), *map(made, calls)]))
+                calling.start()
+                threading.stack_size(0)  # What threads are given later makes no difference.
+                calling.join()
+                print(found == [False, *wanted], threading.stack_size())
+            """)
+            self.assertEqual((done.returncode, done.stdout, done.stderr), (0, b"True 0\n", b""))
+
+    def test_calls_without_a_thread_that_has_enough_stack(self) -> None:
+        done = run(f"""
+            import threading, trirast
+            from unittest import mock
+            from trirast import _threads
+
+            def draw():
+                try:
+                    trirast.draw_file({DRAW_LIST})
+                except RuntimeError as error:
+                    print(error)
+
+            trirast.draw_file({DRAW_LIST})
+            threading.stack_size(65536)
+            calling = threading.Thread(target=draw)
+            with mock.patch.object(_threads, "start_new_thread", side_effect=RuntimeError("can't start new thread")):
+                calling.start()
+                calling.join()
+        """)
+        printed = b"a thread has 65536 bytes of stack, and none can be started that has the 1048576 it takes\n"
+        self.assertEqual((done.returncode, done.stdout, done.stderr), (0, printed, b""))
+
+    def test_where_the_system_gives_little_stack(self) -> None:
+        program = f"""
+            import trirast
+            from trirast import _stack
+            vertices = [[256 * x, 256 * y, 9, 1, 2, 3, 200] for x in range(0, 512, 8) for y in range(0, 512, 8)]
+            canvas = trirast.Canvas(512, 512, samples=4)
+            canvas.clear(threads=4)
+            canvas.draw(vertices, [[k, k + 1, k + 70] for k in range(len(vertices) - 70)], threads=4)
+            trirast.draw({{**{DRAW_LIST}, "height": 512}}, threads=4)
+            print(_stack.is_enough())
+        """
+        done = run(program, under=("sh", "-c", 'ulimit -s 128 && exec "$0" "$@"'))
+        self.assertEqual((done.returncode, done.stdout, done.stderr), (0, b"False\n", b""))
+
     def test_for_want_of_memory(self) -> None:
         done = run("""
             import resource, threading, trirast

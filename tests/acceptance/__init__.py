@@ -2,8 +2,8 @@
 
     python3 -m pytest tests/acceptance
 
-Each expected byte was computed by hand from the rules. Readers and writers that fail, and calls of the library for
-Rattle, stand in crates/acceptance.
+Each expected byte was computed by hand from the rules. Writers that take nothing or cannot be flushed, and calls of the
+library for Rattle, stand in crates/acceptance.
 """
 
 import pytest

@@ -7,12 +7,13 @@ An edit is due if anything that its check reads has changed since it was last tr
 checksum of
 
 - its own src/, specs/ and proofs/ and its line of crates.txt, without comments, layout and tests;
-- of each crate below it what a contract can name: its line, specs/ whole, and src/ without the bodies of functions;
+- of the crates below it the lines, and the files of specs/ and src/ that its text leads to, as `reads.py` finds them, without the
+  bodies of functions;
 - the checksum of the toolchain's logic, which README names;
 
 and each edit one of its own text. So a change in a crate makes all of its edits due, and a new or changed edit itself
-alone. Proofs below are left out: no lemma makes a wrong body right. The sample is the next SAMPLE edits of a fixed
-order, by the number of commits.
+alone. The sample is the next SAMPLE edits of a fixed order, by the number of commits: it finds in time what a checksum
+overlooks.
 
 What was tried stands in tests/edits_tried.json, as the commit of --base has it; `tried.py` says which that is if none
 is given. `plan` prints a line for each crate with edits that are due, and the counts. An edit that cannot be applied
@@ -28,12 +29,13 @@ import re
 import sys
 from dataclasses import dataclass
 from functools import lru_cache
-from typing import Iterator, Sequence
+from typing import Sequence
 
 from tools.ci import seconds, tried
 from tools.ci.edit import applied
+from tools.ci.reads import Reads
 from tools.ci.sources import normal, sources_in
-from tools.crates import PARTS, Tree, text_of
+from tools.sources.crates import PARTS, Tree, text_of
 from tools.places import TOP
 
 SAMPLE = 24
@@ -57,24 +59,17 @@ class Checksums:
     def __init__(self, tree: Tree) -> None:
         self.tree = tree
         self.logic = read_logic(tree.top)
-        self.stated = lru_cache(maxsize=None)(self.read_stated)
+        self.reads = Reads(tree)
         self.of_crate = lru_cache(maxsize=None)(self.read_crate)
         self.of_edit = lru_cache(maxsize=None)(self.read_edit)
 
-    def parts(self, crate: str, folders: Sequence[str], is_below: bool) -> Iterator[str]:
-        folder = self.tree.folder(crate)
-        for part in folders:
-            for path in sources_in(os.path.join(folder, part)):
-                yield f"{os.path.relpath(path, folder)}\n{normal(path, is_below)}"
-
-    def read_stated(self, crate: str) -> str:
-        """The checksum of what a crate above can read of this one."""
-        return sum_of(self.tree.lines[crate], *self.parts(crate, ("src", "specs"), is_below=True))
-
     def read_crate(self, crate: str) -> str:
         """The checksum of all that a check of an edit reads besides the edit."""
-        own = self.parts(crate, PARTS, is_below=False)
-        return sum_of(self.logic, self.tree.lines[crate], *own, *(self.stated(name) for name in self.tree.below(crate)))
+        folder = self.tree.folder(crate)
+        own = [(path, normal(path, False)) for part in PARTS for path in sources_in(os.path.join(folder, part))]
+        below = [(path, self.reads.kept(path)) for path in self.reads.of(crate)]
+        lines = (self.tree.lines[name] for name in (crate, *self.tree.below(crate)))
+        return sum_of(self.logic, *lines, *(f"{os.path.relpath(path, self.tree.top)}\n{text}" for path, text in own + below))
 
     def of_all(self) -> tuple[dict[str, str], dict[str, dict[str, str]]]:
         """The checksums of the crates that have edits, and of these."""

@@ -12,7 +12,7 @@ import os
 from functools import lru_cache
 from typing import Iterator
 
-from tools.crates import PARTS, RUN_FILES, Tree, files_in
+from tools.sources.crates import PARTS, RUN_FILES, Tree, files_in
 
 # The files here that say what a crate has to pass.
 JUDGES = ("rooms.py", "steps.py", "toolchain.py", "verdict.py")

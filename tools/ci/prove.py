@@ -35,7 +35,7 @@ from tools.ci.tasks import tasks_of
 from tools.ci.toolchain import Toolchain, stop_all
 from tools.ci.verdict import has_nm, read_handles
 from tools.counts import Counts
-from tools.crates import Tree, below
+from tools.sources.crates import Tree, below
 from tools.places import TOP
 
 # The crates whose programs the checks run, and the names under which they stand in bin/.

@@ -16,7 +16,7 @@ import subprocess
 import threading
 from typing import Iterator, Sequence
 
-from tools.crates import PARTS, RUN_FILES, Tree
+from tools.sources.crates import PARTS, RUN_FILES, Tree
 
 # Of a crate below, rt reads its sources and its library.
 LIBRARY = os.path.join("out", "rlib")

@@ -32,7 +32,7 @@ mod tests;
 """
 # Of the crate `apart`, each with an edit.
 FUNCTIONS = 6
-HIGH = "pub fn last(n: u32) -> u32\n    ensures { result ≡ n }\n{\n    n\n}\n"
+HIGH = "use low::next;\n\npub fn last(n: u32) -> u32\n    ensures { result ≡ n }\n{\n    n\n}\n"
 EDIT = "file: src/lib.rt\nold: {}\nnew: {}\n"
 FILES = {
     "README.md": "rattle-kit-1 logic 0a1b2c3d\n",

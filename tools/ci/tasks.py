@@ -9,7 +9,7 @@ from typing import Callable, Mapping, Sequence
 from tools.ci.edit_trial import try_edit
 from tools.ci.schedule import Outcome, Task
 from tools.ci.steps import Steps
-from tools.crates import PARTS, Tree, files_in
+from tools.sources.crates import PARTS, Tree, files_in
 
 # For the order of tasks alone: what a check takes at least, and the seconds of a processor for a byte of a crate's sources.
 CHECK_SECONDS = 10.0

@@ -4,8 +4,8 @@ from __future__ import annotations
 
 import pytest
 
-from tools import cases
-from tools.cases import CheckError, MissingError, case, must
+from tools.checks.cases import CheckError, MissingError, case, must
+from tools.checks import cases
 
 
 def refuses() -> None:

@@ -10,7 +10,7 @@ import pytest
 from tools.ci import edits, seconds, tried
 from tools.ci.small_tree import EDIT, FUNCTIONS, SmallTree
 from tools.ci.sources import words_of
-from tools.crates import Tree
+from tools.sources.crates import Tree
 
 LOW, HIGH = "low/lib.next.adds_two.edit", "high/lib.last.adds_one.edit"
 

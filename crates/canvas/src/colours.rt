@@ -1,7 +1,8 @@
 //! The colours of pixels, written to the caller's memory.
-ghost use Rattle.std.specs.Prelude.{◌≡◌, ◌≢◌, ◌↔◌, ◌⊎◌, ℕ, ◌+◌, ◌-◌, ◌*◌, ◌/◌, ◌<◌, ◌≤◌, length, take, slice_index, IsOk, IsTrue, OnOk, OnErr, IfErr};
+ghost use Rattle.std.specs.Prelude.{◌≡◌, false, ◌≢◌, ◌↔◌, ◌⊎◌, ℕ, ◌+◌, ◌-◌, ◌*◌, ◌/◌, ◌<◌, ◌≤◌, length, take, slice_index, IsOk, IsTrue, OnOk, OnErr, IfErr};
 ghost use Rattle.grid.specs.Pixels.{side_of};
 ghost use Rattle.grid.specs.Samples.{count_of};
+ghost use Rattle.grid.specs.declared.sample_count.SampleCount.TheVariants.{One, Four};
 ghost use Rattle.raster.specs.Samples.{planes_of};
 ghost use Rattle.canvas.specs.Layout.{columns_of, rows_of, planes_of_tile, planes_of_row, planes_of_rows};
 ghost use Rattle.canvas.specs.Pixels.{pixel_bytes, FitPixels, IsPixelsMisfit};
@@ -12,9 +13,9 @@ use crate::format::{Format, arranged};
 use crate::misfit::Misfit;
 use crate::tile_planes::is_cleared;
 use crate::tile_rows::TileRows;
-use grid::TileSide;
+use grid::{SampleCount, TileSide};
 use lanes::BlockSamples;
-use raster::{Tile, colours};
+use raster::{Tile, colours_by};
 use std::simd::prelude::*;
 
 /// Copies the first bytes of `run` to all of `bytes`. If this is inlined, the lengths of eight whole pixels are known, so that
@@ -38,9 +39,9 @@ fn copy_first(run: u8x32, bytes: &mut [u8])
     }
 }
 
-/// Writes the first `count` of the eight pixels in a row of the tile and in a column of its blocks.
+/// Writes the first `count` of the eight pixels in a row of the tile and in a column of its blocks. `MORE` is as in `colours_by`.
 #[inline(always)]
-fn resolve_run(
+fn resolve_run<const MORE: bool>(
     tile: &Tile,
     samples: &[BlockSamples],
     row: u32,
@@ -53,10 +54,11 @@ fn resolve_run(
     requires row { row < side_of tile.now.side }
     requires column { column < side_of tile.now.side / 8 }
     requires count { count ≤ 8 }
+    requires few { MORE ≡ false → (tile.now.count ≡ One) ⊎ (tile.now.count ≡ Four) }
     requires bytes { length bytes.old ≡ count * pixel_bytes format }
     ensures { (i : ℕ) → i < count → IsTilePixel tile.now samples.now format row (8 * column + i) (λ k. slice_index bytes.new (i * pixel_bytes format + k)) }
 {
-    let rgb = colours(tile, samples, row, column);
+    let rgb = colours_by::<MORE>(tile, samples, row, column);
     // Each format by itself: a run that is chosen from three is put together byte by byte.
     match format {
         Format::Rgb8 => copy_first(arranged(Format::Rgb8, rgb), bytes),
@@ -69,7 +71,7 @@ impl Canvas {
     /// Writes the first `count` of eight pixels of row `j`, from column 8 * `block` on, from the planes of their tile, whose own
     /// blocks begin at plane `own`.
     #[inline(always)]
-    fn resolve_eight(
+    fn resolve_eight<const MORE: bool>(
         &self,
         block: u32,
         j: u32,
@@ -84,6 +86,7 @@ impl Canvas {
         requires samples { length samples.now ≡ planes_of_tile self.now.count }
         requires count { count ≤ 8 }
         requires own { own ≡ 1 + count_of self.now.count }
+        requires few { MORE ≡ false → (self.now.count ≡ One) ⊎ (self.now.count ≡ Four) }
         requires bytes { length bytes.old ≡ count * pixel_bytes format }
         ensures { (i : ℕ) → i < count → IsPixelIn self.now.count samples.now format (8 * block + i) j (λ k. slice_index bytes.new (i * pixel_bytes format + k)) }
     {
@@ -94,10 +97,10 @@ impl Canvas {
                 side: TileSide::T8,
                 count: self.count,
             };
-            resolve_run(&cleared, &samples[1..own], j % 8, 0, format, count, bytes);
+            resolve_run::<MORE>(&cleared, &samples[1..own], j % 8, 0, format, count, bytes);
         } else {
             let tile = self.tile(block / 8, j / 64);
-            resolve_run(
+            resolve_run::<MORE>(
                 &tile,
                 &samples[own..],
                 j % 64,
@@ -109,9 +112,16 @@ impl Canvas {
         }
     }
 
-    /// Writes row `j` of pixels, from the samples of its tile row.
-    fn resolve_row(&self, j: u32, samples: &[BlockSamples], format: Format, bytes: &mut [u8])
+    /// Writes row `j` of pixels, from the samples of its tile row. `MORE` is as in `colours_by`.
+    fn resolve_row_by<const MORE: bool>(
+        &self,
+        j: u32,
+        samples: &[BlockSamples],
+        format: Format,
+        bytes: &mut [u8],
+    )
         requires row { j < self.now.height }
+        requires few { MORE ≡ false → (self.now.count ≡ One) ⊎ (self.now.count ≡ Four) }
         requires samples { length samples.now ≡ planes_of_row self.now }
         requires bytes { length bytes.old ≡ self.now.width * pixel_bytes format }
         ensures { (i : ℕ) → i < self.now.width → IsPixelOf self.now (j / 64) samples.now format i j (λ k. slice_index bytes.new (i * pixel_bytes format + k)) }
@@ -123,7 +133,7 @@ impl Canvas {
             let count = (self.width - 8 * block).min(8);
             let from = (block / 8) as usize * each;
             let at = 8 * block as usize * unit;
-            self.resolve_eight(
+            self.resolve_eight::<MORE>(
                 block,
                 j,
                 &samples[from..from + each],
@@ -132,6 +142,23 @@ impl Canvas {
                 own,
                 &mut bytes[at..at + count as usize * unit],
             );
+        }
+    }
+
+    /// Writes row `j` of pixels, from the samples of its tile row.
+    fn resolve_row(&self, j: u32, samples: &[BlockSamples], format: Format, bytes: &mut [u8])
+        requires row { j < self.now.height }
+        requires samples { length samples.now ≡ planes_of_row self.now }
+        requires bytes { length bytes.old ≡ self.now.width * pixel_bytes format }
+        ensures { (i : ℕ) → i < self.now.width → IsPixelOf self.now (j / 64) samples.now format i j (λ k. slice_index bytes.new (i * pixel_bytes format + k)) }
+    {
+        match self.count {
+            SampleCount::One | SampleCount::Four => {
+                self.resolve_row_by::<false>(j, samples, format, bytes);
+            }
+            SampleCount::Two | SampleCount::Eight | SampleCount::Sixteen => {
+                self.resolve_row_by::<true>(j, samples, format, bytes);
+            }
         }
     }
 }

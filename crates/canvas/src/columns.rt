@@ -11,7 +11,8 @@ ghost use Rattle.canvas.specs.Rows.{MissesTile, HasReached};
 use crate::canvas::Canvas;
 use cover::{Class, Setup};
 use grid::TileSide;
-use reach::{NOWHERE, Span, Triangles};
+use reach::{NOWHERE, Span};
+use shade::Triangles;
 
 impl Canvas {
     /// Whether the triangle is seen to cover no sample of a tile.

@@ -7,8 +7,7 @@ ghost use Rattle.canvas.specs.Ids.{with_id as with_id_of, with_ids};
 use crate::misfit::Misfit;
 use crate::tile_rows::TileRows;
 use lanes::BlockSamples;
-use reach::Triangles;
-use shade::{Merge, Placed, State};
+use shade::{Merge, Placed, State, Triangles};
 
 /// How many ids there are: one for each colour of 24 bits.
 const ID_COUNT: usize = 16_777_216;

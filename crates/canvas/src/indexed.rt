@@ -10,8 +10,7 @@ use crate::tile_rows::TileRows;
 use crate::vertex::Vertex;
 use grid::Tri;
 use lanes::BlockSamples;
-use reach::Triangles;
-use shade::{Placed, State};
+use shade::{Placed, State, Triangles};
 
 /// Whether the indices of a triangle are vertices.
 fn are_indices(vertices: &[Vertex], indices: [u32; 3]) -> bool

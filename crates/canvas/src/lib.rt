@@ -31,7 +31,7 @@ pub use format::Format;
 pub use ids::with_id;
 pub use laws::{joins_batches, moves_by_pixels, tells_last};
 pub use misfit::Misfit;
-pub use reach::Triangles;
+pub use shade::Triangles;
 pub use tile_rows::TileRows;
 pub use vertex::Vertex;
 pub use window::{Origin, seen_point};

@@ -14,7 +14,8 @@ use crate::tile_planes::fill_tile;
 use crate::tile_rows::TileRows;
 use lanes::BlockSamples;
 use raster::{Tile, draw_triangle};
-use reach::{Bounds, NOWHERE, Spans, Triangles, next_bit};
+use reach::{Bounds, NOWHERE, Spans, next_bit};
+use shade::Triangles;
 
 /// Draws those of sixteen triangles of a tile row, from place `from` of its list on, that can meet the tile, one after another.
 fn draw_some<T: Triangles, const N: usize>(

@@ -6,7 +6,8 @@ ghost use Rattle.canvas.specs.Layout.{rows_of};
 ghost use Rattle.canvas.specs.Rows.{AreOfRow};
 
 use crate::canvas::Canvas;
-use reach::{Bounds, NOWHERE, Span, Spans, Triangles, next_bit};
+use reach::{Bounds, NOWHERE, Span, Spans, next_bit};
+use shade::Triangles;
 
 /// The numbers of those of up to `N` triangles that can meet a sample of a tile row, in draw order, each with the columns of tiles
 /// in which it can.

@@ -3,8 +3,7 @@
 use crate::{Canvas, Format, Misfit, Origin, TileRows, Vertex};
 use grid::{Cull, PixelBox, Point, SampleCount, Tri, sample_at};
 use lanes::BlockSamples;
-use reach::Stored;
-use shade::{DepthTest, MAX_SAMPLES, Merge, Placed, Sample, State, apply, resolved_colour};
+use shade::{DepthTest, MAX_SAMPLES, Merge, Placed, Sample, State, Stored, apply, resolved_colour};
 use std::alloc::Global;
 use std::process::Abort;
 use std::test::Fail;

@@ -14,8 +14,8 @@ use crate::tile_planes::fill_tile;
 use crate::tile_rows::TileRows;
 use lanes::BlockSamples;
 use raster::{Tile, draw_triangle};
-use reach::{CHUNK, Chunk, Reached, Stored, Triangles, reach_of};
-use shade::Placed;
+use reach::{CHUNK, Reached, reach_of};
+use shade::{Chunk, Placed, Stored, Triangles};
 
 /// How many triangles are drawn together at most.
 const LARGEST: usize = 16_384;

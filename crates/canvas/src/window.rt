@@ -10,8 +10,7 @@ use crate::misfit::Misfit;
 use crate::tile_rows::TileRows;
 use grid::{PixelBox, Point, Tri};
 use lanes::BlockSamples;
-use reach::Triangles;
-use shade::{Placed, State};
+use shade::{Placed, State, Triangles};
 
 /// The pixel of the screen at which a canvas has its upper left pixel.
 #[derive(Clone, Copy, Debug, PartialEq, Eq)]

@@ -1,11 +1,11 @@
 -- A quad's edges, and the masks of a quad.
-use Rattle.std.proofs.Common.{◌≡◌, ◌↔◌, ◌⊎◌, inl, inr, refl, sym, ◌∙◌, subst, arith, ℕ, ◌+◌, ◌*◌, ◌^◌, ◌<◌, ℤ, pos, ◌<ℤ◌, ◌≤ℤ◌}
+use Rattle.std.proofs.Common.{◌≡◌, ◌↔◌, ◌⊎◌, inl, inr, refl, sym, ◌∙◌, subst, arith, ℕ, ◌+◌, ◌*◌, ◌^◌, ◌<◌, IsBitSet, slice_index, ℤ, pos, ◌<ℤ◌, ◌≤ℤ◌}
 use Rattle.std.proofs.lemmas.Int.{ints}
 use Rattle.std.proofs.lemmas.Bool.{cases_lt}
 use Rattle.grid.specs.Position.{Position}
 use Rattle.grid.specs.Edge.{side, PassesEdge}
 use Rattle.grid.specs.Quad.{Corners, TurnsRight, TurnsLeft, IsStrictlyConvex, QuadCovers}
-use Rattle.grid.specs.Samples.{part_size, IsPart, sample_position}
+use Rattle.grid.specs.Samples.{count_of, part_size, sample_position}
 use Rattle.grid.specs.Triangle.{Covers}
 use Rattle.grid.specs.declared.sample_count.SampleCount.{SampleCount}
 use Rattle.grid.specs.declared.triangle.Tri.{Tri}
@@ -21,7 +21,7 @@ use Rattle.cover.specs.Quad.{AreMasksOfQuad, IsJoinedFrom}
 use Rattle.cover.specs.Sides.{AreSidesOf, IsInsideAt}
 use Rattle.cover.specs.Square.{box_start}
 use Rattle.cover.proofs.Corners.{small_value, there}
-use Rattle.cover.proofs.Joined.{bits64, kept, place_x, place_y}
+use Rattle.cover.proofs.Joined.{bits64, kept, place_x, place_y, begins_with_part, of_first_part, plane_of_first}
 use Rattle.cover.proofs.Words.{empty_word}
 
 -- ---- four tests make the cover test
@@ -96,18 +96,19 @@ inside_at e x y m n ab bc cd da p q r s = (
 )
 
 -- ---- the masks
-pub quad_covered : (q : Corners) (e : Sides) (bx by x y : ℕ) (count : SampleCount) (from : ℕ) (m : Masks) → IsPart count from → AreSidesOf q e → x ≡ 2048 * bx + box_start count → y ≡ 2048 * by + box_start count
-    → AreMasksWhere (λ s row column. IsInsideAt e x y (to_column count s column) (to_row count s row)) count from m → AreMasksOfQuad q bx by count from m
-quad_covered q e bx by x y count from m part test ex ey h = record {
+pub quad_covered : (q : Corners) (e : Sides) (bx by x y : ℕ) (count : SampleCount) (m : Masks) → AreSidesOf q e → x ≡ 2048 * bx + box_start count → y ≡ 2048 * by + box_start count
+    → AreMasksWhere (λ s row column. IsInsideAt e x y (to_column count s column) (to_row count s row)) count 0 m → AreMasksOfQuad q bx by count m
+quad_covered q e bx by x y count m test ex ey h = record {
   covered = λ s row column lt below within.
-      let bit = h.exact s row column lt below within in
-      let p = sample_position (8 * bx + column) (8 * by + row) (from + s) count in
-      let across = (λ i. ex i + to_column count (from + s) column) ∙ place_x count (from + s) bx column (omega (arith, lt, part)) in
-      let along = (λ i. ey i + to_row count (from + s) row) ∙ place_y count (from + s) by row (omega (arith, lt, part)) in
-      let ab = there e.ab (value_at e.ab (record { x = pos x; y = pos y })) x y (to_column count (from + s) column) (to_row count (from + s) row) _ _ refl across along in
-      let bc = there e.bc (value_at e.bc (record { x = pos x; y = pos y })) x y (to_column count (from + s) column) (to_row count (from + s) row) _ _ refl across along in
-      let cd = there e.cd (value_at e.cd (record { x = pos x; y = pos y })) x y (to_column count (from + s) column) (to_row count (from + s) row) _ _ refl across along in
-      let da = there e.da (value_at e.da (record { x = pos x; y = pos y })) x y (to_column count (from + s) column) (to_row count (from + s) row) _ _ refl across along in (
+      let bit = of_first_part (λ n. IsBitSet (slice_index m.plane s) (8 * row + column) ↔ IsInsideAt e x y (to_column count n column) (to_row count n row)) s (h.exact s row column lt below within) in
+      let is_sample : s < count_of count = omega (arith, lt, begins_with_part count) in
+      let p = sample_position (8 * bx + column) (8 * by + row) s count in
+      let across = (λ i. ex i + to_column count s column) ∙ place_x count s bx column is_sample in
+      let along = (λ i. ey i + to_row count s row) ∙ place_y count s by row is_sample in
+      let ab = there e.ab (value_at e.ab (record { x = pos x; y = pos y })) x y (to_column count s column) (to_row count s row) _ _ refl across along in
+      let bc = there e.bc (value_at e.bc (record { x = pos x; y = pos y })) x y (to_column count s column) (to_row count s row) _ _ refl across along in
+      let cd = there e.cd (value_at e.cd (record { x = pos x; y = pos y })) x y (to_column count s column) (to_row count s row) _ _ refl across along in
+      let da = there e.da (value_at e.da (record { x = pos x; y = pos y })) x y (to_column count s column) (to_row count s row) _ _ refl across along in (
         λ set. let k = bit.0 set in (test p).0 (record { ab = subst IsOver ab k.ab; bc = subst IsOver bc k.bc; cd = subst IsOver cd k.cd; da = subst IsOver da k.da }),
         λ c. let k = (test p).1 c in bit.1 (record { ab = subst IsOver (sym ab) k.ab; bc = subst IsOver (sym bc) k.bc; cd = subst IsOver (sym cd) k.cd; da = subst IsOver (sym da) k.da }),
       );
@@ -118,9 +119,9 @@ quad_covered q e bx by x y count from m part test ex ey h = record {
     IsOver z = pos 0 ≤ℤ z
 
 -- a quad's masks, by two triangles that it is made of
-parts_of : (t u : Tri) (q : Corners) (bx by : ℕ) (count : SampleCount) (from : ℕ) (m : Masks) → AreMasksOfQuad q bx by count from m
-    → ((p : Position) → QuadCovers q.a q.b q.c q.d p ↔ (Covers t.a t.b t.c p ⊎ Covers u.a u.b u.c p)) → ((p : Position) → ¬ (Covers t.a t.b t.c p × Covers u.a u.b u.c p)) → IsJoinedFrom t u bx by count from m
-parts_of t u q bx by count from m h same one first second f g = record {
+parts_of : (t u : Tri) (q : Corners) (bx by : ℕ) (count : SampleCount) (m : Masks) → AreMasksOfQuad q bx by count m
+    → ((p : Position) → QuadCovers q.a q.b q.c q.d p ↔ (Covers t.a t.b t.c p ⊎ Covers u.a u.b u.c p)) → ((p : Position) → ¬ (Covers t.a t.b t.c p × Covers u.a u.b u.c p)) → IsJoinedFrom t u bx by count m
+parts_of t u q bx by count m h same one first second f g = record {
   disjoint = λ s row column lt within both. elim (cases_lt s (part_size count)) [
     | inl below ↦ one _ ((f.covered s below row column lt within).0 both.0, (g.covered s below row column lt within).0 both.1)
     | inr above ↦ empty_word _ _ (f.empty s above) both.0
@@ -128,8 +129,8 @@ parts_of t u q bx by count from m h same one first second f g = record {
   union = λ s row column lt within. elim (cases_lt s (part_size count)) [
     | inl below ↦
         let whole = h.covered s row column below lt within in
-        let left = f.covered s below row column lt within in
-        let right = g.covered s below row column lt within in (
+        let left = plane_of_first f s below row column lt within in
+        let right = plane_of_first g s below row column lt within in (
           λ set. elim ((same _).0 (whole.0 set)) [ inl k ↦ inl (left.1 k) | inr k ↦ inr (right.1 k) ],
           λ k. whole.1 ((same _).1 (elim k [ inl l ↦ inl (left.0 l) | inr r ↦ inr (right.0 r) ])),
         )
@@ -140,16 +141,16 @@ parts_of t u q bx by count from m h same one first second f g = record {
   ];
 }
 
-pub first_parts : (q : Corners) (bx by : ℕ) (count : SampleCount) (from : ℕ) (m : Masks) → IsStrictlyConvex q.a q.b q.c q.d → AreMasksOfQuad q bx by count from m
-    → IsJoinedFrom (record { a = q.a; b = q.b; c = q.c }) (record { a = q.c; b = q.d; c = q.a }) bx by count from m
-first_parts q bx by count from m convex h =
-    parts_of (record { a = q.a; b = q.b; c = q.c }) (record { a = q.c; b = q.d; c = q.a }) q bx by count from m h
+pub first_parts : (q : Corners) (bx by : ℕ) (count : SampleCount) (m : Masks) → IsStrictlyConvex q.a q.b q.c q.d → AreMasksOfQuad q bx by count m
+    → IsJoinedFrom (record { a = q.a; b = q.b; c = q.c }) (record { a = q.c; b = q.d; c = q.a }) bx by count m
+first_parts q bx by count m convex h =
+    parts_of (record { a = q.a; b = q.b; c = q.c }) (record { a = q.c; b = q.d; c = q.a }) q bx by count m h
     (λ p. (either_diagonal q.a q.b q.c q.d p convex).first.same) (λ p. (either_diagonal q.a q.b q.c q.d p convex).first.one)
 
-pub second_parts : (q : Corners) (bx by : ℕ) (count : SampleCount) (from : ℕ) (m : Masks) → IsStrictlyConvex q.a q.b q.c q.d → AreMasksOfQuad q bx by count from m
-    → IsJoinedFrom (record { a = q.b; b = q.c; c = q.d }) (record { a = q.d; b = q.a; c = q.b }) bx by count from m
-second_parts q bx by count from m convex h =
-    parts_of (record { a = q.b; b = q.c; c = q.d }) (record { a = q.d; b = q.a; c = q.b }) q bx by count from m h
+pub second_parts : (q : Corners) (bx by : ℕ) (count : SampleCount) (m : Masks) → IsStrictlyConvex q.a q.b q.c q.d → AreMasksOfQuad q bx by count m
+    → IsJoinedFrom (record { a = q.b; b = q.c; c = q.d }) (record { a = q.d; b = q.a; c = q.b }) bx by count m
+second_parts q bx by count m convex h =
+    parts_of (record { a = q.b; b = q.c; c = q.d }) (record { a = q.d; b = q.a; c = q.b }) q bx by count m h
     (λ p. let law = (either_diagonal q.a q.b q.c q.d p convex).second.same in (
       λ k. law.0 (record { edge_ab = k.edge_bc; edge_bc = k.edge_cd; edge_cd = k.edge_da; edge_da = k.edge_ab }),
       λ k. let turned = law.1 k in record { edge_ab = turned.edge_da; edge_bc = turned.edge_ab; edge_cd = turned.edge_bc; edge_da = turned.edge_cd },

@@ -18,7 +18,7 @@ use Rattle.cover.specs.Edge.{grown}
 use Rattle.cover.specs.Block.{IsScreenBounded}
 use Rattle.cover.specs.Edges.{AreScreenBounded, IsInsideAfter}
 use Rattle.cover.specs.Inside.{IsSquareOf}
-use Rattle.cover.specs.Masks.{AreMasksWhere, AreWordsWhere, AreMasksOf, to_column, to_row}
+use Rattle.cover.specs.Masks.{AreMasksWhere, AreWordsWhere, AreMasksOf, AreMasksOfPart, IsPlaneOf, to_column, to_row}
 use Rattle.cover.specs.Square.{box_start, box_reach}
 use Rattle.cover.proofs.Corners.{sample_test, room_x, room_y, reach_is, ends_lt}
 use Rattle.cover.proofs.Words.{set_in_both, full, empty_word, no_bits}
@@ -189,6 +189,20 @@ means {P} {Q} count from m same h = record {
   empty = h.empty;
 }
 
+-- ---- the first part
+pub begins_with_part : (count : SampleCount) → IsPart count 0
+begins_with_part One = omega arith
+begins_with_part Two = omega arith
+begins_with_part Four = omega arith
+begins_with_part Eight = omega arith
+begins_with_part Sixteen = omega arith
+
+pub of_first_part : (P : ℕ → Type 0) (s : ℕ) → P (0 + s) → P s
+of_first_part P s h = let e : 0 + s ≡ s = omega arith in subst P e h
+
+pub plane_of_first : {t : Tri} {bx by : ℕ} {count : SampleCount} {m : Masks} → AreMasksOf t bx by count m → (s : ℕ) → s < part_size count → IsPlaneOf t bx by count s (slice_index m.plane s)
+plane_of_first {t} {bx} {by} {count} {m} h s lt = of_first_part (λ n. IsPlaneOf t bx by count n (slice_index m.plane s)) s (h.covered s lt)
+
 -- ---- a triangle's block
 pub inside_is : (e : Edges) (at : Values) (m n : ℕ) → AreScreenBounded at
     → (((pos 0 ≤ℤ grown e.ab (bits64 at.ab) m n) × (pos 0 ≤ℤ grown e.bc (bits64 at.bc) m n)) × (pos 0 ≤ℤ grown e.ca (bits64 at.ca) m n)) ↔ IsInsideAfter e at m n
@@ -201,7 +215,7 @@ inside_is e at m n h =
     )
 
 pub masks_of_square : (t : Tri) (e : Edges) (at : Values) (bx by : ℕ) (side : TileSide) (count : SampleCount) (from : ℕ) (m : Masks) → IsPart count from → IsSquareOf t e at bx by side count
-    → AreMasksWhere (λ s row column. IsInsideAfter e at (to_column count s column) (to_row count s row)) count from m → AreMasksOf t bx by count from m
+    → AreMasksWhere (λ s row column. IsInsideAfter e at (to_column count s column) (to_row count s row)) count from m → AreMasksOfPart t bx by count from m
 masks_of_square t e at bx by side count from m part h k = record {
   covered = λ s lt row column below within.
       let bit = k.exact s row column lt below within in

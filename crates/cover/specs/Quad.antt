@@ -13,10 +13,10 @@ abbrev pub QuadCoversInBlock : Corners → ℕ → ℕ → SampleCount → ℕ �
 QuadCoversInBlock q bx by count s row column =
     QuadCovers q.a q.b q.c q.d (sample_position (8 * bx + column) (8 * by + row) s count)
 
--- The masks say which samples of block (bx, by) the quad covers, from sample `from` of a pixel on. There is one word for each sample
--- of the part, whose bit 8 row + column is set if and only if it is covered, and the others are zero.
-pub record AreMasksOfQuad (q : Corners) (bx by : ℕ) (count : SampleCount) (from : ℕ) (m : Masks) : Type 0 where
-  pub covered : (s row column : ℕ) → s < part_size count → row < 8 → column < 8 → (HasSample m s row column ↔ QuadCoversInBlock q bx by count (from + s) row column)
+-- The masks say which samples of block (bx, by) the quad covers, of the first part: of all if a pixel has at most four. There is one
+-- word for each sample of the part, whose bit 8 row + column is set if and only if it is covered, and the others are zero.
+pub record AreMasksOfQuad (q : Corners) (bx by : ℕ) (count : SampleCount) (m : Masks) : Type 0 where
+  pub covered : (s row column : ℕ) → s < part_size count → row < 8 → column < 8 → (HasSample m s row column ↔ QuadCoversInBlock q bx by count s row column)
   pub empty : (s : ℕ) → part_size count ≤ s → slice_index m.plane s ≡ 0
 
 -- No sample of the block is in both parts, and a sample is in the whole if and only if it is in one of them.
@@ -25,6 +25,6 @@ pub record AreDisjointParts (first second whole : Masks) : Type 0 where
   pub union : (s row column : ℕ) → row < 8 → column < 8 → (HasSample whole s row column ↔ (HasSample first s row column ⊎ HasSample second s row column))
 
 -- The masks are those of two triangles joined, which have no sample in common.
-abbrev pub IsJoinedFrom : Tri → Tri → ℕ → ℕ → SampleCount → ℕ → Masks → Type 0
-IsJoinedFrom t u bx by count from m =
-    (first second : Masks) → AreMasksOf t bx by count from first → AreMasksOf u bx by count from second → AreDisjointParts first second m
+abbrev pub IsJoinedFrom : Tri → Tri → ℕ → ℕ → SampleCount → Masks → Type 0
+IsJoinedFrom t u bx by count m =
+    (first second : Masks) → AreMasksOf t bx by count first → AreMasksOf u bx by count second → AreDisjointParts first second m

@@ -1,7 +1,6 @@
 //! The samples that a quad covers.
 ghost use Rattle.std.specs.Prelude.{◌≡◌, ◌<◌, ◌^◌, pos};
 ghost use Rattle.grid.specs.Quad.{IsStrictlyConvex};
-ghost use Rattle.grid.specs.Samples.{IsPart};
 ghost use Rattle.cover.specs.Masks.{AreMasksWhere, to_column, to_row};
 ghost use Rattle.cover.specs.Quad.{AreMasksOfQuad, IsJoinedFrom};
 
@@ -48,32 +47,30 @@ impl Sides {
     }
 
     /// The samples of a block inside all four edges, by where the box round the block's samples begins on the screen.
-    fn masks(&self, x: u32, y: u32, from: u32, count: SampleCount) -> Masks
+    fn masks(&self, x: u32, y: u32, count: SampleCount) -> Masks
         requires x { x < 2 ^ 20 }
         requires y { y < 2 ^ 20 }
-        requires part { IsPart count from }
-        ensures { AreMasksWhere (λ s row column. IsInsideAt self.now x y (to_column count s column) (to_row count s row)) count from result }
+        ensures { AreMasksWhere (λ s row column. IsInsideAt self.now x y (to_column count s column) (to_row count s row)) count 0 result }
     {
         self.ab
-            .masks(self.ab.on_screen(x, y), from, count)
-            .both(self.bc.masks(self.bc.on_screen(x, y), from, count))
-            .both(self.cd.masks(self.cd.on_screen(x, y), from, count))
-            .both(self.da.masks(self.da.on_screen(x, y), from, count))
+            .masks(self.ab.on_screen(x, y), 0, count)
+            .both(self.bc.masks(self.bc.on_screen(x, y), 0, count))
+            .both(self.cd.masks(self.cd.on_screen(x, y), 0, count))
+            .both(self.da.masks(self.da.on_screen(x, y), 0, count))
     }
 }
 
-/// Which samples of block (bx, by), from sample `from` of a pixel on, the quad covers, by the top-left rule at its four edges; the block's first pixel is
+/// Which samples of block (bx, by) the quad covers, by the top-left rule at its four edges; the block's first pixel is
 /// (8 * bx, 8 * by). With one sample the words 1 to 3 are zero. These are the samples that the two triangles of either diagonal
-/// cover, and no sample is covered by both.
-pub fn quad_masks(quad: &Quad, bx: u32, by: u32, from: u32, count: SampleCount) -> Masks
+/// cover, and no sample is covered by both. Of 8 or 16 samples of a pixel they are the first four.
+pub fn quad_masks(quad: &Quad, bx: u32, by: u32, count: SampleCount) -> Masks
     requires column { bx < 512 }
     requires row { by < 512 }
-    requires part { IsPart count from }
-    ensures covered { AreMasksOfQuad quad.now bx by count from result }
-    ensures first_diagonal { IsJoinedFrom (record { a = quad.now.a; b = quad.now.b; c = quad.now.c }) (record { a = quad.now.c; b = quad.now.d; c = quad.now.a }) bx by count from result }
-    ensures second_diagonal { IsJoinedFrom (record { a = quad.now.b; b = quad.now.c; c = quad.now.d }) (record { a = quad.now.d; b = quad.now.a; c = quad.now.b }) bx by count from result }
+    ensures covered { AreMasksOfQuad quad.now bx by count result }
+    ensures first_diagonal { IsJoinedFrom (record { a = quad.now.a; b = quad.now.b; c = quad.now.c }) (record { a = quad.now.c; b = quad.now.d; c = quad.now.a }) bx by count result }
+    ensures second_diagonal { IsJoinedFrom (record { a = quad.now.b; b = quad.now.c; c = quad.now.d }) (record { a = quad.now.d; b = quad.now.a; c = quad.now.b }) bx by count result }
 {
     let x = 2048 * bx + start(count);
     let y = 2048 * by + start(count);
-    Sides::of(quad).masks(x, y, from, count)
+    Sides::of(quad).masks(x, y, count)
 }

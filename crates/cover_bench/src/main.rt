@@ -122,7 +122,7 @@ fn plain_masks(scene: &Scene, block: u32, count: SampleCount) -> Masks {
 
 fn lane_masks(scene: &Scene, block: u32, count: SampleCount) -> Masks {
     let (bx, by) = place(block);
-    scene.setup.masks(bx, by, 0, count)
+    scene.setup.masks(bx, by, count)
 }
 
 /// The masks of the mixed blocks of a square of 16 by 16 pixels.
@@ -133,7 +133,7 @@ fn masks_of_quarters(square: &Square, start: u64) -> u64
     for q in 0..4u32 {
         let block = square.quarter(q);
         if block.class() == Class::Mixed {
-            sum = joined(sum, &block.masks::<0>(0), block.bx(), block.by());
+            sum = joined(sum, &block.masks_of_part::<0>(0), block.bx(), block.by());
         }
     }
     sum

@@ -1,4 +1,4 @@
--- The integer that serde_json reads from a number's text, from what `fast_float` returns for it.
+-- What one token says.
 use Rattle.std.proofs.Common.{◌≡◌, ℕ, zero, suc, ◌<◌, ◌≤◌, ◌^◌, ℤ, pos, ◌<ℤ◌, List, [], ◌∷◌, ◌++◌, append-nil, option_map, get_or, drop, length, Bool, true, false, ◌==◌, Option, Some, None, IfSome, option_and_then, FitsSigned, SFits, w64, to_z, of_z, to_z-of_z, ◌-ℤ◌, refl, sym, ap, ◌∙◌, arith, lt-ltb, le-leb}
 use lib.Signed.{lt_z}
 use Rattle.std.proofs.lemmas.Int.{ints}
@@ -11,67 +11,10 @@ use Rattle.json.specs.Json.{value}
 use Rattle.json.proofs.Grammar.{value_is}
 use Rattle.serde_json.specs.Data.{Data, Num, number, string, boolean, unsigned, negative}
 use Rattle.model.specs.Json.{text, truth}
+use Rattle.model.specs.Denotes.{IsWhole}
 use Rattle.serde_json.specs.Find.{as_integer}
 use Rattle.serde_json.specs.Read.{is_integer, number_from, number_of, of_json, converted}
 use Rattle.fast_reader.specs.Took.{Took, IsNumber}
-
-integer : (p : Parts) → IsInteger p → is_integer p ≡ true
-integer p h = rw (lt-ltb _ _ h.0, h.1, h.2)
-
-from_digits : (p : Parts) (n : ℕ) → digits_of p ≡ n → IsInteger p → FitsSigned w64 (pos n) → number_from false p ≡ Some (unsigned n)
-from_digits p n e h fits = let below : n < 2 ^ 64 = grind arith in rw (integer p h, e, lt-ltb _ _ below) refl
-
-from_minus : (p : Parts) (n : ℕ) → digits_of p ≡ n → IsInteger p → 0 < n → n ≤ 2 ^ 63 → number_from true p ≡ Some (negative (with_sign true n))
-from_minus p n e h some below = rw (integer p h, e, lt-ltb _ _ some, le-leb _ _ below) refl
-
-pub unsigned_is : (s : List ℕ) (r : Option ℤ) → (get_or s 0 0 == 45) ≡ false
-    → SomeIff r (IsInteger (scan s) × FitsSigned w64 (with_sign false (digits_of (scan s)))) (with_sign false (digits_of (scan s)))
-    → IfSome r (λ z. option_and_then as_integer (number_of s) ≡ Some z)
-unfolding number_of
-unsigned_is s None plain h = tt
-unsigned_is s (Some z) plain h = rw plain (ap (option_and_then as_integer) (from_digits (scan s) _ refl h.0.0 h.0.1) ∙ ap Some (sym h.1))
-
-size : (n : ℕ) (z : ℤ) → z ≡ with_sign true n → z <ℤ pos 0 → FitsSigned w64 (with_sign true n) → (0 < n) × (n ≤ 2 ^ 63)
-size zero z e below fits = absurd (let never : pos 0 <ℤ pos 0 = rw e at below in grind arith)
-size (suc n) z e below fits = (omega arith, grind (arith, ints))
-
-pub negative_is : (s : List ℕ) (z : ℤ) → (get_or s 0 0 == 45) ≡ true → z <ℤ pos 0
-    → (IsInteger (scan (drop 1 s)) × FitsSigned w64 (with_sign true (digits_of (scan (drop 1 s))))) × (z ≡ with_sign true (digits_of (scan (drop 1 s))))
-    → option_and_then as_integer (number_of s) ≡ Some z
-unfolding number_of
-negative_is s z minus below h =
-    let sized = size _ z h.1 below h.0.1 in
-    rw minus (ap (option_and_then as_integer) (from_minus (scan (drop 1 s)) _ refl h.0.0 sized.0 sized.1) ∙ ap Some (sym h.1))
-
--- ---- the same from digits alone
-
-abbrev parts_of : List ℕ → Parts
-parts_of ds = record { whole = ds; point = false; fraction = []; exponent_negative = false; exponent = []; len = length (ds ++ []) }
-
-scanned : (ds : List ℕ) → AllDigits 10 ds → scan ds ≡ parts_of ds
-scanned ds h =
-    let formed : IsWellFormed (parts_of ds) = record { whole_digits = h; fraction_digits = tt; exponent_digits = tt; no_point = λ _. refl; no_exponent = λ _. refl; len_is = refl } in
-    ap scan (sym (append-nil ds)) ∙ scan-text_of (parts_of ds) formed
-
-valued : (ds : List ℕ) → digits_of (parts_of ds) ≡ digits_value 10 ds
-valued ds = ap (digits_value 10) (append-nil ds)
-
-is_whole : (ds : List ℕ) → 0 < length ds → IsInteger (parts_of ds)
-is_whole ds some = (some, refl, refl)
-
-pub digits_are : (s : List ℕ) (z : ℤ) → (get_or s 0 0 == 45) ≡ false → z ≡ pos (digits_value 10 s) → AllDigits 10 s → 0 < length s → FitsSigned w64 z
-    → option_and_then as_integer (number_of s) ≡ Some z
-unfolding number_of
-digits_are s z plain e h some fits =
-    let whole : FitsSigned w64 (pos (digits_value 10 s)) = rw e at fits in
-    rw (plain, scanned s h) (ap (option_and_then as_integer) (from_digits (parts_of s) _ (valued s) (is_whole s some) whole) ∙ ap Some (sym e))
-
-pub minus_are : (s : List ℕ) (z : ℤ) → (get_or s 0 0 == 45) ≡ true → z ≡ with_sign true (digits_value 10 (drop 1 s)) → AllDigits 10 (drop 1 s) → 0 < length (drop 1 s)
-    → 0 < digits_value 10 (drop 1 s) → digits_value 10 (drop 1 s) < 2 ^ 63 → option_and_then as_integer (number_of s) ≡ Some z
-unfolding number_of
-minus_are s z minus e h some positive below =
-    let within : digits_value 10 (drop 1 s) ≤ 2 ^ 63 = omega arith in
-    rw (minus, scanned (drop 1 s) h) (ap (option_and_then as_integer) (from_minus (parts_of (drop 1 s)) _ (valued (drop 1 s)) (is_whole (drop 1 s) some) positive within) ∙ ap Some (sym e))
 
 -- ---- the token
 
@@ -107,19 +50,7 @@ took_truth b old new first = record {
   read = λ depth deep. ap (λ ts. converted of_json (value depth ts)) first ∙ ap (converted of_json) (value_is depth (Token.boolean b ∷ new));
 }
 
-within : (n : ℕ) → 0 < n → n < 2 ^ 63 → SFits w64 (with_sign true n)
-within zero some below = absurd (omega arith)
-within (suc n) some below = grind (arith, ints)
-
--- a negation at 64 bits
-pub negated : (n : ℕ) (z : ℤ) → z ≡ pos n → n < 2 ^ 63 → SFits w64 z → lt_z (pos 0) (to_z w64 (of_z w64 z)) ≡ true
-    → (0 < n) × (to_z w64 (of_z w64 (pos 0 -ℤ to_z w64 (of_z w64 z))) ≡ with_sign true n)
-negated n z e below fits positive =
-    let same : to_z w64 (of_z w64 z) ≡ pos n = to_z-of_z fits ∙ e in
-    let above : lt_z (pos 0) (pos n) ≡ true = rw same at positive in
-    let some : 0 < n = grind (arith, ints) in
-    let less : pos 0 -ℤ pos n ≡ with_sign true n = omega (arith, ints) in
-    let inside : SFits w64 (with_sign true n) = within n some below in (
-      some,
-      ap (λ y. to_z w64 (of_z w64 (pos 0 -ℤ y))) same ∙ ap (λ y. to_z w64 (of_z w64 y)) less ∙ to_z-of_z inside,
-    )
+pub took_up_to : (high n : ℕ) (s : List ℕ) (old new : List Token) → old ≡ Token.number s ∷ new → option_and_then as_integer (number_of s) ≡ Some (pos n) → n ≤ high
+    → Took 0 (λ d n. IsWhole (pos 0) (pos high) (Some d) (pos n)) old n new
+took_up_to high n s old new first e within =
+    took_also 0 IsNumber (λ d n. IsWhole (pos 0) (pos high) (Some d) (pos n)) old new (pos n) n (λ d is. (is, grind (arith, ints), grind (arith, ints))) (took_number s (pos n) old new first e)

@@ -6,33 +6,34 @@ ghost use Rattle.fast_reader.specs.Took.{Took};
 
 use crate::number::{take_between, take_channel};
 use crate::word::take_truth;
+use cursor::Cursor;
 use grid::PixelBox;
-use json::{Reader, Token};
 use model::MOST_PIXELS;
 
 /// Takes the bracket that opens an array, if it is next.
-pub(crate) fn take_begin_array(reader: &mut Reader<'_>) -> bool
+#[inline(always)]
+pub(crate) fn take_begin_array(reader: &mut Cursor<'_>) -> bool
     ensures { IsTrue result → reader.old ≡ begin_array ∷ reader.new }
 {
-    matches!(reader.next(), Some(Token::BeginArray))
+    reader.take_begin_array()
 }
 
 /// Takes the brace that opens an object, if it is next.
-pub(crate) fn take_begin_object(reader: &mut Reader<'_>) -> bool
+pub(crate) fn take_begin_object(reader: &mut Cursor<'_>) -> bool
     ensures { IsTrue result → reader.old ≡ begin_object ∷ reader.new }
 {
-    matches!(reader.next(), Some(Token::BeginObject))
+    reader.take_begin_object()
 }
 
 /// Takes a key, or the brace that closes the object.
-pub(crate) fn take_key<'a>(reader: &mut Reader<'a>) -> Option<Option<&'a str>>
+pub(crate) fn take_key<'a>(reader: &mut Cursor<'a>) -> Option<Option<&'a str>>
     ensures { IfSome result (λ k. read_key reader.old ≡ Some (option_map (λ s. s.now) k, reader.new)) }
 {
-    reader.next_key().ok()
+    reader.take_key()
 }
 
 /// Takes a colour, written as [red, green, blue].
-pub(crate) fn take_colour(reader: &mut Reader<'_>) -> Option<[u8; 3]>
+pub(crate) fn take_colour(reader: &mut Cursor<'_>) -> Option<[u8; 3]>
     ensures { IfSome result (λ c. Took 1 (λ d c. IsClearColour (Some d) c) reader.old c reader.new) }
 {
     if !take_begin_array(reader) {
@@ -48,7 +49,7 @@ pub(crate) fn take_colour(reader: &mut Reader<'_>) -> Option<[u8; 3]>
 }
 
 /// Takes which channels are written, as [red, green, blue].
-pub(crate) fn take_write_mask(reader: &mut Reader<'_>) -> Option<[bool; 3]>
+pub(crate) fn take_write_mask(reader: &mut Cursor<'_>) -> Option<[bool; 3]>
     ensures { IfSome result (λ w. Took 1 (λ d w. IsWriteMask (Some d) w) reader.old w reader.new) }
 {
     if !take_begin_array(reader) {
@@ -64,14 +65,14 @@ pub(crate) fn take_write_mask(reader: &mut Reader<'_>) -> Option<[bool; 3]>
 }
 
 /// Takes a side of a scissor, in pixels.
-fn take_scissor_side(reader: &mut Reader<'_>) -> Option<i32>
+fn take_scissor_side(reader: &mut Cursor<'_>) -> Option<i32>
     ensures { IfSome result (λ z. Took 0 (λ d z. IsScissorSide (Some d) z) reader.old z reader.new) }
 {
     Some(take_between(reader, 0, i64::from(MOST_PIXELS))? as i32)
 }
 
 /// Takes a scissor, written as [left, top, right, bottom].
-pub(crate) fn take_scissor(reader: &mut Reader<'_>) -> Option<PixelBox>
+pub(crate) fn take_scissor(reader: &mut Cursor<'_>) -> Option<PixelBox>
     ensures { IfSome result (λ s. Took 1 (λ d s. IsScissor (Some d) s) reader.old s reader.new) }
 {
     if !take_begin_array(reader) {

@@ -5,12 +5,13 @@ ghost use Rattle.fast_reader.specs.Took.{Took};
 
 use crate::array::take_begin_array;
 use crate::number::take_index;
-use json::Reader;
+use cursor::Cursor;
 use model::{MOST_QUADS, Vertex, is_convex};
 use std::alloc::Global;
 
 /// Takes a strictly convex quad, by the indices of four of the vertices.
-fn take_quad(reader: &mut Reader<'_>, vertices: &[Vertex]) -> Option<[u32; 4]>
+#[inline(always)]
+fn take_quad(reader: &mut Cursor<'_>, vertices: &[Vertex]) -> Option<[u32; 4]>
     ensures { IfSome result (λ quad. Took 1 (IsQuad vertices.now) reader.old quad reader.new) }
 {
     if !take_begin_array(reader) {
@@ -34,7 +35,7 @@ fn take_quad(reader: &mut Reader<'_>, vertices: &[Vertex]) -> Option<[u32; 4]>
 /// Takes the quads of an array whose bracket was taken, and the bracket that closes it.
 fn take_elements(
     alloc: Global,
-    reader: &mut Reader<'_>,
+    reader: &mut Cursor<'_>,
     vertices: &[Vertex],
 ) -> Option<Vec<[u32; 4]>>
     ensures { IfSome result (λ found. Took 2 (λ d xs. IsArrayOf 32768 (IsQuad vertices.now) (Some d) xs)
@@ -57,7 +58,7 @@ fn take_elements(
 /// Takes the quads of a draw with these vertices.
 pub(crate) fn take_quads(
     alloc: Global,
-    reader: &mut Reader<'_>,
+    reader: &mut Cursor<'_>,
     vertices: &[Vertex],
 ) -> Option<Vec<[u32; 4]>>
     ensures { IfSome result (λ found. Took 2 (λ d xs. IsArrayOf 32768 (IsQuad vertices.now) (Some d) xs)

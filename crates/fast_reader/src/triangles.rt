@@ -5,12 +5,13 @@ ghost use Rattle.fast_reader.specs.Took.{Took};
 
 use crate::array::take_begin_array;
 use crate::number::take_index;
-use json::Reader;
+use cursor::Cursor;
 use model::MOST_TRIANGLES;
 use std::alloc::Global;
 
 /// Takes a triangle, by the indices of three of `count` vertices.
-fn take_triangle(reader: &mut Reader<'_>, count: usize) -> Option<[u32; 3]>
+#[inline(always)]
+fn take_triangle(reader: &mut Cursor<'_>, count: usize) -> Option<[u32; 3]>
     ensures { IfSome result (λ t. Took 1 (IsTriangle count) reader.old t reader.new) }
 {
     if !take_begin_array(reader) {
@@ -26,7 +27,7 @@ fn take_triangle(reader: &mut Reader<'_>, count: usize) -> Option<[u32; 3]>
 }
 
 /// Takes the triangles of an array whose bracket was taken, and the bracket that closes it.
-fn take_elements(alloc: Global, reader: &mut Reader<'_>, count: usize) -> Option<Vec<[u32; 3]>>
+fn take_elements(alloc: Global, reader: &mut Cursor<'_>, count: usize) -> Option<Vec<[u32; 3]>>
     ensures { IfSome result (λ found. Took 2 (λ d xs. IsArrayOf 65536 (IsTriangle count) (Some d) xs)
         (begin_array ∷ reader.old) found.items reader.new) }
 {
@@ -47,7 +48,7 @@ fn take_elements(alloc: Global, reader: &mut Reader<'_>, count: usize) -> Option
 /// Takes the triangles of a draw of `count` vertices.
 pub(crate) fn take_triangles(
     alloc: Global,
-    reader: &mut Reader<'_>,
+    reader: &mut Cursor<'_>,
     count: usize,
 ) -> Option<Vec<[u32; 3]>>
     ensures { IfSome result (λ found. Took 2 (λ d xs. IsArrayOf 65536 (IsTriangle count) (Some d) xs)

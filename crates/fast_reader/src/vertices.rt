@@ -5,13 +5,14 @@ ghost use Rattle.fast_reader.specs.Took.{Took};
 
 use crate::array::take_begin_array;
 use crate::number::{take_channel, take_depth, take_i32};
+use cursor::Cursor;
 use grid::Point;
-use json::Reader;
 use model::{MOST_VERTICES, Vertex};
 use std::alloc::Global;
 
 /// Takes a vertex, written as [x, y, z, red, green, blue, alpha].
-fn take_vertex(reader: &mut Reader<'_>) -> Option<Vertex>
+#[inline(always)]
+fn take_vertex(reader: &mut Cursor<'_>) -> Option<Vertex>
     ensures { IfSome result (λ v. Took 1 IsVertex reader.old v reader.new) }
 {
     if !take_begin_array(reader) {
@@ -36,7 +37,7 @@ fn take_vertex(reader: &mut Reader<'_>) -> Option<Vertex>
 }
 
 /// Takes the vertices of an array whose bracket was taken, and the bracket that closes it.
-fn take_elements(alloc: Global, reader: &mut Reader<'_>) -> Option<Vec<Vertex>>
+fn take_elements(alloc: Global, reader: &mut Cursor<'_>) -> Option<Vec<Vertex>>
     ensures { IfSome result (λ found. Took 2 (λ d xs. IsArrayOf 65536 IsVertex (Some d) xs)
         (begin_array ∷ reader.old) found.items reader.new) }
 {
@@ -55,7 +56,7 @@ fn take_elements(alloc: Global, reader: &mut Reader<'_>) -> Option<Vec<Vertex>>
 }
 
 /// Takes the vertices of a draw.
-pub(crate) fn take_vertices(alloc: Global, reader: &mut Reader<'_>) -> Option<Vec<Vertex>>
+pub(crate) fn take_vertices(alloc: Global, reader: &mut Cursor<'_>) -> Option<Vec<Vertex>>
     ensures { IfSome result (λ found. Took 2 (λ d xs. IsArrayOf 65536 IsVertex (Some d) xs)
         reader.old found.items reader.new) }
 {

@@ -6,7 +6,6 @@ ghost use Rattle.shade.specs.declared.placed.Placed.{Placed};
 ghost use Rattle.shade.specs.declared.sample.Sample.{Sample};
 ghost use Rattle.history.specs.Changed.{IsFollowed};
 
-use crate::samples::meets;
 use grid::{SampleCount, sample_at};
 use shade::{Placed, Sample};
 
@@ -82,7 +81,7 @@ fn drawn(triangle: &Placed, count: SampleCount, px: u32, py: u32, s: u32, stored
     requires sample { s < count_of count }
     ensures { Draws triangle.now count px py s stored result }
 {
-    if meets(triangle, count, px, py, s) {
+    if triangle.meets(count, px, py, s) {
         triangle.drawn_at(sample_at(px, py, s, count), stored)
     } else {
         stored

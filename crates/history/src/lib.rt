@@ -16,4 +16,4 @@ pub use followed::{Followed, follow};
 pub use laws::{events_are_exact, events_chain, has_every_reason};
 pub use reasons::Reasons;
 pub use sample_history::{SampleHistory, changes, events_of};
-pub use samples::{meets, samples_met};
+pub use samples::samples_met;

@@ -1,9 +1,5 @@
-//! Tests of `history`, `sample_events` and `why`, through what they make public.
+//! Tests of `history`, through what it makes public and no program calls. What reports show of it stands in tests/acceptance.
 #![tactic(auto)]
 
-#[cfg(test)]
-mod events;
-#[cfg(test)]
-mod reports;
 #[cfg(test)]
 mod samples;

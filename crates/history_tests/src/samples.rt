@@ -1,9 +1,6 @@
 use grid::{Cull, PixelBox, Point, SampleCount, Tri};
-use history::{
-    EdgeAt, EdgeReason, Event, Followed, Outcome, SampleHistory, changes, event_of, events_of,
-    follow, meets, samples_met,
-};
-use shade::{DepthTest, Merge, Placed, Sample, State};
+use history::{Event, Outcome, SampleHistory, changes, events_of, samples_met};
+use shade::{DepthTest, Merge, Placed, Sample, State, Stored};
 use std::process::Abort;
 
 const BLACK: Sample = Sample {
@@ -46,64 +43,13 @@ fn point(rt: &impl Abort, x: i32, y: i32) -> Point {
     Point::new(x, y).expect(rt, "inside of the guard band")
 }
 
-// The centre of pixel (1, 1) lies on the right edge, that of pixel (2, 2) on the other side of it.
-#[test]
-fn reports_the_edge_that_fails(rt: HostRuntime) {
-    let on = event_of(&corner(&rt, 5), SampleCount::One, 1, 1, 0, BLACK);
-    assert_eq!(rt; on.outcome, Outcome::Missed);
-    assert_eq!(rt; on.reasons.area2, 262_144);
-    assert_eq!(rt;
-        on.reasons.ab,
-        EdgeAt {
-            value: 131_072,
-            reason: None
-        }
-    );
-    assert_eq!(rt;
-        on.reasons.bc,
-        EdgeAt {
-            value: 0,
-            reason: Some(EdgeReason::OnUncoveredEdge)
-        }
-    );
-    assert_eq!(rt;
-        on.reasons.ca,
-        EdgeAt {
-            value: 131_072,
-            reason: None
-        }
-    );
-    let outside = event_of(&corner(&rt, 5), SampleCount::One, 2, 2, 0, BLACK);
-    assert_eq!(rt;
-        outside.reasons.bc,
-        EdgeAt {
-            value: -262_144,
-            reason: Some(EdgeReason::Outside)
-        }
-    );
-    assert_eq!(rt; outside.after, BLACK);
-}
-
-#[test]
-fn reports_every_reason(rt: HostRuntime) {
-    let mut triangle = corner(&rt, 2000);
-    triangle.state.cull = Cull::Front;
-    triangle.state.sample_mask = 2;
-    triangle.state.scissor.x0 = 1;
-    let event = event_of(&triangle, SampleCount::One, 0, 0, 0, BLACK);
-    assert_eq!(rt; event.outcome, Outcome::Missed);
-    assert!(rt; event.reasons.culled);
-    assert!(rt; event.reasons.masked);
-    assert!(rt; event.reasons.outside_scissor);
-    assert!(rt; event.fails_depth);
-    assert!(rt; !event.reasons.zero_area);
-    assert!(rt; event.fragment.is_some());
-}
-
 #[test]
 fn follows_a_sample(rt: HostRuntime) {
     let triangles = [corner(&rt, 500), corner(&rt, 700), corner(&rt, 300)];
-    let mut history = SampleHistory::new(&triangles, SampleCount::One, 0, 0, 0, BLACK);
+    let source = Stored {
+        triangles: &triangles,
+    };
+    let mut history = SampleHistory::new(&source, SampleCount::One, 0, 0, 0, BLACK);
     let white = Sample {
         r: 255,
         g: 255,
@@ -132,26 +78,8 @@ fn follows_a_sample(rt: HostRuntime) {
 #[test]
 fn counts_samples(rt: HostRuntime) {
     let triangle = corner(&rt, 5);
-    assert!(rt; meets(&triangle, SampleCount::One, 1, 0, 0));
-    assert!(rt; !meets(&triangle, SampleCount::One, 2, 0, 0));
+    assert!(rt; triangle.meets(SampleCount::One, 1, 0, 0));
+    assert!(rt; !triangle.meets(SampleCount::One, 2, 0, 0));
     assert_eq!(rt; samples_met(&triangle, SampleCount::One, 4, 4), 3);
     assert_eq!(rt; samples_met(&triangle, SampleCount::One, 1, 4), 2);
-}
-
-// The first triangle is drawn, the second fails the depth test, the third has another depth, and the fourth stores the same again.
-#[test]
-fn follows_triangles(rt: HostRuntime) {
-    let mut again = corner(&rt, 300);
-    again.state.merge.test = DepthTest::Always;
-    let triangles = [corner(&rt, 500), corner(&rt, 700), corner(&rt, 300), again];
-    let expected = [(true, false), (false, false), (true, true), (false, false)];
-    for (number, flags) in expected.iter().enumerate() {
-        let followed = follow(&triangles, number, SampleCount::One, 0, 0, 0, BLACK);
-        assert_eq!(rt; (followed.changed, followed.shown), *flags);
-        assert_eq!(rt; followed.stored.z, 300);
-    }
-    let start = Followed::new(BLACK);
-    assert_eq!(rt; start.stored, BLACK);
-    let missed = start.after(&triangles[0], SampleCount::One, 2, 2, 0, true);
-    assert_eq!(rt; missed, start);
 }

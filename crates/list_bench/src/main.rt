@@ -1,11 +1,15 @@
 //! Reading by itself: a draw list from standard input is read in one pass, as the program reads it, and by `serde_json` into its
 //! tree of values alone. By default it prints how many triangles the list draws, or the fault that is returned in its place, and
 //! whether the tree is an object. With `--time` both are read again and again in turn, and it prints the least time of each and
-//! their ratio.
+//! their ratio. With `--read` the list is read ten times and nothing is printed, for tools that count time or instructions. With
+//! `--compare` the input is many texts, and the readers are compared on each.
 #![tactic(auto)]
 
 ghost use Rattle.std.specs.Prelude.{◌≤◌, IfOk, length, vec_len};
 
+mod compare;
+
+use compare::compare_all;
 use list::{MOST_BYTES, ReadFault, read};
 use serde_json::Value;
 use std::alloc::Global;
@@ -15,6 +19,9 @@ use std::{env, io};
 
 /// How often each is read with `--time`.
 const ROUNDS: u32 = 7;
+
+/// How often the list is read with `--read`.
+const READINGS: u32 = 10;
 
 /// The bytes on standard input.
 fn input(rt: &HostRuntime) -> io::Result<Vec<u8>>
@@ -84,22 +91,40 @@ fn hundredths(part: u64, whole: u64) -> u64 {
     }
 }
 
-fn main(rt: HostRuntime) -> io::Result<()> {
-    let mut timed = false;
-    for word in env::args(&rt)? {
-        timed |= word.as_str() == "--time";
-    }
-    let bytes = input(&rt)?;
-    match triangles(rt.alloc(), &bytes) {
+/// Prints how many triangles the list draws, or its fault, and whether the tree of values is an object.
+fn print_report(rt: &impl Print, alloc: Global, bytes: &[u8]) -> io::Result<()>
+    requires { length bytes.now ≤ MOST_BYTES }
+{
+    match triangles(alloc, bytes) {
         Ok(number) => println!(rt; "a list of {number} triangles")?,
-        Err(fault) => print_fault(&rt, fault)?,
+        Err(fault) => print_fault(rt, fault)?,
     }
-    let kind = if is_object(rt.alloc(), &bytes) {
+    let kind = if is_object(alloc, bytes) {
         "an object"
     } else {
         "no object"
     };
-    println!(rt; "serde_json: {kind}")?;
+    println!(rt; "serde_json: {kind}")
+}
+
+fn main(rt: HostRuntime) -> io::Result<()> {
+    let (mut timed, mut alone, mut compared) = (false, false, false);
+    for word in env::args(&rt)? {
+        timed |= word.as_str() == "--time";
+        alone |= word.as_str() == "--read";
+        compared |= word.as_str() == "--compare";
+    }
+    let bytes = input(&rt)?;
+    if compared {
+        return compare_all(&rt, rt.alloc(), &bytes);
+    }
+    if alone {
+        for _ in 0..READINGS {
+            let _triangles = triangles(rt.alloc(), &bytes);
+        }
+        return Ok(());
+    }
+    print_report(&rt, rt.alloc(), &bytes)?;
     if timed {
         let (ours, value) = least_times(&rt, rt.alloc(), &bytes)?;
         let ratio = hundredths(ours, value);

@@ -1,77 +1,113 @@
--- Triangles that are passed over, since they do not cover the sample.
-use Rattle.std.proofs.Common.{Option, Some, None, IfSome, slice_get, ◌≡◌, inl, inr, refl, sym, ap, subst, ◌∙◌, ℕ, ◌+◌, ◌<◌, ◌≤◌, IsSome, length, arith}
-use Rattle.std.proofs.lemmas.Bool.{cases_lt}
-use Rattle.std.proofs.lemmas.Option.{slice_get_within}
-use Rattle.grid.specs.Samples.{sample_position}
-use Rattle.grid.specs.Triangle.{Covers}
+-- What a step of a history keeps of its list.
+use Rattle.std.proofs.Common.{◌≡◌, inl, inr, refl, sym, ap, subst, ◌∙◌, ℕ, ◌+◌, ◌<◌, ◌≤◌, List, [], ◌∷◌, ◌++◌, length, length-append, drop, drop-drop, drop_at, get_or, slice_get, Some, IfSome, arith}
+use Rattle.std.proofs.lemmas.List.{get_or-drop, length-drop}
+use Rattle.std.proofs.Math.ListN.{drop_of_length-le}
+use Rattle.std.proofs.lemmas.Option.{get_or_from_slice_get, slice_get-get_or, slice_get_cases, slice_get_within}
 use Rattle.shade.specs.declared.placed.Placed.{Placed}
 use Rattle.shade.specs.declared.sample.Sample.{Sample}
+use Rattle.history.specs.History.{Place, EndsWith, IsNext, IsPast, IsCoveredBy, moved}
+use Rattle.history.specs.declared.event.Event.{Event}
+use Rattle.history.proofs.Chained.{next_ends, past_all, past_ends, uncovered_ends}
 use Rattle.model.specs.Picture.{IsEnd}
+use Rattle.model.specs.Rows.{IsRowSpan}
+use Rattle.model.specs.Scene.{Scene}
+use Rattle.model.specs.declared.rows.RowSpan.{RowSpan}
+use Rattle.list_history.proofs.Rows.{in_rows}
+use Rattle.list_history.specs.Walk.{ListPlace, IsOfList, IsNextOfList, IsNextCoveredOfList}
 use Rattle.list_history.specs.declared.list_event.ListEvent.{ListEvent}
-use Rattle.list_history.specs.Walk.{ListPlace, moved_to, IsNextOfList, IsNextCoveredOfList, AreUncoveredOfList}
 
--- From the one place to the other no triangle covers the sample.
-pub record IsPassed (q now : ListPlace) : Type 0 where
-  pub order : q.number ≤ now.number
-  pub uncovered : AreUncoveredOfList q now.number
-  pub same : now ≡ moved_to q now.number
+-- ---- the triangle that comes
+pub within_left : (ts : List Placed) (n : ℕ) (t : Placed) → slice_get (drop n ts) 0 ≡ Some t → n < length ts
+within_left ts n t is = omega (arith, slice_get_within (drop n ts) 0 t is, length-drop n ts)
 
-pub none_passed : (q : ListPlace) → IsPassed q q
-none_passed q = record { order = omega arith; uncovered = λ k t from below e. absurd (omega (arith, from, below)); same = refl }
+pub get_left : (ts : List Placed) (n : ℕ) (t : Placed) → slice_get (drop n ts) 0 ≡ Some t → slice_get ts n ≡ Some t
+get_left ts n t is =
+    let none : n ≡ n + 0 = omega arith in
+    let read : get_or ts n t ≡ t = ap (λ k. get_or ts k t) none ∙ sym (get_or-drop n ts 0 t) ∙ get_or_from_slice_get (drop n ts) 0 t t is in
+    slice_get-get_or ts n t (within_left ts n t is) ∙ ap Some read
 
-one_more : (q now : ListPlace) → IsPassed q now → AreUncoveredOfList now (now.number + 1) → IsPassed q (moved_to now (now.number + 1))
-one_more q now past one =
-    let here : AreUncoveredOfList (moved_to q now.number) (now.number + 1) = subst (λ (x : ListPlace). AreUncoveredOfList x (now.number + 1)) past.same one in
-    record {
-      order = omega (arith, past.order);
-      uncovered = λ k t from below e. elim (cases_lt k now.number) [
-        | inl less ↦ past.uncovered k t from less e
-        | inr more ↦ here k t more below e
-      ];
-      same = ap (λ (x : ListPlace). moved_to x (now.number + 1)) past.same;
-    }
+next_left : (l : Scene) (q : Place) → IsOfList l q → q.number < length l.triangles → (t : Placed) × (slice_get q.left 0 ≡ Some t)
+next_left l q is some = elim (slice_get_cases q.left 0).1 [
+  | inl w ↦ (w.0, w.2)
+  | inr w ↦ absurd (omega (arith, some, w.0, ap length is.left ∙ length-drop q.number l.triangles))
+]
 
-pub passed_more : (q now next : ListPlace) → IsPassed q now → AreUncoveredOfList now (now.number + 1) → next ≡ moved_to now (now.number + 1) → IsPassed q next
-passed_more q now next past one e = subst (λ (x : ListPlace). IsPassed q x) (sym e) (one_more q now past one)
+pub some_left : (l : Scene) (q : Place) → IsOfList l q → q.number < length l.triangles → ¬ (q.left ≡ [])
+some_left l q is some none = absurd (omega (arith, some, ap length none, ap length is.left ∙ length-drop q.number l.triangles))
 
-pub passed_next : (q now next : ListPlace) (e : ListEvent) → IsPassed q now → IsNextOfList now e next → IsSome e.event.fragment → IsNextCoveredOfList q e next
-passed_next q now next e past h some = record {
-  order = rw h.number past.order;
-  uncovered = rw h.number past.uncovered;
-  next = subst (λ (n : ℕ). IsNextOfList (moved_to q n) e next) (sym h.number) (subst (λ (x : ListPlace). IsNextOfList x e next) past.same h);
-  covered = some;
+get_next : (l : Scene) (q : Place) (t : Placed) → IsOfList l q → slice_get q.left 0 ≡ Some t → slice_get l.triangles q.number ≡ Some t
+get_next l q t is found = get_left l.triangles q.number t (subst (λ (ts : List Placed). slice_get ts 0 ≡ Some t) is.left found)
+
+-- it does not cover the sample if its rows do not have the sample's
+pub outside : (l : Scene) (q : Place) (span : RowSpan) → IsOfList l q → q.number < length l.triangles → IfSome (slice_get l.triangles q.number) (λ t. IsRowSpan t.tri span)
+    → ¬ ((span.first ≤ q.j) × (q.j < span.end)) → (t : Placed) × (slice_get q.left 0 ≡ Some t) × (¬ IsCoveredBy q t)
+outside l q span is some rows out =
+    let next = next_left l q is some in
+    let found : slice_get l.triangles q.number ≡ Some next.0 = get_next l q next.0 is next.1 in
+    (next.0, next.1, λ covered. out (in_rows next.0.tri span q.count q.i q.j q.s is.column is.row is.sample (rw found at rows) covered))
+
+-- ---- a history behind some of the list's triangles
+of_moved : (l : Scene) (q : Place) (past rest : List Placed) (stored : Sample) → q.left ≡ past ++ rest
+    → ((end : Sample) → EndsWith (moved q past rest stored) end → EndsWith q end) → IsOfList l q → IsOfList l (moved q past rest stored)
+of_moved l q past rest stored split ends is = record {
+  column = is.column;
+  row = is.row;
+  sample = is.sample;
+  count = is.count;
+  left = sym (sym (drop-drop (length past) q.number l.triangles) ∙ ap (drop (length past)) (sym is.left ∙ split) ∙ drop_at past rest (length past) refl);
+  within = omega (arith, is.within, ap length is.left ∙ length-drop q.number l.triangles, ap length split ∙ length-append past rest);
+  ends = λ end h. is.ends end (ends end h);
 }
 
--- ---- the measure of a walk, and the sample that it keeps
-pub next_number : (q next : ListPlace) (e : ListEvent) → IsNextCoveredOfList q e next → (q.number < next.number) × (next.number ≤ length q.scene.triangles)
-next_number q next e h =
-    let behind : next.number ≡ e.number + 1 = ap (λ (x : ListPlace). x.number) h.next.behind in
-    let within = slice_get_within q.scene.triangles e.number h.next.triangle h.next.is in
-    (omega (arith, behind, h.order), omega (arith, behind, within))
+pub of_next : (l : Scene) (q next : Place) (e : Event) → IsOfList l q → IsNext q e next → IsOfList l next
+of_next l q next e is h =
+    subst (λ (x : Place). IsOfList l x) (sym h.behind)
+    (of_moved l q (h.triangle ∷ []) next.left e.after h.first (λ end k. (next_ends q next e end h).1 (subst (λ (x : Place). EndsWith x end) (sym h.behind) k)) is)
 
+pub of_past : (l : Scene) (q next : Place) → IsOfList l q → IsPast q next → IsOfList l next
+of_past l q next is h =
+    subst (λ (x : Place). IsOfList l x) (sym h.behind)
+    (of_moved l q h.skipped next.left q.stored h.split (λ end k. (past_ends q next end h).1 (subst (λ (x : Place). EndsWith x end) (sym h.behind) k)) is)
+
+pub none_left : (l : Scene) (q : Place) → IsOfList l q → length l.triangles ≤ q.number → q.left ≡ []
+none_left l q is h = is.left ∙ drop_of_length-le l.triangles h
+
+pub end_past : (l : Scene) (q now : Place) → IsOfList l q → IsPast q now → now.left ≡ [] → IsEnd l q.i q.j q.s q.stored
+end_past l q now is past none = is.ends q.stored (uncovered_ends q (past_all q now past none).0)
+
+-- ---- the sample that a history keeps, and the triangles that are left
 -- Both are of the same sample of the same list.
 pub record IsOfSame (q now : ListPlace) : Type 0 where
   pub scene : now.scene ≡ q.scene
-  pub i : now.i ≡ q.i
-  pub j : now.j ≡ q.j
-  pub s : now.s ≡ q.s
+  pub i : now.history.i ≡ q.history.i
+  pub j : now.history.j ≡ q.history.j
+  pub s : now.history.s ≡ q.history.s
 
 pub of_itself : (q : ListPlace) → IsOfSame q q
 of_itself q = record { scene = refl; i = refl; j = refl; s = refl }
 
-pub of_next : (q now next : ListPlace) (e : ListEvent) → IsOfSame q now → IsNextCoveredOfList now e next → IsOfSame q next
-of_next q now next e same h = record {
-  scene = ap (λ (x : ListPlace). x.scene) h.next.behind ∙ same.scene;
-  i = ap (λ (x : ListPlace). x.i) h.next.behind ∙ same.i;
-  j = ap (λ (x : ListPlace). x.j) h.next.behind ∙ same.j;
-  s = ap (λ (x : ListPlace). x.s) h.next.behind ∙ same.s;
+same_moved : (q now next : ListPlace) (past rest : List Placed) (stored : Sample) → IsOfSame q now → next.scene ≡ now.scene → next.history ≡ moved now.history past rest stored → IsOfSame q next
+same_moved q now next past rest stored same scene behind = record {
+  scene = scene ∙ same.scene;
+  i = ap (λ (x : Place). x.i) behind ∙ same.i;
+  j = ap (λ (x : Place). x.j) behind ∙ same.j;
+  s = ap (λ (x : Place). x.s) behind ∙ same.s;
 }
 
-pub end_of_same : (q now : ListPlace) (end : Sample) → IsOfSame q now → IsEnd now.scene now.i now.j now.s end → IsEnd q.scene q.i q.j q.s end
+pub same_next : (q now next : ListPlace) (e : ListEvent) → IsOfSame q now → IsNextOfList now e next → IsOfSame q next
+same_next q now next e same h = same_moved q now next (h.next.triangle ∷ []) next.history.left e.event.after same h.same h.next.behind
+
+pub same_covered : (q now next : ListPlace) (e : ListEvent) → IsOfSame q now → IsNextCoveredOfList now e next → IsOfSame q next
+same_covered q now next e same h =
+    let before : ListPlace = record { scene = now.scene; history = h.before } in
+    same_next q before next e (same_moved q now before h.past.skipped h.before.left now.history.stored same refl h.past.behind) h.next
+
+pub end_of_same : (q now : ListPlace) (end : Sample) → IsOfSame q now → IsEnd now.scene now.history.i now.history.j now.history.s end → IsEnd q.scene q.history.i q.history.j q.history.s end
 end_of_same q now end same h = rw (← same.scene, ← same.i, ← same.j, ← same.s) h
 
-pub returned : (q now next : ListPlace) (o : Option ListEvent) → IsPassed q now → IfSome o (λ e. IsNextOfList now e next)
-    → ((t : Placed) → slice_get now.scene.triangles now.number ≡ Some t → Covers t.tri.a t.tri.b t.tri.c (sample_position now.i now.j now.s now.scene.count))
-    → IfSome o (λ e. IsNextCoveredOfList q e next)
-returned q now next None past h covers = tt
-returned q now next (Some e) past h covers = passed_next q now next e past h (h.event.covered.1 (covers h.triangle h.is))
+pub shorter_next : (now next : ListPlace) (e : ListEvent) → IsNextOfList now e next → length next.history.left < length now.history.left
+shorter_next now next e h = omega (arith, ap length h.next.first)
+
+pub shorter_covered : (now next : ListPlace) (e : ListEvent) → IsNextCoveredOfList now e next → length next.history.left < length now.history.left
+shorter_covered now next e h =
+    omega (arith, shorter_next (record { scene = now.scene; history = h.before }) next e h.next, ap length h.past.split ∙ length-append h.past.skipped h.before.left)

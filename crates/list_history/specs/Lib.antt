@@ -13,11 +13,10 @@
 --   IsRowAfter: In these columns, the row has samples s of row j of the picture after k triangles, and what triangle n did to them.
 --
 -- Walk.antt
---   ListPlace: The number of the next triangle in the history of sample s of pixel (i, j), and the sample that is stored before it.
---   moved_to: The same sample before the triangle of this number.
---   IsReached: The stored sample is what the triangles before the number make of the clear colour and depth.
+--   ListPlace: Where the history of a sample of a list's picture stands.
+--   start_of: Where the history of sample s of pixel (i, j) begins: before the first triangle, with the clear colour and depth.
+--   IsOfList: The triangles to come are those of the list from the number on, and they end with the picture's sample.
 --   IsNextOfList: The event is that of the next triangle, with its draw and what that writes, and the history stands behind it.
---   AreUncoveredOfList: No triangle from the next one to before this number covers the sample.
 --   IsNextCoveredOfList: The event is that of the first triangle to come that covers the sample, and the history stands behind it.
 
 pub mod Counts

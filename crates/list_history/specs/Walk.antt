@@ -1,52 +1,46 @@
-use Rattle.std.specs.Prelude.{◌≡◌, ℕ, ◌+◌, ◌<◌, ◌≤◌, length, take, slice_get, Some, IsSome}
-use Rattle.grid.specs.Samples.{sample_position}
-use Rattle.grid.specs.Triangle.{Covers}
+use Rattle.std.specs.Prelude.{◌≡◌, ℕ, ◌<◌, ◌≤◌, drop, length, IsSome}
+use Rattle.grid.specs.Samples.{count_of}
 use Rattle.shade.specs.declared.sample.Sample.{Sample}
-use Rattle.shade.specs.declared.placed.Placed.{Placed}
-use Rattle.shade.specs.Ending.{Ends}
-use Rattle.history.specs.Event.{IsEvent}
+use Rattle.history.specs.History.{Place, EndsWith, IsNext, IsPast}
+use Rattle.model.specs.Picture.{IsEnd}
 use Rattle.model.specs.Place.{IsPlace}
 use Rattle.model.specs.Scene.{Scene}
 use Rattle.list_history.specs.declared.list_event.ListEvent.{ListEvent}
 
--- The number of the next triangle in the history of sample s of pixel (i, j), and the sample that is stored before it.
+-- Where the history of a sample of a list's picture stands.
 pub record ListPlace : Type 0 where
   pub scene : Scene
-  pub i : ℕ
-  pub j : ℕ
-  pub s : ℕ
-  pub number : ℕ
-  pub stored : Sample
+  pub history : Place
 
--- The same sample before the triangle of this number.
-abbrev pub moved_to : ListPlace → ℕ → ListPlace
-moved_to q number = record { scene = q.scene; i = q.i; j = q.j; s = q.s; number = number; stored = q.stored }
+-- Where the history of sample s of pixel (i, j) begins: before the first triangle, with the clear colour and depth.
+abbrev pub start_of : Scene → ℕ → ℕ → ℕ → ListPlace
+start_of l i j s = record {
+  scene = l;
+  history = record { left = l.triangles; number = 0; count = l.count; i = i; j = j; s = s; stored = l.clear };
+}
 
--- The stored sample is what the triangles before the number make of the clear colour and depth.
-pub record IsReached (l : Scene) (i j s number : ℕ) (stored : Sample) : Type 0 where
-  pub within : number ≤ length l.triangles
-  pub ends : Ends (take number l.triangles) l.count i j s l.clear stored
+-- The triangles to come are those of the list from the number on, and they end with the picture's sample.
+pub record IsOfList (l : Scene) (q : Place) : Type 0 where
+  pub column : q.i < 4096
+  pub row : q.j < 4096
+  pub sample : q.s < count_of q.count
+  pub count : q.count ≡ l.count
+  pub left : q.left ≡ drop q.number l.triangles
+  pub within : q.number ≤ length l.triangles
+  pub ends : (end : Sample) → EndsWith q end → IsEnd l q.i q.j q.s end
 
 -- The event is that of the next triangle, with its draw and what that writes, and the history stands behind it.
 pub record IsNextOfList (old : ListPlace) (e : ListEvent) (new : ListPlace) : Type 0 where
-  pub triangle : Placed
-  pub is : slice_get old.scene.triangles old.number ≡ Some triangle
-  pub number : e.number ≡ old.number
-  pub place : IsPlace old.scene old.number e.place
-  pub write : e.write ≡ triangle.state.merge.write
-  pub depth_write : e.depth_write ≡ triangle.state.merge.depth_write
-  pub event : IsEvent triangle old.scene.count old.i old.j old.s e.event
-  pub before : e.event.before ≡ old.stored
-  pub behind : new ≡ record { scene = old.scene; i = old.i; j = old.j; s = old.s; number = old.number + 1; stored = e.event.after }
-
--- No triangle from the next one to before this number covers the sample.
-abbrev pub AreUncoveredOfList : ListPlace → ℕ → Type 0
-AreUncoveredOfList q end =
-    (k : ℕ) (t : Placed) → q.number ≤ k → k < end → slice_get q.scene.triangles k ≡ Some t → ¬ Covers t.tri.a t.tri.b t.tri.c (sample_position q.i q.j q.s q.scene.count)
+  pub next : IsNext old.history e.event new.history
+  pub number : e.number ≡ old.history.number
+  pub place : IsPlace old.scene e.number e.place
+  pub write : e.write ≡ next.triangle.state.merge.write
+  pub depth_write : e.depth_write ≡ next.triangle.state.merge.depth_write
+  pub same : new.scene ≡ old.scene
 
 -- The event is that of the first triangle to come that covers the sample, and the history stands behind it.
 pub record IsNextCoveredOfList (old : ListPlace) (e : ListEvent) (new : ListPlace) : Type 0 where
-  pub order : old.number ≤ e.number
-  pub uncovered : AreUncoveredOfList old e.number
-  pub next : IsNextOfList (moved_to old e.number) e new
+  pub before : Place
+  pub past : IsPast old.history before
+  pub next : IsNextOfList (record { scene = old.scene; history = before }) e new
   pub covered : IsSome e.event.fragment

@@ -1,38 +1,31 @@
-ghost use Rattle.std.specs.Prelude.{◌≡◌, ◌↔◌, ◌<◌, ◌+◌, IsTrue, false, IfSome, IfNone, Some, length, slice_get};
-ghost use Rattle.grid.specs.Samples.{count_of, sample_position};
-ghost use Rattle.grid.specs.Triangle.{Covers};
+ghost use Rattle.std.specs.Prelude.{◌≡◌, ◌↔◌, ◌<◌, ◌+◌, [], IfSome, IfNone, Some, length, slice_get};
+ghost use Rattle.grid.specs.Samples.{count_of};
 ghost use Rattle.shade.specs.declared.placed.Placed.{Placed};
+ghost use Rattle.history.specs.History.{IsPast, IsCoveredBy, AreUncovered, moved};
 ghost use Rattle.model.specs.Picture.{IsEnd};
-ghost use Rattle.list_history.specs.Walk.{IsNextOfList, IsNextCoveredOfList, AreUncoveredOfList, moved_to};
+ghost use Rattle.list_history.specs.Walk.{IsOfList, IsNextOfList, IsNextCoveredOfList, start_of};
 
 use crate::list_event::ListEvent;
-use grid::sample_at;
-use history::event_of;
+use history::SampleHistory;
 use model::DrawList;
-use shade::Sample;
+use shade::{Placed, Sample};
 use std::marker::Model;
 
 /// The events of a list's triangles at one sample, one after another in draw order, from the clear colour and depth on.
 #[derive(Debug, Drop)]
 pub struct ListHistory<'a> {
     list: &'a DrawList,
-    px: u32,
-    py: u32,
-    s: u32,
-    number: usize,
-    stored: Sample,
+    history: SampleHistory<'a, DrawList>,
 }
 
 impl<'a> Model for ListHistory<'a> {
-    ghost use Rattle.std.specs.Prelude.{◌<◌};
-    ghost use Rattle.grid.specs.Samples.{count_of};
-    ghost use Rattle.list_history.specs.Walk.{ListPlace, IsReached};
+    ghost use Rattle.list_history.specs.Walk.{ListPlace, IsOfList};
 
     ghost Value = { ListPlace };
 
-    ghost view = { λ h. record { scene = h.list.now; i = h.px; j = h.py; s = h.s; number = h.number; stored = h.stored } };
+    ghost view = { λ h. record { scene = h.list.now; history = h.history } };
 
-    ghost invariant = { λ h. (h.px < 4096) × (h.py < 4096) × (h.s < count_of h.list.now.count) × IsReached h.list.now h.px h.py h.s h.number h.stored };
+    ghost invariant = { λ h. IsOfList h.list.now h.history };
 }
 
 impl<'a> ListHistory<'a> {
@@ -41,100 +34,53 @@ impl<'a> ListHistory<'a> {
         requires column { px < 4096 }
         requires row { py < 4096 }
         requires sample { s < count_of list.now.count }
-        ensures { result ≡ record { scene = list.now; i = px; j = py; s = s; number = 0; stored = list.now.clear } }
+        ensures { result ≡ start_of list.now px py s }
     {
-        ListHistory {
-            list,
-            px,
-            py,
-            s,
-            number: 0,
-            stored: list.clear(),
-        }
+        let history = SampleHistory::new(list, list.count(), px, py, s, list.clear());
+        ListHistory { list, history }
     }
 
     /// Returns the event of the next triangle. Returns `None` after the last one: the stored sample is then that of the picture.
     pub fn next(&mut self) -> Option<ListEvent>
         ensures event { IfSome result (λ e. IsNextOfList self.old e self.new) }
-        ensures none { IfNone result (self.old.number ≡ length self.old.scene.triangles) }
-        ensures end { IfNone result (IsEnd self.old.scene self.old.i self.old.j self.old.s self.old.stored) }
+        ensures none { IfNone result (self.old.history.left ≡ []) }
+        ensures end { IfNone result (IsEnd self.old.scene self.old.history.i self.old.history.j self.old.history.s self.old.history.stored) }
         ensures unchanged { IfNone result (self.new ≡ self.old) }
     {
-        if !self.has_next() {
-            return None;
-        }
-        let number = self.number;
-        let triangle = self.list.triangle(number);
-        let count = self.list.count();
-        let event = event_of(&triangle, count, self.px, self.py, self.s, self.stored);
-        self.number += 1;
-        self.stored = event.after;
-        Some(ListEvent {
-            number,
-            place: self.list.place(number),
-            write: triangle.state.merge.write,
-            depth_write: triangle.state.merge.depth_write,
-            event,
-        })
+        let triangle = self.history.coming()?;
+        Some(self.take(&triangle))
     }
 
     /// Returns the event of the next triangle that covers the sample. The triangles before it, which do not cover the sample, are
     /// passed over. Returns `None` if no triangle to come covers the sample, which then stores what the picture has.
     pub fn next_covered(&mut self) -> Option<ListEvent>
         ensures event { IfSome result (λ e. IsNextCoveredOfList self.old e self.new) }
-        ensures end { IfNone result (IsEnd self.old.scene self.old.i self.old.j self.old.s self.old.stored) }
-        ensures none { IfNone result (AreUncoveredOfList self.old (length self.old.scene.triangles)) }
-        ensures past { IfNone result (self.new ≡ moved_to self.old (length self.old.scene.triangles)) }
+        ensures end { IfNone result (IsEnd self.old.scene self.old.history.i self.old.history.j self.old.history.s self.old.history.stored) }
+        ensures none { IfNone result (AreUncovered self.old.history self.old.history.left) }
+        ensures past { IfNone result (self.new ≡ record { scene = self.old.scene; history = moved self.old.history self.old.history.left [] self.old.history.stored }) }
     {
-        while self.has_next() {
-            if self.is_covered_by_next() {
-                return self.next();
-            }
-            self.pass();
-        }
-        None
+        let triangle = pass_uncovered(self.list, &mut self.history)?;
+        Some(self.take(&triangle))
     }
 
-    /// Whether a triangle is to come. If none is, the stored sample is that of the picture.
-    fn has_next(&self) -> bool
-        ensures some { IsTrue result → self.now.number < length self.now.scene.triangles }
-        ensures few { IsTrue result → self.now.number < 65536 }
-        ensures none { (result ≡ false) → (self.now.number ≡ length self.now.scene.triangles)
-            × IsEnd self.now.scene self.now.i self.now.j self.now.s self.now.stored }
+    /// Returns the event of the next triangle, which is this one.
+    fn take(&mut self, triangle: &Placed) -> ListEvent
+        requires { slice_get self.old.history.left 0 ≡ Some triangle.now }
+        ensures { IsNextOfList self.old result self.new }
     {
-        self.number < self.list.triangles()
-    }
-
-    /// Whether the next triangle covers the sample. Few triangles have the sample's row, and those that do not are seen by their rows.
-    fn is_covered_by_next(&self) -> bool
-        requires { self.now.number < length self.now.scene.triangles }
-        ensures { (t : Placed) → slice_get self.now.scene.triangles self.now.number ≡ Some t
-            → IsTrue result ↔ Covers t.tri.a t.tri.b t.tri.c (sample_position self.now.i self.now.j self.now.s self.now.scene.count) }
-    {
-        let rows = self.list.rows(self.number);
-        if self.py < u32::from(rows.first) {
-            return false;
+        let number = self.history.number();
+        ListEvent {
+            number,
+            place: self.list.place(number),
+            write: triangle.state.merge.write,
+            depth_write: triangle.state.merge.depth_write,
+            event: self.history.take(triangle),
         }
-        if u32::from(rows.end) <= self.py {
-            return false;
-        }
-        let p = sample_at(self.px, self.py, self.s, self.list.count());
-        self.list.triangle(self.number).tri.covers(p)
-    }
-
-    /// Passes over the next triangle, which does not cover the sample.
-    fn pass(&mut self)
-        requires some { self.old.number < length self.old.scene.triangles }
-        requires few { self.old.number < 65536 }
-        requires uncovered { AreUncoveredOfList self.old (self.old.number + 1) }
-        ensures { self.new ≡ moved_to self.old (self.old.number + 1) }
-    {
-        self.number += 1;
     }
 
     /// The sample after all triangles.
     pub fn end(mut self) -> Sample
-        ensures { IsEnd self.entry.scene self.entry.i self.entry.j self.entry.s result }
+        ensures { IsEnd self.entry.scene self.entry.history.i self.entry.history.j self.entry.history.s result }
     {
         while self.next_covered().is_some() {}
         self.stored()
@@ -142,15 +88,55 @@ impl<'a> ListHistory<'a> {
 
     /// The number of the next triangle in draw order, or how many there are.
     pub fn number(&self) -> usize
-        ensures { result ≡ self.now.number }
+        ensures value { result ≡ self.now.history.number }
+        ensures list { IsOfList self.now.scene self.now.history }
     {
-        self.number
+        self.history.number()
     }
 
     /// The sample that is stored before the next triangle.
     pub fn stored(&self) -> Sample
-        ensures { result ≡ self.now.stored }
+        ensures { result ≡ self.now.history.stored }
     {
-        self.stored
+        self.history.stored()
+    }
+}
+
+/// Passes over the triangles that do not cover the sample, up to the first that does, and returns that one.
+fn pass_uncovered(list: &DrawList, history: &mut SampleHistory<'_, DrawList>) -> Option<Placed>
+    requires { IsOfList list.now history.old }
+    ensures past { IsPast history.old history.new }
+    ensures some { IfSome result (λ t. (slice_get history.new.left 0 ≡ Some t) × IsCoveredBy history.new t) }
+    ensures none { IfNone result (history.new.left ≡ []) }
+    ensures end { IfNone result (IsEnd list.now history.old.i history.old.j history.old.s history.old.stored) }
+{
+    while history.number() < list.triangles() {
+        if let Some(triangle) = coming_if_covered(list, history) {
+            return Some(triangle);
+        }
+        history.pass();
+    }
+    None
+}
+
+/// The next triangle, if it covers the sample. Few triangles have the sample's row, and those that do not are seen by their rows.
+fn coming_if_covered(list: &DrawList, history: &SampleHistory<'_, DrawList>) -> Option<Placed>
+    requires list { IsOfList list.now history.now }
+    requires some { history.now.number < length list.now.triangles }
+    ensures some { IfSome result (λ t. (slice_get history.now.left 0 ≡ Some t) × IsCoveredBy history.now t) }
+    ensures none { IfNone result ((t : Placed) × (slice_get history.now.left 0 ≡ Some t) × (¬ IsCoveredBy history.now t)) }
+{
+    let rows = list.rows(history.number());
+    if history.row() < u32::from(rows.first) {
+        return None;
+    }
+    if u32::from(rows.end) <= history.row() {
+        return None;
+    }
+    let triangle = history.coming()?;
+    if history.is_covered_by(&triangle) {
+        Some(triangle)
+    } else {
+        None
     }
 }

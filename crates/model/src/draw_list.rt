@@ -11,7 +11,7 @@ use crate::rows::{RowSpan, rows_of};
 use crate::starts::{owner, owners_of, starts_of};
 use crate::target::Target;
 use grid::{OutOfMemory, SampleCount};
-use shade::{Placed, Sample};
+use shade::{Placed, Sample, Triangles};
 use std::alloc::Global;
 use std::marker::Model;
 
@@ -61,6 +61,20 @@ impl Model for DrawList {
     ghost view = { λ l. scene_of (listing l) };
 
     ghost invariant = { IsKept };
+}
+
+impl Triangles for DrawList {
+    ghost listed = { λ l. l.triangles };
+
+    #[inline(always)]
+    fn count(&self) -> usize {
+        self.triangles()
+    }
+
+    #[inline(always)]
+    fn triangle(&self, number: usize) -> Placed {
+        self.triangle(number)
+    }
 }
 
 impl DrawList {

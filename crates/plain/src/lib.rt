@@ -6,5 +6,5 @@ mod pixel;
 mod triangle_sample;
 
 pub use picture::render;
-pub use pixel::{Colour, colour_at, end_at};
+pub use pixel::{Colour, colour_at, end_at, end_of};
 pub use triangle_sample::draw;

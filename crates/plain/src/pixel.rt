@@ -1,11 +1,13 @@
 ghost use Rattle.std.specs.Prelude.{◌≡◌, ◌<◌};
 ghost use Rattle.grid.specs.Samples.{count_of};
+ghost use Rattle.shade.specs.Ending.{Ends};
 ghost use Rattle.shade.specs.declared.sample.Sample.{Sample};
 ghost use Rattle.model.specs.Picture.{IsEnd, IsColour};
 
 use crate::triangle_sample::draw;
+use grid::SampleCount;
 use model::DrawList;
-use shade::{MAX_SAMPLES, Sample, resolved_colour};
+use shade::{MAX_SAMPLES, Sample, Triangles, resolved_colour};
 
 /// The colour of a pixel.
 #[derive(Clone, Copy, Debug, PartialEq, Eq)]
@@ -15,7 +17,29 @@ pub struct Colour {
     pub b: u8,
 }
 
-/// Sample `s` of the pixel in column `px` and row `py` after all triangles.
+/// Sample `s` of the pixel in column `px` and row `py`, which stores `start`, after all triangles of a source.
+pub fn end_of<S: Triangles>(
+    source: &S,
+    count: SampleCount,
+    px: u32,
+    py: u32,
+    s: u32,
+    start: Sample,
+) -> Sample
+    requires column { px < 4096 }
+    requires row { py < 4096 }
+    requires sample { s < count_of count }
+    ensures end { Ends (S.listed source.now) count px py s start result }
+    ensures only { (other : Sample) → Ends (S.listed source.now) count px py s start other → other ≡ result }
+{
+    let mut sample = start;
+    for number in 0..source.count() {
+        sample = draw(&source.triangle(number), count, px, py, s, sample);
+    }
+    sample
+}
+
+/// Sample `s` of the pixel in column `px` and row `py` after all triangles of the list.
 pub fn end_at(list: &DrawList, px: u32, py: u32, s: u32) -> Sample
     requires column { px < 4096 }
     requires row { py < 4096 }
@@ -23,11 +47,7 @@ pub fn end_at(list: &DrawList, px: u32, py: u32, s: u32) -> Sample
     ensures end { IsEnd list.now px py s result }
     ensures only { (other : Sample) → IsEnd list.now px py s other → other ≡ result }
 {
-    let mut sample = list.clear();
-    for number in 0..list.triangles() {
-        sample = draw(&list.triangle(number), list.count(), px, py, s, sample);
-    }
-    sample
+    end_of(list, list.count(), px, py, s, list.clear())
 }
 
 /// The colour of the pixel in column `px` and row `py`.

@@ -1,5 +1,5 @@
 //! Runs of the pool.
-ghost use Rattle.std.specs.Prelude.{◌≡◌, ◌*◌, ◌<◌, ◌≤◌, length, slice_index};
+ghost use Rattle.std.specs.Prelude.{◌≡◌, ◌*◌, ◌≤◌};
 
 use grid::OutOfMemory;
 use pool::{Dealer, Desks, Gate, Job, Open, PoolFault, Tickets, run};
@@ -40,42 +40,6 @@ fn squares_in_order(rt: HostRuntime) -> Result<(), Fail> {
     assert!(rt; by_desks.as_slice() == [0, 1, 4, 9, 16, 25, 36, 49, 64, 81].as_slice());
     let by_tickets = run::<_, Tickets, _, _>(&rt, rt.alloc(), 10, 3, &Squares, &Open)?;
     assert!(rt; by_tickets.as_slice() == by_desks.as_slice());
-    Ok(())
-}
-
-/// Reads numbers that it borrows, by way of a scratch of two.
-#[derive(Drop)]
-struct Reading<'a> {
-    numbers: &'a [u64],
-}
-
-impl<'a> Job for Reading<'a> {
-    type Out = u64;
-
-    type Scratch = Vec<u64>;
-
-    ghost right = { λ job k answer. answer ≡ slice_index job.numbers.now k };
-
-    ghost fits = { λ _ scratch. length scratch.items ≡ 2 };
-
-    ghost can_work = { λ job k. k < length job.numbers.now };
-
-    fn scratch(&self, alloc: Global) -> Result<Vec<u64>, OutOfMemory> {
-        Ok(vec![in alloc; 0u64; 2]?)
-    }
-
-    fn work(&self, _alloc: Global, k: u32, scratch: &mut Vec<u64>) -> Result<u64, OutOfMemory> {
-        scratch[1] = self.numbers[k as usize];
-        Ok(scratch[1])
-    }
-}
-
-#[test]
-fn a_job_that_borrows(rt: HostRuntime) -> Result<(), Fail> {
-    let numbers = [3u64, 1, 4, 1, 5, 9];
-    let job = Reading { numbers: &numbers };
-    let answers = run::<_, Desks, _, _>(&rt, rt.alloc(), 6, 2, &job, &Open)?;
-    assert!(rt; answers.as_slice() == [3, 1, 4, 1, 5, 9].as_slice());
     Ok(())
 }
 

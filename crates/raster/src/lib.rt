@@ -10,6 +10,6 @@ mod scissor;
 mod tile;
 
 pub use cleared::clear;
-pub use pixel_row::colours;
+pub use pixel_row::{colours, colours_by};
 pub use rasterize::draw_triangle;
 pub use tile::Tile;

@@ -1,7 +1,8 @@
 //! The colours of eight pixels in a row of a block.
-ghost use Rattle.std.specs.Prelude.{◌≡◌, ℕ, ◌+◌, ◌*◌, ◌/◌, ◌%◌, ◌^◌, ◌<◌, ◌≤◌, length, slice_index};
+ghost use Rattle.std.specs.Prelude.{◌≡◌, ◌⊎◌, false, ℕ, ◌+◌, ◌*◌, ◌/◌, ◌%◌, ◌^◌, ◌<◌, ◌≤◌, length, slice_index};
 ghost use Rattle.grid.specs.Pixels.{side_of};
 ghost use Rattle.grid.specs.Samples.{count_of};
+ghost use Rattle.grid.specs.declared.sample_count.SampleCount.TheVariants.{One, Four};
 ghost use Rattle.raster.specs.Samples.{planes_of};
 ghost use Rattle.raster.specs.Colours.{AreColoursAt, AreMeansAt, AreInterleaved};
 
@@ -65,7 +66,6 @@ fn logarithm_and_half(count: SampleCount) -> (u16, u16)
 }
 
 /// The same as `colours`, by the sums of the samples.
-#[cold]
 #[inline(never)]
 fn colours_of_more(tile: &Tile, samples: &[BlockSamples], row: u32, column: u32) -> u8x32
     requires samples { length samples.now ≡ planes_of tile.now.side tile.now.count }
@@ -80,13 +80,13 @@ fn colours_of_more(tile: &Tile, samples: &[BlockSamples], row: u32, column: u32)
     colours_by_sums(planes, 8 * (row % 8) as usize, half, bits)
 }
 
-/// Red, green and blue of the eight pixels in a row of the tile and a column of its blocks, pixel by pixel: the first 24 bytes of
-/// the result.
+/// The same as `colours`, with one sample a pixel or four.
 #[inline(always)]
-pub fn colours(tile: &Tile, samples: &[BlockSamples], row: u32, column: u32) -> u8x32
+fn colours_of_few(tile: &Tile, samples: &[BlockSamples], row: u32, column: u32) -> u8x32
     requires samples { length samples.now ≡ planes_of tile.now.side tile.now.count }
     requires row { row < side_of tile.now.side }
     requires column { column < side_of tile.now.side / 8 }
+    requires few { (tile.now.count ≡ One) ⊎ (tile.now.count ≡ Four) }
     ensures whole { length result ≡ 32 }
     ensures colours { AreColoursAt tile.now samples.now row column result }
 {
@@ -98,7 +98,7 @@ pub fn colours(tile: &Tile, samples: &[BlockSamples], row: u32, column: u32) -> 
             u8x8::from_slice(&plane.g[from..]),
             u8x8::from_slice(&plane.b[from..]),
         )
-    } else if tile.count == SampleCount::Four {
+    } else {
         let place = tile.place_by_count(SampleCount::Four, row / 8, column, 0);
         let (first, second) = (&samples[place], &samples[place + 1]);
         let (third, fourth) = (&samples[place + 2], &samples[place + 3]);
@@ -106,7 +106,46 @@ pub fn colours(tile: &Tile, samples: &[BlockSamples], row: u32, column: u32) -> 
         let green = means_of_four(&first.g, &second.g, &third.g, &fourth.g, from);
         let blue = means_of_four(&first.b, &second.b, &third.b, &fourth.b, from);
         interleaved(red, green, blue)
-    } else {
+    }
+}
+
+/// The same as `colours`, with code of its own for one sample a pixel or four, and for the other numbers.
+#[inline(always)]
+pub fn colours_by<const MORE: bool>(
+    tile: &Tile,
+    samples: &[BlockSamples],
+    row: u32,
+    column: u32,
+) -> u8x32
+    requires samples { length samples.now ≡ planes_of tile.now.side tile.now.count }
+    requires row { row < side_of tile.now.side }
+    requires column { column < side_of tile.now.side / 8 }
+    requires few { MORE ≡ false → (tile.now.count ≡ One) ⊎ (tile.now.count ≡ Four) }
+    ensures whole { length result ≡ 32 }
+    ensures colours { AreColoursAt tile.now samples.now row column result }
+{
+    if MORE {
         colours_of_more(tile, samples, row, column)
+    } else {
+        colours_of_few(tile, samples, row, column)
+    }
+}
+
+/// Red, green and blue of the eight pixels in a row of the tile and a column of its blocks, pixel by pixel: the first 24 bytes of
+/// the result.
+#[inline(always)]
+pub fn colours(tile: &Tile, samples: &[BlockSamples], row: u32, column: u32) -> u8x32
+    requires samples { length samples.now ≡ planes_of tile.now.side tile.now.count }
+    requires row { row < side_of tile.now.side }
+    requires column { column < side_of tile.now.side / 8 }
+    ensures whole { length result ≡ 32 }
+    ensures colours { AreColoursAt tile.now samples.now row column result }
+{
+    match tile.count {
+        SampleCount::One => colours_of_few(tile, samples, row, column),
+        SampleCount::Four => colours_of_few(tile, samples, row, column),
+        SampleCount::Two | SampleCount::Eight | SampleCount::Sixteen => {
+            colours_of_more(tile, samples, row, column)
+        }
     }
 }

@@ -47,7 +47,7 @@ fn planes<const N: u32>(block: &Square, class: Class, from: u32) -> Option<[u64;
         Class::Out => None,
         Class::All => Some(ALL),
         Class::Mixed => {
-            let planes = block.masks::<N>(from).plane;
+            let planes = block.masks_of_part::<N>(from).plane;
             if planes == NONE { None } else { Some(planes) }
         }
     }

@@ -2,9 +2,9 @@
 ghost use Rattle.std.specs.Prelude.{◌≤◌, length};
 ghost use Rattle.reach.specs.Bounds.{AreBounds};
 
-use crate::source::Triangles;
 use crate::span::{Span, tiles_met};
 use crate::spans::Spans;
+use shade::Triangles;
 
 /// The columns of tiles and the tile rows in which each of up to `N` triangles can meet a sample.
 #[derive(Drop)]

@@ -5,14 +5,12 @@
 
 mod bounds;
 mod marks;
-mod source;
 mod span;
 mod spans;
 mod words;
 
 pub use bounds::Bounds;
 pub use marks::{CHUNK, Marks, Reached, reach_of};
-pub use source::{Chunk, Stored, Triangles};
 pub use span::{NOWHERE, Span};
 pub use spans::Spans;
 pub use words::next_bit;

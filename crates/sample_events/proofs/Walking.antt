@@ -1,10 +1,9 @@
 -- The events that are written so far, one after another.
-use Rattle.std.proofs.Common.{◌≡◌, refl, sym, ap, subst, ◌∙◌, ℕ, ◌+◌, ◌-◌, ◌<◌, ◌≤◌, Bool, true, false, List, [], ◌∷◌, ◌++◌, append_assoc, append-nil, length, length-append, set, arith}
+use Rattle.std.proofs.Common.{◌≡◌, refl, sym, ap, subst, ◌∙◌, ℕ, ◌+◌, ◌<◌, ◌≤◌, Bool, true, false, List, [], ◌∷◌, ◌++◌, append_assoc, append-nil, length, length-append, set, arith}
 use Rattle.shade.specs.declared.sample.Sample.{Sample}
-use Rattle.list_history.specs.Walk.{ListPlace, IsNextOfList}
+use Rattle.list_history.specs.Walk.{ListPlace}
 use Rattle.list_history.specs.declared.list_event.ListEvent.{ListEvent}
-use Rattle.list_history.proofs.Passed.{IsOfSame, of_itself, of_next, next_number}
-use Rattle.std.proofs.lemmas.Option.{slice_get_within}
+use Rattle.list_history.proofs.Passed.{IsOfSame, of_itself, same_next, same_covered, shorter_next, shorter_covered}
 use Rattle.sample_events.specs.declared.event.SampleEvent.{SampleEvent}
 use Rattle.sample_events.specs.Events.{event_of}
 use Rattle.sample_events.specs.Walk.{IsNextAsked, IsOver, AreEventsFrom, written, AreWritten}
@@ -28,36 +27,13 @@ written_length (x ∷ es) [] = refl
 written_length (x ∷ es) (o ∷ os) = omega (arith, written_length es os)
 
 -- ---- one step of a history
-pub record IsFurther (now next : ListPlace) : Type 0 where
-  pub before : now.number < next.number
-  pub within : next.number ≤ length now.scene.triangles
+pub shorter : (all : Bool) (now next : ListPlace) (e : ListEvent) → IsNextAsked all now e next → length next.history.left < length now.history.left
+shorter true now next e h = shorter_next now next e h
+shorter false now next e h = shorter_covered now next e h
 
-further_all : (now next : ListPlace) (e : ListEvent) → IsNextOfList now e next → IsFurther now next
-further_all now next e h =
-    let behind : next.number ≡ now.number + 1 = ap (λ (x : ListPlace). x.number) h.behind in
-    let within = slice_get_within now.scene.triangles now.number h.triangle h.is in
-    record { before = omega (arith, behind); within = omega (arith, behind, within) }
-
-pub further : (all : Bool) (now next : ListPlace) (e : ListEvent) → IsNextAsked all now e next → IsFurther now next
-further true now next e h = further_all now next e h
-further false now next e h = let step = next_number now next e h in record { before = step.0; within = step.1 }
-
-same_all : (q now next : ListPlace) (e : ListEvent) → IsOfSame q now → IsNextOfList now e next → IsOfSame q next
-same_all q now next e same h = record {
-  scene = ap (λ (x : ListPlace). x.scene) h.behind ∙ same.scene;
-  i = ap (λ (x : ListPlace). x.i) h.behind ∙ same.i;
-  j = ap (λ (x : ListPlace). x.j) h.behind ∙ same.j;
-  s = ap (λ (x : ListPlace). x.s) h.behind ∙ same.s;
-}
-
-pub same_sample : (all : Bool) (q now next : ListPlace) (e : ListEvent) → IsOfSame q now → IsNextAsked all now e next → IsOfSame q next
-same_sample true q now next e same h = same_all q now next e same h
-same_sample false q now next e same h = of_next q now next e same h
-
-pub smaller : (all : Bool) (now next : ListPlace) (e : ListEvent) → IsNextAsked all now e next → length next.scene.triangles - next.number < length now.scene.triangles - now.number
-smaller all now next e h =
-    let step = further all now next e h in
-    rw ((same_sample all now now next e (of_itself now) h).scene) (omega (arith, step.before, step.within))
+same_sample : (all : Bool) (q now next : ListPlace) (e : ListEvent) → IsOfSame q now → IsNextAsked all now e next → IsOfSame q next
+same_sample true q now next e same h = same_next q now next e same h
+same_sample false q now next e same h = same_covered q now next e same h
 
 -- ---- the events so far
 pub record IsWalked (all : Bool) (q now : ListPlace) (old new : List SampleEvent) (count : ℕ) : Type 0 where
@@ -66,7 +42,7 @@ pub record IsWalked (all : Bool) (q now : ListPlace) (old new : List SampleEvent
   pub are : (rest : List ListEvent) (end : Sample) → AreEventsFrom all now rest end → AreEventsFrom all q (events ++ rest) end
   pub put : new ≡ written events old
   pub counted : count ≡ length events
-  pub few : count ≤ now.number
+  pub few : count + length now.history.left ≤ length q.history.left
 
 pub none_walked : (all : Bool) (q : ListPlace) (old : List SampleEvent) → IsWalked all q q old old 0
 none_walked all q old = record { same = of_itself q; events = []; are = λ rest end h. h; put = refl; counted = refl; few = omega arith }
@@ -74,14 +50,13 @@ none_walked all q old = record { same = of_itself q; events = []; are = λ rest 
 module _ (all : Bool) (q now next : ListPlace) (e : ListEvent) (old new : List SampleEvent) (count : ℕ) where
   more : (after : List SampleEvent) → (so_far : IsWalked all q now old new count) → IsNextAsked all now e next → after ≡ written (so_far.events ++ e ∷ []) old → IsWalked all q next old after (count + 1)
   more after so_far step put =
-      let beyond = further all now next e step in
       record {
         same = same_sample all q now next e so_far.same step;
         events = so_far.events ++ e ∷ [];
         are = λ rest end h. subst (λ (es : List ListEvent). AreEventsFrom all q es end) (sym (append_assoc so_far.events (e ∷ []) rest)) (so_far.are (e ∷ rest) end (next, step, h));
         put = put;
         counted = omega (arith, so_far.counted, length-append so_far.events (e ∷ []));
-        few = omega (arith, so_far.few, beyond.before);
+        few = omega (arith, so_far.few, shorter all now next e step);
       }
 
   put_one : (so_far : IsWalked all q now old new count) → count < length new → set new count (event_of e) ≡ written (so_far.events ++ e ∷ []) old
@@ -104,7 +79,7 @@ module _ (all : Bool) (q now next : ListPlace) (e : ListEvent) (old new : List S
   pub pass_more : (after : List SampleEvent) → IsWalked all q now old new count → IsNextAsked all now e next → length new ≤ count → after ≡ new → IsWalked all q next old after (count + 1)
   pass_more after so_far step full kept = more after so_far step (kept ∙ pass_one so_far full)
 
-pub all_walked : (all : Bool) (q now : ListPlace) (old new : List SampleEvent) (count : ℕ) (end : Sample) → IsWalked all q now old new count → IsOver all now → end ≡ now.stored → AreWritten all q old new count end
+pub all_walked : (all : Bool) (q now : ListPlace) (old new : List SampleEvent) (count : ℕ) (end : Sample) → IsWalked all q now old new count → IsOver all now → end ≡ now.history.stored → AreWritten all q old new count end
 all_walked all q now old new count end so_far over is = record {
   events = so_far.events;
   are = subst (λ (es : List ListEvent). AreEventsFrom all q es end) (append-nil so_far.events) (so_far.are [] end (over, is));

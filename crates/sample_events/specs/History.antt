@@ -17,7 +17,8 @@ use Rattle.sample_events.specs.declared.request.HistoryRequest.{HistoryRequest}
 use Rattle.sample_events.specs.declared.sample_info.SampleInfo.{SampleInfo}
 use Rattle.sample_events.specs.Errors.{IsShort}
 use Rattle.sample_events.specs.Events.{stored_of}
-use Rattle.sample_events.specs.Walk.{start_of, AreWritten}
+use Rattle.list_history.specs.Walk.{start_of}
+use Rattle.sample_events.specs.Walk.{AreWritten}
 
 -- The structs have the sizes, in bytes, that this library knows.
 pub record HasSizes (request : HistoryRequest) : Type 0 where

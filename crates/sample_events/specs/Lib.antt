@@ -19,7 +19,6 @@
 --   event_of: An event as C has it.
 --
 -- Walk.antt
---   start_of: Where the history of sample s of pixel (i, j) begins: before the first triangle, with the clear colour and depth.
 --   IsNextAsked: The next event that is asked for: if all are, that of the next triangle, else that of the next one that covers the sample.
 --   IsOver: No event that is asked for is to come.
 --   AreEventsFrom: These are the events to come that are asked for, all of them, in draw order.

@@ -1,15 +1,11 @@
 -- The events of a sample that are asked for, and the array into which they are written.
 use Rattle.std.specs.Prelude.{◌≡◌, ℕ, Bool, true, false, List, [], ◌∷◌, length}
 use Rattle.shade.specs.declared.sample.Sample.{Sample}
-use Rattle.model.specs.Scene.{Scene}
-use Rattle.list_history.specs.Walk.{ListPlace, IsNextOfList, IsNextCoveredOfList, AreUncoveredOfList}
+use Rattle.history.specs.History.{AreUncovered}
+use Rattle.list_history.specs.Walk.{ListPlace, IsNextOfList, IsNextCoveredOfList}
 use Rattle.list_history.specs.declared.list_event.ListEvent.{ListEvent}
 use Rattle.sample_events.specs.declared.event.SampleEvent.{SampleEvent}
 use Rattle.sample_events.specs.Events.{event_of}
-
--- Where the history of sample s of pixel (i, j) begins: before the first triangle, with the clear colour and depth.
-abbrev pub start_of : Scene → ℕ → ℕ → ℕ → ListPlace
-start_of l i j s = record { scene = l; i = i; j = j; s = s; number = 0; stored = l.clear }
 
 -- The next event that is asked for: if all are, that of the next triangle, else that of the next one that covers the sample.
 abbrev pub IsNextAsked : Bool → ListPlace → ListEvent → ListPlace → Type 0
@@ -18,12 +14,12 @@ IsNextAsked false = IsNextCoveredOfList
 
 -- No event that is asked for is to come.
 abbrev pub IsOver : Bool → ListPlace → Type 0
-IsOver true q = q.number ≡ length q.scene.triangles
-IsOver false q = AreUncoveredOfList q (length q.scene.triangles)
+IsOver true q = q.history.left ≡ []
+IsOver false q = AreUncovered q.history q.history.left
 
 -- These are the events to come that are asked for, all of them, in draw order. The last leaves `end`.
 abbrev pub AreEventsFrom : Bool → ListPlace → List ListEvent → Sample → Type 0
-AreEventsFrom all q [] end = IsOver all q × (end ≡ q.stored)
+AreEventsFrom all q [] end = IsOver all q × (end ≡ q.history.stored)
 AreEventsFrom all q (e ∷ es) end = (next : ListPlace) × IsNextAsked all q e next × AreEventsFrom all next es end
 
 -- What an array holds after these events are written at its beginning, as many as it has elements. Behind them it holds what it held.

@@ -2,7 +2,8 @@
 ghost use Rattle.std.specs.Prelude.{◌≡◌, ◌<◌, IfSome, IfNone};
 ghost use Rattle.grid.specs.Samples.{count_of};
 ghost use Rattle.model.specs.Picture.{IsEnd};
-ghost use Rattle.sample_events.specs.Walk.{start_of, IsNextAsked, IsOver, AreWritten};
+ghost use Rattle.list_history.specs.Walk.{start_of};
+ghost use Rattle.sample_events.specs.Walk.{IsNextAsked, IsOver, AreWritten};
 
 use crate::event::SampleEvent;
 use list_history::{ListEvent, ListHistory};
@@ -13,8 +14,8 @@ use shade::Sample;
 fn next_event(history: &mut ListHistory<'_>, all: bool) -> Option<ListEvent>
     ensures event { IfSome result (λ e. IsNextAsked all history.old e history.new) }
     ensures over { IfNone result (IsOver all history.old) }
-    ensures end { IfNone result (IsEnd history.old.scene history.old.i history.old.j history.old.s history.old.stored) }
-    ensures stored { IfNone result (history.new.stored ≡ history.old.stored) }
+    ensures end { IfNone result (IsEnd history.old.scene history.old.history.i history.old.history.j history.old.history.s history.old.history.stored) }
+    ensures stored { IfNone result (history.new.history.stored ≡ history.old.history.stored) }
 {
     if all {
         history.next()

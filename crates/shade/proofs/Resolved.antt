@@ -69,13 +69,6 @@ by_mean_of count f q e = subst (IsResolved count f) (sym e) (resolved_by_mean co
 pub by_sum : (count : SampleCount) (f : ℕ → ℕ) (sum n : ℕ) → n ≡ count_of count → sum ≡ total (count_of count) f → IsResolved count f ((sum + n / 2) / n)
 by_sum count f sum n many e = by_mean_of count f _ (rw (many, e) refl)
 
-pub mean_small : (count : SampleCount) (sum n : ℕ) → n ≡ count_of count → sum ≤ 255 * count_of count → (sum + n / 2) / n ≤ 255
-mean_small One sum n e h = rw e (omega (arith, h))
-mean_small Two sum n e h = rw e (omega (arith, h))
-mean_small Four sum n e h = rw e (omega (arith, h))
-mean_small Eight sum n e h = rw e (omega (arith, h))
-mean_small Sixteen sum n e h = rw e (omega (arith, h))
-
 pub few_samples : (count : SampleCount) → count_of count ≤ 16
 few_samples One = omega arith
 few_samples Two = omega arith

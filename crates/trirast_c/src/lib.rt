@@ -33,6 +33,3 @@ pub extern "C" fn trirast_version() -> u32
 {
     VERSION
 }
-
-#[cfg(test)]
-mod tests;

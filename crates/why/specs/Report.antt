@@ -20,9 +20,9 @@ pub record HasSample (l : Scene) (asked : Asked) : Type 0 where
 -- Both are histories of the same sample of the same list.
 pub record IsSameSample (old new : ListPlace) : Type 0 where
   pub scene : new.scene ≡ old.scene
-  pub column : new.i ≡ old.i
-  pub row : new.j ≡ old.j
-  pub sample : new.s ≡ old.s
+  pub column : new.history.i ≡ old.history.i
+  pub row : new.history.j ≡ old.history.j
+  pub sample : new.history.s ≡ old.history.s
 
 -- What the picture shows at pixel (i, j), be it of colours or of depths: the resolved colour, and the final depth of sample 0.
 pub record IsShownAt (l : Scene) (i j : ℕ) (pixel : Pixel) : Type 0 where

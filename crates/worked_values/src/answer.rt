@@ -1,7 +1,7 @@
 //! What a call gives, and whether words say it.
 use crate::words::Words;
 use cover::{Class, Masks};
-use grid::{PixelBox, Point, TileSide};
+use grid::{PixelBox, Point, Quad, TileSide};
 use shade::Sample;
 
 /// What a call gives.
@@ -21,6 +21,8 @@ pub(crate) enum Answer {
     Classed(Class),
     /// A square's column and row in blocks, its size and its class.
     Square(u32, u32, TileSide, Class),
+    /// The corners of a quad.
+    Corners(Quad),
     Nothing,
 }
 
@@ -59,6 +61,13 @@ fn says_masks(words: &mut Words<'_>, samples: u32, masks: &Masks) -> bool {
     true
 }
 
+fn says_corners(words: &mut Words<'_>, quad: &Quad) -> bool {
+    words.point() == Some(quad.a())
+        && words.point() == Some(quad.b())
+        && words.point() == Some(quad.c())
+        && words.point() == Some(quad.d())
+}
+
 fn says_square(words: &mut Words<'_>, at: (u32, u32), side: TileSide, class: Class) -> bool {
     words.number() == Some(at.0)
         && words.number() == Some(at.1)
@@ -83,6 +92,7 @@ impl Answer {
             }
             Answer::Classed(it) => class_of(words) == Some(*it),
             Answer::Square(bx, by, side, class) => says_square(words, (*bx, *by), *side, *class),
+            Answer::Corners(quad) => says_corners(words, quad),
             Answer::Nothing => words.word() == Some("nothing"),
         }
     }

@@ -1,22 +1,20 @@
 //! The calls of `cover`, and those of `bins` that need no list.
 ghost use Rattle.std.specs.Prelude.{◌<◌, IfSome, IsTrue};
 ghost use Rattle.cover.specs.Square.{IsCorner};
-ghost use Rattle.grid.specs.Samples.{IsPart};
 
 use crate::answer::{Answer, whole};
 use crate::words::Words;
 use bins::Tiling;
 use cover::{Pair, Setup, pair_masks, quad_masks};
-use grid::{Cull, SampleCount, TileSide};
+use grid::{Cull, TileSide};
 
-/// A block of the screen, the first sample of a part, and how many samples a pixel has.
-fn part_of(words: &mut Words<'_>) -> Option<(u32, u32, u32, SampleCount)>
-    ensures { IfSome result (λ it. (it.0 < 512) × (it.1 < 512) × IsPart it.3 it.2) }
+/// A block of the screen.
+fn block_of(words: &mut Words<'_>) -> Option<(u32, u32)>
+    ensures { IfSome result (λ it. (it.0 < 512) × (it.1 < 512)) }
 {
     let (bx, by) = (words.number()?, words.number()?);
-    let (from, count) = (words.number()?, words.samples()?);
-    if bx < 512 && by < 512 && from < 16 && from + count.part_size() <= count.count() {
-        Some((bx, by, from, count))
+    if bx < 512 && by < 512 {
+        Some((bx, by))
     } else {
         None
     }
@@ -34,26 +32,40 @@ pub(crate) fn bounds_of(words: &mut Words<'_>) -> Option<Answer> {
 
 pub(crate) fn masks_of(words: &mut Words<'_>) -> Option<Answer> {
     let setup = Setup::new(&words.triangle()?, Cull::None)?;
-    let (bx, by, from, count) = part_of(words)?;
-    let masks = setup.masks(bx, by, from, count);
-    Some(Answer::Covered(count.part_size(), masks))
+    let (bx, by) = block_of(words)?;
+    let count = words.samples()?;
+    Some(Answer::Covered(count.part_size(), setup.masks(bx, by, count)))
+}
+
+pub(crate) fn masks_of_part_of(words: &mut Words<'_>) -> Option<Answer> {
+    let setup = Setup::new(&words.triangle()?, Cull::None)?;
+    let (bx, by) = block_of(words)?;
+    let (from, count) = (words.number()?, words.samples()?);
+    if from < 16 && from + count.part_size() <= count.count() {
+        let block = setup.square(bx, by, TileSide::T8, count);
+        Some(Answer::Covered(count.part_size(), block.masks_of_part::<0>(from)))
+    } else {
+        None
+    }
 }
 
 pub(crate) fn pair_masks_of(words: &mut Words<'_>) -> Option<Answer> {
     let (a, b) = (words.point()?, words.point()?);
     let (c, d) = (words.point()?, words.point()?);
-    let (bx, by, from, count) = part_of(words)?;
+    let (bx, by) = block_of(words)?;
+    let count = words.samples()?;
     let Some(pair) = Pair::new(a, b, c, d) else {
         return Some(Answer::Nothing);
     };
-    let (first, second) = pair_masks(&pair, bx, by, from, count);
+    let (first, second) = pair_masks(&pair, bx, by, count);
     Some(Answer::BothCovered(count.part_size(), first, second))
 }
 
 pub(crate) fn quad_masks_of(words: &mut Words<'_>) -> Option<Answer> {
     let quad = words.quad()??;
-    let (bx, by, from, count) = part_of(words)?;
-    let masks = quad_masks(&quad, bx, by, from, count);
+    let (bx, by) = block_of(words)?;
+    let count = words.samples()?;
+    let masks = quad_masks(&quad, bx, by, count);
     Some(Answer::Covered(count.part_size(), masks))
 }
 

@@ -19,6 +19,8 @@ fn given(name: &str, words: &mut Words<'_>) -> Option<Answer> {
         "drops" => points::drops_of(words),
         "quad_covers" => points::quad_covers_of(words),
         "is_clockwise" => points::is_clockwise_of(words),
+        "turned" => points::turned_of(words),
+        "reversed" => points::reversed_of(words),
         _ => given_of_values(name, words),
     }
 }
@@ -28,6 +30,7 @@ fn given_of_values(name: &str, words: &mut Words<'_>) -> Option<Answer> {
         "value" => values::value_of(words),
         "weighted" => values::weighted_of(words),
         "channel" => values::channel_of(words),
+        "row" => values::row_of(words),
         "passes" => values::passes_of(words),
         "over" => values::over_of(words),
         "mean" => values::mean_of(words),
@@ -42,6 +45,7 @@ fn given_of_blocks(name: &str, words: &mut Words<'_>) -> Option<Answer> {
         "is_set_up" => blocks::is_set_up_of(words),
         "bounds" => blocks::bounds_of(words),
         "masks" => blocks::masks_of(words),
+        "masks_of_part" => blocks::masks_of_part_of(words),
         "pair_masks" => blocks::pair_masks_of(words),
         "quad_masks" => blocks::quad_masks_of(words),
         "class" => blocks::class_of(words),

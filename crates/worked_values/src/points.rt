@@ -80,3 +80,11 @@ pub(crate) fn is_clockwise_of(words: &mut Words<'_>) -> Option<Answer> {
         None => Answer::Nothing,
     })
 }
+
+pub(crate) fn turned_of(words: &mut Words<'_>) -> Option<Answer> {
+    Some(Answer::Corners(words.quad()??.turned()))
+}
+
+pub(crate) fn reversed_of(words: &mut Words<'_>) -> Option<Answer> {
+    Some(Answer::Corners(words.quad()??.reversed()))
+}

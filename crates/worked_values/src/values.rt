@@ -1,7 +1,10 @@
 //! The calls of `shade`.
 use crate::answer::{Answer, whole};
 use crate::words::Words;
-use shade::{MAX_SAMPLES, Merge, Sample, Weights, apply, floor_at, over, passes, resolved_colour};
+use grid::{Point, Tri};
+use shade::{
+    MAX_SAMPLES, Merge, Row, Sample, Weights, apply, floor_at, over, passes, resolved_colour,
+};
 
 pub(crate) fn value_of(words: &mut Words<'_>) -> Option<Answer> {
     let (t, p) = (words.triangle()?, words.point()?);
@@ -31,6 +34,33 @@ pub(crate) fn channel_of(words: &mut Words<'_>) -> Option<Answer> {
     } else {
         Answer::Nothing
     })
+}
+
+/// The value at the pixel so many steps to the right of a point, or `None` if the triangle does not cover all pixels on the way.
+fn stepped(t: &Tri, at: Point, v: [u16; 3], steps: u32) -> Option<u16> {
+    let mut p = at;
+    if !t.covers(p) {
+        return None;
+    }
+    let mut row = Row::start(t, p, v);
+    for _ in 0..steps {
+        let Some(next) = Point::new(p.x() + 256, p.y()) else {
+            return None;
+        };
+        if !t.covers(next) {
+            return None;
+        }
+        row.step();
+        p = next;
+    }
+    Some(row.value())
+}
+
+pub(crate) fn row_of(words: &mut Words<'_>) -> Option<Answer> {
+    let (t, p) = (words.triangle()?, words.point()?);
+    let v = [words.value()?, words.value()?, words.value()?];
+    let value = stepped(&t, p, v, words.number()?)?;
+    Some(whole(u32::from(value)))
 }
 
 pub(crate) fn passes_of(words: &mut Words<'_>) -> Option<Answer> {

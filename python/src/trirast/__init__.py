@@ -16,11 +16,15 @@
     canvas.draw(vertices, triangles, cull="back", threads=4)
     canvas.rgb()
 
+    seen = trirast.clip(positions, triangles, (0, 0, 1024, 768))
+    canvas.draw(seen.vertices, seen.triangles)
+
 docs/draw-list.md says what a draw list is, and docs/library.md where the library is looked for. It is loaded at the first
 call. Python 3.9 or later, standard library alone; numpy's arrays are taken and given if numpy is there.
 """
 
 from ._canvas import Canvas, edges
+from ._clip import Clipped, clip
 from ._draw import Draw
 from ._draw_list import DrawList, draw, draw_file, image_info
 from ._errors import (
@@ -46,8 +50,8 @@ from ._scene import draw_scene
 from ._version import VERSION as __version__
 
 __all__ = [
-    "BufferTooSmallError", "Canvas", "CanvasError", "Draw", "DrawList", "DrawListError", "Error", "Event", "FormatError", "Fragment",
+    "BufferTooSmallError", "Canvas", "CanvasError", "Clipped", "Draw", "DrawList", "DrawListError", "Error", "Event", "FormatError", "Fragment",
     "ImageInfo", "LimitError", "MemorySizeError", "OutOfMemoryError", "Picture", "PixelError", "PixelHistory", "PositionError",
     "SampleError", "SampleHistory", "Stored", "StructSizeError", "TileRowsError", "TileSizeError", "TriangleError", "TriangleSamples",
-    "__version__", "draw", "draw_file", "draw_scene", "edges", "image_info", "triangle_samples", "why",
+    "__version__", "clip", "draw", "draw_file", "draw_scene", "edges", "image_info", "triangle_samples", "why",
 ]

@@ -163,6 +163,8 @@ VERTEX = (
     *(Column(name, 0, 255) for name in ("red", "green", "blue", "alpha")),
 )
 Columns = Sequence[Column]
+# Integers that are looked at and then copied, so that what is copied is still in a processor's cache.
+CHUNK = 1 << 15
 # Memory that nobody else has.
 Copy = Union[bytes, bytearray]
 
@@ -223,24 +225,32 @@ def converted(name: str, view: memoryview, columns: Columns) -> Copy:
     """Integers of another type as integers of 32 bits."""
     numpy = sys.modules.get("numpy")
     if numpy is not None:
-        integers = numpy.asarray(view)
-        kind = numpy.dtype(code_of(columns))
-        limits = numpy.iinfo(kind)
-        # Indices of 32 bits with a sign are taken as they are: the library refuses those that are negative, and names them.
-        fits = integers.dtype.itemsize == 4 and columns is not VERTEX
-        if fits or (limits.min <= integers.min() and integers.max() <= limits.max):
-            # New memory costs more than what is written to it, so there is no second copy.
-            made = bytearray(kind.itemsize * integers.size)
-            numpy.frombuffer(made, kind).reshape(integers.shape)[:] = integers
-            return made
-        flat = integers.ravel().tolist()
-        del integers  # It holds the view.
-        return of_numbers(name, flat, columns)
+        made = narrowed(numpy, view, columns)
+        return of_numbers(name, numpy.asarray(view).ravel().tolist(), columns) if made is None else made
     try:
         rows: List[Any] = view.tolist()
     except NotImplementedError:
         raise TypeError(f"{name}: integers in the machine's order, and not {kind_of(view)}") from None
     return of_numbers(name, [each for row in rows for each in row] if view.ndim == 2 else rows, columns)
+
+
+def narrowed(numpy: Any, view: memoryview, columns: Columns) -> Optional[bytearray]:
+    """Integers of another type as integers of 32 bits by numpy, or `None` if one of them does not fit."""
+    integers = numpy.asarray(view)
+    kind = numpy.dtype(code_of(columns))
+    limits = numpy.iinfo(kind)
+    # Indices of 32 bits with a sign are taken as they are: the library refuses those that are negative, and names them.
+    fits = integers.dtype.itemsize == 4 and columns is not VERTEX
+    # New memory costs more than what is written to it, so there is no second copy.
+    made = bytearray(kind.itemsize * integers.size)
+    rows = numpy.frombuffer(made, kind).reshape(integers.shape)
+    step = max(1, CHUNK * len(integers) // max(1, integers.size))
+    for first in range(0, len(integers), step):
+        part = integers[first : first + step]
+        if not (fits or (limits.min <= part.min() and part.max() <= limits.max)):
+            return None
+        rows[first : first + step] = part
+    return made
 
 
 def code_of(columns: Columns) -> str:

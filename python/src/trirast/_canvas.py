@@ -11,6 +11,7 @@ from ._buffers import Buffer, Form, check_writable, raw, readable
 from ._draw import Draw
 from ._errors import CanvasError, DrawListError
 from ._ffi import PLANE_BYTES, CCanvas, CCorners, CEdges, CError, library
+from ._picture import Path, picture_of
 from ._refused import explained
 from ._threads import share
 from ._version import INTERFACE
@@ -163,6 +164,10 @@ class Canvas:
     def bgra(self, out: Optional[Any] = None, *, threads: SupportsIndex = 1) -> Any:
         """The same in the order blue, green, red, alpha."""
         return self._resolved("bgra", out, threads)
+
+    def save(self, path: Path, *, threads: SupportsIndex = 1) -> None:
+        """Writes the colours to a PNG file, or to a PPM file, by the end of the path. Raises ValueError at any other end."""
+        picture_of(self._width, self._height, False, memoryview(self.rgb(threads=threads)).tobytes()).save(path)
 
     def depth(self, sample: SupportsIndex = 0, out: Optional[Any] = None, *, threads: SupportsIndex = 1) -> Any:
         """The depth of one sample of each pixel: 16 bits, of the shape (height, width)."""

@@ -7,11 +7,12 @@ from ._arguments import number, thread_count
 from ._buffers import Buffer
 from ._ffi import CError, CImageInfo, library, memory_of
 from ._picture import ImageInfo, Picture, memory_for
-from ._threads import share
+from ._threads import share, with_stack
 
 DrawList = Union[bytes, bytearray, memoryview, str, Dict[str, Any], List[Any]]
 
 
+@with_stack
 def draw(
     draw_list: DrawList, tile_size: SupportsIndex = 32, threads: SupportsIndex = 1, out: Optional[Any] = None
 ) -> Picture:
@@ -38,6 +39,7 @@ def draw(
         return Picture(info.width, info.height, info.is_depth, pixels)
 
 
+@with_stack
 def draw_file(draw_list: DrawList, tile_size: SupportsIndex = 32) -> bytes:
     """The whole file of a draw list's picture, PPM or PGM, header and pixels, on the calling thread. Raises an Error."""
     data = as_bytes(draw_list)
@@ -46,6 +48,7 @@ def draw_file(draw_list: DrawList, tile_size: SupportsIndex = 32) -> bytes:
     return bytes(file)
 
 
+@with_stack
 def image_info(draw_list: DrawList) -> ImageInfo:
     """The size of a draw list's picture and of its file, without drawing it. Raises an Error."""
     return read_image_info(as_bytes(draw_list))

@@ -6,12 +6,18 @@ from typing import Any, List, NamedTuple, Optional, SupportsIndex, Tuple
 from ._arguments import flag, number
 from ._draw_list import DrawList, as_bytes
 from ._ffi import CError, CEvent, CFragment, CHistoryRequest, CSampleCounts, CSampleInfo, CStored, library
+from ._threads import with_stack
 
 Color = Tuple[int, int, int]
 
 # The names of an event's result, by its number in C, and those of its reasons, by their bits.
 RESULTS = ("missed", "depth_failed", "drawn")
 REASONS = ("culled", "zero_area", "not_covered", "outside_scissor", "masked", "depth_failed")
+# How a reason is printed, if not by its name. That of the depth test has the stored depth behind it.
+PRINTED = {
+    "zero_area": "zero area", "not_covered": "not covered", "outside_scissor": "outside the scissor",
+    "depth_failed": "fails the depth test against",
+}
 # As many events as the array of a first call holds. Few samples have more.
 FEW = 64
 DEPTHS = 1  # the output of a list that shows depths
@@ -53,8 +59,10 @@ class Event(NamedTuple):
 
     def __str__(self) -> str:
         fragment = f"  {self.fragment}" if self.fragment else ""
-        parts = [f"draw {self.draw:>4} triangle {self.triangle:>5}  {self.result:<12}{fragment}"]
-        parts += [", ".join(self.reasons)] if self.reasons else []
+        parts = [f"draw {self.draw:>4} triangle {self.triangle:>5}  {self.result.replace('_', ' '):<12}{fragment}"]
+        for reason in self.reasons:
+            against = f" {self.before.depth}" if reason == "depth_failed" else ""
+            parts += [PRINTED.get(reason, reason) + against]
         parts += [f"now {self.after}"] if self.result == "drawn" else []
         return "; ".join(parts)
 
@@ -104,6 +112,7 @@ class TriangleSamples(NamedTuple):
         return f"draw {self.draw} triangle {self.triangle} covers {self.covered}, changes {self.changed}, shown by {self.shown} samples"
 
 
+@with_stack
 def why(
     draw_list: DrawList, x: SupportsIndex, y: SupportsIndex, sample: Optional[SupportsIndex] = None, all_triangles: bool = False
 ) -> PixelHistory:
@@ -130,6 +139,7 @@ def why(
     return PixelHistory(column, row, resolved([end.color for end in ends.values()]), None, samples)
 
 
+@with_stack
 def triangle_samples(draw_list: DrawList, draw: SupportsIndex, triangle: SupportsIndex) -> TriangleSamples:
     """Returns how many samples of the picture this triangle of this draw covers, how many it changes, and how many still show it:
     it is the last triangle that changes them. Both numbers count from 0; a strip and quads count the triangles as which they are drawn.

@@ -11,11 +11,13 @@ from ._errors import DrawListError
 from ._ffi import CError, CSceneHead, library, memory_of
 from ._picture import Picture, header_of
 from ._refused import explained
+from ._threads import with_stack
 
 OUTPUTS = ("color", "depth")
 MAX_SIZE = 4096
 
 
+@with_stack
 def draw_scene(
     width: SupportsIndex,
     height: SupportsIndex,

@@ -1,48 +1,51 @@
 """Shares a call among threads. What the call uses is theirs until all have ended, whatever happens to the caller meanwhile."""
 
-from _thread import stack_size, start_new_thread
+from _thread import start_new_thread
 from collections import deque
+from functools import wraps
 from itertools import repeat
 from queue import SimpleQueue
-from threading import RLock
-from typing import Any, Callable, Deque, Dict, List, Optional, Sequence, Tuple
+from typing import Any, Callable, Deque, Dict, List, Optional, Sequence, Tuple, TypeVar, cast
 
+from . import _stack
 from ._buffers import Buffer
 
 Part = Tuple[Any, ...]
 Call = Callable[..., Any]
+Function = TypeVar("Function", bound=Call)
 # Two interrupts within a microsecond leave one level.
 LEVELS = 4
-# Bytes of stack that are enough for a call, which takes TRIRAST_STACK of the header, and for Python. A program may have asked for less.
-STACK = 1 << 20
-STARTING = RLock()
 
 
-def is_small(stack: int) -> bool:
-    """Whether a program asked for too little stack. 0 is what the system gives."""
-    return 0 < stack < STACK
+def with_stack(call: Function) -> Function:
+    """A function that is called on a thread of its own if the calling one has too little stack."""
 
+    @wraps(call)
+    def checked(*given: Any, **named: Any) -> Any:
+        if _stack.is_enough():
+            return call(*given, **named)
+        made: List[Any] = []
+        share(lambda: made.append(call(*given, **named)), lambda _count: [()], 1)
+        return made.pop()
 
-def is_stack_small() -> bool:
-    """Whether threads are started with too little stack."""
-    with STARTING:
-        given = stack_size()  # This also asks for what the system gives.
-        stack_size(given)
-    return is_small(given)
+    return cast(Function, checked)
 
 
 def share(call: Call, split: Callable[[int], Sequence[Part]], threads: int, used: Sequence[Buffer] = ()) -> None:
     """Makes a call on each of the parts into which `split` cuts the work for this number of threads: at most as many.
 
     All parts are done or, if the call is interrupted before they begin, none. An interrupt is raised after they have ended, and so is the
-    error of the first part that has one. If no thread can be started, the calling thread does the whole.
+    error of the first part that has one. If no thread can be started, the calling thread does the whole, or raises RuntimeError if it has
+    too little stack.
     """
     parts = split(threads)
-    if len(parts) > 1 or is_stack_small():
+    if len(parts) > 1 or not _stack.is_enough():
         work = Work(call, parts, used)
         if work.is_done_by_threads():
             work.raise_error()
             return
+        if not _stack.is_enough():
+            raise RuntimeError(f"a thread has {_stack.size()} bytes of stack, and none can be started that has the {_stack.STACK} it takes")
         parts = split(1)
     for part in parts:
         call(*part)
@@ -99,17 +102,12 @@ class Work:
         """Starts a thread for each part, as far as there are threads. One is enough for all parts."""
         if self._started:
             return
-        with STARTING:
-            given = stack_size()
-            try:
-                if not is_small(given):
-                    stack_size(given)
+        try:
+            with _stack.enough():
                 # Nothing of Python runs within this line, so no interrupt comes between the start of a thread and its entry in the list.
                 self._started.extend(map(start_new_thread, repeat(self._run, self._count), repeat(())))
-            except RuntimeError:
-                pass  # There are no more threads.
-            finally:
-                stack_size(given)
+        except RuntimeError:
+            pass  # There are no more threads.
 
     def _run(self) -> None:
         while True:

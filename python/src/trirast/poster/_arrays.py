@@ -22,8 +22,8 @@ from numpy.typing import NDArray
 
 from ._draw_list import MAX_LIST, check_states, scene_of_list, sheet_of
 from ._errors import ArraysError
-from ._places import check_file
-from ._scene import PosterDraw, Scene
+from ._places import Path, check_file
+from ._scene import PosterDraw, Scene, owned
 
 # Members begin at multiples of this in files that `save_arrays` writes, so that others can map them as integers.
 ALIGNMENT = 64
@@ -41,8 +41,9 @@ npy: Any = numpy_format
 def scene_of_arrays(vertices: NDArray[Any], triangles: NDArray[Any], value: Any, *, copy: bool = True) -> Scene:
     """A scene of arrays. `value` is a draw list in whose draws `triangles` is a number, and `vertices` is absent.
 
-    The scene has copies of the arrays, unless `copy` is false: then nobody may change them as long as the scene is used. Raises
-    ArraysError if an array does not fit, and trirast.Error if `value` is wrong.
+    The scene has copies of the arrays, unless `copy` is false: then each window that is drawn has copies of what it reads, and who changes
+    the arrays meanwhile may find another picture or an error. Raises ArraysError if an array does not fit, and trirast.Error if `value` is
+    wrong.
     """
     return of_members(vertices, triangles, value, None, copy)
 
@@ -64,7 +65,7 @@ def scene_of_file(path: str) -> Scene:
     """The scene of a .npz file. Raises ArraysError if it is none."""
     with open(path, "rb") as file:
         vertices, triangles, value = read_file(path, file)
-    return of_members(vertices, triangles, value, path, copy=False)
+    return owned(of_members(vertices, triangles, value, path, copy=False))
 
 
 def read_file(path: str, file: IO[bytes]) -> tuple[NDArray[Any], NDArray[Any], Any]:
@@ -125,11 +126,11 @@ def data_offset(file: IO[bytes], info: zipfile.ZipInfo) -> int:
     return int(info.header_offset + LOCAL_HEADER + name + extra)
 
 
-def save_arrays(path: "str | os.PathLike[str]", vertices: NDArray[Any], triangles: NDArray[Any], value: Any) -> None:
+def save_arrays(path: Path, vertices: NDArray[Any], triangles: NDArray[Any], value: Any) -> None:
     """Writes a .npz file for `scene_of`: members stored, and aligned. It gets its name when it is whole, so the arrays may be those of a
     file of that name."""
     arrays = {"vertices": vertices, "triangles": triangles, "draws": np.array(json.dumps(value))}
-    name = os.fspath(path)
+    name = os.fsdecode(path)
     check_file(name)
     new = f"{name}.{secrets.token_hex(8)}"
     try:
@@ -152,9 +153,9 @@ def write_members(file: IO[bytes], arrays: Mapping[str, NDArray[Any]]) -> None:
                 npy.write_array(member_file, np.ascontiguousarray(array), allow_pickle=False)
 
 
-def scene_of(path: "str | os.PathLike[str]") -> Scene:
+def scene_of(path: Path) -> Scene:
     """The scene of a file: arrays if its name ends in .npz, in small or capital letters, else a draw list."""
-    name = os.fspath(path)
+    name = os.fsdecode(path)
     if name.lower().endswith(NPZ):
         return scene_of_file(name)
     with open(name, "rb") as file:

@@ -22,7 +22,7 @@ def arguments(words: Optional[List[str]] = None) -> argparse.Namespace:
         description="Draws a draw list of up to 32,768 pixels a side, by windows.",
     )
     parser.add_argument("list", metavar="LIST", help="a draw list, or arrays of numpy (.npz)")
-    parser.add_argument("-o", dest="out", metavar="OUT", help="the picture: PNG if the name ends in .png, else PPM (of depths PGM)")
+    parser.add_argument("-o", dest="out", metavar="OUT", help="the picture: PNG if the name ends in .png, PPM (of depths PGM) if in .ppm, .pgm or nothing")
     parser.add_argument("--tiles", metavar="FOLDER", help="a new folder of PNG tiles z/x/y.png with a page that shows them")
     parser.add_argument("--samples", type=int, choices=sorted(SAMPLES), help="samples of a pixel, in place of the list's")
     parser.add_argument("--window", type=int, default=SIDE, metavar="SIDE", help=f"pixels of a window's side (default {SIDE})")

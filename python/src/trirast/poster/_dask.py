@@ -7,6 +7,7 @@ a worker. The package and the library have to be installed where workers run.
 from __future__ import annotations
 
 import contextlib
+import gc
 import logging
 import sys
 import threading
@@ -14,10 +15,11 @@ import time
 import warnings
 from collections import deque
 from concurrent.futures import CancelledError
-from typing import Any, Callable, Deque, Iterable, Iterator, NamedTuple
+from typing import Any, Callable, Deque, Iterable, Iterator, NamedTuple, Optional
 
 from .._errors import OutOfMemoryError
 from ._errors import EngineMissingError, PosterError, SchedulerLostError, WorkerLostError
+from ._local_workers import LocalWorkers
 from ._part import Part, compact
 from ._scene import Pixels
 from ._window_pixels import window_pixels
@@ -28,14 +30,14 @@ LOCAL = "local"
 AHEAD = 4
 # How often a window is sent before its loss is an error. Dask itself tries a task that dies with its worker several times.
 SENT = 10
-# Seconds after which a cluster without workers, or one that ends no window, is an error.
+# Seconds after the last window that came back: as many without a worker of a cluster are an error, and so are as many in all.
 WITHOUT_WORKERS = 60
 WITHOUT_WINDOW = 600
-# Seconds without workers after which a cluster of this run's own is given new ones: Dask starts a worker again that dies as it
-# works, but not one that dies as it starts.
-RENEW = 5
-# Seconds for a window to come back that is drawn, before the workers are looked after.
+# Seconds from one look at the workers to the next. What takes longer than STOOD_STILL counts as this: then the machine stood still.
+LOOK, STOOD_STILL = 1, 15
+# Seconds for a window to come back that is drawn, before the workers are looked after, and for the scheduler to answer.
 COME_BACK = 10
+ANSWER = 60
 CONNECT = "10s"
 # Loggers that write traces where a scheduler goes away. The error that is raised says it.
 LOGGERS = ("distributed", "distributed.client", "distributed.utils", "distributed.core", "tornado.application", "asyncio")
@@ -44,13 +46,18 @@ LOGGERS = ("distributed", "distributed.client", "distributed.utils", "distribute
 def draw_by_dask(windows: Iterable[Window], part: Callable[[Span], Part], workers: int, scheduler: str) -> Iterator[Drawn]:
     """Draws windows by Dask, and gives them back in their order.
 
-    `scheduler` is an address, as tcp://host:8786, or "local": then `workers` processes are started. Raises EngineMissingError
-    without Dask; SchedulerLostError if the scheduler is not reached or goes away; WorkerLostError if a window is lost with its
-    worker again and again, or if no worker is left.
+    `scheduler` is an address, as tcp://host:8786, or "local": then `workers` processes are started, and others in place of those that end.
+    Raises EngineMissingError without Dask; SchedulerLostError if the scheduler is not reached, does not answer or goes away;
+    WorkerLostError if a window is lost with its worker again and again, or if workers are not there for long.
     """
     distributed = dask()
-    with connected(distributed, workers, scheduler) as client:
-        yield from Sending(distributed, client, part, workers).drawn(windows)
+    local = LocalWorkers(workers) if scheduler == LOCAL else None
+    with contextlib.ExitStack() as stack:
+        if local is not None:
+            # These end last: a scheduler that ends has its workers end.
+            stack.callback(local.close)
+        client = stack.enter_context(connected(distributed, scheduler))
+        yield from Sending(distributed, client, part, local).drawn(windows)
 
 
 def dask() -> Any:
@@ -65,19 +72,15 @@ def dask() -> Any:
 
 
 @contextlib.contextmanager
-def connected(distributed: Any, workers: int, scheduler: str) -> Iterator[Any]:
-    """A client of a cluster, which is started and ended here if it is local."""
+def connected(distributed: Any, scheduler: str) -> Iterator[Any]:
+    """A client of a scheduler, which is started and ended here if it is local. It has no workers then."""
     with contextlib.ExitStack() as stack:
         stack.enter_context(quiet_loggers())
         try:
             if scheduler == LOCAL:
-                cluster = stack.enter_context(
-                    distributed.LocalCluster(
-                        n_workers=workers, threads_per_worker=1, processes=True, host="127.0.0.1", silence_logs=50,
-                        dashboard_address=":0" if has_dashboard() else None,
-                    )
-                )
-                client = stack.enter_context(distributed.Client(cluster))
+                dashboard = ":0" if has_dashboard() else None
+                cluster = distributed.LocalCluster(n_workers=0, host="127.0.0.1", silence_logs=50, dashboard_address=dashboard)
+                client = stack.enter_context(distributed.Client(stack.enter_context(cluster)))
             else:
                 client = stack.enter_context(distributed.Client(scheduler))
         except (OSError, ValueError, TimeoutError) as error:
@@ -96,6 +99,8 @@ def quiet_loggers() -> Iterator[None]:
             logger.setLevel(logging.CRITICAL)
         yield
     finally:
+        # What Dask leaves behind writes a trace when it goes, so it goes now.
+        gc.collect()
         for logger, level in levels:
             logger.setLevel(level)
 
@@ -127,28 +132,28 @@ class Sent(NamedTuple):
 class Sending:
     """Windows on their way to a cluster and back."""
 
-    def __init__(self, distributed: Any, client: Any, part: Callable[[Span], Part], workers: int) -> None:
+    def __init__(self, distributed: Any, client: Any, part: Callable[[Span], Part], local: Optional[LocalWorkers]) -> None:
         self._distributed = distributed
         self._client = client
         self._part = part
-        self._wanted = workers
-        # When a worker was seen last, and when workers were asked for.
-        self._seen = self._asked = time.monotonic()
+        self._local = local
         self._under_way: Deque[Sent] = deque()
+        # The threads of workers at the last look, and when that was.
+        self._threads, self._looked = 0, time.monotonic() - LOOK
+        # Seconds since the last window came back, and those of them without a worker.
+        self._without_window = self._without_workers = 0.0
 
     def drawn(self, windows: Iterable[Window]) -> Iterator[Drawn]:
         try:
             for window in windows:
-                if len(self._under_way) >= AHEAD * max(1, self._workers()):
+                self._look_after_workers()
+                if len(self._under_way) >= AHEAD * max(1, self._threads):
                     yield self._first()
                 self._under_way.append(self._send(window, 1))
             while self._under_way:
                 yield self._first()
         finally:
             self._under_way.clear()
-
-    def _workers(self) -> int:
-        return sum(worker["nthreads"] for worker in self._client.scheduler_info()["workers"].values())
 
     def _send(self, window: Window, times: int) -> Sent:
         part = compact(self._part(window.span))
@@ -171,33 +176,54 @@ class Sending:
                     raise WorkerLostError(f"window {window.column}, {window.row} was lost {times} times: {error}") from error
                 self._under_way.appendleft(self._send(window, times + 1))
             except (CancelledError, OSError) as error:
+                if future.status == "error":
+                    # The worker's own, as of one that has no library.
+                    raise
                 raise self._lost(error) from error
 
     def _wait(self, future: Any) -> Any:
         """A task's result. Looks after the workers while it waits."""
         is_done = threading.Event()
         future.add_done_callback(lambda _: is_done.set())
-        begun = self._seen = time.monotonic()
         while True:
-            if is_done.wait(1):
+            if is_done.wait(LOOK):
                 # What is done is drawn again if its worker dies before it has come back.
                 with contextlib.suppress(self._distributed.TimeoutError):
-                    return future.result(timeout=COME_BACK)
+                    result = future.result(timeout=COME_BACK)
+                    self._without_window = self._without_workers = 0.0
+                    if self._local is not None:
+                        self._local.come_back()
+                    return result
             self._look_after_workers()
-            if time.monotonic() - begun > WITHOUT_WINDOW:
-                raise WorkerLostError(f"no window was drawn for {WITHOUT_WINDOW} seconds")
 
     def _look_after_workers(self) -> None:
-        """Starts workers if there are none and the cluster is this run's own. Raises WorkerLostError if there are none for long."""
+        """Looks which workers are there, if the last look was some time ago, and starts those of this run's own that have ended.
+
+        Raises WorkerLostError if no window came back for long, or before too many of this run's own ended.
+        """
         now = time.monotonic()
-        if self._workers():
-            self._seen = now
-        if now - self._seen > WITHOUT_WORKERS:
+        passed = min(now - self._looked, STOOD_STILL)
+        if passed < LOOK:
+            return
+        self._looked = now
+        if self._local is not None:
+            self._local.renew(self._client.scheduler.address)
+        self._threads = self._threads_now()
+        self._without_window += passed
+        self._without_workers += 0 if self._threads else passed
+        if self._local is not None and self._local.are_lost():
+            raise WorkerLostError(f"no window was drawn: {self._local}")
+        if self._local is None and self._without_workers > WITHOUT_WORKERS:
             raise WorkerLostError(f"there was no worker for {WITHOUT_WORKERS} seconds")
-        cluster = self._client.cluster
-        if cluster is not None and now - max(self._seen, self._asked) > RENEW:
-            self._asked = now
-            cluster.scale(len(cluster.worker_spec) + self._wanted)
+        if self._without_window > WITHOUT_WINDOW:
+            raise WorkerLostError(f"no window was drawn for {WITHOUT_WINDOW} seconds")
+
+    def _threads_now(self) -> int:
+        """How many threads the workers have."""
+        try:
+            return sum(self._client.sync(self._client.scheduler.ncores, callback_timeout=ANSWER).values())
+        except (OSError, self._distributed.TimeoutError) as error:
+            raise self._lost(error) from error
 
     def _lost(self, error: BaseException) -> PosterError:
         return SchedulerLostError(f"the scheduler went away: {type(error).__name__} {error}".rstrip())

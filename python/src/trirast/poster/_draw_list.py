@@ -11,7 +11,7 @@ from numpy.typing import NDArray
 
 from .._draw_list import image_info
 from .._scene import EVERY_SAMPLE
-from ._scene import MAX_SIDE, SAMPLES, PosterDraw, Scene, Sheet
+from ._scene import MAX_SIDE, SAMPLES, PosterDraw, Scene, Sheet, owned
 
 # The library reads lists of at most this many pixels a side, this many draws, and this many bytes.
 LIST_SIDE = 4096
@@ -41,7 +41,7 @@ def scene_of_list(data: bytes, source: Optional[str] = None) -> Scene:
         triangles.append(mine + np.int32(base))
         base += len(draw["vertices"])
         draws.append(PosterDraw(len(mine), state_of(draw)))
-    return Scene(sheet_of(value), np.concatenate(vertices), np.concatenate(triangles), draws, source, copy=False)
+    return owned(Scene(sheet_of(value), np.concatenate(vertices), np.concatenate(triangles), draws, source, copy=False))
 
 
 def checked(data: bytes) -> Any:

@@ -40,7 +40,8 @@ class ResumeError(PosterError, ValueError):
 
 
 class OutputError(PosterError, FileExistsError):
-    """What is under a name that the run needs would be lost: no regular file, the list itself, or what no poster left."""
+    """What is under a name that the run needs would be lost: no regular file, the list itself, or what no poster left. Or the end of
+    the name is of no format that a poster has."""
 
 
 class BusyError(PosterError, BlockingIOError):

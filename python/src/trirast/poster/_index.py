@@ -6,7 +6,6 @@ its windows, window after window.
 
 from __future__ import annotations
 
-from concurrent.futures import ThreadPoolExecutor
 from typing import Any, Iterable, NamedTuple
 
 import numpy as np
@@ -14,6 +13,7 @@ from numpy.typing import NDArray
 
 from ._draw_list import LIST_SIDE
 from ._errors import GuardBandError
+from ._pool import Pool
 from ._scene import LOW, SAMPLES, UNIT, Boxes, Indices, Scene, Triangles, Vertices
 from ._windows import TILE, Area, Span, Windows
 
@@ -48,7 +48,7 @@ class Group(NamedTuple):
 class Index:
     """For each tile row of each window of a poster the indices of the triangles that are drawn there."""
 
-    def __init__(self, groups: Iterable[Group], windows: Windows, pool: ThreadPoolExecutor) -> None:
+    def __init__(self, groups: Iterable[Group], windows: Windows, pool: Pool) -> None:
         self._columns, self._tile_rows = windows.columns, windows.tile_rows
         boxes, found = no_boxes(len(windows.places)), []
         counts = np.zeros(len(boxes), np.int64)
@@ -74,7 +74,7 @@ class Index:
     def of(cls, scene: Scene, windows: Windows, threads: int = 1) -> Index:
         """The index of a scene. Raises GuardBandError if a triangle cannot be moved into a window that it meets."""
         chunk = max(CHUNK, FOR_A_PLACE * len(windows.places))
-        with ThreadPoolExecutor(threads) as pool:
+        with Pool(threads) as pool:
             groups = pool.map(lambda first: group_of(scene, first, first + chunk, windows), range(0, max(1, len(scene.triangles)), chunk))
             return cls(groups, windows, pool)
 

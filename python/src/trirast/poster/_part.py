@@ -9,7 +9,7 @@ import numpy as np
 from numpy.typing import NDArray
 
 from ._index import Index
-from ._scene import HIGH, LOW, UNIT, Indices, Scene, Sheet, Triangles, Vertices
+from ._scene import HIGH, LOW, UNIT, Indices, Scene, Sheet, Triangles, Vertices, check_range
 from ._windows import TILE, Area, Span
 
 # Vertices are looked up in blocks of 256: neighbours in a list are neighbours on the sheet, so a window names few blocks. If a table of
@@ -54,12 +54,19 @@ class Part(NamedTuple):
 
 
 def part_of(scene: Scene, index: Index, span: Span) -> Part:
-    """The part of some windows, over all vertices of the scene. These are several only if the index says that their pixels are near."""
+    """The part of some windows, over all vertices of the scene. These are several only if the index says that their pixels are near.
+
+    If somebody else may change the scene's arrays, it is over copies of those that it names. Raises ArraysError if an index was changed
+    to one of no vertex.
+    """
     chosen, ends, areas = index.of_span(span)
     triangles = np.asarray(scene.triangles).take(chosen, 0)
+    if not scene.is_own:
+        check_range("an index", triangles, 0, len(scene.vertices) - 1)
     pieces = pieces_of(scene, chosen, ends, areas)
     is_whole = pixels_of(areas) == span.area.pixels
-    return Part(scene.sheet, span.area, is_whole, low_of(scene, index, span, triangles), scene.vertices, triangles, pieces)
+    part = Part(scene.sheet, span.area, is_whole, low_of(scene, index, span, triangles), scene.vertices, triangles, pieces)
+    return part if scene.is_own else compact(part)
 
 
 def pixels_of(areas: Indices) -> int:

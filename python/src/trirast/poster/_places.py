@@ -4,11 +4,11 @@ from __future__ import annotations
 
 import os
 import stat
-from typing import NamedTuple, Optional, Union
+from typing import Any, NamedTuple, Optional, Union
 
 from ._errors import OutputError
 
-Path = Union[str, "os.PathLike[str]"]
+Path = Union[str, bytes, "os.PathLike[Any]"]
 # What a picture or a folder of tiles is before it is whole, and the journal of its run.
 PART, JOURNAL = ".part", ".resume"
 
@@ -25,9 +25,13 @@ class Places(NamedTuple):
         return f"{self.file or self.folder}{JOURNAL}"
 
 
+# The ends of a picture's name, in small letters.
+ENDS = (".png", ".ppm", ".pgm", "")
+
+
 def places_of(out: Optional[Path], tiles: Optional[Path], source: Optional[str]) -> Places:
     """The places of a run that reads the file `source`. Raises OutputError if what is there would be lost or is in the way."""
-    places = Places(*(None if path is None else without_slash(os.fspath(path)) for path in (out, tiles)))
+    places = Places(*(None if path is None else without_slash(os.fsdecode(path)) for path in (out, tiles)))
     if places.file is None and places.folder is None:
         raise ValueError("a poster goes to a file, to a folder of tiles, or to both")
     if "" in places:
@@ -39,6 +43,8 @@ def places_of(out: Optional[Path], tiles: Optional[Path], source: Optional[str])
             raise OutputError(f"{places.file}: the list itself, which stays")
     for path in (places.journal, *([places.file + PART] if places.file else ())):
         check_file(path)
+    if places.file is not None and os.path.splitext(places.file)[1].lower() not in ENDS:
+        raise OutputError(f"{places.file}: a name that ends in .png, in .ppm or of depths in .pgm, or without an end")
     return places
 
 

@@ -4,13 +4,13 @@ from __future__ import annotations
 
 import struct
 import zlib
-from concurrent.futures import ThreadPoolExecutor
 from typing import Optional
 
 import numpy as np
 
 from ._part_file import PartFile
 from ._png import ZLIB_HEADER, adler_of_both, chunk, deflated, head_of, inflated, stream_end, unfiltered
+from ._pool import Pool
 from ._scene import Pixels, Sheet
 
 # Rows of a piece. Each piece is a chunk of the file.
@@ -28,7 +28,7 @@ class PngWriter:
         start = head_of(sheet.width, sheet.height, sheet) + chunk(b"IDAT", ZLIB_HEADER)
         self._part = PartFile(path, start, is_whole)
         self._file = self._part.file
-        self._pool = ThreadPoolExecutor(threads)
+        self._pool = Pool(threads)
         self._adler = zlib.adler32(b"")
         self._read_adler, self._read_end = self._adler, 0
         self._end = len(start)

@@ -6,7 +6,7 @@ import contextlib
 import operator
 import os
 import zlib
-from concurrent.futures import Future, ThreadPoolExecutor
+from concurrent.futures import Future
 from functools import partial
 from typing import Callable, Iterable, Iterator, List, Optional
 
@@ -19,6 +19,7 @@ from ._journal import Journal
 from ._part import part_of
 from ._places import Path, Places, places_of
 from ._png_writer import PngWriter
+from ._pool import Pool
 from ._ppm_writer import PpmWriter
 from ._progress import Step, progress
 from ._scene import Pixels, Scene, Sheet, with_samples
@@ -46,8 +47,8 @@ def draw_poster(
 ) -> None:
     """Draws a scene, up to 32,768 pixels wide and high, to a file or to a folder of tiles or to both.
 
-    `out` is a PNG file if its name ends in .png, in small or capital letters, else a PPM file (of depths a PGM file); `tiles` is a new
-    folder. `samples` is the number of samples of a pixel in place of the scene's: 1, 2, 4, 8 or 16. `window` is the side in pixels of the
+    `out` is a PNG file if its name ends in .png, in small or capital letters, and a PPM file (of depths a PGM file) if it ends in .ppm or
+    .pgm or has no end; `tiles` is a new folder. `samples` is the number of samples of a pixel in place of the scene's: 1, 2, 4, 8 or 16. `window` is the side in pixels of the
     squares that are drawn by themselves, 64 to 4096; `workers` how many draw at once (one a core). These two do not change a byte. Without
     `scheduler` threads of this process draw; with "local" Dask's processes, and with an address the workers of that cluster. `resume` goes
     on with what a stopped run left. Under the final names are whole files alone. Raises PosterError and trirast.Error, and OSError if a
@@ -61,7 +62,7 @@ def draw_poster(
         raise ValueError(f"workers: at least 1, and not {count}")
     windows = Windows(scene.sheet, operator.index(window))
     with contextlib.ExitStack() as stack, thread_errors():
-        summing = stack.enter_context(ThreadPoolExecutor(1)).submit(scene.checksum, count)
+        summing = stack.enter_context(Pool(1)).submit(scene.checksum, count)
         index = Index.of(scene, windows, count)
         checksum = summing.result()
         journal = Journal(places.journal)
@@ -122,8 +123,10 @@ def finish(journal: Journal, writers: List[Writer]) -> None:
 
 
 def kept_rows(journal: Journal, windows: Windows, writers: List[Writer]) -> int:
-    """How many rows of windows a stopped run left: those that each writer has, with the checksums of the journal."""
-    for row, checksum in enumerate(journal.rows):
+    """How many rows of windows a stopped run left: those that each writer has, with the checksums of the journal. A damaged journal may
+    have more than there are."""
+    kept = journal.rows[: windows.rows]
+    for row, checksum in enumerate(kept):
         read = [writer.read(windows.row_height(row)) for writer in writers]
         rows = [each for each in read if each is not None]
         if len(rows) < len(read) or any(checksum_of(each) != checksum for each in rows):
@@ -131,7 +134,7 @@ def kept_rows(journal: Journal, windows: Windows, writers: List[Writer]) -> int:
         for writer, each in zip(writers, rows):
             writer.keep(each)
         journal.kept(checksum)
-    return len(journal.rows)
+    return len(kept)
 
 
 def checksum_of(pixels: Pixels) -> str:
@@ -158,7 +161,7 @@ def write_rows(rows: Iterable[Pixels], journal: Journal, writers: List[Writer]) 
             writer.write(row)
         journal.kept(checksum_of(row))
 
-    with ThreadPoolExecutor(1) as pool:
+    with Pool(1) as pool:
         last: Optional[Future[None]] = None
         for row in rows:
             if last:

@@ -1,4 +1,4 @@
-"""A bar on standard error with windows done, pixels a second and time left. There is none if that is no terminal."""
+"""A bar on standard error with windows done, pixels a second and time left. There is none if that is no terminal, or closed."""
 
 from __future__ import annotations
 
@@ -16,7 +16,7 @@ Step = Callable[[Span], None]
 @contextlib.contextmanager
 def progress(windows: int, done: int, is_wanted: bool) -> Iterator[Step]:
     """A call for windows that are drawn, which any thread makes. `done` windows of all are there already."""
-    if not is_wanted or not sys.stderr.isatty():
+    if not is_wanted or sys.stderr is None or not sys.stderr.isatty():
         yield lambda span: None
         return
     try:

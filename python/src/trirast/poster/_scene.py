@@ -5,7 +5,6 @@ from __future__ import annotations
 import hashlib
 import json
 import operator
-from concurrent.futures import ThreadPoolExecutor
 from dataclasses import InitVar, dataclass, field, replace
 from functools import cached_property
 from itertools import accumulate
@@ -15,6 +14,7 @@ import numpy as np
 from numpy.typing import NDArray
 
 from ._errors import ArraysError
+from ._pool import Pool
 
 if TYPE_CHECKING:
     from typing_extensions import TypeAlias
@@ -128,9 +128,9 @@ class Scene:
 
     `vertices` has rows of x, y, depth, red, green, blue and alpha; `triangles` rows of three indices of vertices. The first
     draw has the first triangles, and so on. The scene keeps copies of both, which cannot be written to, unless `copy` is false. Then it
-    may keep the arrays themselves, as those of mapped files, and nobody may change them as long as the scene is used. `source` is the
-    file that it was read from, which no poster replaces. Raises ArraysError if something does not fit, and trirast.Error if a state is
-    wrong.
+    may keep the arrays themselves. If somebody changes them as long as the scene is used, another picture is drawn, or an error is raised:
+    each window draws copies of what it reads. `source` is the file that it was read from, which no poster replaces. Raises ArraysError if
+    something does not fit, and trirast.Error if a state is wrong.
     """
 
     sheet: Sheet
@@ -139,8 +139,11 @@ class Scene:
     draws: Sequence[PosterDraw]
     source: Optional[str] = field(default=None, compare=False)
     copy: InitVar[bool] = True
+    # Whether nobody else can change the arrays.
+    is_own: bool = field(init=False, repr=False, compare=False, default=True)
 
     def __post_init__(self, copy: bool) -> None:
+        object.__setattr__(self, "is_own", bool(copy))
         if not isinstance(self.sheet, Sheet) or not all(isinstance(draw, PosterDraw) for draw in self.draws):
             raise ArraysError("a scene has a Sheet, and a sequence of PosterDraw")
         object.__setattr__(self, "draws", tuple(self.draws))
@@ -159,10 +162,16 @@ class Scene:
         head = [self.sheet.__dict__, [[draw.triangles, dict(draw.state)] for draw in self.draws]]
         found = hashlib.blake2b(json.dumps(head, sort_keys=True, default=list).encode(), digest_size=16)
         parts = [array[first : first + CHUNK] for array in (self.vertices, self.triangles) for first in range(0, len(array), CHUNK)]
-        with ThreadPoolExecutor(threads) as pool:
+        with Pool(threads) as pool:
             for each in pool.map(digest_of, parts):
                 found.update(each)
         return found.hexdigest()
+
+
+def owned(scene: Scene) -> Scene:
+    """A scene whose arrays were not copied, and which nobody else has."""
+    object.__setattr__(scene, "is_own", True)
+    return scene
 
 
 def with_samples(scene: Scene, samples: int) -> Scene:
@@ -174,7 +183,8 @@ def with_samples(scene: Scene, samples: int) -> Scene:
         return scene
     every = (1 << scene.sheet.samples) - 1
     draws = [without_mask(draw) if ~draw.state.get("sample_mask", every) & every == 0 else draw for draw in scene.draws]
-    return Scene(replace(scene.sheet, samples=samples), scene.vertices, scene.triangles, draws, scene.source, copy=False)
+    other = Scene(replace(scene.sheet, samples=samples), scene.vertices, scene.triangles, draws, scene.source, copy=False)
+    return owned(other) if scene.is_own else other
 
 
 def without_mask(draw: PosterDraw) -> PosterDraw:

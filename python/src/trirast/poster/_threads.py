@@ -7,11 +7,12 @@ from __future__ import annotations
 
 from bisect import bisect_right
 from collections import deque
-from concurrent.futures import FIRST_EXCEPTION, Future, ThreadPoolExecutor, wait
+from concurrent.futures import FIRST_EXCEPTION, Future, wait
 from typing import Deque, Iterator, List, Tuple
 
 from ._index import Index
 from ._part import part_of
+from ._pool import Pool
 from ._progress import Step
 from ._scene import Pixels, Scene
 from ._window_pixels import put_pixels
@@ -32,7 +33,7 @@ def rows_by_threads(scene: Scene, index: Index, windows: Windows, first: int, wo
 
     A row is the caller's until the second row after it is asked for. Then its memory is drawn into again.
     """
-    pool = ThreadPoolExecutor(workers)
+    pool = Pool(workers)
     memory = [scene.sheet.blank(windows.row_height(first), windows.width) for _ in range(AHEAD + 1)] if first < windows.rows else []
     under_way: Deque[Tuple[Pixels, List[Future[None]]]] = deque()
     try:

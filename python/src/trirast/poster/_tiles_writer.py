@@ -10,12 +10,12 @@ from __future__ import annotations
 import os
 import struct
 import zlib
-from concurrent.futures import ThreadPoolExecutor
 from typing import List, Optional
 
 import numpy as np
 
 from ._png import pixels_of, png_of
+from ._pool import Pool
 from ._scene import Pixels, Sheet
 from ._tile_folder import PAGE, TileFolder, page_in
 
@@ -106,7 +106,7 @@ class TilesWriter:
         self._level = Level(self, self._finest)
         self._page = page_of(sheet, checksum)
         self._folder = TileFolder(path)
-        self._pool = ThreadPoolExecutor(threads)
+        self._pool = Pool(threads)
         self._read_tile_rows = 0
         self._read_rows: List[Pixels] = []
 

@@ -18,12 +18,12 @@ module _ (tile : Tile) (samples : List BlockSamples) (row column count : ℕ) (f
       (first_pixels tile samples format row column count rgb run few colours (subst (λ f. AreArranged f rgb run) (sym same) arranged) i l)
 
 pub returns-in-Rgb8 : goal.returns-in-Rgb8
-returns-in-Rgb8 c = copied c.args.tile.now c.args.samples.now c.args.row c.args.column c.args.count c.requires.count _ _ _ _ c.args.format _ c.in-Rgb8.is c.requires.bytes c.colours-rgb.ensures.colours c.arranged.ensures.bytes c.copy_first.ensures
+returns-in-Rgb8 g c = copied c.args.tile.now c.args.samples.now c.args.row c.args.column c.args.count c.requires.count _ _ _ _ c.args.format _ c.in-Rgb8.is c.requires.bytes c.colours_by-rgb.ensures.colours c.arranged.ensures.bytes c.copy_first.ensures
 
 pub returns-in-Rgba8 : goal.returns-in-Rgba8
-returns-in-Rgba8 c =
-    copied c.args.tile.now c.args.samples.now c.args.row c.args.column c.args.count c.requires.count _ _ _ _ c.args.format _ c.in-Rgba8.is c.requires.bytes c.colours-rgb.ensures.colours c.arranged-in-Rgba8.ensures.bytes c.copy_first-in-Rgba8.ensures
+returns-in-Rgba8 g c =
+    copied c.args.tile.now c.args.samples.now c.args.row c.args.column c.args.count c.requires.count _ _ _ _ c.args.format _ c.in-Rgba8.is c.requires.bytes c.colours_by-rgb.ensures.colours c.arranged-in-Rgba8.ensures.bytes c.copy_first-in-Rgba8.ensures
 
 pub returns-in-Bgra8 : goal.returns-in-Bgra8
-returns-in-Bgra8 c =
-    copied c.args.tile.now c.args.samples.now c.args.row c.args.column c.args.count c.requires.count _ _ _ _ c.args.format _ c.in-Bgra8.is c.requires.bytes c.colours-rgb.ensures.colours c.arranged-in-Bgra8.ensures.bytes c.copy_first-in-Bgra8.ensures
+returns-in-Bgra8 g c =
+    copied c.args.tile.now c.args.samples.now c.args.row c.args.column c.args.count c.requires.count _ _ _ _ c.args.format _ c.in-Bgra8.is c.requires.bytes c.colours_by-rgb.ensures.colours c.arranged-in-Bgra8.ensures.bytes c.copy_first-in-Bgra8.ensures

@@ -1,17 +1,15 @@
-use Rattle.std.proofs.Common.{◌≤◌, ◌∙◌, length, arith}
-use Rattle.sample_events.specs.Walk.{start_of}
-use Rattle.sample_events.proofs.Walking.{further, smaller, put_more, pass_more, all_walked}
+use Rattle.std.proofs.Common.{◌∙◌, arith}
+use Rattle.list_history.specs.Walk.{start_of}
+use Rattle.sample_events.proofs.Walking.{shorter, put_more, pass_more, all_walked}
 use Rattle.sample_events.proofs.walk.write_events.Goals as goal
 use Rattle.sample_events.proofs.walk.write_events.Goals.{then-count-events, else-count-events}
 
 pub overflow_add-count : goal.overflow_add-count
 overflow_add-count c =
-    let step = further c.args.all c.loop-event.history c.next_event.new.history c.in-Some.event c.in-Some.ensures.event in
-    let within : c.next_event.new.history.number ≤ length c.args.list.now.triangles = rw c.loop-event.invariant.same.scene at step.within in
-    omega (arith, c.loop-event.invariant.few, step.before, within, c.triangles-most.ensures.value, c.triangles-most.ensures.greatest)
+    omega (arith, c.loop-event.invariant.few, c.triangles-most.ensures.value, c.triangles-most.ensures.greatest)
 
 pub loop-event-smaller : goal.loop-event-smaller
-loop-event-smaller c = smaller c.args.all c.loop-event.history c.next_event.new.history c.in-Some.event c.in-Some.ensures.event
+loop-event-smaller c = shorter c.args.all c.loop-event.history c.next_event.new.history c.in-Some.event c.in-Some.ensures.event
 
 pub loop-event-preserved : goal.loop-event-preserved
 loop-event-preserved c =

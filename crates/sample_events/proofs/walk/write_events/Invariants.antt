@@ -1,5 +1,5 @@
-use Rattle.std.proofs.Common.{length, ◌-◌}
-use Rattle.sample_events.specs.Walk.{start_of}
+use Rattle.std.proofs.Common.{length}
+use Rattle.list_history.specs.Walk.{start_of}
 use Rattle.sample_events.proofs.Walking.{IsWalked}
 use Rattle.sample_events.proofs.walk.write_events.Given as goal
 
@@ -7,4 +7,4 @@ abbrev pub invariant-loop-event : goal.invariant-loop-event
 invariant-loop-event l = IsWalked l.all (start_of l.list l.px l.py l.s) l.history l.fn.events l.events l.count
 
 abbrev pub decreases-loop-event : goal.decreases-loop-event
-decreases-loop-event l = length l.history.scene.triangles - l.history.number
+decreases-loop-event l = length l.history.history.left

@@ -24,14 +24,14 @@ cleared_pixel count xs format x j n column bytes tile p side same clear many acr
     (subst (λ column. IsTilePixel tile (take n (drop 1 xs)) format (j % 8) column bytes) across p)
 
 pub returns-then-is_cleared : goal.returns-then-is_cleared
-returns-then-is_cleared c =
+returns-then-is_cleared g c =
     λ i l.
     let x : ℕ = 8 * c.args.block + i in
     let many : c.args.own - 1 ≡ count_of c.args.self.now.count = omega (arith, c.requires.own) in
     cleared_pixel c.args.self.now.count c.args.samples.now c.args.format x c.args.j _ _ _ _ (c.resolve_run.ensures i l) refl refl (c.if-is_cleared.ensures.0 refl) many (omega (arith, l, c.requires.count))
 
 pub returns-else-is_cleared : goal.returns-else-is_cleared
-returns-else-is_cleared c =
+returns-else-is_cleared g c =
     λ i l.
     let count = c.args.self.now.count in
     let xs = c.args.samples.now in

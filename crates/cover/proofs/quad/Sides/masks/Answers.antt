@@ -21,10 +21,10 @@ returns c =
     let e = c.args.self.now in
     let x = c.args.x in
     let y = c.args.y in
-    means n c.args.from c.both-3.result
+    means n 0 c.both-3.result
     (λ s row column. inside_at e x y (to_column n s column) (to_row n s row) _ _ _ _
     (value_kept e.ab c.on_screen.result x y c.requires.x c.requires.y c.on_screen.ensures) (value_kept e.bc c.on_screen-2.result x y c.requires.x c.requires.y c.on_screen-2.ensures)
     (value_kept e.cd c.on_screen-3.result x y c.requires.x c.requires.y c.on_screen-3.ensures) (value_kept e.da c.on_screen-4.result x y c.requires.x c.requires.y c.on_screen-4.ensures))
-    (both_exact n c.args.from c.both-2.result c.masks-4.result c.both-3.result
-    (both_exact n c.args.from c.both.result c.masks-3.result c.both-2.result (both_exact n c.args.from c.masks.result c.masks-2.result c.both.result c.masks.ensures c.masks-2.ensures c.both.ensures) c.masks-3.ensures c.both-2.ensures)
+    (both_exact n 0 c.both-2.result c.masks-4.result c.both-3.result
+    (both_exact n 0 c.both.result c.masks-3.result c.both-2.result (both_exact n 0 c.masks.result c.masks-2.result c.both.result c.masks.ensures c.masks-2.ensures c.both.ensures) c.masks-3.ensures c.both-2.ensures)
     c.masks-4.ensures c.both-3.ensures)

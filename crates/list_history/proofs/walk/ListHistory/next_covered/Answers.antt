@@ -1,7 +1,8 @@
-use Rattle.std.proofs.Common.{rules}
-use Rattle.list_history.proofs.Passed.{returned}
+use Rattle.list_history.proofs.Passed.{of_past}
 use Rattle.list_history.proofs.walk.ListHistory.next_covered.Goals as goal
 
-pub returns-then-is_covered_by_next-clause-event : goal.returns-then-is_covered_by_next-clause-event
-returns-then-is_covered_by_next-clause-event c =
-    returned _ _ _ c.next.result c.loop-self.invariant c.next.ensures.event (λ t e. (c.is_covered_by_next.ensures t e).0 (search rules))
+pub invariant_of-self : goal.invariant_of-self
+invariant_of-self c = of_past _ _ _ c.self.invariant c.pass_uncovered.ensures.past
+
+pub invariant_of-self-2 : goal.invariant_of-self-2
+invariant_of-self-2 c = of_past _ _ _ c.self.invariant c.pass_uncovered.ensures.past

@@ -1,0 +1,5 @@
+pub mod Numbers
+pub mod Lexing
+pub mod Blanks
+pub mod Places
+pub mod Eights

@@ -1,0 +1,15 @@
+use Rattle.std.proofs.Common.{◌≡◌, ℕ, ◌<◌, ◌⊎◌, inl, inr, Bool, true, false, SFits, w64, to_z-of_z, sym, ◌∙◌, true≢false, arith}
+use Rattle.std.proofs.lemmas.Int.{ints}
+use Rattle.cursor.proofs.Lexing.{integer_is}
+use Rattle.cursor.proofs.integer.integer_at.Goals as goal
+
+some_size : (minus : Bool) (n : ℕ) → ((minus ≡ true) × (n ≡ 0 → ⊥)) ⊎ (minus ≡ false) → minus ≡ true → 0 < n
+some_size minus n (inl h) e = omega (arith, h.1)
+some_size minus n (inr f) e = absurd (true≢false (sym e ∙ f))
+
+pub returns : goal.returns
+returns c =
+    let minus = c.sign_at-has_minus.result.0 in
+    let n = c.in_ok-size.size in
+    let fits : SFits w64 c.signed.result = grind (arith, ints) in
+    (c.in_ok-size.ensures.digits.within, λ stop. rw (to_z-of_z fits, c.signed.ensures) (integer_is c.args.bytes.now c.args.from c.sign_at-has_minus.result.1 c.in_ok-size.end n minus c.sign_at-has_minus.ensures c.in_ok-size.ensures (some_size minus n c.else-has_minus.either) stop))

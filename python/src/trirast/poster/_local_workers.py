@@ -1,0 +1,78 @@
+"""Worker processes of Dask on this machine, which are this run's own.
+
+Dask's LocalCluster starts workers too, but waits without an end until each has sent a message. If one dies as it starts, who waited for
+it may take the message of the one that is started in its place, and drop it (distributed 2022.12, `_wait_until_connected` of nanny.py).
+Then neither the start of the cluster nor its end comes back. Here nobody waits for a worker: the scheduler says which are there.
+"""
+
+from __future__ import annotations
+
+import os
+import subprocess
+import sys
+import time
+from typing import List
+
+# Seconds for which a worker looks for its scheduler, and seconds that workers have to end by themselves.
+LOOKS, ENDS = 60, 5
+# How many processes may end for each worker before a window comes back. On a busy machine a worker may take a minute to start, so no time
+# says that none will.
+ENDED = 25
+# As many arguments as a worker needs: one thread, and no process that looks after it. Dask stops no worker for its memory.
+WORDS = ("-m", "distributed.cli.dask_worker", "--no-nanny", "--nthreads", "1", "--no-dashboard", "--memory-limit", "0")
+PLACE = ("--host", "127.0.0.1", "--death-timeout", str(LOOKS))
+
+
+class LocalWorkers:
+    """Some processes. `renew` starts them, and starts one in place of each that has ended."""
+
+    def __init__(self, count: int) -> None:
+        self._count = count
+        self._running: List[subprocess.Popen[bytes]] = []
+        # How many ended since the last window came back, and why the last one did, or could not be started.
+        self._ended, self._why = 0, ""
+
+    def renew(self, scheduler: str) -> None:
+        """Has as many processes as are wanted, for the scheduler at this address. One that cannot be started is left for the next time."""
+        ended = [each.returncode for each in self._running if each.poll() is not None]
+        self._running = [each for each in self._running if each.returncode is None]
+        if ended:
+            self._ended += len(ended)
+            self._why = f"status {ended[-1]}"
+        try:
+            while len(self._running) < self._count:
+                self._running.append(started([sys.executable, *WORDS, *PLACE, scheduler]))
+        except OSError as error:
+            self._why = str(error)
+
+    def come_back(self) -> None:
+        """Says that a window came back."""
+        self._ended = 0
+
+    def are_lost(self) -> bool:
+        """Whether more ended since the last window came back than may."""
+        return self._ended > ENDED * self._count
+
+    def __str__(self) -> str:
+        """What became of them, for the text of an error."""
+        return f"{self._ended} of this run's own workers ended, the last with {self._why}"
+
+    def close(self) -> None:
+        """Ends all processes. Those whose scheduler has gone end by themselves."""
+        end = time.monotonic() + ENDS
+        try:
+            for each in self._running:
+                each.wait(max(0.0, end - time.monotonic()))
+        except subprocess.TimeoutExpired:
+            pass
+        finally:
+            for each in self._running:
+                each.kill()
+                each.wait()
+
+
+def started(command: List[str]) -> subprocess.Popen[bytes]:
+    """A process that finds the package where this one finds it, and says nothing."""
+    environment = {**os.environ, "PYTHONPATH": os.pathsep.join(map(os.path.abspath, sys.path))}
+    quiet = subprocess.DEVNULL
+    return subprocess.Popen(command, env=environment, stdin=quiet, stdout=quiet, stderr=quiet)

@@ -1,0 +1,1 @@
+"""The checks that run what was built: `ci/checks.py` lists them."""

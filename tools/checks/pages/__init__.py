@@ -1,0 +1,1 @@
+"""Runs the commands and examples of README.md and docs/: see test_pages.py."""

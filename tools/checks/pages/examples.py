@@ -1,0 +1,168 @@
+"""The examples in C, C++ and Rust of README.md, docs/canvas.md and docs/posters.md, each built into a program, and what it writes
+against the program."""
+
+from __future__ import annotations
+
+import os
+import re
+from typing import NamedTuple
+
+from tools import picture_file, places
+from tools.checks.cases import must
+from tools.draw_list import DrawList, encode
+from tools.checks.library.commands import WARNINGS, drawn_by_program, need, run
+from tools.checks.library.from_rust import CRATES, cargo
+from tools.packaging.common import write
+from tools.checks.pages.page import blocks_of
+from tools.places import INCLUDE, STATIC_LIBRARY
+
+OUT = os.path.join(places.OUT, "pages", "programs")
+CANVAS, POSTERS, README = "docs/canvas.md", "docs/posters.md", "README.md"
+# A triangle on the canvas of 640 by 480 pixels of docs/canvas.md, and the same without a depth for its four samples.
+VERTICES = [[81920, 2560, 100, 255, 0, 0, 255], [158720, 115200, 200, 0, 255, 0, 255], [5120, 97280, 300, 0, 0, 255, 255]]
+SCENE: DrawList = {
+    "width": 640, "height": 480, "samples": 4, "clear": [24, 24, 32], "draws": [{"vertices": VERTICES, "triangles": [[0, 1, 2]]}],
+}
+# The triangle of README.md.
+SMALL_VERTICES = [[128, 128, 0, 255, 255, 255, 255], [640, 128, 0, 255, 255, 255, 255], [128, 640, 0, 255, 255, 255, 255]]
+SMALL_SCENE: DrawList = {"width": 3, "height": 3, "draws": [{"vertices": SMALL_VERTICES, "triangles": [[0, 1, 2]]}]}
+# More than one window of docs/posters.md in each direction, the last ones cut.
+POSTER_VERTICES = [[2560, 7680, 0, 255, 0, 0, 255], [325000, 51200, 0, 0, 255, 0, 255], [128000, 151040, 0, 0, 0, 255, 255]]
+POSTER_SCENE: DrawList = {
+    "width": 1300, "height": 600, "samples": 4, "draws": [{"vertices": POSTER_VERTICES, "triangles": [[0, 1, 2]]}],
+}
+
+
+def array(vertices: list[list[int]]) -> str:
+    """Vertices as an initializer in C and C++."""
+    return "{" + ", ".join("{" + ", ".join(map(str, vertex)) + "}" for vertex in vertices) + "}"
+
+
+RUST_VERTEX = "Vertex {{ x: {}, y: {}, depth: {}, red: {}, green: {}, blue: {}, alpha: {} }}"
+CPP_HEAD = "#include <cstdio>\n#include <trirast.hpp>\nint main() {{\nconst trirast_vertex vertices[] = {};\nconst std::uint32_t indices[] = {{0, 1, 2}};\n"
+CPP_END = "std::fwrite(pixels.data(), 1, pixels.size(), stdout);\n}\n"
+
+
+# Three threads' parts of a canvas, one after another.
+PIECES = f"""\
+static uint8_t pixels[480 * 640 * 3];
+int main(void) {{
+    const trirast_vertex vertices[] = {array(VERTICES)};
+    const uint32_t indices[] = {{0, 1, 2}};
+    trirast_batch_draw draw = TRIRAST_BATCH_DRAW_INIT;
+    draw.vertex_count = draw.index_count = 3;
+    trirast_batch batch = TRIRAST_BATCH_INIT;
+    batch.draws = &draw, batch.draw_count = 1, batch.vertices = vertices, batch.indices = indices;
+    batch.vertex_count = batch.index_count = 3;
+    trirast_canvas canvas = TRIRAST_CANVAS_INIT;
+    canvas.width = 640, canvas.height = 480, canvas.samples = 4, canvas.end = trirast_canvas_rows(480);
+    const size_t bytes = trirast_canvas_bytes(640, 480, 4, 0, canvas.end);
+    canvas.memory = malloc(bytes), canvas.plane_count = bytes / TRIRAST_PLANE_BYTES;
+    for (uint32_t k = 0; k < 3; k++)
+        if (draw_piece(&canvas, &batch, k, 3, pixels, sizeof pixels)) return 1;
+    free(canvas.memory);
+    return fwrite(pixels, 1, sizeof pixels, stdout) != sizeof pixels;
+}}
+"""
+
+
+class Around(NamedTuple):
+    """What stands before and behind the examples of a page in a language, so that they are a program, and the list that it draws."""
+
+    scene: DrawList
+    before: str = ""
+    behind: str = ""
+
+
+AROUND = {
+    (CANVAS, "c"): Around(SCENE, "#include <stdio.h>\n#include <stdlib.h>\n#include <trirast.h>\n", PIECES),
+    (CANVAS, "cpp"): Around(SCENE, CPP_HEAD.format(array(VERTICES)), CPP_END),
+    (CANVAS, "rust"): Around(
+        SCENE,
+        "use std::io::Write;\nuse trirast::Vertex;\nfn main() -> Result<(), Box<dyn std::error::Error>> {\n"
+        f"let vertices = [{', '.join(RUST_VERTEX.format(*vertex) for vertex in VERTICES)}];\n",
+        "assert!(ids.iter().all(|&id| id == 0 || id == 16_777_215) && ids.contains(&0) && depths.len() == 640 * 480);\n"
+        "Ok(std::io::stdout().write_all(&pixels)?)\n}\n",
+    ),
+    (README, "c"): Around(SMALL_SCENE),
+    (POSTERS, "c"): Around(
+        POSTER_SCENE, "#include <stdio.h>\n",
+        "static uint8_t picture[1300 * 600 * 3];\n"
+        "int main(void) {\n"
+        f"const trirast_vertex vertices[] = {array(POSTER_VERTICES)};\n"
+        "const uint32_t indices[] = {0, 1, 2};\n"
+        "trirast_batch_draw draw = TRIRAST_BATCH_DRAW_INIT;\n"
+        "draw.vertex_count = draw.index_count = 3, draw.scissor_right = 1300, draw.scissor_bottom = 600;\n"
+        "trirast_batch batch = TRIRAST_BATCH_INIT;\n"
+        "batch.draws = &draw, batch.draw_count = 1, batch.vertices = vertices, batch.indices = indices;\n"
+        "batch.vertex_count = batch.index_count = 3;\n"
+        "if (draw_poster(&batch, 1300, 600, picture)) return 1;\n"
+        "return fwrite(picture, 1, sizeof picture, stdout) != sizeof picture;\n"
+        "}\n",
+    ),
+}
+# The package of the example in Rust.
+PACKAGE = """\
+[package]
+name = "page"
+version = "0.0.0"
+edition = "2021"
+[dependencies]
+trirast = {{ path = "{}" }}
+[workspace]
+"""
+# What stands around a part of a program in C, so that it compiles.
+PART = """\
+#include <stdio.h>
+#include <trirast.h>
+void part(const char *json, size_t json_len, uint32_t width, uint32_t height, size_t pixel_bytes, uint32_t tile_size, uint32_t k,
+          uint32_t threads, uint8_t *pixels, trirast_error error);
+void part(const char *json, size_t json_len, uint32_t width, uint32_t height, size_t pixel_bytes, uint32_t tile_size, uint32_t k,
+          uint32_t threads, uint8_t *pixels, trirast_error error) {{
+{}
+}}
+"""
+COMPILERS = {"c": ("gcc", "-std=c99"), "cpp": ("g++", "-std=c++17")}
+
+
+def written_by(name: str, language: str, text: str, draw_list: bytes) -> bytes:
+    """Builds a program of this name and runs it on a list, which it need not read. Returns what it writes."""
+    if language == "rust":
+        folder = os.path.join(OUT, name)
+        write(os.path.join(folder, "Cargo.toml"), PACKAGE.format(os.path.join(CRATES, "trirast")).encode())
+        write(os.path.join(folder, "src", "main.rs"), text.encode())
+        return cargo(folder, "run", "--offline", "--quiet", out=OUT)
+    compiler, standard = COMPILERS[language]
+    program, source = os.path.join(OUT, name), os.path.join(OUT, f"{name}.{language}")
+    write(source, text.encode())
+    run([need(compiler), standard, *WARNINGS, "-I", INCLUDE, "-o", program, source, STATIC_LIBRARY])
+    return run([program], input=draw_list)
+
+
+def check_compiles(page: str) -> str:
+    """Each example in C of a page, a program or a part of one, is C99 without a warning."""
+    blocks = [block.text for block in blocks_of(page) if block.language == "c"]
+    for text in blocks:
+        whole = text if "int main" in text else PART.format(text)
+        flags = ("-std=c99", *WARNINGS, "-Wno-unused-parameter", "-fsyntax-only", "-I", INCLUDE)
+        run([need("gcc"), *flags, "-x", "c", "-"], input=whole.encode())
+    must(len(blocks) > 0, "no example in C")
+    return f"{len(blocks)} examples"
+
+
+def program_of(page: str, language: str) -> str:
+    """The examples of a page in a language, one after another, with what makes them a program."""
+    blocks = re.findall(rf"```{language}\n(.*?)```", places.text_of(page), re.DOTALL)
+    must(len(blocks) > 0, f"no example in {language}")
+    around = AROUND[page, language]
+    return "".join([around.before, *blocks, around.behind])
+
+
+def check(page: str, language: str) -> None:
+    """The examples of a page in a language, one after another, draw the program's picture: its file or its pixels."""
+    name = f"page_{os.path.basename(page).split('.')[0].lower()}_{language}"
+    draw_list = encode(AROUND[page, language].scene)
+    written = written_by(name, language, program_of(page, language), draw_list)
+    wanted = drawn_by_program(draw_list).output
+    pixels = picture_file.decode(wanted).pixel_data
+    must(written in (wanted, pixels), "another picture")

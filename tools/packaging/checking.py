@@ -1,0 +1,59 @@
+"""What the checks of all packages share: what the program draws, and programs in C that are built outside of the repository."""
+
+from __future__ import annotations
+
+import os
+from typing import Mapping
+
+from tools import places
+from tools.checks.cases import must
+from tools.checks.library.commands import WARNINGS, blocks_of_the_page, drawn_by_program, need, run
+from tools.packaging import listing
+from tools.places import EXAMPLES
+
+OUT = os.path.join(places.OUT, "check-packages")
+LISTS = places.files("examples", "*.json")
+# A shared library is at most so large, at each level of a processor.
+MAX_LIBRARY_BYTES = 1_000_000
+
+
+def clean_environment(**more: str) -> dict[str, str]:
+    """An environment that names neither the repository nor another installation."""
+    kept = {name: os.environ[name] for name in ("PATH", "HOME", "LANG", "TMPDIR") if name in os.environ}
+    return {**kept, **more}
+
+
+def program_of_the_page() -> str:
+    """The first whole program in C of docs/library.md: it draws examples/triangle.json."""
+    return next(text for text in blocks_of_the_page("c") if "int main" in text)
+
+
+def picture_of_the_page() -> bytes:
+    """What that program writes."""
+    return drawn_by_program(places.bytes_of(EXAMPLES, "triangle.json")).output
+
+
+def check_in_c(folder: str, flags: list[str], environment: Mapping[str, str], compiler: str = "gcc") -> str:
+    """Builds the program of the page in a folder, by these flags alone, and compares what it writes. Returns its path."""
+    os.makedirs(folder, exist_ok=True)
+    source, program = os.path.join(folder, "program.c"), os.path.join(folder, "program")
+    with open(source, "w", encoding="ascii") as file:
+        file.write(program_of_the_page())
+    run([need(compiler), *WARNINGS, source, "-o", program, *flags], cwd=folder, env=environment)
+    must(run([program], cwd=folder, env=environment) == picture_of_the_page(), f"other bytes with {flags}")
+    return program
+
+
+def check_documented(title: str, files: Mapping[str, int]) -> None:
+    """packaging/FILES.md lists the files of a package below this title, and their sizes within a tenth or 2 KB."""
+    listed = listing.listed(title)
+    advice = "python3 -m tools.packaging.listing writes the lists"
+    must(sorted(listed) == sorted(files), f"{sorted(listed.keys() ^ files.keys())} in one of page and package alone; {advice}")
+    others = [name for name, size in files.items() if abs(1000 * listed[name] - size) > max(2000, size // 10)]
+    must(not others, f"{others} have other sizes; {advice}")
+
+
+def check_library_sizes(files: Mapping[str, int]) -> None:
+    """Each shared library of a package is small enough."""
+    for name, size in files.items():
+        must(".so" not in name or size < MAX_LIBRARY_BYTES, f"{name} has {size} bytes")

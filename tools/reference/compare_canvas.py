@@ -1,0 +1,256 @@
+"""Compares canvases with the slow reference renderer, sample by sample, on generated draw lists, and with the program.
+
+    python3 -m tools.reference.compare_canvas [--lists 1000] [--seed 1] [--samples 1 2 4 8 16]
+
+Each list of tools/reference/generated_lists.py has one of these numbers of samples a pixel, and masks of 16 bits. It is split at random into
+batches, one triangle a batch among them, and drawn on a canvas by some threads, with and without a window. Every pixel, and of every
+sample the colour, the depth and the id of the last triangle that passes there, is compared with the reference's; with one or four
+samples every pixel and depth also with the program's. Exit status 1 on any difference; the list is then left in out/compare/.
+"""
+
+from __future__ import annotations
+
+import argparse
+import os
+import random
+import subprocess
+import sys
+from dataclasses import replace
+from typing import Any, NamedTuple, Sequence
+
+from tools import answers, picture_file
+from tools.reference import generated_lists, renderer
+from tools.draw_list import Draw, DrawList, encode, triangles_of
+from tools.checks.library.commands import PACKAGE_ENVIRONMENT
+from tools.checks.library.lists import indices_of
+from tools.places import OUT, PROGRAM, SHARED_LIBRARY, TOP, is_built
+
+LISTS = 1000
+LOWEST, HIGHEST = -8388608, 8388607
+WHITE = (255, 255, 255)
+CLEARED = 0xFFFFFF
+
+
+# ---- Batches
+
+
+def split(pick: random.Random, draws: list[Draw]) -> list[list[Draw]]:
+    """The draws as batches of one draw or several, some of them cut into batches of their triangles."""
+    batches: list[list[Draw]] = []
+    whole: list[Draw] = []
+    for draw in draws:
+        if pick.random() < 0.4:
+            whole.append(draw)
+            continue
+        if whole:
+            batches.append(whole)
+            whole = []
+        state = {key: value for key, value in draw.items() if key not in ("triangles", "strip", "quads")}
+        triangles, first = triangles_of(draw), 0
+        most = pick.choice((1, 2, 65, 1000))
+        while first < len(triangles):
+            end = first + pick.randint(1, most)
+            batches.append([{**state, "triangles": triangles[first:end]}])
+            first = end
+    return batches + ([whole] if whole else [])
+
+
+def count_of(batch: list[Draw]) -> int:
+    return sum(len(triangles_of(draw)) for draw in batch)
+
+
+def an_origin(pick: random.Random, scene: DrawList) -> tuple[int, int]:
+    """A place for a window at which each vertex that an index names stays in the guard band, also one of a strip without triangles."""
+    found = []
+    for axis, pixels in enumerate((scene["width"], scene["height"])):
+        used = [draw["vertices"][k][axis] for draw in scene["draws"] for k in indices_of(draw)] or [0]
+        lowest, highest = -((HIGHEST - max(used)) // 256), (min(used) - LOWEST) // 256
+        found.append(min(max(pick.randint(-5, pixels), lowest), highest))
+    return found[0], found[1]
+
+
+# ---- What canvases and the reference have
+
+
+class Difference(Exception):
+    """What differs."""
+
+
+class Readings(NamedTuple):
+    """The pixels of a picture, and for each sample index the colours as numbers and the depths of all pixels."""
+
+    pixels: bytes
+    colours: list[list[int]]
+    depths: list[list[int]]
+
+
+def drawn(
+    scene: DrawList, batches: list[list[Draw]], size: tuple[int, int], origin: tuple[int, int], threads: int, by_ids: bool = False
+) -> Any:
+    """A canvas of this size at this origin, on which the batches of a list are drawn."""
+    import trirast
+
+    canvas = trirast.Canvas(*size, samples=scene.get("samples", 1), origin=origin)
+    colour = WHITE if by_ids else scene.get("clear", (0, 0, 0))
+    canvas.clear(colour, scene.get("clear_depth", 65535), threads=threads)
+    before = 0
+    for batch in batches:
+        made = [trirast.Draw(draw["vertices"], **{k: v for k, v in draw.items() if k != "vertices"}) for draw in batch]
+        try:
+            canvas.draw_batch(made, first_id=before if by_ids else None, threads=threads)
+        except trirast.Error as error:
+            raise Difference(f"a canvas at {origin} refuses a batch: {error}") from error
+        before += count_of(batch)
+    return canvas
+
+
+def of_canvas(canvas: Any, threads: int) -> Readings:
+    samples = range(canvas.samples)
+    colours = [memoryview(bytes_of(canvas.ids(s, threads=threads))).cast("I").tolist() for s in samples]
+    depths = [memoryview(bytes_of(canvas.depth(s, threads=threads))).cast("H").tolist() for s in samples]
+    return Readings(bytes_of(canvas.rgb(threads=threads)), colours, depths)
+
+
+def of_reference(rules: Any, scene: renderer.Scene) -> Readings:
+    """What these rules make of a scene: tools/reference/renderer.py, or a mutant of it."""
+    samples, count = rules.drawn(scene), scene.samples
+    colours = [[number_of(sample) for sample in samples[s::count]] for s in range(count)]
+    depths = [[sample[3] for sample in samples[s::count]] for s in range(count)]
+    return Readings(rules.resolve(samples, count), colours, depths)
+
+
+def number_of(sample: Sequence[int]) -> int:
+    """The colour of a sample as a number, as ids are stored."""
+    return sample[0] + 256 * sample[1] + 65536 * sample[2]
+
+
+def with_ids(scene: renderer.Scene) -> renderer.Scene:
+    """The scene with each triangle in the colour of its id, on white."""
+    triangles = []
+    for number, triangle in enumerate(scene.triangles):
+        colour = (number % 256, number // 256 % 256, number // 65536, 255)
+        state = replace(triangle.state, write=(True, True, True), blend="none")
+        triangles.append(replace(triangle, vertices=tuple(vertex[:3] + colour for vertex in triangle.vertices), state=state))
+    return replace(scene, triangles=tuple(triangles), clear=(*WHITE, scene.clear[3]))
+
+
+def bytes_of(buffer: Any) -> bytes:
+    return memoryview(buffer).tobytes()
+
+
+# ---- Comparisons
+
+
+def compare_readings(what: str, found: Readings, wanted: Readings) -> int:
+    """Returns the number of values that were compared."""
+    for s, (colours, depths) in enumerate(zip(wanted.colours, wanted.depths)):
+        if found.colours[s] != colours:
+            raise Difference(f"{what}: other colours of sample {s}")
+        if found.depths[s] != depths:
+            raise Difference(f"{what}: other depths of sample {s}")
+    if found.pixels != wanted.pixels:
+        raise Difference(f"{what}: other pixels")
+    return len(found.pixels) // 3 + 2 * sum(map(len, found.colours))
+
+
+def file_of(scene: DrawList, output: str) -> bytes:
+    """The pixels of the program's file."""
+    draws = [{**draw, "sample_mask": draw.get("sample_mask", 15) & 15} for draw in scene["draws"]]
+    answer = answers.drawn(PROGRAM, encode({**scene, "draws": draws, "output": output}), [])
+    if answer.status != 0:
+        raise Difference(f"the program refuses the list: {answer}")
+    return picture_file.decode(answer.output).pixel_data
+
+
+def same(what: str, wanted: bytes, found: bytes, size: tuple[int, int], part: tuple[int, int], origin: tuple[int, int], unit: int) -> int:
+    """Compares the pixels of a canvas of the size `part` that lie in the picture of this size. Returns their number."""
+    compared = 0
+    for j in range(part[1]):
+        row = j + origin[1]
+        first, end = max(0, -origin[0]), min(part[0], size[0] - origin[0])
+        if not 0 <= row < size[1] or first >= end:
+            continue
+        there = (row * size[0] + first + origin[0]) * unit
+        here = (j * part[0] + first) * unit
+        length = (end - first) * unit
+        if wanted[there : there + length] != found[here : here + length]:
+            raise Difference(f"{what}: other values than the program's in row {j} of the canvas at {origin}")
+        compared += end - first
+    return compared
+
+
+def compare_with_program(scene: DrawList, canvas: Any) -> int:
+    """Compares the pixels and the first depths of a canvas of a list with those of the program."""
+    size, part = (scene["width"], scene["height"]), (canvas.width, canvas.height)
+    depths = b"".join(pair[::-1] for pair in pairs(file_of(scene, "depth")))
+    compared = same("colours", file_of(scene, "color"), bytes_of(canvas.rgb()), size, part, canvas.origin, 3)
+    return compared + same("depths", depths, bytes_of(canvas.depth(0)), size, part, canvas.origin, 2)
+
+
+def pairs(data: bytes) -> list[bytes]:
+    return [data[k : k + 2] for k in range(0, len(data), 2)]
+
+
+def compare(scene: DrawList, pick: random.Random) -> int:
+    """Compares a list's canvases. Returns the number of values that were compared."""
+    read, batches = renderer.read(encode(scene), renderer.CANVAS), split(pick, scene["draws"])
+    size = (read.width, read.height)
+    window = (pick.randint(1, size[0] + 9), pick.randint(1, size[1] + 9))
+    compared = 0
+    for part, origin in ((size, (0, 0)), (window, an_origin(pick, scene))):
+        seen = replace(read, width=part[0], height=part[1], origin=origin)
+        canvas = drawn(scene, batches, part, origin, pick.randint(1, 4))
+        found = of_canvas(canvas, pick.randint(1, 3))
+        compared += compare_readings(f"a canvas at {origin}", found, of_reference(renderer, seen))
+        if read.samples in renderer.LIST.counts:
+            compared += compare_with_program(scene, canvas)
+        found = of_canvas(drawn(scene, batches, part, origin, pick.randint(1, 4), by_ids=True), 1)
+        compared += compare_readings(f"ids of a canvas at {origin}", found, of_reference(renderer, with_ids(seen)))
+    return compared
+
+
+def compare_lists(lists: int, seed: int, counts: list[int]) -> int:
+    compared = differences = 0
+    for number in range(lists):
+        scene = generated_lists.canvas_list(seed, number, counts[number % len(counts)])
+        try:
+            compared += compare(scene, random.Random(f"canvas {seed} {number}"))
+        except Difference as difference:
+            differences += 1
+            folder = os.path.join(OUT, "compare")
+            os.makedirs(folder, exist_ok=True)
+            path = os.path.join(folder, f"canvas_{number}.json")
+            with open(path, "wb") as file:
+                file.write(encode(scene))
+            print(f"{os.path.relpath(path, TOP)}: {difference}")
+    print(f"{lists} lists, {compared} values compared, {differences} differences")
+    print(f"{lists - differences} passed, {differences} failed", flush=True)
+    return 1 if differences or not compared else 0
+
+
+# ---- The command
+
+
+def run_with_package(module: str) -> int | None:
+    """Runs a module again in an environment in which the package is found. Returns its status, or `None` if this is that run."""
+    if "TRIRAST_CANVAS_COMPARED" in os.environ:
+        return None
+    if not is_built(PROGRAM, made_by="make compare-canvas") or not is_built(SHARED_LIBRARY, made_by="make compare-canvas"):
+        return 1
+    environment = {**os.environ, **PACKAGE_ENVIRONMENT, "TRIRAST_CANVAS_COMPARED": "1"}
+    return subprocess.run([sys.executable, "-m", module, *sys.argv[1:]], env=environment, cwd=TOP).returncode
+
+
+def main() -> int:
+    parser = argparse.ArgumentParser(description="Compares canvases with the reference and the program.")
+    parser.add_argument("--lists", type=int, default=LISTS, help=f"number of lists (default {LISTS})")
+    parser.add_argument("--seed", type=int, default=1, help="of the lists and the batches (default 1)")
+    counts = renderer.CANVAS.counts
+    parser.add_argument("--samples", type=int, nargs="+", choices=counts, default=counts, help="samples of a pixel, list after list")
+    options = parser.parse_args()
+    status = run_with_package("tools.reference.compare_canvas")
+    return compare_lists(options.lists, options.seed, list(options.samples)) if status is None else status
+
+
+if __name__ == "__main__":
+    sys.exit(main())

@@ -1,0 +1,1 @@
+"""What reads the sources in Rattle: crates, definitions, public calls, the page of the statement."""
