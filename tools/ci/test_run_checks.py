@@ -6,6 +6,7 @@ import importlib.util
 import os
 import shlex
 import sys
+from itertools import takewhile
 from pathlib import Path
 
 import pytest
@@ -111,7 +112,7 @@ def test_the_list_names_what_is_there() -> None:
         assert bool(one.long) == bool(one.long_seconds), one.name
         first, *words = shlex.split(one.command)
         if first == "pytest":
-            paths = [word for word in words if "/" in word]
+            paths = list(takewhile(lambda word: not word.startswith("-"), words))
             assert paths and all(os.path.exists(os.path.join(TOP, path)) for path in paths), one.name
         elif one.is_module():
             assert importlib.util.find_spec(first), one.name
