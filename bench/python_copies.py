@@ -24,7 +24,7 @@ COLUMNS, ROWS = 317, 160
 def of_positions(positions: Any) -> Any:
     """Vertices at positions in pixels, each in a colour of its own."""
     found = np.zeros((len(positions), 7), np.int32)
-    found[:, :2] = np.rint(256 * positions)
+    found[:, :2] = trirast.snap(positions)
     found[:, 3:6] = np.random.default_rng(2).integers(0, 256, (len(positions), 3))
     found[:, 6] = 255
     return found

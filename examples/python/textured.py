@@ -166,7 +166,7 @@ class Camera:
         screen, distance = self.seen(positions)
         depth = (1 / NEAR - 1 / distance) / (1 / NEAR - 1 / FAR)
         found = np.zeros((len(positions), 7), np.int32)
-        found[:, :2] = np.rint(screen * UNIT)
+        found[:, :2] = trirast.snap(screen)
         found[:, 2] = np.rint(depth * MAX_DEPTH)
         return found
 

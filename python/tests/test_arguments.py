@@ -14,7 +14,7 @@ import trirast
 from .common import DRAW_LIST, FILE, NUMPY, PIXELS, VERTICES, bytes_of, run
 
 Case = Tuple[Callable[[], Any], Type[Exception], str]
-SNAP = "; use np.rint(256 * xy).astype(np.int32)"
+SNAP = "; use trirast.snap(xy)"
 
 
 def cleared(width: int = 3, height: int = 3, **more: Any) -> trirast.Canvas:

@@ -16,6 +16,8 @@
     canvas.draw(vertices, triangles, cull="back", threads=4)
     canvas.rgb()
 
+    vertices[:, :2] = trirast.snap(xy)      # floats in pixels
+
     seen = trirast.clip(positions, triangles, (0, 0, 1024, 768))
     canvas.draw(seen.vertices, seen.triangles)
 
@@ -47,11 +49,12 @@ from ._errors import (
 from ._history import Event, Fragment, PixelHistory, SampleHistory, Stored, TriangleSamples, triangle_samples, why
 from ._picture import ImageInfo, Picture
 from ._scene import draw_scene
+from ._snap import snap
 from ._version import VERSION as __version__
 
 __all__ = [
     "BufferTooSmallError", "Canvas", "CanvasError", "Clipped", "Draw", "DrawList", "DrawListError", "Error", "Event", "FormatError", "Fragment",
     "ImageInfo", "LimitError", "MemorySizeError", "OutOfMemoryError", "Picture", "PixelError", "PixelHistory", "PositionError",
     "SampleError", "SampleHistory", "Stored", "StructSizeError", "TileRowsError", "TileSizeError", "TriangleError", "TriangleSamples",
-    "__version__", "clip", "draw", "draw_file", "draw_scene", "edges", "image_info", "triangle_samples", "why",
+    "__version__", "clip", "draw", "draw_file", "draw_scene", "edges", "image_info", "snap", "triangle_samples", "why",
 ]

@@ -4,8 +4,10 @@ Each function takes the name of the parameter. Its message is that name, what is
 not 0". Nothing is rounded, cut or guessed.
 """
 
+import math
 import operator
 import reprlib
+from numbers import Complex, Real
 from typing import Any, Sequence, SupportsIndex, Tuple
 
 NUMBERS = 1 << 32
@@ -46,6 +48,22 @@ def signed(name: str, value: SupportsIndex) -> int:
     given = integer(name, value)
     if not -(NUMBERS >> 1) <= given < NUMBERS >> 1:
         raise OverflowError(f"{name}: an integer of 32 bits, and not {given}")
+    return given
+
+
+def real(name: str, value: Any) -> float:
+    """A number of Python or numpy as a float. Raises TypeError at what is none, and ValueError at NaN and infinities."""
+    try:
+        if isinstance(value, Complex) and not isinstance(value, Real):
+            raise TypeError("of numpy's, of which float would take the real part")
+        # float would read a text.
+        given = math.ldexp(value, 0)
+    except TypeError:
+        raise TypeError(f"{name}: a real number, and not {shown(value)}") from None
+    except OverflowError:
+        given = math.inf
+    if not math.isfinite(given):
+        raise ValueError(f"{name}: a finite float, and not {shown(value)}")
     return given
 
 

@@ -157,7 +157,7 @@ class Column(NamedTuple):
 
 
 LOW, HIGH = -8388608, 8388607
-SNAP = "use np.rint(256 * xy).astype(np.int32)"
+SNAP = "use trirast.snap(xy)"
 VERTEX = (
     Column("x", LOW, HIGH), Column("y", LOW, HIGH), Column("depth", 0, 65535),
     *(Column(name, 0, 255) for name in ("red", "green", "blue", "alpha")),
