@@ -3,7 +3,7 @@
 import ctypes
 import struct
 from threading import RLock
-from typing import Any, Callable, Dict, List, Optional, Sequence, SupportsIndex, Tuple
+from typing import Any, Callable, Dict, List, Optional, Sequence, SupportsFloat, SupportsIndex, Tuple
 
 from ._arguments import between, color_of, integer, named, number, of_length, signed, thread_count
 from ._batch import batch_of, draws_of
@@ -11,7 +11,7 @@ from ._buffers import Buffer, Form, check_writable, raw, readable
 from ._draw import Draw
 from ._errors import CanvasError, DrawListError
 from ._ffi import PLANE_BYTES, CCanvas, CCorners, CEdges, CError, library
-from ._picture import Path, picture_of
+from ._picture import Path, Picture
 from ._refused import explained
 from ._threads import share
 from ._version import INTERFACE
@@ -165,9 +165,17 @@ class Canvas:
         """The same in the order blue, green, red, alpha."""
         return self._resolved("bgra", out, threads)
 
-    def save(self, path: Path, *, threads: SupportsIndex = 1) -> None:
-        """Writes the colours to a PNG file, or to a PPM file, by the end of the path. Raises ValueError at any other end."""
-        picture_of(self._width, self._height, False, memoryview(self.rgb(threads=threads)).tobytes()).save(path)
+    def save(self, path: Path, *, dpi: Optional[SupportsFloat] = None, threads: SupportsIndex = 1) -> None:
+        """Writes the colours to a PNG file, or to a PPM file, by the end of the path. `dpi` is the number of pixels per inch, which a PNG
+        file alone has. Raises ValueError at any other end, and at `dpi` for another file."""
+        self._picture(threads).save(path, dpi=dpi)
+
+    def _repr_png_(self) -> bytes:
+        """The colours as a PNG file, by which notebooks show the canvas."""
+        return self._picture(1)._repr_png_()
+
+    def _picture(self, threads: SupportsIndex) -> Picture:
+        return Picture(self._width, self._height, False, memoryview(self.rgb(threads=threads)).cast("B"))
 
     def depth(self, sample: SupportsIndex = 0, out: Optional[Any] = None, *, threads: SupportsIndex = 1) -> Any:
         """The depth of one sample of each pixel: 16 bits, of the shape (height, width)."""

@@ -217,6 +217,18 @@ class CSampleCounts(ctypes.Structure):
     _fields_ = [(name, ctypes.c_uint32) for name in ("covered", "changed", "shown")]
 
 
+class CSymbolInfo(ctypes.Structure):
+    """Dl_info of <dlfcn.h>."""
+
+    file: bytes
+    _fields_ = [
+        ("file", ctypes.c_char_p),
+        ("base", ctypes.c_void_p),
+        ("name", ctypes.c_char_p),
+        ("address", ctypes.c_void_p),
+    ]
+
+
 JSON = [ctypes.c_char_p, ctypes.c_size_t]
 NUMBER = [ctypes.c_uint32]
 BUFFER = [ctypes.c_void_p, ctypes.c_size_t]
@@ -299,6 +311,15 @@ def library(kind: Any = ctypes.CDLL) -> Any:
     except AttributeError as error:
         raise ImportError(f"{path} is another library, or an older one: {error}; {HOW_TO_GET_IT}") from None
     return loaded
+
+
+def loaded_path() -> str:
+    """The file of the library that the loader chose. library_path() may name one that only leads to it."""
+    found = CSymbolInfo()
+    address = ctypes.cast(library().trirast_version, ctypes.c_void_p)
+    if not ctypes.CDLL(None).dladdr(address, ctypes.byref(found)):
+        raise OSError("the loader does not say which library it chose")
+    return os.path.abspath(os.fsdecode(found.file))
 
 
 def check_version(path: str, loaded: Any) -> None:

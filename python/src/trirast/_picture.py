@@ -1,11 +1,11 @@
 """Pictures, and their sizes."""
 
 import os
-from typing import Any, Dict, NamedTuple, Optional, Tuple, Union
+from typing import Any, Dict, Iterable, NamedTuple, Optional, SupportsFloat, Tuple, Union
 
 from ._arguments import integer, shown
 from ._buffers import HIGH_FIRST, Form, check_writable
-from ._png import png_chunks
+from ._png import PNG, checked_dpi, png_chunks
 
 Path = Union[str, "os.PathLike[str]"]
 
@@ -97,33 +97,31 @@ class Picture:
         first = length * (j * self.width + i)
         return bytes(self._pixels.cast("B")[first : first + length])
 
-    def save(self, path: Path) -> None:
+    def save(self, path: Path, *, dpi: Optional[SupportsFloat] = None) -> None:
         """Writes the picture's file. By the end of the path it is a PNG file (.png), or the file that the program writes: PPM (.ppm) of
-        colours, PGM (.pgm) of depths. Raises ValueError at any other."""
-        kinds = {".png": self._png, ".pgm" if self.is_depth else ".ppm": self._netpbm}
-        suffix = os.path.splitext(os.fsdecode(path))[1]
-        if suffix.lower() not in kinds:
+        colours, PGM (.pgm) of depths. `dpi` is the number of pixels per inch, which a PNG file alone has. Raises ValueError at any other
+        end, and at `dpi` for another file."""
+        name, ends = os.fsdecode(path), (PNG, ".pgm" if self.is_depth else ".ppm")
+        end = os.path.splitext(name)[1].lower()
+        if end not in ends:
             shows = "depths" if self.is_depth else "colours"
-            raise ValueError(f"path: an end of {' or '.join(kinds)}, for a picture of {shows}, and not {shown(os.fsdecode(path))}")
-        parts = kinds[suffix.lower()]()
-        with open(path, "wb") as file:
-            for part in parts:
-                file.write(part)
+            raise ValueError(f"path: an end of {' or '.join(ends)}, for a picture of {shows}, and not {shown(name)}")
+        dots = checked_dpi(dpi, name)
+        write(path, png_chunks(self._pixels, dots) if end == PNG else self._netpbm())
 
     def save_ppm(self, path: Path) -> None:
         """Writes a picture of colours as a PPM file, whatever its name. Raises ValueError at one of depths, which only a PGM file can
         hold."""
         if self.is_depth:
             raise ValueError("a picture of depths is no PPM file: use save, which writes PGM")
-        with open(path, "wb") as file:
-            for part in self._netpbm():
-                file.write(part)
+        write(path, self._netpbm())
 
     def _netpbm(self) -> "list[Any]":
         return [self.header, self._pixels]
 
-    def _png(self) -> "list[Any]":
-        return list(png_chunks(self._pixels))
+    def _repr_png_(self) -> bytes:
+        """The picture as a PNG file, by which notebooks show it."""
+        return b"".join(png_chunks(self._pixels))
 
     @property
     def __array_interface__(self) -> Dict[str, Any]:
@@ -141,6 +139,13 @@ class Picture:
     def bytes(self) -> bytes:
         """The bytes of all pixels, as a copy."""
         return bytes(self._pixels)
+
+
+def write(path: Path, parts: Iterable[Any]) -> None:
+    """Writes a file of several parts."""
+    whole = list(parts)
+    with open(path, "wb") as file:
+        file.writelines(whole)
 
 
 def picture_of(width: int, height: int, is_depth: bool, pixels: bytes) -> Picture:

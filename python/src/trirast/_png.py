@@ -2,12 +2,19 @@
 
 import struct
 import zlib
-from typing import Iterator
+from typing import Any, Iterator, Optional
 
+from ._arguments import real, shown
+
+# How a name ends that is of a PNG file, in small or capital letters.
+PNG = ".png"
 SIGNATURE = b"\x89PNG\r\n\x1a\n"
 # Bits of a channel and colour type, by the bytes of a pixel.
 KINDS = {3: (8, 2), 2: (16, 0)}
 NO_FILTER = b"\0"
+# In metres. A chunk pHYs has dots per metre, 1 to 2**31 - 1, and the unit 1 for metres.
+INCH = 0.0254
+LEAST_DPI, GREATEST_DPI = INCH, 54546084
 
 
 def chunk(kind: bytes, data: bytes) -> bytes:
@@ -15,12 +22,32 @@ def chunk(kind: bytes, data: bytes) -> bytes:
     return struct.pack(">I", len(data)) + kind + data + struct.pack(">I", zlib.crc32(data, zlib.crc32(kind)))
 
 
-def png_chunks(pixels: memoryview) -> Iterator[bytes]:
+def checked_dpi(dpi: Optional[Any], path: Optional[str]) -> Optional[float]:
+    """The dots per inch for a file, or `None` if none are given. Raises ValueError if they are out of range, or the file is no PNG file."""
+    if dpi is None:
+        return None
+    if path is None or not path.lower().endswith(PNG):
+        raise ValueError(f"dpi: only for a PNG file, and not for {'tiles' if path is None else shown(path)}")
+    given = real("dpi", dpi)
+    if not LEAST_DPI <= given <= GREATEST_DPI:
+        raise ValueError(f"dpi: {LEAST_DPI} to {GREATEST_DPI}, and not {shown(dpi)}")
+    return given
+
+
+def head_of(width: int, height: int, pixel_bytes: int, dpi: Optional[float] = None) -> bytes:
+    """What stands before a file's pixels: the signature, the chunk IHDR, and with dots per inch the chunk pHYs."""
+    bits, colour_type = KINDS[pixel_bytes]
+    head = SIGNATURE + chunk(b"IHDR", struct.pack(">IIBBBBB", width, height, bits, colour_type, 0, 0, 0))
+    if dpi is None:
+        return head
+    per_metre = round(dpi / INCH)
+    return head + chunk(b"pHYs", struct.pack(">IIB", per_metre, per_metre, 1))
+
+
+def png_chunks(pixels: memoryview, dpi: Optional[float] = None) -> Iterator[bytes]:
     """The pieces of a file, of pixels of the shape (height, width, 3), or (height, width, 2) of depths with the high byte first."""
     height, width, pixel_bytes = pixels.shape or (0, 0, 0)
-    bits, colour_type = KINDS[pixel_bytes]
-    yield SIGNATURE
-    yield chunk(b"IHDR", struct.pack(">IIBBBBB", width, height, bits, colour_type, 0, 0, 0))
+    yield head_of(width, height, pixel_bytes, dpi)
     flat, row = pixels.cast("B"), width * pixel_bytes
     rows = b"".join(NO_FILTER + flat[first : first + row] for first in range(0, len(flat), row))
     yield chunk(b"IDAT", zlib.compress(rows))

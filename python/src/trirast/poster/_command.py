@@ -25,6 +25,7 @@ def arguments(words: Optional[List[str]] = None) -> argparse.Namespace:
     parser.add_argument("-o", dest="out", metavar="OUT", help="the picture: PNG if the name ends in .png, PPM (of depths PGM) if in .ppm, .pgm or nothing")
     parser.add_argument("--tiles", metavar="FOLDER", help="a new folder of PNG tiles z/x/y.png with a page that shows them")
     parser.add_argument("--samples", type=int, choices=sorted(SAMPLES), help="samples of a pixel, in place of the list's")
+    parser.add_argument("--dpi", type=float, help="pixels per inch, which a PNG file alone has")
     parser.add_argument("--window", type=int, default=SIDE, metavar="SIDE", help=f"pixels of a window's side (default {SIDE})")
     parser.add_argument("--workers", type=int, metavar="N", help="how many draw at once (default one a core)")
     parser.add_argument("--scheduler", metavar="local|ADDRESS", help="draw by Dask: its processes here, or a cluster's scheduler")
@@ -44,8 +45,8 @@ def main(words: Optional[List[str]] = None) -> int:
     try:
         scene = scene_of(options.list)
         draw_poster(
-            scene, options.out, tiles=options.tiles, samples=options.samples, window=options.window, workers=options.workers,
-            scheduler=options.scheduler, resume=options.resume, show_progress=True,
+            scene, options.out, tiles=options.tiles, samples=options.samples, dpi=options.dpi, window=options.window,
+            workers=options.workers, scheduler=options.scheduler, resume=options.resume, show_progress=True,
         )
     except Exception as error:
         # Also one that nobody thought of: a user reads one line. python3 -X dev shows where it came from.

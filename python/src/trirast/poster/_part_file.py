@@ -4,9 +4,9 @@ from __future__ import annotations
 
 import os
 
+from .._png import SIGNATURE
 from ._own_file import OwnFile
 from ._places import PART, check_file
-from ._png import SIGNATURE
 
 # No longer than the shortest header of a PPM file. It stands in place of a picture's first bytes until the picture is whole.
 MARK = b"trirastpart"

@@ -12,26 +12,15 @@ from typing import Any
 import numpy as np
 from numpy.typing import NDArray
 
+from .._png import chunk, head_of
 from ._scene import Pixels, Sheet
 
-SIGNATURE = b"\x89PNG\r\n\x1a\n"
 # The zlib header of deflate at the default level (RFC 1950), and the filter type Sub.
 ZLIB_HEADER = b"\x78\x9c"
 SUB = 1
 LEVEL = 6
 # The greatest prime below 65,536, of which Adler-32 takes its sums.
 ADLER_BASE = 65521
-
-
-def chunk(kind: bytes, data: bytes) -> bytes:
-    """A chunk: length, type, data and their CRC."""
-    return struct.pack(">I", len(data)) + kind + data + struct.pack(">I", zlib.crc32(data, zlib.crc32(kind)))
-
-
-def head_of(width: int, height: int, sheet: Sheet) -> bytes:
-    """The signature and the header chunk of a file."""
-    bits, colours = (16, 0) if sheet.is_depth else (8, 2)
-    return SIGNATURE + chunk(b"IHDR", struct.pack(">IIBBBBB", width, height, bits, colours, 0, 0, 0))
 
 
 def row_bytes(pixels: Pixels) -> NDArray[np.uint8]:
@@ -52,8 +41,8 @@ def filtered(pixels: Pixels) -> NDArray[np.uint8]:
 
 def unfiltered(rows: NDArray[np.uint8], sheet: Sheet) -> Pixels:
     """Pixels from rows as they are deflated."""
-    pixels = sheet.blank(len(rows), (rows.shape[1] - 1) // (2 if sheet.is_depth else 3))
-    step = pixel_bytes(pixels)
+    step = sheet.pixel_bytes
+    pixels = sheet.blank(len(rows), (rows.shape[1] - 1) // step)
     sums = rows[:, 1:].reshape(len(rows), -1, step).cumsum(1, dtype=np.uint8)
     pixels.view(np.uint8).reshape(sums.shape)[:] = sums
     return pixels
@@ -66,14 +55,14 @@ def pixel_bytes(pixels: Pixels) -> int:
 def png_of(pixels: Pixels, sheet: Sheet) -> bytes:
     """A whole file."""
     data = zlib.compress(filtered(pixels).data, LEVEL)
-    return head_of(pixels.shape[1], pixels.shape[0], sheet) + chunk(b"IDAT", data) + chunk(b"IEND", b"")
+    return head_of(pixels.shape[1], pixels.shape[0], sheet.pixel_bytes) + chunk(b"IDAT", data) + chunk(b"IEND", b"")
 
 
 def pixels_of(file: bytes, sheet: Sheet) -> Pixels:
     """The pixels of a file that `png_of` made. Raises ValueError or an error of zlib or struct at any other."""
     width, height = struct.unpack(">II", file[16:24])
     (length,) = struct.unpack(">I", file[33:37])
-    if head_of(width, height, sheet) != file[:33] or file[37:41] != b"IDAT":
+    if head_of(width, height, sheet.pixel_bytes) != file[:33] or file[37:41] != b"IDAT":
         raise ValueError("no PNG file of a tile")
     rows = np.frombuffer(zlib.decompress(file[41 : 41 + length]), np.uint8)
     return unfiltered(rows.reshape(height, -1), sheet)

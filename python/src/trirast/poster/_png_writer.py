@@ -8,8 +8,9 @@ from typing import Optional
 
 import numpy as np
 
+from .._png import chunk, head_of
 from ._part_file import PartFile
-from ._png import ZLIB_HEADER, adler_of_both, chunk, deflated, head_of, inflated, stream_end, unfiltered
+from ._png import ZLIB_HEADER, adler_of_both, deflated, inflated, stream_end, unfiltered
 from ._pool import Pool
 from ._scene import Pixels, Sheet
 
@@ -21,11 +22,11 @@ LONGEST = 1 << 31
 
 
 class PngWriter:
-    """A PNG file of colours or depths."""
+    """A PNG file of colours or depths, with dots per inch if they are not `None`."""
 
-    def __init__(self, path: str, sheet: Sheet, is_whole: bool, threads: int) -> None:
+    def __init__(self, path: str, sheet: Sheet, dpi: Optional[float], is_whole: bool, threads: int) -> None:
         self._sheet = sheet
-        start = head_of(sheet.width, sheet.height, sheet) + chunk(b"IDAT", ZLIB_HEADER)
+        start = head_of(sheet.width, sheet.height, sheet.pixel_bytes, dpi) + chunk(b"IDAT", ZLIB_HEADER)
         self._part = PartFile(path, start, is_whole)
         self._file = self._part.file
         self._pool = Pool(threads)
@@ -48,8 +49,7 @@ class PngWriter:
 
     def _read_piece(self, height: int) -> Optional[Pixels]:
         """The rows of the next chunk, or `None` if it is not there or damaged."""
-        step = 2 if self._sheet.is_depth else 3
-        size = height * (1 + step * self._sheet.width)
+        size = height * (1 + self._sheet.pixel_bytes * self._sheet.width)
         self._file.seek(self._read_end)
         head = self._file.read(8)
         if len(head) < 8 or head[4:] != b"IDAT":

@@ -8,10 +8,11 @@ import os
 import zlib
 from concurrent.futures import Future
 from functools import partial
-from typing import Callable, Iterable, Iterator, List, Optional
+from typing import Callable, Iterable, Iterator, List, Optional, SupportsFloat
 
 import numpy as np
 
+from .._png import PNG, checked_dpi
 from ._dask import Drawn, draw_by_dask
 from ._errors import ThreadError
 from ._index import Index
@@ -29,8 +30,6 @@ from ._windows import Windows
 from ._writers import Writer
 
 SIDE = 512
-# How a name ends that is of a PNG file, in small or capital letters.
-PNG = ".png"
 
 
 def draw_poster(
@@ -39,6 +38,7 @@ def draw_poster(
     *,
     tiles: Optional[Path] = None,
     samples: Optional[int] = None,
+    dpi: Optional[SupportsFloat] = None,
     window: int = SIDE,
     workers: Optional[int] = None,
     scheduler: Optional[str] = None,
@@ -48,13 +48,14 @@ def draw_poster(
     """Draws a scene, up to 32,768 pixels wide and high, to a file or to a folder of tiles or to both.
 
     `out` is a PNG file if its name ends in .png, in small or capital letters, and a PPM file (of depths a PGM file) if it ends in .ppm or
-    .pgm or has no end; `tiles` is a new folder. `samples` is the number of samples of a pixel in place of the scene's: 1, 2, 4, 8 or 16. `window` is the side in pixels of the
-    squares that are drawn by themselves, 64 to 4096; `workers` how many draw at once (one a core). These two do not change a byte. Without
-    `scheduler` threads of this process draw; with "local" Dask's processes, and with an address the workers of that cluster. `resume` goes
+    .pgm or has no end; `tiles` is a new folder. `samples` is the number of samples of a pixel in place of the scene's: 1, 2, 4, 8 or 16.
+    `dpi` is the number of pixels per inch, which a PNG file alone has. `window` is the side in pixels of the squares that are drawn by
+    themselves, 64 to 4096; `workers` how many draw at once (one a core). These two do not change a byte. Without `scheduler` threads of this process draw; with "local" Dask's processes, and with an address the workers of that cluster. `resume` goes
     on with what a stopped run left. Under the final names are whole files alone. Raises PosterError and trirast.Error, and OSError if a
     file cannot be written.
     """
     places = places_of(out, tiles, scene.source)
+    dots = checked_dpi(dpi, places.file)
     if samples is not None:
         scene = with_samples(scene, samples)
     count = os.cpu_count() or 1 if workers is None else operator.index(workers)
@@ -67,7 +68,7 @@ def draw_poster(
         checksum = summing.result()
         journal = Journal(places.journal)
         stack.callback(journal.close)
-        writers = list(writers_of(scene.sheet, checksum, places, journal.is_whole, resume, count, stack))
+        writers = list(writers_of(scene.sheet, checksum, places, dots, journal.is_whole, resume, count, stack))
         run = {"list": checksum, "window": windows.side, "out": places.file is not None, "tiles": places.folder is not None}
         journal.begin(run, resume)
         if not writers:
@@ -98,14 +99,15 @@ def thread_errors() -> Iterator[None]:
 
 
 def writers_of(
-    sheet: Sheet, checksum: str, places: Places, is_whole: bool, resume: bool, threads: int, stack: contextlib.ExitStack
+    sheet: Sheet, checksum: str, places: Places, dpi: Optional[float], is_whole: bool, resume: bool, threads: int,
+    stack: contextlib.ExitStack,
 ) -> Iterator[Writer]:
     """The writers of a poster, which the stack closes. There is none of tiles that a resumed run left whole."""
     makers: List[Callable[[], Writer]] = []
     if places.folder is not None and not (resume and are_whole(places.folder, sheet, checksum)):
         makers.append(partial(TilesWriter, places.folder, sheet, checksum, resume, threads))
     if places.file is not None and places.file.lower().endswith(PNG):
-        makers.append(partial(PngWriter, places.file, sheet, is_whole, threads))
+        makers.append(partial(PngWriter, places.file, sheet, dpi, is_whole, threads))
     elif places.file is not None:
         makers.append(partial(PpmWriter, places.file, sheet, is_whole))
     for maker in makers:

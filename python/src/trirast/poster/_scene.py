@@ -88,6 +88,11 @@ class Sheet:
         """Whether the picture shows depths."""
         return self.output == "depth"
 
+    @property
+    def pixel_bytes(self) -> int:
+        """The bytes of a pixel."""
+        return 2 if self.is_depth else 3
+
     def blank(self, height: int, width: int) -> Pixels:
         """Memory for pixels: (height, width, 3) of 8 bits, or (height, width) of 16 bits, the high byte first, of depths."""
         if self.is_depth:
