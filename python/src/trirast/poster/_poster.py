@@ -77,7 +77,7 @@ def draw_poster(
         for writer in writers:
             writer.begin()
         first = kept_rows(journal, windows, writers)
-        step = stack.enter_context(progress(len(windows), first * windows.columns, show_progress))
+        step = stack.enter_context(progress(windows.pixels_above(windows.rows), windows.pixels_above(first), show_progress))
         if scheduler is None:
             rows = rows_by_threads(scene, index, windows, first, count, step)
         else:

@@ -1,11 +1,10 @@
-"""A bar on standard error with windows done, pixels a second and time left. There is none if that is no terminal, or closed."""
+"""A bar on standard error with pixels done, pixels a second and time left. There is none if that is no terminal, or closed."""
 
 from __future__ import annotations
 
 import contextlib
 import sys
 import threading
-import time
 from typing import Callable, Iterator
 
 from ._windows import Span
@@ -14,8 +13,8 @@ Step = Callable[[Span], None]
 
 
 @contextlib.contextmanager
-def progress(windows: int, done: int, is_wanted: bool) -> Iterator[Step]:
-    """A call for windows that are drawn, which any thread makes. `done` windows of all are there already."""
+def progress(pixels: int, done: int, is_wanted: bool) -> Iterator[Step]:
+    """A call for windows that are drawn, which any thread makes. `done` pixels of all are there already."""
     if not is_wanted or sys.stderr is None or not sys.stderr.isatty():
         yield lambda span: None
         return
@@ -24,14 +23,11 @@ def progress(windows: int, done: int, is_wanted: bool) -> Iterator[Step]:
     except ImportError:
         yield lambda span: None
         return
-    begun, pixels, lock = time.monotonic(), 0, threading.Lock()
-    with tqdm(total=windows, initial=done, unit=" windows") as bar:
+    lock = threading.Lock()
+    with tqdm(total=pixels, initial=done, unit="pixel", unit_scale=True) as bar:
 
         def step(span: Span) -> None:
-            nonlocal pixels
             with lock:
-                pixels += span.area.pixels
-                bar.set_postfix_str(f"{pixels / 1e6 / max(1e-3, time.monotonic() - begun):.1f} Mpixel/s", refresh=False)
-                bar.update(span.end - span.first)
+                bar.update(span.area.pixels)
 
         yield step

@@ -94,6 +94,10 @@ class Windows:
         """The height in pixels of a row of windows."""
         return min(self.side, self.height - row * self.side)
 
+    def pixels_above(self, row: int) -> int:
+        """How many pixels the rows of windows above a row have."""
+        return self.width * min(self.side * row, self.height)
+
     def in_row(self, row: int) -> Iterator[Window]:
         """The windows of a row, from the left."""
         for column in range(self.columns):
