@@ -12,7 +12,7 @@ from typing import Dict
 import trirast
 from trirast import __main__, _ffi, _version
 
-from .common import PYTHON, SECONDS
+from .common import PYTHON, SECONDS, run
 
 LIBRARIES = os.path.join(os.path.dirname(PYTHON), "lib")
 ON_X86 = platform.machine() == "x86_64"
@@ -46,8 +46,8 @@ class Facts(unittest.TestCase):
         if not ON_X86:
             self.skipTest("the levels are those of x86-64")
         found = 0
-        for name, level in (("libtrirast.so.1", "x86-64-v2"), (os.path.join("x86-64-v3", "libtrirast.so.1"), "x86-64-v3")):
-            path = os.path.join(LIBRARIES, name)
+        for folder, level in (("", "x86-64-v2"), ("x86-64-v3", "x86-64-v3")):
+            path = os.path.join(LIBRARIES, folder, "libtrirast.so.1")
             if os.path.exists(path):
                 facts = facts_in(run_command(TRIRAST_LIBRARY=path).stdout)
                 self.assertEqual((facts["library"], facts["processor"]), (path, level))
@@ -85,9 +85,13 @@ class FirstPicture(unittest.TestCase):
         self.assertEqual(list(pixels[:3]), [24, 24, 32])
 
     def test_needs_no_numpy(self) -> None:
-        text = "import sys; sys.modules['numpy'] = None\nfrom trirast import __main__\nsys.exit(__main__.main(sys.argv[1:]))"
-        environment = {**os.environ, "PYTHONPATH": os.path.join(PYTHON, "src")}
-        subprocess.run([sys.executable, "-c", text, "--draw", self.path], env=environment, check=True, timeout=SECONDS, capture_output=True)
+        done = run(f"""
+            import sys
+            sys.modules["numpy"] = None
+            from trirast import __main__
+            sys.exit(__main__.main(["--draw", {self.path!r}]))
+        """)
+        self.assertEqual((done.returncode, done.stderr), (0, b""))
         with open(self.path, "rb") as file:
             self.assertEqual(file.read(), __main__.first_picture()._repr_png_())
 

@@ -93,9 +93,12 @@ class Saved(Files):
     def test_other_dots_are_refused(self) -> None:
         picture = trirast.draw(DRAW_LIST)
         for dpi, kind, message in (
-            (0, ValueError, "dpi: 0.0254 to 54546084, and not 0"), (-1, ValueError, "dpi: 0.0254 to 54546084, and not -1"),
-            (54546085, ValueError, "dpi: 0.0254 to 54546084, and not 54546085"), (math.nan, ValueError, "dpi: a finite float, and not nan"),
-            ("300", TypeError, "dpi: a real number, and not '300'"), ((300, 300), TypeError, "dpi: a real number, and not (300, 300)"),
+            (0, ValueError, "dpi: 0.0254 to 54546084, and not 0"),
+            (-1, ValueError, "dpi: 0.0254 to 54546084, and not -1"),
+            (54546085, ValueError, "dpi: 0.0254 to 54546084, and not 54546085"),
+            (math.nan, ValueError, "dpi: a finite float, and not nan"),
+            ("300", TypeError, "dpi: a real number, and not '300'"),
+            ((300, 300), TypeError, "dpi: a real number, and not (300, 300)"),
         ):
             calls: Any = (picture.save, drawn().save)
             for save in calls:
@@ -151,7 +154,8 @@ class Posters(Files):
         errors = io.StringIO()
         with redirect_stderr(errors):
             self.assertEqual(_command.main([self.path("a.npz"), "-o", self.path("a.ppm"), "--dpi", "300"]), 1)
-        self.assertEqual(errors.getvalue(), f"poster: ValueError: dpi: only for a PNG file, and not for {self.path('a.ppm')!r}\n")
+        message = f"dpi: only for a PNG file, and not for {self.path('a.ppm')!r}"
+        self.assertEqual(errors.getvalue(), f"poster: ValueError: {message}\n")
 
 
 class Stopped(Exception):

@@ -44,11 +44,14 @@ def first_picture() -> Canvas:
 
 
 def main(words: Optional[List[str]] = None) -> int:
-    """Prints the facts, and draws the picture if it is asked for. Returns 1 after an error, which one line on standard error names. Exits
-    with 2 if the arguments are wrong."""
+    """Prints the facts, and draws the picture if it is asked for.
+
+    Returns 1 after an error, which one line on standard error names. Exits with 2 if the arguments are wrong.
+    """
     parser = argparse.ArgumentParser(
         prog="python3 -m trirast",
-        description="Prints the version of trirast, the library that was loaded, the number of its interface and the processors that it is for.",
+        description="Prints the version of trirast, the library that was loaded, the number of its interface and the "
+        "processors that it is for.",
     )
     parser.add_argument("--draw", metavar="FILE.png", help="draw a first picture, of six triangles, to this file")
     options = parser.parse_args(words)

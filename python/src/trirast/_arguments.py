@@ -52,7 +52,7 @@ def signed(name: str, value: SupportsIndex) -> int:
 
 
 def real(name: str, value: Any) -> float:
-    """A number of Python or numpy as a float. Raises TypeError at what is none, and ValueError at NaN and infinities."""
+    """A real number as a float. Raises TypeError at what is none, and ValueError at NaN and infinities."""
     try:
         if isinstance(value, Complex) and not isinstance(value, Real):
             raise TypeError("of numpy's, of which float would take the real part")

@@ -166,8 +166,8 @@ class Canvas:
         return self._resolved("bgra", out, threads)
 
     def save(self, path: Path, *, dpi: Optional[SupportsFloat] = None, threads: SupportsIndex = 1) -> None:
-        """Writes the colours to a PNG file, or to a PPM file, by the end of the path. `dpi` is the number of pixels per inch, which a PNG
-        file alone has. Raises ValueError at any other end, and at `dpi` for another file."""
+        """Writes the colours to a PNG file, or to a PPM file, by the end of the path. `dpi` is the number of pixels per
+        inch, which a PNG file alone has. Raises ValueError at any other end, and at `dpi` for another file."""
         self._picture(threads).save(path, dpi=dpi)
 
     def _repr_png_(self) -> bytes:

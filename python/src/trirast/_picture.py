@@ -99,8 +99,8 @@ class Picture:
 
     def save(self, path: Path, *, dpi: Optional[SupportsFloat] = None) -> None:
         """Writes the picture's file. By the end of the path it is a PNG file (.png), or the file that the program writes: PPM (.ppm) of
-        colours, PGM (.pgm) of depths. `dpi` is the number of pixels per inch, which a PNG file alone has. Raises ValueError at any other
-        end, and at `dpi` for another file."""
+        colours, PGM (.pgm) of depths. `dpi` is the number of pixels per inch, which a PNG file alone has. Raises
+        ValueError at any other end, and at `dpi` for another file."""
         name, ends = os.fsdecode(path), (PNG, ".pgm" if self.is_depth else ".ppm")
         end = os.path.splitext(name)[1].lower()
         if end not in ends:

@@ -23,7 +23,10 @@ def chunk(kind: bytes, data: bytes) -> bytes:
 
 
 def checked_dpi(dpi: Optional[Any], path: Optional[str]) -> Optional[float]:
-    """The dots per inch for a file, or `None` if none are given. Raises ValueError if they are out of range, or the file is no PNG file."""
+    """The dots per inch for a file, or `None` if none are given. `path` is `None` for tiles.
+
+    Raises ValueError if they are out of range, or the file is no PNG file.
+    """
     if dpi is None:
         return None
     if path is None or not path.lower().endswith(PNG):
