@@ -103,7 +103,7 @@ def main() -> None:
             wrong, count = seams(pixels)
             print(f"{name}: {mesh}: {wrong} of {count} pixels are not of the most frequent colour")
             if mesh == SHOWN_MESH:
-                halves.append((f"{name}, part; of the whole plot {wrong:,} of {count:,} pixels have another colour", pixels))
+                halves.append((f"{name}: {wrong:,} of {count:,} pixels of the whole plot differ", pixels))
     show(path, halves)
 
 
