@@ -35,7 +35,7 @@ MACHINE = os.path.join(BENCH_OUT, "machine")
 COUNTING_MODEL = os.path.join(BENCH_OUT, "model_counts")
 COLUMNS = (
     "scene", "groups met, drawn, millions", "samples drawn, millions", "operations, millions (ms)", "stores, millions (ms)",
-    "memory, MB (ms)", "frame, ms", "by the limit",
+    "memory, MB (ms)", "frame, ms", "frame / limit",
 )
 
 # Bytes of a vertex, of an index and of a triangle's rows in a list that was read (docs/architecture.md, Memory).

@@ -2,7 +2,7 @@
 
     python3 -m bench.llvmpipe [--runs 5] [--workers 1 4] [--scenes smooth mesh ..] [--lists some.json ..] [--model PROGRAM]
 
-A frame of llvmpipe goes from its clear to the pixels read back, warm, with each sample shaded as the program does it; a
+A frame of llvmpipe goes from its clear to the pixels read back, warm, with values at each sample as by the program; a
 frame of the program goes from a list that was read to its picture's last byte, thrown away (`crates/frames`). The two
 take turns, and the median of each one's turns counts, with the processor time of the whole process in brackets; the spread is from the
 fastest turn of ours to its slowest one, by the median. `--model` names a third program that takes `--frames N --workers N`, reads a list and prints `least_ms N` on standard error. A whole process
@@ -38,10 +38,10 @@ SCENES = (
 WORKERS = (1, 4)
 FRAMES_A_TURN = 3
 NEAR = 4
-COLUMNS = ("list", "workers", "llvmpipe frame (processor), ms", "frame, ms", "spread", "by llvmpipe")
-LEVEL_COLUMNS = (f"frame of {LEVEL}, ms", "by the frame")
-MODEL_COLUMNS = ("model's frame, ms", "by the model")
-LAST_COLUMNS = ("whole process (processor), ms", "pixels that differ by more")
+COLUMNS = ("list", "workers", "llvmpipe frame (processor), ms", "frame, ms", "spread", "frame / llvmpipe")
+LEVEL_COLUMNS = (f"frame of {LEVEL}, ms", f"{LEVEL} / frame")
+MODEL_COLUMNS = ("model's frame, ms", "frame / model")
+LAST_COLUMNS = ("whole process (processor), ms", f"pixels differing by more than {NEAR}")
 
 
 class NotTimed(Exception):

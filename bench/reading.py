@@ -26,9 +26,9 @@ from tools.places import BENCH_OUT, READER_PROGRAM, TOP, is_built
 SCENES = ("long_list", "mesh", "small")
 PARSER = os.path.join(BENCH_OUT, "simdjson")
 LAYOUTS = ("plain", "commas", "lines", "elements")
-COLUMNS = ("list", "MB", "`list::read`, ms", "GB/s", "serde_json's tree, ms", "by it")
-BEFORE_COLUMNS = ("user time, ms", "before, ms", "by it")
-PARSER_COLUMNS = ("simdjson's tape, ms", "by it", "parser kept, ms", "by it", "on demand, ms", "by it")
+COLUMNS = ("list", "MB", "`list::read`, ms", "GB/s", "serde_json's tree, ms", "ours / tree")
+BEFORE_COLUMNS = ("user time, ms", "before, ms", "ours / before")
+PARSER_COLUMNS = ("simdjson's tape, ms", "ours / tape", "parser kept, ms", "ours / kept", "on demand, ms", "ours / on demand")
 
 
 def built_parser() -> bool:

@@ -33,7 +33,7 @@ SCENES = ("smooth", "mesh", "large_mesh", "flat", "blended", "small")
 WORKERS = (1, 2, 4)
 COLUMNS = (
     "scene", "1 worker, ms", "2 workers, ms", "4 workers, ms", "times as fast, 2 and 4", "processor, 1 and 4, ms", "calling thread, ms",
-    "idle", "four programs", "of it",
+    "idle", "four programs", "4 workers / four programs",
 )
 
 

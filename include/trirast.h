@@ -70,7 +70,7 @@ typedef enum trirast_status {
     TRIRAST_STATUS_BAD_TILE_ROWS = 6,    /* the first tile row is not before the end, or the picture has fewer than the end */
     TRIRAST_STATUS_BAD_STRUCT_SIZE = 7,  /* a size member is another than the library's own */
     TRIRAST_STATUS_BAD_CANVAS = 8,       /* a side is not 1 to 4096, or the samples of a pixel are none of 1, 2, 4, 8 and 16 */
-    TRIRAST_STATUS_BAD_MEMORY = 9,       /* the memory of the samples is not as large as the tile rows need */
+    TRIRAST_STATUS_BAD_MEMORY = 9,       /* the memory of the samples is not exactly as large as the tile rows need */
     TRIRAST_STATUS_BAD_FORMAT = 10,      /* the number is none of trirast_format */
     TRIRAST_STATUS_BAD_SAMPLE = 11,      /* a pixel has no sample of this index */
     TRIRAST_STATUS_BAD_POSITION = 12,    /* a position is outside of -8388608 to 8388607 */
@@ -481,9 +481,11 @@ trirast_status trirast_triangle_samples(const char *json, size_t json_len, size_
 /* The tile rows of a canvas, or some of them, with the memory of their samples. A tile row has trirast_canvas_row_pixels()
  * rows of pixels, and a canvas has trirast_canvas_rows(height) tile rows. Begin with TRIRAST_CANVAS_INIT.
  *
- * During a call no other thread may use the memory that it was given. So threads that share a canvas each pass a struct of
- * their own with a piece of it (trirast_canvas_piece), and may then call at once: two pieces without a tile row in common
- * have no memory in common.
+ * During a call that clears, loads or draws, no other thread may touch the samples of these tile rows. So threads that
+ * share a canvas each pass a struct of their own with a piece of it (trirast_canvas_piece), and may then call at once: two
+ * pieces without a tile row in common have no memory in common. They may share a batch as long as nobody writes to it.
+ * trirast_canvas_resolve, trirast_canvas_depths and trirast_canvas_ids only read samples: they may run at once on the same
+ * tile rows, each with a buffer of its own.
  *
  * A canvas is a window on the screen: pixel (x, y) of the canvas is pixel (x + origin_x, y + origin_y) of the screen.
  * Positions and scissors are those of the screen, and the canvas shows what lies there, sample by sample.
@@ -499,7 +501,7 @@ typedef struct trirast_canvas {
     uint32_t first;       /* the first of these tile rows; the whole canvas: 0 */
     uint32_t end;         /* the tile row behind the last one; the whole canvas: trirast_canvas_rows(height) */
     void *memory;         /* the samples of these tile rows, aligned to 2; aligned to 64 is faster. Its layout is not
-                           * specified; clear it before the first draw */
+                           * specified. Clear it before the first draw: till then the samples are unspecified */
     size_t plane_count;   /* its size in units of TRIRAST_PLANE_BYTES: trirast_canvas_bytes(..) / TRIRAST_PLANE_BYTES */
 } trirast_canvas;
 

@@ -7,7 +7,6 @@ Writes docs/first_list.svg, docs/top_left.svg and docs/shared_edge.svg. Each pix
 
 from __future__ import annotations
 
-import math
 import os
 import sys
 from typing import Any, Sequence
@@ -60,24 +59,16 @@ def is_top_or_left(a: Vertex, b: Vertex, third: Vertex) -> bool:
     return ax + (bx - ax) * (cy - ay) / (by - ay) < cx
 
 
-def inside(corners: Sequence[Vertex], distance: float) -> list[tuple[float, float]]:
-    """A triangle's corners in pixels, with each edge moved inwards by a distance: drawn towards the middle of its inscribed circle."""
-    points = [(x / 256, y / 256) for x, y, *_rest in corners]
-    lengths = [math.dist(points[(k + 1) % 3], points[(k + 2) % 3]) for k in range(3)]
-    middle = [sum(length * point[axis] for length, point in zip(lengths, points)) / sum(lengths) for axis in range(2)]
-    (ax, ay), (bx, by), (cx, cy) = points
-    radius = abs((bx - ax) * (cy - ay) - (by - ay) * (cx - ax)) / sum(lengths)
-    part = 1 - distance / radius
-    return [(middle[0] + part * (x - middle[0]), middle[1] + part * (y - middle[1])) for x, y in points]
-
-
-def outline(axes: Any, corners: Sequence[Vertex], distance: float = 0.0) -> None:
-    """The three edges of a triangle: top and left ones solid, any other dotted."""
-    points = inside(corners, distance)
-    for k in range(3):
-        a, b, third = k, (k + 1) % 3, (k + 2) % 3
-        style = OWNED if is_top_or_left(corners[a], corners[b], corners[third]) else OTHER
-        axes.plot([points[a][0], points[b][0]], [points[a][1], points[b][1]], **style)
+def outlines(axes: Any, *triangles: Sequence[Vertex]) -> None:
+    """The edges of triangles, each once: solid if it is a top or a left one of one of them, else dotted."""
+    owned: dict[tuple[tuple[int, ...], ...], bool] = {}
+    for corners in triangles:
+        for k in range(3):
+            a, b, third = (corners[(k + n) % 3] for n in range(3))
+            ends = tuple(sorted((tuple(a[:2]), tuple(b[:2]))))
+            owned[ends] = owned.get(ends, False) or is_top_or_left(a, b, third)
+    for ends, is_owned in owned.items():
+        axes.plot([x / 256 for x, _y in ends], [y / 256 for _x, y in ends], **(OWNED if is_owned else OTHER))
 
 
 def corner(x: float, y: float, color: Sequence[int]) -> Vertex:
@@ -98,7 +89,7 @@ def first_list() -> Figure:
     """The triangle of the first list of docs/draw-list.md on its nine pixels, in blue on white in place of white on black."""
     corners = triangle(BLUE, (0.5, 0.5), (2.5, 0.5), (0.5, 2.5))
     figure, axes = axes_of(white(3, 3, corners), 1)
-    outline(axes, corners)
+    outlines(axes, corners)
     for x, y, beside in ((128, 128, -0.12), (640, 128, -0.12), (128, 640, 0.27)):
         axes.text(x / 256, y / 256 + beside, f"{x}, {y}", fontsize=9, color=INK, ha="center")
     return figure
@@ -113,8 +104,7 @@ def top_left() -> Figure:
         triangle(BLUE, (10.5, 3.5), (14.5, 3.5), (12.5, 5.5)),
     ]
     figure, axes = axes_of(white(16, 6, *triangles), 0.5)
-    for corners in triangles:
-        outline(axes, corners)
+    outlines(axes, *triangles)
     return figure
 
 
@@ -125,8 +115,7 @@ def shared_edge() -> Figure:
     slanted = triangle(BLUE, (11.5, 0.5), (17.5, 6.5), (11.5, 6.5))
     other = triangle(ORANGE, (11.5, 0.5), (17.5, 0.5), (17.5, 6.5))
     figure, axes = axes_of(white(19, 7, left, right, slanted, other), 0.45)
-    for corners in (left, right, slanted, other):
-        outline(axes, corners, 0.12)
+    outlines(axes, left, right, slanted, other)
     return figure
 
 

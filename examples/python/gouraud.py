@@ -3,9 +3,9 @@
 
     PYTHONPATH=python/src python3 examples/python/gouraud.py gouraud.png
 
-Each mesh has one colour and covers all of its axes, so each pixel of the axes has to be of that colour, blended once over the white ground: a
-pixel of another colour is one that was drawn twice, or not wholly. The picture shows a part of the axes enlarged. It needs numpy and
-matplotlib (python3-matplotlib in Debian). After `pip install ./python` no PYTHONPATH is needed.
+Each mesh has one colour and covers all of its axes, so each pixel of the axes has to be of that colour, blended once over the white ground. That
+is the most frequent colour: a pixel of another one was drawn twice, or not wholly. Pixels of the whole plot are counted, and the picture shows
+a part of it enlarged. It needs numpy and matplotlib (python3-matplotlib in Debian). After `pip install ./python` no PYTHONPATH is needed.
 """
 
 import argparse
@@ -101,9 +101,9 @@ def main() -> None:
         for name, canvas_class in CANVASES:
             pixels = pixels_of(draw, canvas_class)
             wrong, count = seams(pixels)
-            print(f"{name}: {mesh}: {wrong} of {count} pixels are of another colour")
+            print(f"{name}: {mesh}: {wrong} of {count} pixels are not of the most frequent colour")
             if mesh == SHOWN_MESH:
-                halves.append((f"{name}: {wrong:,} of {count:,} pixels are of another colour", pixels))
+                halves.append((f"{name}: {wrong:,} of {count:,} pixels of the whole plot differ", pixels))
     show(path, halves)
 
 

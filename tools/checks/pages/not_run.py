@@ -15,7 +15,7 @@ NOT_RUN = (
     (r"^dask-|tcp://127", "takes a port of the machine: `make check-poster` draws on clusters with ports of its own"),
     (r"make_map\.py|world\.npz|covers\.py", "needs the coastlines of GSHHG, 200 MB of another package"),
     (r"pytest tools/checks/poster", "`make check-poster` in a longer form"),
-    (r"tools\.packages\.listing", "writes into packaging/: `make check-packages` compares what it would write"),
+    (r"tools\.packaging\.listing", "writes into packaging/: `make check-packages` compares what it would write"),
 )
 
 
