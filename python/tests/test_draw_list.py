@@ -86,7 +86,8 @@ class Picture(unittest.TestCase):
     def test_saves_its_file(self) -> None:
         with tempfile.TemporaryDirectory() as folder:
             path = os.path.join(folder, "picture.ppm")
-            for save in (trirast.draw(DRAW_LIST).save, trirast.draw(DRAW_LIST).save_ppm):
+            saves: Any = (trirast.draw(DRAW_LIST).save, trirast.draw(DRAW_LIST).save_ppm)
+            for save in saves:
                 save(path)
                 with open(path, "rb") as file:
                     self.assertEqual(file.read(), FILE)
