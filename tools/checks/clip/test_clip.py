@@ -172,8 +172,8 @@ def check_example() -> str:
     found, line = picture.drawn()
     must(found == places.bytes_of(picture.PICTURE), "another picture than docs/clipping.png")
     page, counts = places.text_of(PAGE), re.findall(r"\d+", line)
-    of_page = re.findall(r"`examples/cpp/clip.cpp`: ([\d,]+) triangles, (\d+) of them on the screen, after (\d+) cuts", page)
-    must([each.replace(",", "") for each in of_page[0]] == counts, f"{of_page}, and not {line}")
+    of_page = re.findall(r"`examples/cpp/clip.cpp`: ([\d,]+) triangles go in and (\d+) come out, after cutting. Cuts made (\d+)", page)
+    must([[each.replace(",", "") for each in found] for found in of_page] == [counts], f"{of_page}, and not {line}")
     return line.strip()
 
 

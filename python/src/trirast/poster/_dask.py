@@ -78,8 +78,8 @@ def connected(distributed: Any, scheduler: str) -> Iterator[Any]:
         stack.enter_context(quiet_loggers())
         try:
             if scheduler == LOCAL:
-                dashboard = ":0" if has_dashboard() else None
-                cluster = distributed.LocalCluster(n_workers=0, host="127.0.0.1", silence_logs=50, dashboard_address=dashboard)
+                # Any free port: without a number Dask asks for 8787, and warns if another run has it.
+                cluster = distributed.LocalCluster(n_workers=0, host="127.0.0.1", silence_logs=50, dashboard_address=":0")
                 client = stack.enter_context(distributed.Client(stack.enter_context(cluster)))
             else:
                 client = stack.enter_context(distributed.Client(scheduler))
