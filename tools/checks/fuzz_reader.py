@@ -67,7 +67,7 @@ def vertex(pick: random.Random) -> str:
 
 
 def primitives(pick: random.Random, count: int) -> str:
-    """Triangles or a strip of so many vertices, or no triangles."""
+    """Triangles or a strip of this number of vertices, or no triangles."""
     def row(length: int) -> str:
         return f"[{','.join(str(pick.randrange(count)) for _ in range(length))}]"
 

@@ -2,7 +2,7 @@
 use list::{DrawList, MOST_BYTES, read, read_by_value, read_in_one_pass};
 use std::alloc::{AllocError, Global};
 
-/// The text with each `@COUNT@PART@` in it written out: so many times that part.
+/// The text with each `@COUNT@PART@` in it written out: the part, `COUNT` times.
 fn expanded(alloc: Global, text: &str) -> Result<String, AllocError> {
     let (mut all, mut count) = (String::new(alloc), 0u32);
     for (number, piece) in text.split('@').enumerate() {

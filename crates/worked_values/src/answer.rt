@@ -14,7 +14,7 @@ pub(crate) enum Answer {
     Stored(Sample),
     Colour(u8, u8, u8),
     Rectangle(PixelBox),
-    /// The words of so many samples; those of the others are zero.
+    /// The number of samples, and their words; those of the others are zero.
     Covered(u32, Masks),
     /// The same of two triangles.
     BothCovered(u32, Masks, Masks),

@@ -36,7 +36,7 @@ pub(crate) fn channel_of(words: &mut Words<'_>) -> Option<Answer> {
     })
 }
 
-/// The value at the pixel so many steps to the right of a point, or `None` if the triangle does not cover all pixels on the way.
+/// The value at the pixel that a number of steps to the right of a point reaches, or `None` if the triangle does not cover all pixels on the way.
 fn stepped(t: &Tri, at: Point, v: [u16; 3], steps: u32) -> Option<u16> {
     let mut p = at;
     if !t.covers(p) {
@@ -73,7 +73,7 @@ pub(crate) fn over_of(words: &mut Words<'_>) -> Option<Answer> {
     Some(whole(u32::from(over(s, a, d))))
 }
 
-/// The mean of a channel of so many samples: of red, beside which the others are the same at each sample.
+/// The mean of a channel over the samples of a pixel: of red, beside which the others are the same at each sample.
 pub(crate) fn mean_of(words: &mut Words<'_>) -> Option<Answer> {
     let count = words.samples()?;
     let mut samples = [Sample {
