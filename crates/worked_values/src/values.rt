@@ -36,7 +36,8 @@ pub(crate) fn channel_of(words: &mut Words<'_>) -> Option<Answer> {
     })
 }
 
-/// The value at the pixel that a number of steps to the right of a point reaches, or `None` if the triangle does not cover all pixels on the way.
+/// The value at the pixel that a number of steps to the right of a point reaches, or `None` if the triangle does not
+/// cover all pixels on the way.
 fn stepped(t: &Tri, at: Point, v: [u16; 3], steps: u32) -> Option<u16> {
     let mut p = at;
     if !t.covers(p) {
