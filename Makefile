@@ -1,34 +1,44 @@
-# The front door. rt proves and builds; this file says where things lie.
+# rt proves and builds; this file says where things lie. `make help` prints these lines.
 #
+# To use it:
 #   make           prove what the program needs, and leave it at bin/trirast; a line for each crate, the rest in out/trirast_cli.log;
-#                  with ARCH=aarch64 for ARM64 too, at bin/aarch64/trirast, by a cross compiler
+#                  with ARCH=aarch64 for ARM64 too, at bin/aarch64/trirast, by a cross compiler;
 #                  with CPU=x86-64-v3 for processors of that level, at bin/x86-64-v3/trirast
 #   make why       prove what trirast_why needs, and leave it at bin/trirast_why
 #   make look      draw examples/mesh.json to out/look.ppm within two minutes, by a program that is not proved
 #   make demo      draw every list of examples/ to out/*.pnm, and to out/*.png where pnmtopng is installed
-#   make test      everything that runs, over bin/ and lib/, which it builds if they are missing or old; make test-long takes longer forms
-#   make prove     everything that needs the prover: each crate with its tests, the programs by two compilers, the must-fail edits that
-#                  are due and a sample; make prove-all tries all of them, after the whole of rt ci
-#   make record    writes the edits that make prove saw refused into tests/edits_tried.json
 #   make library   prove and build the core for other programs: lib/libtrirast.a, lib/libtrirast.so and lib/trirast.pc, and for
 #                  the loader a second lib/x86-64-v3/libtrirast.so.1; with ARCH=aarch64 for ARM64 in lib/aarch64/, by a cross compiler
 #   make install   program, manual page, headers, libraries, pkg-config and CMake files and schema below PREFIX (an absolute path,
-#                  /usr/local if not given), behind DESTDIR where that is given; make uninstall takes them away
+#                  /usr/local if not given), behind DESTDIR where that is given; make uninstall takes them away.
+#                  The program is installed for both levels of x86-64, and the loader takes that of the processor
 #   make web       the coverage explorer for browsers, in web/out, as python3 -m http.server -d web/out serves it
-#   make deb       the Debian packages of program, library and header, in dist/
-#   make wheel     the Python packages with the library inside, for x86-64 and, where its compiler is there, ARM64, in dist/
-#   make release   all packages and the sources, with SHA-256 checksums, in dist/
-#   make help      this list, and the checks of make test, each of which is a goal too; with LONG=1 that takes its longer form
-#   make races     run the program under valgrind; no part of the gate
+#   make clean     remove what this file made; what rt keeps in crates/*/out/ stays
+#
+# To test what was built:
+#   make test      everything that runs, over bin/ and lib/, which it builds if they are missing or old; make test-long takes longer forms.
+#                  Each check is a goal too, as named below; with LONG=1 it takes its longer form
+#   make races     run the program under valgrind; no part of make test
+#   make conformance  compare the machine's OpenGL driver with the program, sample by sample; out/conformance.html.
+#                  With DEVICE=d3d11 Direct3D 11, here by Wine: out/conformance-d3d11.html; ADAPTER=warp or a number, else hardware.
+#                  With DEVICE=vulkan Vulkan: out/conformance-vulkan.html; ADAPTER is a number or a part of a device's name
+#   make conformance-windows  write dist/trirast-conformance-windows.zip, which asks Direct3D and Vulkan on a Windows machine
+#
+# To prove it:
+#   make prove     everything that needs the prover: each crate with its tests, the programs by two compilers, the must-fail edits that
+#                  are due and a sample; make prove-all tries all of them, after the whole of rt ci
+#   make record    write the edits that make prove saw refused into tests/edits_tried.json
+#
+# To measure it:
 #   make bench     time the program on generated scenes
 #   make frames    build the program that times frames by themselves, bin/frames, for python3 -m bench.llvmpipe and others;
 #                  with CPU=x86-64-v3 also bin/x86-64-v3/frames, which those time beside it
 #   make model     build the same rules in C++ to time beside, for python3 -m bench.llvmpipe: g++ 12 or clang++ 14, or later, on x86-64
-#   make conformance        compare the machine's OpenGL driver with the program, sample by sample; out/conformance.html.
-#                  With DEVICE=d3d11 Direct3D 11, here by Wine: out/conformance-d3d11.html; ADAPTER=warp or a number, else hardware
-#                  With DEVICE=vulkan Vulkan: out/conformance-vulkan.html; ADAPTER is a number or a part of a device's name
-#   make conformance-windows  write dist/trirast-conformance-windows.zip, which asks Direct3D and Vulkan on a Windows machine
-#   make clean     remove what this file made; what rt keeps in crates/*/out/ stays
+#
+# To package it:
+#   make deb       the Debian packages of program, library and header, in dist/
+#   make wheel     the Python packages with the library inside, for x86-64 and, where its compiler is there, ARM64, in dist/
+#   make release   all packages and the sources, with SHA-256 checksums, in dist/
 
 RT ?= rt
 # The tests need pytest, which the python3 that comes first may lack.
@@ -62,18 +72,28 @@ LISTS := $(wildcard examples/*.json)
 PICTURES := $(LISTS:examples/%.json=out/%.pnm)
 VERSION := $(shell cat VERSION)
 SHARED := libtrirast.so.1
-# The second level of x86-64, as glibc's loader names the folder in which it looks for it by itself.
+# The levels of x86-64; the second as glibc's loader names the folder in which it looks for it by itself.
+FIRST_LEVEL := x86-64-v2
 LEVEL := x86-64-v3
+# The program as it is installed: a stub, and the program itself for each level.
+STUB := lib/stub/trirast
+PROGRAMS := $(foreach level,$(FIRST_LEVEL) $(LEVEL),lib/$(level)/program.so)
 LIBRARY_x86_64 := lib/libtrirast.a lib/libtrirast.so lib/$(LEVEL)/$(SHARED) lib/load.so lib/trirast.pc
 LIBRARY_aarch64 := lib/aarch64/libtrirast.a lib/aarch64/libtrirast.so lib/aarch64/load.so
 PROGRAM_x86_64 := $(PROGRAM)
 PROGRAM_aarch64 := bin/aarch64/trirast
 CMAKE_FILES := trirast-config.cmake trirast-config-version.cmake
 HEADERS := trirast.h trirast.hpp trirast_clip.h trirast_clip.hpp
-INSTALLED := bin/trirast share/man/man1/trirast.1 share/trirast/draw-list.schema.json $(addprefix include/,$(HEADERS)) \
-    bin/trirast_why share/man/man1/trirast_why.1 share/trirast/history.schema.json \
-    $(addprefix $(LIBDIR)/,libtrirast.a $(SHARED) libtrirast.so pkgconfig/trirast.pc glibc-hwcaps/$(LEVEL)/$(SHARED) \
-    $(addprefix cmake/trirast/,$(CMAKE_FILES)))
+# What is installed: the mode of each file, where it lies here, and below PREFIX. And the files that are made there.
+INSTALLED := 755:$(STUB):bin/trirast 755:$(WHY):bin/trirast_why \
+    755:lib/$(FIRST_LEVEL)/program.so:lib/trirast/program.so \
+    755:lib/$(LEVEL)/program.so:lib/trirast/glibc-hwcaps/$(LEVEL)/program.so \
+    $(foreach name,trirast trirast_why,644:docs/$(name).1:share/man/man1/$(name).1) \
+    $(foreach name,draw-list history,644:docs/$(name).schema.json:share/trirast/$(name).schema.json) \
+    $(foreach name,$(HEADERS),644:include/$(name):include/$(name)) \
+    644:lib/libtrirast.a:$(LIBDIR)/libtrirast.a \
+    $(foreach name,$(SHARED) $(LEVEL)/$(SHARED),755:lib/$(name):$(LIBDIR)/$(if $(findstring /,$(name)),glibc-hwcaps/)$(name))
+MADE := $(addprefix $(LIBDIR)/,libtrirast.so pkgconfig/trirast.pc $(addprefix cmake/trirast/,$(CMAKE_FILES)))
 
 # The checks, each a goal: the names in the list of tools/ci/checks.py.
 CHECKS := $(shell sed -n 's/.*\bname="\([a-z-]*\)".*/\1/p' tools/ci/checks.py)
@@ -81,6 +101,8 @@ CHECKS := $(shell sed -n 's/.*\bname="\([a-z-]*\)".*/\1/p' tools/ci/checks.py)
 .PHONY: all why look library install uninstall demo test test-long prove prove-all record help races bench frames model conformance \
     conformance-windows clean $(CHECKS)
 .DELETE_ON_ERROR:
+
+# ---- To use it
 
 all: $(PROGRAM_$(ARCH))
 
@@ -102,15 +124,21 @@ look:
 	@if command -v pnmtopng > /dev/null; then pnmtopng out/look.ppm > out/look.png 2> /dev/null && echo "out/look.png"; \
 	else echo "out/look.ppm"; fi
 
-$(TILES): $(SOURCES)
-	cd crates/refused_tiles && $(RT) run < stdin > /dev/null
-	install -D -m 755 crates/refused_tiles/out/refused_tiles $@
+out/%.pnm: examples/%.json $(PROGRAM)
+	@mkdir -p out
+	$(PROGRAM) < $< > $@
+
+demo: $(PICTURES)
+	@if command -v pnmtopng > /dev/null; then \
+	    for name in $(PICTURES:.pnm=); do pnmtopng $$name.pnm 2> /dev/null > $$name.png || exit 1; done; \
+	else echo "pnmtopng is not installed, so there are PPM and PGM pictures only"; fi
 
 library: $(or $(LIBRARY_$(ARCH)),$(error ARCH is x86_64 or aarch64, and not $(ARCH)))
 
 # The library's code with what it calls: a heap over malloc, realloc and free, and of the compiler's own library the division
 # of 128 bits. Only trirast_* is left to be seen.
 HEAP = "$$(dirname "$$($(RT) doc)")/c/liblibc_c.a"
+ARGUMENTS = "$$(dirname "$$($(RT) doc)")/c/libos_c.a"
 OBJCOPY = objcopy
 ONLY_CALLS = $(OBJCOPY) --wildcard --keep-global-symbol='trirast_*'
 OBJECTS := lib/trirast.o lib/$(LEVEL)/trirast.o lib/aarch64/trirast.o
@@ -155,11 +183,21 @@ lib/aarch64/heap.o lib/aarch64/arguments.o: lib/aarch64/%.o: packaging/%.c
 	@mkdir -p $(@D)
 	$(CC) -std=c11 -O2 -fPIC -Wall -Wextra -Wpedantic -Werror -c -o $@ $<
 
-# The program for ARM64, over what was proved for $(PROGRAM), with the heap, its arguments and errno in C.
-lib/aarch64/trirast_cli.o: $(PROGRAM)
+# The program for another processor or to be installed, over what was proved for $(PROGRAM).
+$(PROGRAMS:%/program.so=%/trirast_cli.o) lib/aarch64/trirast_cli.o: lib/%/trirast_cli.o: $(PROGRAM)
 	@mkdir -p $(@D)
-	$(PYTHON) -m tools.packaging.archive trirast_cli aarch64 --rt $(RT) -o $@
+	$(PYTHON) -m tools.packaging.archive trirast_cli $* --rt $(RT) -o $@
 
+# The installed program as a library, so that the loader takes the one for the processor's level. Only main is left to be seen.
+$(PROGRAMS): %/program.so: %/trirast_cli.o
+	$(CC) -shared -s -Wl,-soname,program.so -Wl,--gc-sections,--exclude-libs,ALL -Wl,-z,defs,-z,now -o $@ $< $(ARGUMENTS) $(HEAP)
+
+# The stub has no code but that of the C library, which calls main. It finds program.so from its own place.
+$(STUB): lib/$(FIRST_LEVEL)/program.so
+	@mkdir -p $(@D)
+	$(CC) -s -o $@ $< '-Wl,-z,now,-rpath,$$ORIGIN/../lib/trirast'
+
+# The program for ARM64, with the heap, its arguments and errno in C.
 $(PROGRAM_aarch64): $(addprefix lib/aarch64/,trirast_cli.o heap.o arguments.o)
 	@mkdir -p $(@D)
 	$(CROSS)gcc -pthread -o $@ $^
@@ -202,18 +240,13 @@ Cflags: -I$${includedir}
 Libs: -L$${libdir} -ltrirast
 endef
 
-install: $(PROGRAM) $(WHY) $(LIBRARY_x86_64)
-	install -D -m 755 $(PROGRAM) "$(DESTDIR)$(PREFIX)/bin/trirast"
-	install -D -m 755 $(WHY) "$(DESTDIR)$(PREFIX)/bin/trirast_why"
-	install -D -m 644 docs/trirast_why.1 "$(DESTDIR)$(PREFIX)/share/man/man1/trirast_why.1"
-	install -D -m 644 docs/history.schema.json "$(DESTDIR)$(PREFIX)/share/trirast/history.schema.json"
-	install -D -m 644 docs/trirast.1 "$(DESTDIR)$(PREFIX)/share/man/man1/trirast.1"
-	install -D -m 644 docs/draw-list.schema.json "$(DESTDIR)$(PREFIX)/share/trirast/draw-list.schema.json"
-	install -d "$(DESTDIR)$(PREFIX)/include"
-	install -m 644 $(addprefix include/,$(HEADERS)) "$(DESTDIR)$(PREFIX)/include"
-	install -D -m 644 lib/libtrirast.a "$(DESTDIR)$(PREFIX)/$(LIBDIR)/libtrirast.a"
-	install -D -m 755 lib/$(SHARED) "$(DESTDIR)$(PREFIX)/$(LIBDIR)/$(SHARED)"
-	install -D -m 755 lib/$(LEVEL)/$(SHARED) "$(DESTDIR)$(PREFIX)/$(LIBDIR)/glibc-hwcaps/$(LEVEL)/$(SHARED)"
+define INSTALL
+install -D -m $(word 1,$1) $(word 2,$1) "$(DESTDIR)$(PREFIX)/$(word 3,$1)"
+
+endef
+
+install: $(STUB) $(PROGRAMS) $(WHY) $(LIBRARY_x86_64)
+	$(foreach file,$(INSTALLED),$(call INSTALL,$(subst :, ,$(file))))
 	ln -sf $(SHARED) "$(DESTDIR)$(PREFIX)/$(LIBDIR)/libtrirast.so"
 	install -d $(foreach folder,pkgconfig cmake/trirast,"$(DESTDIR)$(PREFIX)/$(LIBDIR)/$(folder)")
 	sed -e 's|^prefix=.*|prefix=$(PREFIX)|' -e 's|^libdir=.*|libdir=$${prefix}/$(LIBDIR)|' \
@@ -223,18 +256,22 @@ install: $(PROGRAM) $(WHY) $(LIBRARY_x86_64)
 	    packaging/cmake/$$name > "$(DESTDIR)$(PREFIX)/$(LIBDIR)/cmake/trirast/$$name" || exit 1; done
 
 uninstall:
-	@for name in $(INSTALLED); do rm -fv "$(DESTDIR)$(PREFIX)/$$name"; done
-	@rmdir $(foreach folder,share/trirast $(addprefix $(LIBDIR)/,cmake/trirast cmake glibc-hwcaps/$(LEVEL) glibc-hwcaps), \
+	@for name in $(foreach file,$(INSTALLED),$(word 3,$(subst :, ,$(file)))) $(MADE); do rm -fv "$(DESTDIR)$(PREFIX)/$$name"; done
+	@rmdir $(foreach folder,share/trirast $(foreach place,lib/trirast $(LIBDIR),$(place)/glibc-hwcaps/$(LEVEL) $(place)/glibc-hwcaps) \
+	    lib/trirast $(LIBDIR)/cmake/trirast $(LIBDIR)/cmake, \
 	    "$(DESTDIR)$(PREFIX)/$(folder)") 2> /dev/null || true
 
-out/%.pnm: examples/%.json $(PROGRAM)
-	@mkdir -p out
-	$(PROGRAM) < $< > $@
+include packaging/web.mk
 
-demo: $(PICTURES)
-	@if command -v pnmtopng > /dev/null; then \
-	    for name in $(PICTURES:.pnm=); do pnmtopng $$name.pnm 2> /dev/null > $$name.png || exit 1; done; \
-	else echo "pnmtopng is not installed, so there are PPM and PGM pictures only"; fi
+clean:
+	rm -rf bin dist lib out bench/out conformance/out web/out .mypy_cache
+
+help:
+	@sed -n '/^[^#]/q; s/^# \?//p' Makefile
+	@echo "The checks of make test:"
+	@$(PYTHON) -m tools.ci.checks
+
+# ---- To test what was built
 
 test:
 	@$(PYTHON) -m tools.ci.run_checks
@@ -245,19 +282,9 @@ test-long:
 $(CHECKS):
 	@$(PYTHON) -m tools.ci.run_checks $@ $(if $(LONG),--long)
 
-prove:
-	@$(PYTHON) -m tools.ci.prove --rt $(RT)
-
-prove-all:
-	@$(PYTHON) -m tools.ci.prove --rt $(RT) --all
-
-record:
-	@$(PYTHON) -m tools.ci.edits record
-
-help:
-	@sed -n '/^[^#]/q; s/^# \?//p' Makefile
-	@echo "The checks of make test:"
-	@$(PYTHON) -m tools.ci.checks
+$(TILES): $(SOURCES)
+	cd crates/refused_tiles && $(RT) run < stdin > /dev/null
+	install -D -m 755 crates/refused_tiles/out/refused_tiles $@
 
 $(READER): $(SOURCES)
 	cd crates/list_bench && $(RT) run < "$(CURDIR)/examples/triangle.json" > /dev/null
@@ -265,19 +292,6 @@ $(READER): $(SOURCES)
 
 races: $(PROGRAM)
 	$(PYTHON) -m pytest tools/checks/races.py
-
-frames: $(PROGRAM)
-	cd crates/frames && $(RT) run $(if $(CPU),--cpu $(CPU)) < "$(CURDIR)/examples/triangle.json" > /dev/null
-	install -D -m 755 crates/frames/out/frames $(FRAMES)
-
-model: $(MODEL)
-
-$(MODEL): bench/draw_list.hpp $(wildcard bench/model/*)
-	@mkdir -p $(@D)
-	$(CXX) -std=c++17 -O3 -march=x86-64-v2 -Wall -Wextra -pthread -o $@ bench/model/main.cpp
-
-bench: $(PROGRAM)
-	$(PYTHON) -m bench.run
 
 conformance: $(PROGRAM) $(RASTERIZE_$(DEVICE))
 	@mkdir -p out
@@ -292,8 +306,33 @@ conformance-windows: $(RASTERIZE) conformance/out/rasterize-vulkan.exe
 	$(PYTHON) -m conformance.d3d11.windows dist/trirast-conformance-windows.zip
 
 include conformance/vulkan/rasterize.mk
-include packaging/packages.mk
-include packaging/web.mk
 
-clean:
-	rm -rf bin dist lib out bench/out conformance/out web/out .mypy_cache
+# ---- To prove it
+
+prove:
+	@$(PYTHON) -m tools.ci.prove --rt $(RT)
+
+prove-all:
+	@$(PYTHON) -m tools.ci.prove --rt $(RT) --all
+
+record:
+	@$(PYTHON) -m tools.ci.edits record
+
+# ---- To measure it
+
+frames: $(PROGRAM)
+	cd crates/frames && $(RT) run $(if $(CPU),--cpu $(CPU)) < "$(CURDIR)/examples/triangle.json" > /dev/null
+	install -D -m 755 crates/frames/out/frames $(FRAMES)
+
+model: $(MODEL)
+
+$(MODEL): bench/draw_list.hpp $(wildcard bench/model/*)
+	@mkdir -p $(@D)
+	$(CXX) -std=c++17 -O3 -march=x86-64-v2 -Wall -Wextra -pthread -o $@ bench/model/main.cpp
+
+bench: $(PROGRAM)
+	$(PYTHON) -m bench.run
+
+# ---- To package it
+
+include packaging/packages.mk

@@ -39,12 +39,18 @@ def share(subject: Json) -> str:
 class Row:
     """A subject with one number of samples, by file; `None` if a file has none."""
 
+    name: str
     title: str
     samples: int
     found: list[Json | None]
 
     def is_comparable(self) -> bool:
         return len({subject["identity"] for subject in self.found if subject}) <= 1
+
+    def counts_the_same(self) -> bool:
+        """Whether the first file and the last have the same lists and allow the same difference of a channel."""
+        first, last = self.found[0], self.found[-1]
+        return first is not None and last is not None and self.is_comparable() and first["allowed"] == last["allowed"]
 
     def cells(self) -> tuple[str, ...]:
         cells = [share(subject) if subject else ABSENT for subject in self.found]
@@ -70,14 +76,14 @@ def rows_of(files: Sequence[Json]) -> list[Row]:
     for name in names:
         found = [table.get(name) for table in tables]
         known = next(subject for subject in found if subject)
-        rows.append(Row(known["title"], known["samples"], found))
+        rows.append(Row(name, known["title"], known["samples"], found))
     return rows
 
 
 def changes(files: Sequence[Json], rows: Sequence[Row]) -> list[str]:
     """What changed from the first file to the last, a line each."""
     lines = [f"{row.title} ({row.samples}): {row.change()}" for row in rows if row.change()]
-    same = {name_of(subject) for row in rows if row.is_comparable() for subject in row.found[:1] if subject and row.found[-1]}
+    same = {row.name for row in rows if row.counts_the_same()}
     first, last = ({case: n for case, n in cases_of(one).items() if case.rpartition("/")[0] in same} for one in (files[0], files[-1]))
     lines += [f"new: {case} ({count:,} differ)" for case, count in last.items() if case not in first]
     lines += [f"differs no more: {case}" for case in first if case not in last]

@@ -5,7 +5,7 @@ from __future__ import annotations
 from typing import Sequence
 
 from conformance import blending
-from conformance.mutants import MUTANTS, Mutant
+from conformance.mutants import mutant_of
 from conformance.renderer import Candidate
 from conformance.sample_counts import resolved
 from conformance.suites.setting import PLAIN, Setting
@@ -19,7 +19,7 @@ class Model:
 
     def __init__(self, mutant: str = "") -> None:
         self.name = f"model with {mutant}" if mutant else "model"
-        self.mutant = MUTANTS[mutant] if mutant else Mutant()
+        self.mutant = mutant_of(mutant)
         self.setting = PLAIN
 
     def said(self) -> list[tuple[str, str]]:

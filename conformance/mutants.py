@@ -4,14 +4,17 @@ from __future__ import annotations
 
 import contextlib
 from dataclasses import dataclass, replace
-from typing import Callable, ContextManager
+from fractions import Fraction
+from itertools import chain
+from typing import Callable, ContextManager, Iterator
 from unittest import mock
 
 from conformance.blending import ADD, REVERSE_SUBTRACT, SUBTRACT, Equation, equation_of
-from conformance.suites.setting import Setting, move, turn_culling
-from conformance.suites.shapes import coarser, each_draw
+from conformance.suites.depth_ends import Corner, cut, fan
+from conformance.suites.setting import Setting, colour_by, move, turn_culling
+from conformance.suites.shapes import PIXEL, Triangle, coarser, each_draw, triangles_in, with_triangles
 from tools.reference import renderer
-from tools.draw_list import Draw, DrawList
+from tools.draw_list import Draw, DrawList, Vertex
 
 
 class BottomRightEdge(renderer.Edge):
@@ -29,6 +32,14 @@ class BottomLeftEdge(renderer.Edge):
         super().__init__(a, b, c)
         if a[1] == b[1]:
             self.owns_its_points = c[1] < a[1]
+
+
+class ClosedEdge(renderer.Edge):
+    """An edge that owns its points on either side, so that both triangles draw a sample on it."""
+
+    def __init__(self, a: renderer.Point, b: renderer.Point, c: renderer.Point) -> None:
+        super().__init__(a, b, c)
+        self.owns_its_points = True
 
 
 def with_edges(kind: type[renderer.Edge]) -> Callable[[], ContextManager[object]]:
@@ -51,6 +62,38 @@ def swapped(places: tuple[renderer.Point, ...]) -> tuple[renderer.Point, ...]:
 
 FOUR = renderer.SAMPLES[4]
 OTHER_EQUALITY = {"less": "less_equal", "less_equal": "less", "greater": "greater_equal", "greater_equal": "greater"}
+
+
+def small_dropped(draw: Draw) -> Draw:
+    """Drops triangles of less than half a pixel."""
+    return with_triangles(draw, (one for one in triangles_in(draw) if abs(renderer.side(*one)) >= PIXEL * PIXEL))
+
+
+def clipped_coarsely(scene: DrawList) -> DrawList:
+    """Cuts triangles at the picture's border, and rounds the vertices that this makes to 1/16 pixel."""
+
+    def rounded(corner: Corner) -> Corner:
+        x, y, z = corner
+        return Fraction(16 * round(x / 16)), Fraction(16 * round(y / 16)), z
+
+    def parts(triangle: Triangle) -> Iterator[Triangle]:
+        whole: list[Corner] = [(Fraction(x), Fraction(y), Fraction(z)) for x, y, z, *_rest in triangle]
+        corners = whole
+        for axis, side in enumerate((scene["width"], scene["height"])):
+            corners = cut(cut(corners, 0, 1, axis), PIXEL * side, -1, axis)
+        yield from fan([corner if corner in whole else rounded(corner) for corner in corners], triangle[0][3:])
+
+    return each_draw(scene, lambda draw: with_triangles(draw, chain.from_iterable(map(parts, triangles_in(draw)))))
+
+
+def near_positions(draw: Draw) -> Draw:
+    """Keeps each coordinate between -256 and 256 pixels."""
+    limit = 256 * PIXEL
+
+    def near(corner: Vertex) -> Vertex:
+        return [*(max(-limit, min(limit, place)) for place in corner[:2]), *corner[2:]]
+
+    return {**draw, "vertices": list(map(near, draw["vertices"]))}
 
 
 def moved_scissor(draw: Draw) -> Draw:
@@ -81,9 +124,27 @@ def truncated(draw: Draw) -> Draw:
     return {**draw, "vertices": [[x // 16 * 16, y // 16 * 16, *rest] for x, y, *rest in draw["vertices"]]}
 
 
-def coarse_depths(draw: Draw) -> Draw:
-    """Depths in steps of 256/65535."""
-    return {**draw, "vertices": [[x, y, z // 256 * 256, *rest] for x, y, z, *rest in draw["vertices"]]}
+def depths_in_steps(step: int) -> Callable[[DrawList], DrawList]:
+    """Rounds depths down to multiples of this many 1/65535."""
+
+    def change(draw: Draw) -> Draw:
+        return {**draw, "vertices": [[x, y, z // step * step, *rest] for x, y, z, *rest in draw["vertices"]]}
+
+    return in_each_draw(change)
+
+
+def six_bits_of_alpha(draw: Draw) -> Draw:
+    """Rounds alpha down to a multiple of four."""
+    return {**draw, "vertices": [[*rest, alpha // 4 * 4] for *rest, alpha in draw["vertices"]]}
+
+
+def blending_ignored(draw: Draw) -> Draw:
+    return {**draw, "blend": "none"}
+
+
+def first_sample_everywhere(draw: Draw) -> Draw:
+    """Gives each sample of a pixel what the first one has."""
+    return {**draw, "sample_mask": 15 * (draw.get("sample_mask", 15) & 1)}
 
 
 def depths_elsewhere(place_of: Callable[[renderer.Point], renderer.Point]) -> Callable[[DrawList], DrawList]:
@@ -113,6 +174,17 @@ def scissor_of_16_bits(draw: Draw) -> Draw:
     if "scissor" not in draw:
         return draw
     return {**draw, "scissor": [max(0, side) % 65536 for side in draw["scissor"]]}
+
+
+def mask_but_0_ignored(draw: Draw) -> Draw:
+    """A sample mask of which 0 alone is heeded, as lavapipe does with one sample."""
+    return {**draw, "sample_mask": 15 if draw.get("sample_mask", 15) else 0}
+
+
+def a_pixel_off(setting: Setting) -> Setting:
+    """Moves a viewport whose place has a negative fraction a pixel too far, as Wine's Direct3D does by OpenGL."""
+    x, y = (move - 256 if move < 0 and move % 256 else move for move in setting.moved)
+    return replace(setting, moved=(x, y))
 
 
 def turns_ignored(draw: Draw) -> Draw:
@@ -204,26 +276,37 @@ MUTANTS: dict[str, Mutant] = {
     "bottom-left rule": Mutant(rules=with_edges(BottomLeftEdge)),
     "seven subpixel bits": Mutant(lambda scene: coarser(scene, 7)),
     "truncated subpixels": Mutant(in_each_draw(truncated)),
+    "closed edges": Mutant(rules=with_edges(ClosedEdge)),
+    "small triangles dropped": Mutant(in_each_draw(small_dropped)),
+    "coarse clipping": Mutant(clipped_coarsely),
+    "far vertices moved near": Mutant(in_each_draw(near_positions)),
     "half-pixel offset": Mutant(lambda scene: move(scene, -128, -128)),
     "viewport by 1/256": Mutant(lambda scene: move(scene, 1, 0)),
+    "viewport a pixel off": Mutant(setting=a_pixel_off),
     "viewport's fraction ignored": Mutant(setting=lambda setting: replace(setting, moved=(0, 0))),
     "moved scissor": Mutant(in_each_draw(moved_scissor)),
     "scissor by samples": Mutant(for_samples(4, in_each_draw(scissor_by_samples))),
     "culling turned": Mutant(turn_culling),
     "front orientation ignored": Mutant(setting=lambda setting: replace(setting, anticlockwise_front=False)),
     "equality of depths turned": Mutant(in_each_draw(equality_turned)),
-    "coarse float depths": Mutant(float_depths=in_each_draw(coarse_depths)),
+    "coarse float depths": Mutant(float_depths=depths_in_steps(256)),
+    "depths of fourteen bits": Mutant(depths_in_steps(4)),
     "floating point of 16 bits": Mutant(setting=lambda setting: replace(setting, depth_bits=16)),
     "depths mirrored": Mutant(for_samples(4, depths_elsewhere(mirrored))),
     "depths at the centre": Mutant(for_samples(4, depths_elsewhere(lambda _place: (128, 128)))),
     "last vertex leads": Mutant(setting=lambda setting: replace(setting, leading=None if setting.leading is None else 2)),
     "mask ignored": Mutant(mask_ignored),
     "mask of one sample ignored": Mutant(for_samples(1, mask_ignored)),
+    "mask of one sample but 0 ignored": Mutant(for_samples(1, in_each_draw(mask_but_0_ignored))),
     "write mask ignored": Mutant(in_each_draw(write_mask_ignored)),
     "order reversed": Mutant(reversed_order),
     "depths clamped": Mutant(setting=lambda setting: replace(setting, beyond="clamped" if setting.beyond else "")),
     "scissor of 16 bits": Mutant(asked=in_each_draw(scissor_of_16_bits)),
     "turns of strips ignored": Mutant(asked=in_each_draw(turns_ignored)),
+    "flat colours": Mutant(lambda scene: colour_by(scene, 0)),
+    "first sample resolved": Mutant(for_samples(4, in_each_draw(first_sample_everywhere))),
+    "blending ignored": Mutant(in_each_draw(blending_ignored)),
+    "six bits of alpha": Mutant(in_each_draw(six_bits_of_alpha)),
     "blend factors swapped": Mutant(with_equation(factors_swapped)),
     "subtraction turned": Mutant(with_equation(subtract_turned)),
     "alpha kept": Mutant(with_equation(alpha_kept)),
@@ -231,3 +314,10 @@ MUTANTS: dict[str, Mutant] = {
     "clear by one": Mutant(clear_by_one),
     "clear depth by one": Mutant(clear_depth_by_one),
 }
+# Those that change lists alone, which a program can draw too.
+DRAWABLE = [name for name, mutant in MUTANTS.items() if mutant.rules is contextlib.nullcontext]
+
+
+def mutant_of(name: str) -> Mutant:
+    """The mutant of this name, or the rules themselves."""
+    return MUTANTS[name] if name else Mutant()

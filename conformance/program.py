@@ -5,6 +5,7 @@ from __future__ import annotations
 from typing import Sequence
 
 from conformance import blending
+from conformance.mutants import mutant_of
 from conformance.renderer import Candidate
 from conformance.sample_counts import resolved
 from conformance.suites.setting import PLAIN, Setting
@@ -23,10 +24,12 @@ class Refused(Exception):
 
 
 class Program:
-    """A renderer by a program. Under a setting it draws what the rules make of a list."""
+    """A renderer by a program. Under a setting it draws what the rules make of a list, or a mutant of them."""
 
-    def __init__(self, path: str) -> None:
-        self.path = self.name = path
+    def __init__(self, path: str, mutant: str = "") -> None:
+        self.path = path
+        self.name = f"{path}, {mutant}" if mutant else path
+        self.mutant = mutant_of(mutant)
         self.setting = PLAIN
 
     def said(self) -> list[tuple[str, str]]:
@@ -40,10 +43,10 @@ class Program:
         return self
 
     def pixels(self, scene: DrawList) -> bytes:
-        return blending.pixels(self.setting.by_rules(scene))
+        return blending.pixels(self.mutant.drawn(scene, self.setting))
 
     def picture(self, scene: DrawList) -> bytes:
-        return resolved(self.setting.by_rules(scene), PLACES, self.drawn)
+        return resolved(self.mutant.drawn(scene, self.setting), PLACES, self.drawn)
 
     def drawn(self, scene: DrawList) -> bytes:
         """The program's own picture of a list."""

@@ -66,6 +66,7 @@ class Report:
     compared_with: str = "the rules"
     bits: int = 8
     values: list[Values] = field(default_factory=list)
+    mutant: str = ""  # how the rules were changed that the driver was compared with
 
     def device(self) -> str:
         return dict(self.said).get("renderer", "driver")
@@ -109,14 +110,15 @@ class Report:
             compared += f", {left_out} lists left out"
         if not self.samples_compared():
             return f"Coverage was not tried: {compared}."
+        changed = f" with the rules changed, {self.mutant}" if self.mutant else ""
         if not differing:
-            return f"Coverage agrees: {compared}, none differs."
+            return f"Coverage agrees{changed}: {compared}, none differs."
         count = sum(tally.differ for tally in differing)
         samples: dict[str, list[str]] = {}
         for tally in differing:
             samples.setdefault(tally.suite.title, []).append(str(tally.samples))
         names = "; ".join(f"{title} ({' and '.join(counts)})" for title, counts in samples.items())
-        return f"Coverage differs: {compared}, {count:,} differ, by subject and samples a pixel: {names}."
+        return f"Coverage differs{changed}: {compared}, {count:,} differ, by subject and samples a pixel: {names}."
 
     def left_out(self) -> list[tuple[str, str]]:
         """What was not asked: of this interface at all, and of this driver."""
@@ -160,17 +162,22 @@ def near_rows(report: Report) -> Iterator[Row]:
 EXACT_HEAD = ("subject", "samples a pixel", "lists", "compared", "differ", "share", "of these", "first list that differs")
 NEAR_HEAD = ("subject", "samples a pixel", "lists", "channels", "greatest difference", "allowed", "channels by difference")
 VALUES_HEAD = ("values", "samples a pixel", "compared", "greatest error", "wrong", "unit", "explained")
+ROUNDING_IS_OPEN = (
+    "How an interpolated value and a blend are rounded is open in Direct3D 11, OpenGL and Vulkan: a channel that "
+    "differs by one is no error of the driver."
+)
 FINDINGS_HEAD = ("read from pictures", "the program", "the driver")
 
 
 @dataclass
 class Section:
-    """A table of the report. A row of which `departs` is true is marked: there the driver does otherwise."""
+    """A table of the report, with a note. A row of which `departs` is true is marked: the driver does otherwise."""
 
     title: str
     head: Row
     rows: Callable[[Report], Iterable[Row]]
     departs: Callable[[Row], bool] = lambda row: False
+    note: str = ""
 
 
 SECTIONS = (
@@ -179,7 +186,7 @@ SECTIONS = (
     Section("Coverage, sample by sample", EXACT_HEAD, exact_rows, lambda row: row[4] != "0"),
     Section(
         "Colours and depths, in 1/255 of a channel", NEAR_HEAD, near_rows,
-        lambda row: row[5] != "-" and int(row[4]) > int(row[5]),
+        lambda row: row[5] != "-" and int(row[4]) > int(row[5]), ROUNDING_IS_OPEN,
     ),
     Section(
         "Values at samples against exact fractions", VALUES_HEAD, lambda report: (row.row() for row in report.values),
@@ -224,7 +231,8 @@ def text(report: Report) -> str:
     for section in SECTIONS:
         rows = list(section.rows(report))
         if rows:
-            lines += [section.title, "-" * len(section.title), *text_table(section, rows), ""]
+            note = [section.note] if section.note else []
+            lines += [section.title, "-" * len(section.title), *note, *text_table(section, rows), ""]
     for tally in report.differing():
         for name, example in tally.named_examples():
             lines += text_example(report, name, example)
@@ -290,5 +298,6 @@ def page(report: Report) -> str:
     for section in SECTIONS:
         rows = list(section.rows(report))
         if rows:
-            parts += [f"<h2>{section.title}</h2>", html_table(section, rows)]
-    return document(f"{report.device()}, sample by sample", parts)
+            note = [f"<p>{html.escape(section.note)}</p>"] if section.note else []
+            parts += [f"<h2>{section.title}</h2>", *note, html_table(section, rows)]
+    return document(f"{report.device()} by {report.interface}, sample by sample", parts)

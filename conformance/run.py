@@ -22,6 +22,7 @@ from conformance.comparison import VALUE, Example, compare_suite, only_sample, s
 from conformance.driver import Driver
 from conformance.findings import findings
 from conformance.history import NO_PROGRAM, histories
+from conformance.mutants import DRAWABLE
 from conformance.program import Program, Refused, as_bytes
 from conformance.renderer import Candidate
 from conformance.report import Report, page, text
@@ -29,9 +30,10 @@ from conformance.sample_counts import OF_LISTS, alone
 from conformance.suites.setting import PLAIN
 from conformance.suites.shapes import PLACES
 from tools.opengl.gl import MESA, Unavailable
-from tools.places import HISTORY_PROGRAM, PROGRAM, TOP, is_built
+from tools.places import PROGRAM, TOP, WHY_PROGRAM, is_built
 
 LISTS = os.path.join(TOP, "conformance", "out")
+MUTANT_HELP = "compare with the rules as this mutant changes them, to see if it explains what differs: " + ", ".join(DRAWABLE)
 BITS_HELP = "round the lists' positions to N subpixel bits first, for a driver that keeps fewer than 8 (default 8)"
 
 
@@ -52,7 +54,7 @@ def write_list(folder: str, name: str, example: Example) -> str:
 
 def measure(
     program: Candidate, driver: Candidate, chosen: Sequence[suites.Suite], folder: str, bits: int = 8, limit: int | None = None,
-    why: str = HISTORY_PROGRAM, interface: str = "OpenGL",
+    why: str = WHY_PROGRAM, interface: str = "OpenGL",
 ) -> Report:
     """The report of a driver over these suites, or over the first lists of each."""
     tallies = [compare_suite(suite, samples, program, driver, bits, limit) for suite in chosen for samples in suite.samples]
@@ -70,6 +72,7 @@ def measure(
 def publish(report: Report, options: argparse.Namespace) -> int:
     """Prints the report, and writes it as one HTML file, as JSON, and as a file of expected differences where names are given. Returns
     the exit status."""
+    report.mutant = options.mutant
     # A file that cannot be read ends the run before anything is printed.
     allowed = expected.parse(text_of(options.expected)) if options.expected else None
     found = results.as_json(report)
@@ -107,6 +110,7 @@ def add_shared(parser: argparse.ArgumentParser, names: Sequence[str]) -> None:
     parser.add_argument("--json", metavar="FILE", help="write the results as JSON too, by docs/conformance.schema.json")
     parser.add_argument("--expected", metavar="FILE", help="differences that are expected: exit status 1 for others alone")
     parser.add_argument("--write-expected", metavar="FILE", help="write what differs as such a file")
+    parser.add_argument("--mutant", choices=DRAWABLE, default="", metavar="NAME", help=MUTANT_HELP)
     parser.add_argument("--program", default=PROGRAM, help="default bin/trirast")
     parser.add_argument("--lists", default=LISTS, metavar="FOLDER", help="default conformance/out")
 
@@ -124,7 +128,7 @@ def main() -> int:
         return 2
     chosen = [suite for suite in suites.OPENGL if suite.name in options.suite]
     try:
-        program, driver = Program(os.path.abspath(options.program)), Driver(options.driver)
+        program, driver = Program(os.path.abspath(options.program), options.mutant), Driver(options.driver)
         report = measure(program, driver, chosen, options.lists, options.bits)
         return publish(report, options)
     except (Unavailable, Refused, OSError, expected.BadLine) as error:

@@ -1,6 +1,6 @@
 """Tests of the comparison with a driver, without a driver: tools/reference/renderer.py stands on both sides, and on the
 driver's side one of its mutants. Each mutant must be found under its own subject, and only if it can be seen there.
-conformance/d3d11/test_direct3d.py tries the others.
+conformance/test_mutants.py tries the others.
 
     python3 -m pytest conformance/test_conformance.py
 """
@@ -24,7 +24,7 @@ from conformance.comparison import Tally, compare_suite, compare_values, only_sa
 from conformance.findings import QUESTIONS, findings
 from conformance.model import Model
 from conformance.neighbourhood import as_characters
-from conformance.program import as_bytes
+from conformance.program import Program, as_bytes
 from conformance.renderer import Candidate, CannotAsk
 from conformance.report import Report, page, text
 from conformance.run import measure
@@ -260,6 +260,14 @@ def one_scissor(_rng: random.Random, samples: int) -> Lists:
     yield "a scissor of 3 by 3 pixels", scene([draw(rectangle(0, 0, 8, 8), scissor=[2, 2, 5, 5])], samples, 8, 8)
 
 
+PROGRAM = """#!{python}
+import sys
+sys.path.insert(0, "{top}")
+from tools.reference.renderer import main
+sys.exit(main())
+"""
+
+
 class Reports(unittest.TestCase):
     SUITE = suites.Suite("one-scissor", "One <scissor>", one_scissor)
     NEAR = suites.Suite("near", "Near", one_scissor, (1,), exact=False)
@@ -302,6 +310,14 @@ class Reports(unittest.TestCase):
         self.assertNotIn("One <scissor>", shown)
         self.assertEqual(shown.count("<svg"), 15)  # three pictures of each kind: two of the exact subjects, one of the near one
 
+    def test_what_is_open_and_what_is_left_out_is_said(self) -> None:
+        with tempfile.TemporaryDirectory() as folder:
+            report = self.report(Model(), folder)
+        for shown in (text(report), page(report)):
+            self.assertIn("rounded is open in Direct3D 11, OpenGL and Vulkan", shown)
+        for left_out in (suites.OPENGL_LEFT_OUT, suites.VULKAN_LEFT_OUT, suites.DIRECT3D_LEFT_OUT):
+            self.assertEqual(left_out[:2], suites.NOT_AT_SAMPLES)
+
     def test_no_list_compared_is_no_agreement(self) -> None:
         with tempfile.TemporaryDirectory() as folder:
             report = measure(RULES, Model(), [self.NEAR], folder)
@@ -313,6 +329,19 @@ class Reports(unittest.TestCase):
             report = self.report(Refusing(4), folder)
             self.assertEqual(report.summary(), "Coverage agrees: 64 samples compared, 1 lists left out, none differs.")
             self.assertIn("one-scissor-4 (1)", text(report))
+
+    def test_the_rules_as_a_mutant_changes_them(self) -> None:
+        listed = scene([draw(rectangle(0, 0, 8, 8), scissor=[2, 2, 5, 5])], 1, 8, 8)
+        with tempfile.TemporaryDirectory() as folder:
+            path = os.path.join(folder, "program")
+            with open(path, "w", encoding="utf-8") as file:
+                file.write(PROGRAM.format(python=sys.executable, top=TOP))
+            os.chmod(path, 0o755)
+            pictures = [Program(path, mutant).picture(listed) for mutant in ("", "moved scissor")]
+            self.assertEqual(pictures, [Model(mutant).picture(listed) for mutant in ("", "moved scissor")])
+            report = self.report(Model(), folder)
+        report.mutant = "moved scissor"
+        self.assertTrue(report.summary().startswith("Coverage agrees with the rules changed, moved scissor: "))
 
     def test_no_program(self) -> None:
         command = [sys.executable, "-m", "conformance.run", "--program", "no-program"]

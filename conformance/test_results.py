@@ -11,8 +11,10 @@ import copy
 import io
 import json
 import os
+import random
 import tempfile
 import unittest
+from fractions import Fraction
 from typing import Any, ContextManager
 from unittest import mock
 
@@ -29,6 +31,7 @@ from conformance.model import Model
 from conformance.report import Report, page
 from conformance.results import Json
 from conformance.run import measure
+from conformance.suites.blends import any_equation, any_pixel
 from conformance.suites.depth_ends import within_depths
 from conformance.suites.shapes import Lists, draw, rectangle, scene, vertex
 from tools.places import text_of
@@ -114,6 +117,13 @@ class SideBySide(unittest.TestCase):
         self.assertIn("One scissor (1): other lists, not compared", lines)
         self.assertFalse([line for line in lines if "one-scissor-1/" in line or line.startswith("One scissor (1): 0")])
 
+    def test_lists_that_one_interface_allows_to_differ(self) -> None:
+        """OpenGL has no number, so that each list that differs is named; by Direct3D those past what is allowed are."""
+        other = copy.deepcopy(self.MOVED)
+        other["subjects"][2].update(allowed=None, cases=[])
+        lines = compare.changes([other, self.MOVED], compare.rows_of([other, self.MOVED]))
+        self.assertEqual(lines, [])
+
     def test_a_subject_that_one_file_lacks(self) -> None:
         less = {**self.RULES, "subjects": self.RULES["subjects"][1:]}
         self.assertIn(("One scissor", "1", "128", "-", "12"), [row.cells() for row in compare.rows_of([less, self.MOVED])])
@@ -184,6 +194,34 @@ class Equations(unittest.TestCase):
         for name, pair in values.items():
             found = tuple(blending.factor(FACTORS[name], channel, new, old, constant) for channel in (1, 3))
             self.assertEqual(found, pair, name)
+
+    def test_by_fractions(self) -> None:
+        """The rule in rational numbers: a sum of products, rounded to the nearest integer, then clamped."""
+        signs = {"add": (1, 1), "subtract": (1, -1), "reverse subtract": (-1, 1)}
+        rng = random.Random("fractions")
+        for _ in range(200):
+            equation = any_equation(rng)
+            pixels = [(*colour, alpha) for colour, alpha in (any_pixel(rng), any_pixel(rng))]
+            new, old = pixels
+            for channel, made in enumerate(blending.blended(equation, new, old)):
+                source, stored, operation = equation[3:6] if channel == 3 else equation[:3]
+                values = new[channel], old[channel]
+                name = next(name for name, number in OPERATIONS.items() if number == operation)
+                if name in signs:
+                    numerators = (blending.factor(n, channel, new, old, equation[6:]) for n in (source, stored))
+                    products = (Fraction(value * numerator, 255) for value, numerator in zip(values, numerators))
+                    exact = sum(sign * product for sign, product in zip(signs[name], products))
+                    self.assertEqual(made, max(0, min(255, round(exact))), (equation, pixels, channel))
+                else:
+                    self.assertEqual(made, (min if name == "min" else max)(values), (equation, pixels, channel))
+
+    def test_each_factor_and_operation_is_asked(self) -> None:
+        suite = next(suite for suite in suites.DIRECT3D if suite.name == "equations")
+        asked_ = [listed["draws"][1]["equation"] for _title, listed in suite.lists(1)]
+        for preset in blending.PRESETS.values():
+            self.assertIn(list(preset), asked_)
+        for place, table in enumerate((FACTORS, FACTORS, OPERATIONS) * 2):
+            self.assertEqual({equation[place] for equation in asked_}, set(table.values()))
 
     def test_operations(self) -> None:
         made = {name: blending.channel_of(100, 40, 255, 255, number) for name, number in OPERATIONS.items()}
@@ -282,6 +320,11 @@ class Damaged(unittest.TestCase):
         status, output, errors = self.run_with(other_status)
         self.assertEqual((status, output), (2, ""))
         self.assertIn("Malformed", errors)
+
+    def test_no_mutant_of_other_answers(self) -> None:
+        status, output, errors = self.run_with(lambda whole, _listed: whole, "--mutant", "moved scissor")
+        self.assertEqual((status, output), (2, ""))
+        self.assertIn("--mutant changes the rules, which are not asked with --against", errors)
 
     def test_expected_differences_decide(self) -> None:
         with tempfile.TemporaryDirectory() as folder:

@@ -67,7 +67,7 @@ typedef enum trirast_status {
     TRIRAST_STATUS_OUT_OF_MEMORY = 3,    /* malloc or realloc returned NULL */
     TRIRAST_STATUS_BUFFER_TOO_SMALL = 4, /* the buffer has fewer bytes than the call would write */
     TRIRAST_STATUS_BAD_TILE_SIZE = 5,    /* the tile size is none of 8, 16, 32 and 64 */
-    TRIRAST_STATUS_BAD_TILE_ROWS = 6,    /* the first tile row is not before the end, or the picture has fewer than the end */
+    TRIRAST_STATUS_BAD_TILE_ROWS = 6,    /* the picture or the canvas has no such tile rows: the call says which it takes */
     TRIRAST_STATUS_BAD_STRUCT_SIZE = 7,  /* a size member is another than the library's own */
     TRIRAST_STATUS_BAD_CANVAS = 8,       /* a side is not 1 to 4096, or the samples of a pixel are none of 1, 2, 4, 8 and 16 */
     TRIRAST_STATUS_BAD_MEMORY = 9,       /* the memory of the samples is not exactly as large as the tile rows need */

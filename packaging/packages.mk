@@ -5,7 +5,7 @@
 # Whether the cross compiler for ARM64 is there: its package is made only then.
 WITH_ARM64 := $(shell command -v aarch64-linux-gnu-gcc)
 
-deb: $(PROGRAM) $(LIBRARY_x86_64)
+deb: $(STUB) $(PROGRAMS) $(WHY) $(LIBRARY_x86_64)
 	$(PYTHON) -m tools.packaging.debian
 
 wheel: $(LIBRARY_x86_64) $(if $(WITH_ARM64),$(LIBRARY_aarch64))

@@ -1,4 +1,5 @@
-"""Writes the lines at the head of each crate's specs/Lib.antt: each public definition, and the first sentence of its comment.
+"""Writes the lines at the head of each crate's specs/Lib.antt: each public definition, and the first sentence of its comment. Also the
+table of docs/architecture.md with the files of each crate.
 
     python3 -m tools.definitions [--check] [CRATE ...]
 
@@ -12,52 +13,21 @@ import argparse
 import os
 import re
 import sys
-from dataclasses import dataclass
 from typing import Iterator
 
 from tools import places
 from tools.counts import Counts
-from tools.places import text_of
+from tools.markdown import with_table
+from tools.places import text_of, write_text
+from tools.sources.layers import product
+from tools.sources.rattle import Defined, definitions_in
+from tools.sources.statement_text import GROUPS
 
 LONGEST = 140
-# A field of a record is `pub NAME :`, and so is no head.
-HEAD = re.compile(r"\s*(?:(?:abbrev|unfoldable|opaque) pub|pub (?:record|data)) (\S+)")
 MODULE = re.compile(r"^pub mod (\w+)$", re.MULTILINE)
-SEPARATOR = "-- ----"
+# The table of all files stands on this page, under this heading.
+PAGE, HEADING = os.path.join("docs", "architecture.md"), "## Where each rule lives"
 OPENING = "-- The definitions of this crate, each file behind those that it uses; `python3 -m tools.definitions` writes these lines."
-
-
-@dataclass(frozen=True)
-class Defined:
-    """A public definition: its name, its comment as one line, and its code up to the next blank line."""
-
-    name: str
-    comment: str
-    code: str
-
-    @property
-    def sentence(self) -> str:
-        """The first sentence of the comment."""
-        return re.split(r"(?<=\.) ", self.comment, maxsplit=1)[0]
-
-    @property
-    def line(self) -> str:
-        return f"--   {self.name}: {self.sentence}"
-
-
-def definitions_in(text: str) -> Iterator[Defined]:
-    """The public definitions of a .antt file, in their order."""
-    lines = text.split("\n")
-    for at, line in enumerate(lines):
-        head = HEAD.match(line)
-        if not head:
-            continue
-        begin = at
-        while begin and re.match(r"\s*--", lines[begin - 1]) and not lines[begin - 1].lstrip().startswith(SEPARATOR):
-            begin -= 1
-        end = next(number for number in range(at, len(lines) + 1) if number == len(lines) or not lines[number].strip())
-        comment = " ".join(part.strip().removeprefix("--").strip() for part in lines[begin:at])
-        yield Defined(head[1], comment, "\n".join(lines[at:end]))
 
 
 def faults_of(defined: Defined) -> Iterator[str]:
@@ -103,6 +73,17 @@ def crates() -> list[str]:
     return [path.split(os.sep)[1] for path in places.files("crates", "*", "specs", "Lib.antt")]
 
 
+def table() -> str:
+    """The files of each crate in reading order, in bold those that docs/statement.md has definitions of."""
+    stated = {place.split("#")[0] for group in GROUPS for place in group.places}
+    lines = ["| Crate | Files of `specs/` |", "|---|---|"]
+    for crate in (one for one in product() if one in crates()):
+        modules = reading_order(crate, MODULE.findall(text_of(file_of(crate, "Lib"))))
+        names = (f"**{one}**" if file_of(crate, one) in stated else one for one in modules)
+        lines.append(f"| `{crate}` | {', '.join(names)} |")
+    return "\n".join(lines)
+
+
 def without_head(text: str) -> str:
     """The text of a Lib.antt from its first module on."""
     return text[text.index("pub mod ") :] if "pub mod " in text else text
@@ -129,9 +110,7 @@ def faults(crate: str) -> Iterator[str]:
 def write(crate: str) -> None:
     """Writes the lines into a crate's Lib.antt, in place of those that stand there."""
     path = file_of(crate, "Lib")
-    text = head_of(crate) + "\n" + without_head(text_of(path))
-    with open(os.path.join(places.TOP, path), "w", encoding="utf-8") as file:
-        file.write(text)
+    write_text(path, head_of(crate) + "\n" + without_head(text_of(path)))
 
 
 def main() -> int:
@@ -143,6 +122,7 @@ def main() -> int:
     if not arguments.check:
         for crate in named:
             write(crate)
+        write_text(PAGE, with_table(text_of(PAGE), HEADING, table()))
         return 0
     wrong = {crate: list(faults(crate)) for crate in named}
     for fault in sum(wrong.values(), []):

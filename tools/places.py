@@ -14,7 +14,6 @@ EXAMPLES = os.path.join(TOP, "examples")
 PROGRAM = os.path.join(TOP, "bin", "trirast")
 WHY_PROGRAM = os.path.join(TOP, "bin", "trirast_why")
 TILES_PROGRAM = os.path.join(TOP, "bin", "refused_tiles")
-HISTORY_PROGRAM = os.path.join(TOP, "bin", "trirast_why")
 READER_PROGRAM = os.path.join(TOP, "bin", "list_bench")
 # What `make frames` and `make model` build.
 FRAMES_PROGRAM = os.path.join(TOP, "bin", "frames")
@@ -37,6 +36,12 @@ def text_of(*path: str) -> str:
     """The text of a file, named from the top of the repository."""
     with open(os.path.join(TOP, *path), encoding="utf-8") as file:
         return file.read()
+
+
+def write_text(path: str, text: str) -> None:
+    """Writes a file, named from the top of the repository."""
+    with open(os.path.join(TOP, path), "w", encoding="utf-8") as file:
+        file.write(text)
 
 
 def bytes_of(*path: str) -> bytes:

@@ -103,9 +103,11 @@ def add_streams(parser: argparse.ArgumentParser) -> None:
 
 
 def rules_of(options: argparse.Namespace, requests: Sequence[bytes]) -> Candidate:
-    """What answers are compared with: the program, or other answers. Raises `StreamError` or `OSError`."""
+    """What answers are compared with: the program, or other answers. Raises `StreamError`, `CannotRun` or `OSError`."""
     if not options.against:
-        return Program(os.path.abspath(options.program))
+        return Program(os.path.abspath(options.program), options.mutant)
+    if options.mutant:
+        raise process.CannotRun("--mutant changes the rules, which are not asked with --against")
     with open(options.against, "rb") as file:
         return Direct3D(requests, read_answers(file.read(), requests))
 

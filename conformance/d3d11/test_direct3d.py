@@ -1,12 +1,11 @@
-"""Tests of the comparison with Direct3D, without a driver: the rules in Python, or one of their mutants, take rasterize.exe's place
-behind both streams, and a stream that rasterize.exe wrote is compared again.
+"""Tests of the comparison with Direct3D, without a driver: its streams and requests, reports, the archive for Windows,
+and a stream that rasterize.exe wrote, which is compared again.
 
     python3 -m pytest conformance/d3d11/test_direct3d.py
 """
 
 from __future__ import annotations
 
-import contextlib
 import hashlib
 import os
 import shutil
@@ -18,10 +17,8 @@ import unittest
 import zlib
 from typing import Callable, Sequence
 
-import pytest
-
 from conformance import suites
-from conformance.comparison import EXTRA, MISSING, Tally, compare_suite
+from conformance.comparison import EXTRA, MISSING, compare_suite
 from conformance.d3d11 import pictures, process, requests, streams, windows
 from conformance.d3d11.direct3d import Direct3D, asked, drawn_by
 from conformance.d3d11.run import Black, requests_of
@@ -31,7 +28,6 @@ from conformance.d3d11.streams import (
     read_answers, read_requests, write_answers, write_requests,
 )
 from conformance.model import Model
-from conformance.mutants import MUTANTS
 from conformance.program import as_bytes
 from conformance.report import page, text
 from conformance.run import measure
@@ -44,114 +40,6 @@ from tools.places import TOP
 
 BY_NAME = {suite.name: suite for suite in suites.DIRECT3D}
 RECORDED = os.path.join(TOP, "conformance", "d3d11", "recorded", "wine-llvmpipe.bin.z")
-
-
-class Remembering(Model):
-    """A model that draws each list once, unless its rules themselves are otherwise."""
-
-    drawn: dict[bytes, bytes] = {}
-
-    def picture(self, scene: DrawList) -> bytes:
-        if self.mutant.rules is not contextlib.nullcontext:
-            return super().picture(scene)
-        key = as_bytes(self.mutant.drawn(scene, self.setting))
-        if key not in self.drawn:
-            self.drawn[key] = super().picture(scene)
-        return self.drawn[key]
-
-
-RULES = Remembering()
-
-
-def compare(name: str, samples: int, mutant: str, limit: int) -> Tally:
-    """The tally of the first lists of a subject, with a mutant that draws a stream of requests."""
-    suite = BY_NAME[name]
-    listed = asked(lambda questions: compare_suite(suite, samples, Black(), questions, limit=limit))
-    driver = drawn_by(draw_by(Remembering(mutant)), listed)
-    return compare_suite(suite, samples, RULES, driver, limit=limit)
-
-
-def differs(row: str, mutant: str) -> bool:
-    """Whether a mutant behind the streams differs in the first tenth of a row of the table."""
-    name, samples = row.rsplit("-", 1)
-    return not compare(name, int(samples), mutant, BY_NAME[name].tenth(int(samples))).agrees
-
-
-def first_list_differs(row: str, mutant: str) -> bool:
-    """The same for the first list of a row, without the streams."""
-    name, samples = row.rsplit("-", 1)
-    return not compare_suite(BY_NAME[name], int(samples), RULES, Remembering(mutant), limit=1).agrees
-
-
-# The rows under which each mutant must be found in the first tenth of the lists.
-OWN: dict[str, tuple[str, ...]] = {
-    "turned pattern": ("sample-positions-4", "pattern-positions-2", "pattern-positions-8", "pattern-positions-16"),
-    "swapped samples": ("sample-positions-4", "pattern-positions-2", "pattern-positions-8", "pattern-positions-16"),
-    "bottom-right rule": ("top-left-1",),
-    "bottom-left rule": ("top-left-1",),
-    "seven subpixel bits": ("subpixel-bits-1",),
-    "truncated subpixels": ("subpixel-bits-1",),
-    "half-pixel offset": ("sample-positions-1", "sample-positions-4"),
-    "viewport by 1/256": ("sample-positions-1", "sample-positions-4"),
-    "viewport's fraction ignored": ("fraction-1", "negative-fraction-1"),
-    "moved scissor": ("scissor-1", "scissor-4"),
-    "scissor by samples": ("scissor-4",),
-    "culling turned": ("culling-1",),
-    "front orientation ignored": ("anticlockwise-1",),
-    "equality of depths turned": ("depth-tests-1", "float-depths-1"),
-    "coarse float depths": ("float-depths-1",),
-    "mask ignored": ("sample-mask-4", "mask-of-one-1"),
-    "mask of one sample ignored": ("mask-of-one-1",),
-    "write mask ignored": ("write-mask-1",),
-    "order reversed": ("order-1",),
-    "clear by one": ("clear-1",),
-    "clear depth by one": ("depth-tests-1", "float-depths-1"),
-    "floating point of 16 bits": ("float-planes-1",),
-    "depths mirrored": ("steep-depths-4",),
-    "depths at the centre": ("steep-depths-4",),
-    "last vertex leads": ("leading-vertex-1", "strips-1"),
-    "depths clamped": ("depth-ends-1",),
-    "scissor of 16 bits": ("large-scissors-1",),
-    "turns of strips ignored": ("strips-1",),
-    "blend factors swapped": ("equations-1",),
-    "subtraction turned": ("equations-1",),
-    "alpha kept": ("equations-1", "layered-alpha-1"),
-    "blend constant ignored": ("equations-1",),
-}
-# Of these rows, whose lists have rectangles of whole pixels, the first list must be equal unless it is named here.
-STATES = ("culling-1", "anticlockwise-1", "scissor-1", "scissor-4", "depth-tests-1", "float-depths-1")
-STATES_THAT_DIFFER: dict[str, tuple[str, ...]] = {
-    "half-pixel offset": STATES,
-    "moved scissor": ("scissor-1", "scissor-4"),
-    "scissor by samples": ("scissor-4",),
-    "mask ignored": ("scissor-4",),
-    "order reversed": ("culling-1", "anticlockwise-1", "scissor-1", "scissor-4"),
-}
-
-
-class PlantedFaults(unittest.TestCase):
-    """What is found of each mutant behind the streams."""
-
-    @pytest.mark.long
-    def test_the_rules_themselves_agree(self) -> None:
-        for row in sorted({row for rows in OWN.values() for row in rows}):
-            self.assertFalse(differs(row, ""), row)
-
-    @pytest.mark.long
-    def test_each_mutant_in_the_first_tenth_of_its_own_subjects(self) -> None:
-        self.assertEqual(set(OWN), set(MUTANTS))
-        for mutant, rows in OWN.items():
-            for row in rows:
-                with self.subTest(mutant=mutant, row=row):
-                    self.assertTrue(differs(row, mutant))
-
-    @pytest.mark.long
-    def test_no_mutant_under_the_subjects_of_others(self) -> None:
-        for mutant in MUTANTS:
-            for row in STATES:
-                if row not in STATES_THAT_DIFFER.get(mutant, ()):
-                    with self.subTest(mutant=mutant, row=row):
-                        self.assertFalse(first_list_differs(row, mutant))
 
 
 def small_lists() -> list[bytes]:
@@ -384,7 +272,8 @@ class RecordedAnswers(unittest.TestCase):
         chosen = [BY_NAME[name] for name in self.SUBJECTS]
         listed = requests_of(chosen, limit=1)
         driver = Direct3D(listed, read_answers(zlib.decompress(data), listed))
-        tallies = [compare_suite(suite, samples, RULES, driver, limit=1) for suite in chosen for samples in suite.samples]
+        rows = [(suite, samples) for suite in chosen for samples in suite.samples]
+        tallies = [compare_suite(suite, samples, Model(), driver, limit=1) for suite, samples in rows]
         self.assertEqual({tally.name: tally.differ for tally in tallies if tally.differ}, self.DIFFER)
         self.assertEqual(dict(driver.said())["system"], "Wine 8.0")
 

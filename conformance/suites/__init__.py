@@ -128,9 +128,12 @@ DIRECT3D = (
 )
 VULKAN = DIRECT3D
 
-CENTROID = ("interpolation at a centroid", "each interface lets a driver choose the place")
+NOT_AT_SAMPLES = (
+    ("interpolation at a centroid", "each interface lets a driver choose the place"),
+    ("interpolation at the centre of a pixel with several samples", "the rules take each value at its sample"),
+)
 OPENGL_LEFT_OUT = (
-    CENTROID,
+    *NOT_AT_SAMPLES,
     ("sample mask with one sample", "OpenGL ignores the mask where a frame has one sample"),
     ("a scissor that runs backwards", "OpenGL takes a width and a height; an empty box stands in its place"),
     ("positions finer than 1/256 pixel", "a list has none, so more than 8 subpixel bits would be reported as 8"),
@@ -140,14 +143,14 @@ OPENGL_LEFT_OUT = (
     ("refused lists and the picture's file", "OpenGL has neither"),
 )
 VULKAN_LEFT_OUT = (
-    CENTROID,
+    *NOT_AT_SAMPLES,
     ("a scissor that runs backwards", "Vulkan takes a width and a height; an empty box stands in its place"),
-    OPENGL_LEFT_OUT[3], *OPENGL_LEFT_OUT[5:-1],
+    OPENGL_LEFT_OUT[4], *OPENGL_LEFT_OUT[6:-1],
     ("refused lists and the picture's file", "Vulkan has neither"),
 )
 DIRECT3D_LEFT_OUT = (
-    CENTROID,
+    *NOT_AT_SAMPLES,
     ("a scissor that runs backwards", "Direct3D does not say what such a rectangle holds"),
-    *OPENGL_LEFT_OUT[3:-1],
+    *OPENGL_LEFT_OUT[4:-1],
     ("refused lists and the picture's file", "Direct3D has neither"),
 )

@@ -181,13 +181,12 @@ def subpixel_bits(_rng: random.Random, samples: int) -> Lists:
 
 
 def far_triangle(rng: random.Random, samples: int, reach: int) -> Points:
-    """A triangle with an edge through a sample of the picture and vertices up to `reach` pixels away."""
-    through = point_near(rng, 0, SIDE, samples)
-    limit = PIXEL * reach
-    away = [rng.choice((-1, 1)) * rng.randrange(limit // 4, limit - 2 * PIXEL * SIDE) for _ in (0, 1)]
-    ax, ay = (through[k] + away[k] for k in (0, 1))
-    bx, by = (through[k] - away[k] // rng.choice((1, 2, 3)) for k in (0, 1))
-    return [(ax, ay), (bx, by), (rng.randrange(-limit, limit), rng.randrange(-limit, limit))]
+    """A triangle with an edge through the picture's middle and vertices up to `reach` pixels away."""
+    x, y = point_near(rng, SIDE // 4, SIDE - SIDE // 4, samples)
+    limit, share = PIXEL * reach, rng.choice((1, 2, 3))
+    right, down = (rng.choice((-1, 1)) * rng.randrange(limit // 4, limit - 2 * PIXEL * SIDE) // share for _ in (0, 1))
+    third = (rng.randrange(-limit, limit), rng.randrange(-limit, limit))
+    return [(x + share * right, y + share * down), (x - right, y - down), third]
 
 
 def guard_band(rng: random.Random, samples: int) -> Lists:

@@ -10,8 +10,10 @@ from fractions import Fraction
 from itertools import chain
 from typing import Iterator, Sequence
 
-from conformance.suites.shapes import PIXEL, Lists, Triangle, draw, each_draw, own_colour, rectangle, scene, vertex
-from tools.draw_list import Draw, DrawList, Vertex, triangles_of
+from conformance.suites.shapes import (
+    PIXEL, Lists, Triangle, draw, each_draw, own_colour, rectangle, scene, triangles_in, vertex, with_triangles,
+)
+from tools.draw_list import Draw, DrawList, Vertex
 
 SIDE = 64  # columns and rows of a picture
 CELL = 16  # pixels
@@ -23,11 +25,11 @@ MARGIN = 4  # layers lie 4 past a multiple of 8
 Corner = tuple[Fraction, Fraction, Fraction]
 
 
-def cut(corners: Sequence[Corner], end: int, sign: int) -> list[Corner]:
-    """The part of a polygon whose depths, times the sign, are at least the end times the sign."""
+def cut(corners: Sequence[Corner], end: int, sign: int, axis: int = 2) -> list[Corner]:
+    """The part of a polygon whose depths are at least the end, or with the sign -1 at most; or another coordinate."""
     kept: list[Corner] = []
     for one, other in zip(corners, [*corners[1:], *corners[:1]]):
-        here, there = (sign * (corner[2] - end) for corner in (one, other))
+        here, there = (sign * (corner[axis] - end) for corner in (one, other))
         if here >= 0:
             kept.append(one)
         if here * there < 0:
@@ -60,9 +62,7 @@ def within_depths(scene: DrawList, clamps: bool) -> DrawList:
     """The list of what is drawn of each triangle."""
 
     def change(listed: Draw) -> Draw:
-        triangles = [[listed["vertices"][corner] for corner in triangle] for triangle in triangles_of(listed)]
-        state = {key: value for key, value in listed.items() if key not in ("vertices", "triangles")}
-        return draw(list(chain.from_iterable(parts(triangle, clamps) for triangle in triangles)), **state)
+        return with_triangles(listed, chain.from_iterable(parts(triangle, clamps) for triangle in triangles_in(listed)))
 
     return each_draw(scene, change)
 

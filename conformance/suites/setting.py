@@ -5,8 +5,8 @@ from __future__ import annotations
 from dataclasses import dataclass
 
 from conformance.suites.depth_ends import within_depths
-from conformance.suites.shapes import each_draw
-from tools.draw_list import Draw, DrawList, Vertex, triangles_of
+from conformance.suites.shapes import Triangle, each_draw, triangles_in, with_triangles
+from tools.draw_list import Draw, DrawList
 
 # The vertices of a draw in perspective have these in turn, in 1/256.
 WS = (256, 512, 128, 1024, 64)
@@ -49,17 +49,10 @@ def finest_depths(scene: DrawList) -> DrawList:
 def colour_by(scene: DrawList, leading: int) -> DrawList:
     """The list whose triangles have the colour and the alpha of this one of their vertices. It has vertices of its own for each."""
 
-    def change(draw: Draw) -> Draw:
-        corners: list[Vertex] = []
-        faces = []
-        for triangle in triangles_of(draw):
-            vertices = [draw["vertices"][corner] for corner in triangle]
-            faces.append([len(corners), len(corners) + 1, len(corners) + 2])
-            corners += [[*vertex[:3], *vertices[leading][3:]] for vertex in vertices]
-        state = {key: value for key, value in draw.items() if key not in ("strip", "quads")}
-        return {**state, "vertices": corners, "triangles": faces}
+    def coloured(triangle: Triangle) -> Triangle:
+        return [[*corner[:3], *triangle[leading][3:]] for corner in triangle]
 
-    return each_draw(scene, change)
+    return each_draw(scene, lambda draw: with_triangles(draw, map(coloured, triangles_in(draw))))
 
 
 def within_picture(draw: Draw, width: int, height: int) -> Draw:

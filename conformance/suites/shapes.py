@@ -3,7 +3,7 @@
 from __future__ import annotations
 
 import random
-from typing import Any, Callable, Iterator, Sequence
+from typing import Any, Callable, Iterable, Iterator, Sequence
 
 from tools.draw_list import Draw, DrawList, Vertex, triangles_of
 from tools.reference.renderer import BAND, SAMPLES
@@ -37,6 +37,17 @@ def draw(triangles: Sequence[Triangle], **state: Any) -> Draw:
     """A draw of triangles given by their vertices."""
     vertices = [corner for triangle in triangles for corner in triangle]
     return {**state, "vertices": vertices, "triangles": [[3 * n, 3 * n + 1, 3 * n + 2] for n in range(len(triangles))]}
+
+
+def triangles_in(draw: Draw) -> list[Triangle]:
+    """The triangles of a draw by their vertices."""
+    return [[draw["vertices"][corner] for corner in triangle] for triangle in triangles_of(draw)]
+
+
+def with_triangles(old: Draw, triangles: Iterable[Triangle]) -> Draw:
+    """A draw of other triangles in the same state."""
+    state = {key: value for key, value in old.items() if key not in ("vertices", "triangles", "strip", "quads")}
+    return draw(list(triangles), **state)
 
 
 def is_flat(draw: Draw) -> bool:

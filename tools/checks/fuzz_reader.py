@@ -4,7 +4,7 @@
 
 It needs bin/list_bench (make bin/list_bench). A text is a list as it should be, or one with a few mistakes: another token,
 a token that is left out, said twice or moved, bytes that are changed, put in or taken away, or an end too early. Blanks and
-escapes stand at any place in some of them. For each text `read_in_one_pass` has to return the list that `read_by_value`
+escapes stand at any place in some of them, and in some a space behind each comma. For each text `read_in_one_pass` has to return the list that `read_by_value`
 returns or none, and `read` the same list or the same error. A text for which they differ is written to out/fuzz_reader.
 Exit status 1 if there is one, or if too few texts were read in one pass for that to say something.
 """
@@ -149,9 +149,12 @@ def made(pick: random.Random, lists: list[list[str]]) -> bytes:
         for at in pick.sample(strings, min(len(strings), pick.choice((1, 1, 3)))):
             tokens[at] = escaped(pick, tokens[at])
     style = pick.random()
-    if style < 0.3:
+    if style < 0.2:
         blank = pick.choice(BLANKS)
         text = "".join(token + blank if token in ",:[]{}" else token for token in tokens)
+    elif style < 0.4:
+        gaps = (" ",) * 99 + ("", "  ", "\n")
+        text = "".join(token + pick.choice(gaps) if token == "," else token for token in tokens)
     elif style < 0.6:
         text = "".join(token + (pick.choice(BLANKS) if pick.random() < 0.2 else "") for token in tokens)
     else:

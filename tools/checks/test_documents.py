@@ -11,13 +11,15 @@ import os
 import re
 import tempfile
 import unittest
-from typing import Iterator
 from unittest import mock
 
 from tools import definitions as lines, places
 from tools.reference import canvas_mutants, mutants, renderer, sample_patterns
 from tools.ci import checks
+from tools.markdown import anchor, rows, with_table
 from tools.places import TOP, text_of
+from tools.sources import layers
+from tools.sources.rattle import definitions_in, functions_in
 from tools.sources.public_calls import CRATES, calls_in, given_out, named_calls, public_calls
 
 PATH = re.compile(r"`((?:[a-z_.]+/)+[\w.-]+\.(?:antt|rt|md|py|json|png|1|c|cpp|txt))`")
@@ -35,12 +37,12 @@ def without_code(text: str) -> str:
 def anchors(text: str) -> set[str]:
     """The names by which links find the headings of a document, as GitHub makes them."""
     heads = re.findall(r"(?m)^#+ (.*)$", without_code(text))
-    return {re.sub(r"[^\w -]", "", head.lower()).replace(" ", "-") for head in heads}
+    return set(map(anchor, heads))
 
 
 def documents() -> dict[str, str]:
     names = ["README.md", "CONTRIBUTING.md", "RELEASING.md"]
-    names += [os.path.join(folder, "README.md") for folder in ("examples", os.path.join("tests", "regressions"))]
+    names += [os.path.join(folder, "README.md") for folder in ("crates", "examples", os.path.join("tests", "regressions"))]
     names += places.files("docs", "**", "*.md")
     return {name: text_of(name) for name in names}
 
@@ -50,41 +52,21 @@ def sources(pattern: str) -> dict[str, str]:
 
 
 def contracts() -> dict[str, set[str | None]]:
-    """The clauses that stand under each name of a call, in any crate: names of `ensures` and of `requires`."""
+    """The names of clauses that stand under each name of a call, in any crate."""
     found: dict[str, set[str | None]] = {}
     for text in sources("src/**/*.rt").values():
-        name = ""
-        for line in text.split("\n"):
-            head = re.match(r'\s*(?:pub(?:\(crate\))? )?(?:extern "C" )?fn (\w+)', line)
-            clause = re.match(r"\s*(?:ensures|requires)(?: (\w+))? ?[{\n]?", line)
-            if head:
-                name = head[1]
-                found.setdefault(name, set())
-            elif clause and name:
-                # `ensures { .. }` has no name, and `ensures tiles { .. }` has one.
-                found[name].add(clause[1])
+        for call in functions_in(text):
+            found.setdefault(call.name, set()).update(call.clauses)
     return found
-
-
-def definitions() -> set[str]:
-    """The names that stand in the specs of any crate."""
-    return set(re.findall(r"^(?:[a-z]+ )*(\w+) .*:", "".join(sources("specs/**/*.antt").values()), re.MULTILINE))
 
 
 def parts() -> dict[str, set[str | None]]:
-    """The names of the fields of each record in the specs of any crate."""
+    """The fields of each definition in the specs of any crate."""
     found: dict[str, set[str | None]] = {}
     for text in sources("specs/**/*.antt").values():
-        for record, fields in re.findall(r"^(?:pub )?record (\w+) .*\n((?:  .*\n)*)", text, re.MULTILINE):
-            found.setdefault(record, set()).update(re.findall(r"^  pub (\w+) :", fields, re.MULTILINE))
+        for one in definitions_in(text):
+            found.setdefault(one.name, set()).update(one.fields)
     return found
-
-
-def rows(text: str) -> Iterator[list[str]]:
-    """The cells of the rows of a document's tables, their heads too."""
-    for line in text.split("\n"):
-        if line.startswith("| "):
-            yield [cell.strip() for cell in line.strip("|").split(" | ")]
 
 
 class Names(unittest.TestCase):
@@ -147,19 +129,19 @@ class Names(unittest.TestCase):
         for line in lines - {"trirast: pool fault"}:
             self.assertIn(line, page)
 
-    def test_what_crates_stand_on(self) -> None:
-        lines = re.findall(r"^(\w+)(?: staticlib)?:(.*)$", text_of("crates.txt"), re.MULTILINE)
-        named = {crate: set(below.split()) for crate, below in lines}
-        table = text_of("docs/architecture.md").split("## The crates")[1].split("\n\n")[1]
-        for crates, _does, below in list(rows(table))[1:]:
-            names = re.findall(r"`(\w+)`", crates)
-            self.assertLessEqual(set(names), set(named))
-            if len(names) == 1:
-                uses = set(re.findall(r"`(\w+)`", re.sub(r"\(.*?\)", "", below)))
-                self.assertEqual(uses - {"std"}, named[names[0]], names[0])
+    def test_crates(self) -> None:
+        page = text_of(layers.DIAGRAM)
+        self.assertEqual(text_of(layers.LIST), layers.listing())
+        self.assertEqual(page, layers.with_diagram(page))
+        # Each crate has its line of what it does, and stands on those before it and on the toolchain's.
+        before: set[str] = set()
+        every = [one for layer in layers.layers() for one in layer.crates]
+        self.assertEqual({one.name for one in every}, {path.split(os.sep)[1] for path in places.files("crates", "*", "src")})
         trusted = text_of("README.md").split("| Trusted |")[1].split("\n\n")[0]
-        of_toolchain = set[str]().union(*named.values()) - set(named)
-        self.assertLessEqual(of_toolchain, set(re.findall(r"`(\w+)`", trusted)))
+        for one in every:
+            self.assertRegex(one.does, r"^[A-Z`].*\.$", one.name)
+            self.assertLessEqual(set(one.uses), before | set(re.findall(r"`(\w+)`", trusted)), one.name)
+            before.add(one.name)
 
     def test_number_of_mutants(self) -> None:
         self.assertIn(f"that {len(mutants.MUTANTS)} wrong rules", text_of("docs/tested.md"))
@@ -179,7 +161,7 @@ class Proofs(unittest.TestCase):
     def test_calls_and_clauses(self) -> None:
         known = {**parts(), **contracts()}
         types = set(re.findall(r"\b(?:struct|enum|trait) (\w+)", "".join(sources("src/**/*.rt").values())))
-        types |= definitions()
+        types |= parts().keys()
         clauses: set[str | None] = set()
         for *_promise, carriers in rows(text_of("docs/proofs.md").split("## Every promise")[1].split("## What no public clause says")[0]):
             carriers = re.sub(r"\(.*?\)", "", carriers)
@@ -243,12 +225,18 @@ pub extern "C" fn version() {}
         ):
             self.assertEqual(named_calls(cell, public), named, cell)
 
+    def test_each_crate_has_its_contract(self) -> None:
+        table = text_of("docs/architecture.md").split("## The contract of each crate")[1].split("\n\n")[2]
+        self.assertEqual({crate.strip("`") for crate, _contract in list(rows(table))[1:]}, set(layers.product()))
+
     def test_what_layers_rely_on(self) -> None:
         known = contracts()
         table = text_of("docs/architecture.md").split("## What each layer relies on")[1].split("\n\n")[1]
-        defined = definitions()
-        for _crate, uses, named in list(rows(table))[1:]:
+        defined = parts().keys()
+        for crate, uses, named in list(rows(table))[1:]:
             calls = {word.split("::")[-1] for word in re.findall(r"`([\w:]+)`", uses)}
+            paths = [path for part in ("src", "specs", "proofs") for path in places.files("crates", crate.strip("`"), part, "**", "*.*")]
+            self.assertLessEqual(calls, set(re.findall(r"\w+", "".join(map(text_of, paths)))), crate)
             clauses = set().union(*(known.get(call, set()) for call in calls))
             for word in set(re.findall(r"`(\w+)`", named)) - {"main"}:
                 self.assertTrue(word in clauses | calls | defined, f"{word} is no clause of {uses}")
@@ -261,12 +249,14 @@ class Definitions(unittest.TestCase):
         self.assertGreaterEqual(len(lines.crates()), 15)
         for crate in lines.crates():
             self.assertEqual(list(lines.faults(crate)), [])
+        page = text_of(lines.PAGE)
+        self.assertEqual(page, with_table(page, lines.HEADING, lines.table()))
 
     def test_all_are_read(self) -> None:
         # Counted here by the word `pub` alone: a definition stands at the line's start, or in a module with parameters.
         for path in places.files("crates", "*", "specs", "**", "*.antt"):
             code = re.findall(r"^(?! *pub \w+ :)(?:.* )?pub (?!mod\b|use\b).*", re.sub(r"--.*", "", text_of(path)), re.MULTILINE)
-            self.assertEqual(len(list(lines.definitions_in(text_of(path)))), len(code), path)
+            self.assertEqual(len(list(definitions_in(text_of(path)))), len(code), path)
 
     def test_faults_are_seen(self) -> None:
         code = "abbrev pub f : ℕ → ℕ\nf n = n\n\n"
@@ -278,16 +268,16 @@ class Definitions(unittest.TestCase):
             ("-- Its number\n", "full stop"),
             (f"-- {'Long ' * 30}number.\n", "too long"),
         ):
-            (found,) = lines.definitions_in(comment + code)
+            (found,) = definitions_in(comment + code)
             self.assertRegex(" ".join(lines.faults_of(found)), fault)
         for comment in ("-- n is its own number.\n", "-- Its number,\n-- as it is. And more.\n", "-- ---- numbers\n-- 1 if it is.\n"):
-            (found,) = lines.definitions_in(comment + code)
+            (found,) = definitions_in(comment + code)
             self.assertEqual(list(lines.faults_of(found)), [])
 
     def test_first_sentence_is_the_line(self) -> None:
         text = "-- A row\n-- of f.g. And more.\npub record Row (n : ℕ) : Type 0 where\n  pub first : ℕ\n\nmodule _ {X : Type 0} where\n"
         text += "  -- A row in it.\n  abbrev pub inner : X → ℕ\n  inner x = 0\n"
-        self.assertEqual([one.line for one in lines.definitions_in(text)], ["--   Row: A row of f.g.", "--   inner: A row in it."])
+        self.assertEqual([one.line for one in definitions_in(text)], ["--   Row: A row of f.g.", "--   inner: A row in it."])
 
     def test_lines_of_lib_are_compared(self) -> None:
         with tempfile.TemporaryDirectory() as top, mock.patch.object(places, "TOP", top):

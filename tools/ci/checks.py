@@ -10,20 +10,20 @@ from __future__ import annotations
 
 import argparse
 import importlib.util
-import os
-import re
 import shlex
 import shutil
 import sys
 from dataclasses import dataclass
 
-from tools.places import TOP, text_of
+from tools.markdown import with_table
+from tools.places import text_of, write_text
 
 # What make builds for checks, in the order in which it is built, with the goals that build it.
 BUILDS = {
     "program": ("bin/trirast",),
     "library": ("library",),
     "why": ("bin/trirast_why",),
+    "installed": ("lib/stub/trirast", "lib/x86-64-v3/program.so"),
     "readers": ("bin/refused_tiles", "bin/list_bench"),
 }
 # The table stands in CONTRIBUTING between this heading and the next one.
@@ -73,6 +73,8 @@ def is_there(need: str) -> bool:
 
 COMPILER = ("cc", "gcc")
 EVERYTHING = ("program", "library")
+# What make install takes, so that no two checks build it at once.
+INSTALLATION = (*EVERYTHING, "why", "installed")
 CHECKS = (
     Check(
         name="check-ci",
@@ -102,8 +104,8 @@ CHECKS = (
     ),
     Check(
         name="edits",
-        about="must-fail edits by name",
-        command="pytest tools/sources/test_edits.py", seconds=1,
+        about="must-fail edits by name, and the statuses of header, Rust and Python",
+        command="pytest tools/sources/test_edits.py tools/sources/test_statuses.py", seconds=1,
     ),
     Check(
         name="schema",
@@ -176,8 +178,8 @@ CHECKS = (
     Check(
         name="check-conformance",
         about="the comparison with drivers, by mutants and by recorded answers",
-        command="pytest conformance", seconds=65,
-        long="-m 'long or not long'", long_seconds=155,
+        command="pytest conformance", seconds=90,
+        long="-m 'long or not long'", long_seconds=295,
     ),
     Check(
         name="injection",
@@ -215,13 +217,13 @@ CHECKS = (
         about="library, header, packages in Python and Rust and examples against the program",
         command="pytest tools/checks/library", seconds=350,
         long="-m 'long or not long'", long_seconds=390,
-        runs=EVERYTHING, needs=COMPILER,
+        runs=INSTALLATION, needs=COMPILER,
     ),
     Check(
         name="pages",
         about="each command and example of README and docs/, run as it stands",
         command="pytest tools/checks/pages", seconds=50,
-        runs=(*EVERYTHING, "why"), needs=COMPILER,
+        runs=INSTALLATION, needs=COMPILER,
     ),
     Check(
         name="package",
@@ -246,8 +248,8 @@ CHECKS = (
     Check(
         name="check-packages",
         about="Debian packages, wheels and CMake files, each installed in a clean folder",
-        command="pytest tools/packaging", seconds=30,
-        runs=EVERYTHING, needs=COMPILER,
+        command="pytest tools/packaging", seconds=50,
+        runs=INSTALLATION, needs=COMPILER,
     ),
     Check(
         name="check-poster",
@@ -280,19 +282,11 @@ def table() -> str:
     return "\n".join(rows)
 
 
-def with_table(page: str) -> str:
-    """The page with the table of these checks, in place of the first one under its heading."""
-    head, rest = page.split(f"\n{HEADING}\n", 1)
-    return f"{head}\n{HEADING}\n" + re.sub(r"(?:^\|.*\n)+", lambda _found: f"{table()}\n", rest, count=1, flags=re.MULTILINE)
-
-
 def main() -> int:
     parser = argparse.ArgumentParser(description="The checks of what was built.")
     parser.add_argument("--write", action="store_true", help="write the table in CONTRIBUTING.md")
     if parser.parse_args().write:
-        page = with_table(text_of(PAGE))
-        with open(os.path.join(TOP, PAGE), "w", encoding="utf-8") as file:
-            file.write(page)
+        write_text(PAGE, with_table(text_of(PAGE), HEADING, table()))
         return 0
     for check in CHECKS:
         print(f"  make {check.name:24} {check.about}")

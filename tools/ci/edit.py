@@ -4,7 +4,7 @@ from __future__ import annotations
 
 import os
 
-from tools.sources.crates import text_of
+from tools.places import text_of
 
 
 def pairs_in(text: str) -> list[tuple[str, str, str]]:

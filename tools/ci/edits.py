@@ -35,8 +35,8 @@ from tools.ci import seconds, tried
 from tools.ci.edit import applied
 from tools.ci.reads import Reads
 from tools.ci.sources import normal, sources_in
-from tools.sources.crates import PARTS, Tree, text_of
-from tools.places import TOP
+from tools.places import TOP, text_of
+from tools.sources.crates import PARTS, Tree
 
 SAMPLE = 24
 

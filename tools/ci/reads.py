@@ -16,7 +16,8 @@ from functools import lru_cache
 from typing import Iterable, Iterator
 
 from tools.ci.sources import normal, sources_in
-from tools.sources.crates import PARTS, Tree, text_of
+from tools.places import text_of
+from tools.sources.crates import PARTS, Tree
 
 # A path in Rattle: `scene::{Batch, Draw}`, `crate::part::Part`, `super::row`.
 PATH = re.compile(r"\b(\w+)((?:\s*::\s*\w+)*)(?:\s*::\s*(\*|\{[^{}]*(?:\{[^{}]*\}[^{}]*)*\}))?")

@@ -5,7 +5,8 @@ from __future__ import annotations
 import os
 import re
 
-from tools.sources.crates import files_in, text_of
+from tools.places import text_of
+from tools.sources.crates import files_in
 
 # Strings and characters stand before comments: a text may hold `//`. A lifetime is no character.
 WORDS = re.compile(

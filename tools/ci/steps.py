@@ -14,7 +14,8 @@ from tools.ci.rooms import Rooms
 from tools.ci.schedule import Outcome
 from tools.ci.toolchain import Ran, Toolchain
 from tools.ci.verdict import calls_beyond, faults_of, has_nm, verdict_of
-from tools.sources.crates import Tree, text_of
+from tools.places import text_of
+from tools.sources.crates import Tree
 
 MINUTE = 60
 # A crate takes at most seven minutes of one processor; a machine may be busy.

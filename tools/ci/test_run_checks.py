@@ -14,6 +14,7 @@ import pytest
 from tools.ci import both, checks, run_checks
 from tools.ci.checks import CHECKS, Check
 from tools.counts import MISSING, Counts
+from tools.markdown import with_table
 from tools.places import TOP, text_of
 
 
@@ -122,7 +123,7 @@ def test_the_list_names_what_is_there() -> None:
 
 def test_contributing_has_the_table_of_the_list() -> None:
     page = text_of(checks.PAGE)
-    assert checks.with_table(page) == page
+    assert with_table(page, checks.HEADING, checks.table()) == page
 
 
 @pytest.mark.parametrize(("lines", "counts"), [

@@ -13,7 +13,7 @@ import shutil
 import subprocess
 from typing import Sequence
 
-from tools.sources.crates import text_of
+from tools.places import text_of
 
 # Words of a last line that no crate may have, with what each means.
 FORBIDDEN = {

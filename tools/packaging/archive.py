@@ -1,9 +1,9 @@
 """Builds the archives of the library for C over the libraries that were proved before, so that nothing is proved twice.
 
-    python3 -m tools.packaging.archive trirast_c|canvas_c|trirast_cli x86-64-v3|aarch64|wasm64 -o PATH [--rt rt]
+    python3 -m tools.packaging.archive trirast_c|canvas_c|trirast_cli x86-64-v2|x86-64-v3|aarch64|wasm64 -o PATH [--rt rt]
 
 `make library` and `make web` run this for a processor for which `rt lib` has not built, since `rt lib` has one place for its archive.
-Of the program it builds the object file, without what the toolchain brings in C for x86-64 alone.
+Of the program it builds the object file, without what the toolchain brings in C for x86-64 alone: `make install` links it.
 """
 
 from __future__ import annotations
@@ -20,8 +20,9 @@ from tools.places import TOP
 # The crates of the library.
 CRATES = ("trirast_c", "canvas_c")
 PROGRAM = "trirast_cli"
-# The processors besides the toolchain's default, x86-64-v2, with the flags that ask the toolchain for them.
+# The processors with the flags that ask the toolchain for them; its default is x86-64-v2.
 PROCESSORS = {
+    "x86-64-v2": (),
     "x86-64-v3": ("--cpu", "x86-64-v3"),
     "aarch64": ("--target", "aarch64-unknown-linux-gnu"),
     "wasm64": ("--target", "wasm64-unknown-unknown"),

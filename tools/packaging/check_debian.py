@@ -12,7 +12,9 @@ from tools import places
 from tools.checks.cases import Case, MissingError, case, must
 from tools.checks.library.commands import drawn_by_program, need, run
 from tools.packaging import debian, listing
-from tools.packaging.checking import LISTS, OUT, check_documented, check_in_c, check_library_sizes, clean_environment
+from tools.packaging.checking import (
+    LISTS, OUT, build_in, build_taken, check_documented, check_in_c, check_library_sizes, clean_environment, has_level,
+)
 from tools.packaging.common import DIST, files_below, make_anew, write
 from tools.places import LEVEL
 
@@ -20,8 +22,6 @@ ROOT = os.path.join(OUT, "debian-root")
 LIBRARIES = os.path.join(ROOT, debian.LIBRARIES)
 # The packages of the system that ours depend on: dpkg in the folder is given those that the machine has.
 OF_THE_SYSTEM = ("libc6", "libc6-dev")
-# The system's loader, which says by --help what the processor has.
-LOADER = "/lib64/ld-linux-x86-64.so.2"
 
 
 def packages() -> list[str]:
@@ -90,11 +90,13 @@ def installed() -> list[str]:
 
 
 def check_program() -> str:
-    """The installed program draws each example as the one that was proved and built, of which it is a stripped copy."""
+    """The installed program draws each example as the one that was proved and built, by the build for the processor's level."""
     program = os.path.join(ROOT, "usr", "bin", "trirast")
     for path in LISTS:
         text = places.bytes_of(path)
         must(run([program], input=text, env=clean_environment()) == drawn_by_program(text).output, f"other bytes for {path}")
+    taken, due = build_taken(program), build_in(os.path.join(ROOT, "usr", "lib", "trirast"), has_level())
+    must(os.path.realpath(taken) == due, f"{taken} was loaded")
     return f"{len(LISTS)} pictures"
 
 
@@ -114,9 +116,8 @@ def check_levels() -> str:
     """The loader takes the library of the processor's level by itself. Returns the level."""
     program, where = os.path.join(OUT, "debian-shared", "program"), clean_environment(LD_LIBRARY_PATH=LIBRARIES)
     taken = [line for line in run([need("ldd"), program], env=where).decode().splitlines() if "libtrirast" in line]
-    has_level = re.search(rf"{LEVEL} \(supported", run([LOADER, "--help"]).decode()) is not None
-    must((f"/{LEVEL}/" in taken[0]) == has_level, f"{taken[0].strip()}, and the processor has the level: {has_level}")
-    return LEVEL if has_level else "x86-64-v2"
+    must((f"/{LEVEL}/" in taken[0]) == has_level(), f"{taken[0].strip()}, and the processor has the level: {has_level()}")
+    return LEVEL if has_level() else "x86-64-v2"
 
 
 def check_page() -> None:

@@ -19,7 +19,7 @@ from tools.checks.library import arm64
 from tools.checks.library.commands import drawn_by_program, make, need, run
 from tools.packaging import listing, wheel
 from tools.packaging.checking import (
-    LISTS, OUT, check_documented, check_library_sizes, clean_environment, picture_of_the_page, program_of_the_page,
+    LISTS, OUT, WITHOUT_LEVEL, check_documented, check_library_sizes, clean_environment, picture_of_the_page, program_of_the_page,
 )
 from tools.packaging.common import make_anew, release, write
 from tools.places import INCLUDE, LEVEL
@@ -44,8 +44,6 @@ int main(int count, char **arguments) {
     return version && version() == TRIRAST_VERSION ? 0 : 1;
 }
 """
-# Takes the features of the second level from what the loader sees of the processor.
-WITHOUT_LEVEL = {"GLIBC_TUNABLES": "glibc.cpu.hwcaps=-AVX2,-AVX2_Usable"}
 
 
 def check_build(processor: str) -> str:

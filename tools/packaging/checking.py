@@ -3,18 +3,28 @@
 from __future__ import annotations
 
 import os
+import re
+import signal
+import subprocess
+import time
 from typing import Mapping
 
 from tools import places
 from tools.checks.cases import must
 from tools.checks.library.commands import WARNINGS, blocks_of_the_page, drawn_by_program, need, run
 from tools.packaging import listing
-from tools.places import EXAMPLES
+from tools.places import EXAMPLES, LEVEL
 
 OUT = os.path.join(places.OUT, "check-packages")
 LISTS = places.files("examples", "*.json")
 # A shared library is at most so large, at each level of a processor.
 MAX_LIBRARY_BYTES = 1_000_000
+# The system's loader, which says by --help what the processor has.
+LOADER = "/lib64/ld-linux-x86-64.so.2"
+# Takes the features of the second level from what the loader sees of the processor.
+WITHOUT_LEVEL = {"GLIBC_TUNABLES": "glibc.cpu.hwcaps=-AVX2,-AVX2_Usable"}
+# The seconds in which a program has been loaded.
+LOADED_AFTER = 30
 
 
 def clean_environment(**more: str) -> dict[str, str]:
@@ -57,3 +67,25 @@ def check_library_sizes(files: Mapping[str, int]) -> None:
     """Each shared library of a package is small enough."""
     for name, size in files.items():
         must(".so" not in name or size < MAX_LIBRARY_BYTES, f"{name} has {size} bytes")
+
+
+def has_level() -> bool:
+    """Whether the processor is of the second level."""
+    return re.search(rf"{LEVEL} \(supported", run([LOADER, "--help"]).decode()) is not None
+
+
+def build_in(folder: str, is_second_level: bool) -> str:
+    """Where an installation has the build of the program for a level: in this folder, or in the one that the loader knows."""
+    return os.path.join(folder, *(("glibc-hwcaps", LEVEL) if is_second_level else ()), "program.so")
+
+
+def build_taken(program: str, **more: str) -> str:
+    """Starts a program, and ends it by a signal while it waits for its list. Returns the build of which the kernel had pages there."""
+    environment, latest = clean_environment(**more), time.monotonic() + LOADED_AFTER
+    with subprocess.Popen([program], stdin=subprocess.PIPE, stdout=subprocess.DEVNULL, env=environment) as child:
+        taken: list[str] = []
+        while not taken and child.poll() is None and time.monotonic() < latest:
+            taken = re.findall(r"r-xp .* (/.*/program\.so)$", places.text_of(f"/proc/{child.pid}/maps"), re.MULTILINE)
+        child.terminate()
+    must(child.returncode == -signal.SIGTERM and len(taken) == 1, f"status {child.returncode}, and {taken} were loaded")
+    return taken[0]

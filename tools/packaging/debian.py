@@ -28,7 +28,7 @@ CONTROL = os.path.join(places.TOP, "packaging", "debian", "control")
 COPYRIGHT = os.path.join(places.TOP, "packaging", "debian", "copyright")
 # Of each package, the files of an installation that it takes.
 TAKEN = {
-    "trirast": (r"usr/bin/.*", r"usr/share/.*"),
+    "trirast": (r"usr/bin/.*", r"usr/lib/trirast/.*", r"usr/share/.*"),
     "libtrirast1": (rf"{LIBRARIES}/(glibc-hwcaps/.*/)?libtrirast\.so\..*",),
     "libtrirast-dev": (r"usr/include/.*", rf"{LIBRARIES}/(libtrirast\.(a|so)|pkgconfig/.*|cmake/.*)"),
 }
@@ -82,9 +82,9 @@ def put_file(stage: str, name: str, folder: str) -> None:
 
 
 def code_of(folder: str) -> list[str]:
-    """The program and shared libraries below a folder, which say by themselves what they need."""
+    """The programs and shared libraries below a folder, which say by themselves what they need."""
     names = files_below(folder)
-    return [os.path.join(folder, name) for name in names if re.search(r"^usr/bin/|\.so\.\d+$", name)]
+    return [os.path.join(folder, name) for name in names if re.search(r"^usr/(bin|lib/trirast)/|\.so\.\d+$", name)]
 
 
 def put_control(package: str, work: str, folder: str) -> None:

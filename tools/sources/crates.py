@@ -6,6 +6,8 @@ import os
 import re
 from typing import Mapping, Sequence
 
+from tools.places import text_of
+
 # Of each crate, the crates that it uses; those of the toolchain are among them.
 Uses = Mapping[str, Sequence[str]]
 LINE = re.compile(r"^(\w+)([^:#\n]*):(.*)$", re.MULTILINE)
@@ -25,11 +27,6 @@ def below(crate: str, uses: Uses) -> set[str]:
     return found
 
 
-def text_of(path: str) -> str:
-    with open(path, encoding="utf-8") as file:
-        return file.read()
-
-
 def files_in(folder: str) -> list[str]:
     """The files of a folder and of those inside, sorted."""
     return sorted(os.path.join(at, name) for at, _folders, names in os.walk(folder) for name in names)
@@ -39,7 +36,7 @@ class Tree:
     """The crates of a working tree, lowest first as crates.txt has them."""
 
     def __init__(self, top: str) -> None:
-        self.top = top
+        self.top = os.path.abspath(top)
         self.uses: dict[str, tuple[str, ...]] = {}
         self.lines: dict[str, str] = {}
         for found in LINE.finditer(text_of(os.path.join(top, "crates.txt"))):

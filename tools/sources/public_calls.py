@@ -10,15 +10,11 @@ import re
 from typing import Iterator
 
 from tools import places
+from tools.sources.layers import product
+from tools.sources.rattle import functions_in
 
-# The crates that the program and the library are made of.
-CRATES = (
-    "grid", "shade", "history", "planes", "lanes", "cover", "raster", "reach", "canvas", "model", "canvas_picture", "checking_reader",
-    "cursor", "fast_reader", "list", "scene", "list_history", "plain", "bins", "pool", "picture_file", "command_line", "program_input", "tile_row",
-    "tile", "tile_rows", "trirast", "sample_events", "trirast_c", "why", "batch", "canvas_c",
-)
-HEAD = re.compile(r"(?:pub )?(impl|trait)\b(?:<(?:[^<>]|<[^<>]*>)*>)? (?!.* for )(\w+)")
-CALL = re.compile(r'( {4})?(pub )?(?:extern "C" )?fn (\w+)')
+# The libraries that the programs and the library for C are made of.
+CRATES = tuple(crate for crate in product() if os.path.isfile(os.path.join(places.TOP, "crates", crate, "src", "lib.rt")))
 
 
 def given_out(root: str) -> set[str]:
@@ -31,19 +27,9 @@ def given_out(root: str) -> set[str]:
 
 def calls_in(text: str, crate: str, public: set[str]) -> Iterator[str]:
     """The public calls in the text of a file."""
-    kind = owner = None
-    for line in text.split("\n"):
-        head, call = HEAD.match(line), CALL.match(line)
-        if head:
-            kind, owner = head.groups()
-        elif line[:1].strip() and not call:
-            kind = owner = None
-        elif call:
-            is_inside, is_public, name = call.groups()
-            if not is_inside and is_public and name in public:
-                yield f"{crate}::{name}"
-            elif is_inside and owner in public and (is_public or kind == "trait"):
-                yield f"{owner}::{name}"
+    for call in functions_in(text):
+        if call.is_public and (call.owner or call.name) in public:
+            yield f"{call.owner or crate}::{call.name}"
 
 
 def calls_of(crate: str) -> dict[str, str]:

@@ -18,7 +18,8 @@ import textwrap
 from typing import Iterable, Iterator
 
 from tools.counts import Counts
-from tools.places import TOP
+from tools.markdown import anchor
+from tools.places import TOP, text_of, write_text
 from tools.sources import statement_text
 from tools.sources.statement_sources import Definition, Name, Unclear, contract_of, definition_of, rests_on
 from tools.sources.statement_text import GLOSSARY, GROUPS, Group
@@ -99,10 +100,6 @@ def check_glossary(others: set[Name]) -> None:
         raise Unclear(f"the glossary lacks {lacking}, and what nothing uses is {stale}")
 
 
-def anchor(title: str) -> str:
-    return re.sub(r"[^\w\- ]", "", title.lower()).replace(" ", "-")
-
-
 def link(title: str, text: str = "") -> str:
     return f"[{text or title}](#{anchor(title)})"
 
@@ -166,11 +163,7 @@ def difference(old: str, new: str) -> list[str]:
 
 def written() -> str:
     """The page as it stands in docs/."""
-    path = os.path.join(TOP, PAGE)
-    if not os.path.exists(path):
-        return ""
-    with open(path, encoding="utf-8") as file:
-        return file.read()
+    return text_of(PAGE) if os.path.exists(os.path.join(TOP, PAGE)) else ""
 
 
 def main(arguments: list[str] | None = None) -> int:
@@ -184,8 +177,7 @@ def main(arguments: list[str] | None = None) -> int:
         print(Counts(failed=1))
         return 1
     if not options.check:
-        with open(os.path.join(TOP, PAGE), "w", encoding="utf-8") as file:
-            file.write(made)
+        write_text(PAGE, made)
         return 0
     lines = difference(written(), made)
     if lines:

@@ -1,9 +1,8 @@
 """The definitions that a contract rests on, as the sources have them: what statement.py prints.
 
-A definition of a .antt file is a paragraph: its comment, a line `abbrev pub NAME`, `unfoldable pub NAME`, `pub record NAME`,
-`pub data NAME` or `pub NAME` at the line's start, and what follows up to the next blank line. A type of a .rt file is its text
-without attributes, and its `impl Model` where it has one. Every word of each must be known: a name of the file or of a `use` line,
-a variable, or a word of the language. Any other word is `Unclear`, so nothing is left out in silence.
+A definition of a .antt file is a paragraph, as rattle.py reads it. A type of a .rt file is its text without attributes, and its
+`impl Model` where it has one. Every word of each must be known: a name of the file or of a `use` line, a variable, or a word of
+the language. Any other word is `Unclear`, so nothing is left out in silence.
 """
 
 from __future__ import annotations
@@ -16,8 +15,8 @@ from functools import lru_cache
 from typing import Iterable, Iterator, NamedTuple
 
 from tools.places import TOP
+from tools.sources.rattle import Defined, definitions_in
 
-HEAD = re.compile(r"(?:abbrev |unfoldable )?pub (record |data |)(\S+)")
 USE = re.compile(r"^\s*(?:ghost )?use (Rattle\.[^;\n]*?);?$", re.MULTILINE)
 RUST_USE = re.compile(r"^\s*(?:pub )?use ([a-z]\w*)::([^;]*);", re.MULTILINE)
 TOKEN = re.compile(r'"(?:[^"\\]|\\.)*"|--.*|[(){};,]|[^\s(){};,"]+')
@@ -185,36 +184,17 @@ def names_in(words: list[str], scope: Scope, variables: set[str]) -> Iterator[Na
 # ---- files of definitions
 
 
-def paragraphs(text: str) -> Iterator[tuple[int, list[str]]]:
-    """The runs of lines that are not blank, each with the number of its first line."""
-    lines: list[str] = []
-    for number, line in enumerate(text.split("\n") + [""], 1):
-        if line.strip():
-            lines.append(line)
-        elif lines:
-            yield number - len(lines), lines
-            lines = []
-
-
-def definition_lines(path: str) -> Iterator[tuple[int, list[str], int]]:
-    """The paragraphs of a .antt file that define something, and how many lines of comment each begins with."""
-    for number, lines in paragraphs(text_of(path)):
-        comment = next((at for at, line in enumerate(lines) if not line.startswith("--")), len(lines))
-        code = lines[comment:]
-        if not code or all(line.startswith(("use ", "pub mod ", "pub use ")) for line in code):
-            continue
-        heads = [line for line in code if HEAD.match(line)]
-        if heads != code[:1]:
-            raise Unclear(f"{path}:{number}: no definition, or more than one: {code[0]}")
-        yield number, lines, comment
-
-
-def defined_word(line: str) -> str:
-    """The name that the first line of a definition defines."""
-    found = HEAD.match(line)
-    if not found:
-        raise Unclear(f"no definition: {line}")
-    return found[2]
+def only_definitions(path: str) -> list[Defined]:
+    """The definitions of a .antt file, which has nothing else but comments and `use` lines."""
+    found, rest = list(definitions_in(text_of(path))), text_of(path)
+    for one in found:
+        if one.code not in rest:
+            raise Unclear(f"{path}:{one.line_number}: more than one definition in a paragraph: {one.name}")
+        rest = rest.replace(one.code, "", 1)
+    for line in rest.split("\n"):
+        if line.strip() and not line.startswith(("--", "use ", "pub mod ", "pub use ")):
+            raise Unclear(f"{path}: no definition: {line}")
+    return found
 
 
 def constructors_of(code: list[str]) -> list[str]:
@@ -262,25 +242,23 @@ def renamed_in(code: list[str], scope: Scope) -> tuple[tuple[str, str], ...]:
 def definitions_of(path: str) -> dict[str, Definition]:
     """The definitions of a .antt file by their names; that of a `data` under the names of its cases too."""
     scope = scope_of_uses(text_of(path))
-    found = list(definition_lines(path))
+    found = only_definitions(path)
     owners: dict[str, str] = {}
-    for _number, lines, comment in found:
-        word = defined_word(lines[comment])
-        owners[word] = word
-        for case in constructors_of(lines[comment:]):
-            owners[case] = word
+    for one in found:
+        owners[one.name] = one.name
+        for case in constructors_of(one.code.split("\n")):
+            owners[case] = one.name
             scope.constructors.add(case)
     for word, owner in owners.items():
         scope.add(word, Name(path, owner))
     defined = {}
-    for number, lines, comment in found:
-        code = lines[comment:]
-        word = defined_word(code[0])
+    for one in found:
+        name, code = Name(path, one.name), one.code.split("\n")
         try:
-            uses = uses_of(code, word, scope) - {Name(path, word)}
+            uses = uses_of(code, one.name, scope) - {name}
         except (Unclear, ValueError) as error:
-            raise Unclear(f"{path}: {word}: {error}") from error
-        defined[word] = Definition(Name(path, word), number, "\n".join(lines), frozenset(uses), renamed_in(code, scope))
+            raise Unclear(f"{path}: {one.name}: {error}") from error
+        defined[one.name] = Definition(name, one.line_number, one.text, frozenset(uses), renamed_in(code, scope))
     return {word: defined[owner] for word, owner in owners.items()}
 
 

@@ -136,10 +136,19 @@ GROUPS = (
     ),
     Group(
         "New colour",
-        "A channel that is written becomes the source's, or the source over the stored channel by the source's alpha, rounded to the "
-        "nearest integer. A channel that is not written is unchanged.",
-        "Porter and Duff 1984, source over an opaque destination; the rounding is this project's rule.",
-        ("crates/shade/specs/Blend.antt",),
+        "A channel that is written is blended by an equation of two factors and an operation, rounded once to the nearest integer and "
+        "clamped. A draw list has two. With `none_blend` the channel becomes the source's. With `over_blend` it becomes the source over "
+        "the stored channel by the source's alpha, as `shade::lists_are_blended` promises. A channel that is not written is unchanged.",
+        "Direct3D 11, `D3D11_BLEND` and `D3D11_BLEND_OP`; Porter and Duff 1984, source over an opaque destination; the rounding is this "
+        "project's rule.",
+        (
+            "crates/shade/src/operands.rt",
+            "crates/shade/src/factor.rt",
+            "crates/shade/src/equation.rt",
+            "crates/shade/src/blend.rt",
+            "crates/shade/specs/Blend.antt",
+            "crates/shade/specs/Presets.antt",
+        ),
     ),
     Group(
         "A sample after one triangle",
@@ -259,6 +268,9 @@ GLOSSARY: dict[str, tuple[tuple[str, str, str], ...]] = {
         ("◌^◌", "a ^ b", "the power"),
         ("◌<◌", "a < b", "a is less than b"),
         ("◌≤◌", "a ≤ b", "a is at most b"),
+        ("min", "min a b", "the lesser of two numbers"),
+        ("max", "max a b", "the greater of two numbers"),
+        ("◌+ℤ◌", "a +ℤ b", "the sum of integers"),
         ("◌-ℤ◌", "a -ℤ b", "the difference of integers"),
         ("◌*ℤ◌", "a *ℤ b", "the product of integers"),
         ("◌<ℤ◌", "a <ℤ b", "a is less than b, of integers"),

@@ -14,6 +14,7 @@ import unittest
 from typing import Iterator
 from unittest import mock
 
+from tools.markdown import anchor
 from tools.places import TOP, text_of
 from tools.sources import statement
 from tools.sources import statement_sources as sources
@@ -112,7 +113,7 @@ class Page(unittest.TestCase):
                 self.assertTrue((path, word) in defined or not stands_in(word, code), f"{path}: {word}")
 
     def test_contents_lead_to_headings(self) -> None:
-        anchors = {statement.anchor(title) for title in re.findall(r"^## (.*)$", self.page, re.MULTILINE)}
+        anchors = {anchor(title) for title in re.findall(r"^## (.*)$", self.page, re.MULTILINE)}
         self.assertLessEqual(set(re.findall(r"\]\(#([^)]*)\)", self.page)), anchors)
 
     def test_ends_in_what_the_theorem_names(self) -> None:
@@ -121,7 +122,7 @@ class Page(unittest.TestCase):
 
     def test_has_the_definitions_of_the_rules(self) -> None:
         # The definitions that docs/rules.md names, but for those of other promises.
-        elsewhere = {"IsSeam", "IsOnOpenEdge", "NoOverlap", "NoCrack", "EitherDiagonalSplits"}
+        elsewhere = {"IsOver", "IsSeam", "IsOnOpenEdge", "NoOverlap", "NoCrack", "EitherDiagonalSplits"}
         rules = text_of("docs/rules.md").split("## The draw list")[0]
         named = set()
         for paragraph in re.findall(r"\*Definition:\*(.*?)\n\n", rules, re.DOTALL):
@@ -180,10 +181,6 @@ class Reading(unittest.TestCase):
         upper = "use Rattle.b.specs.B.{far}\n\nabbrev pub near : far\nnear = far\n"
         middle = "use Rattle.b.specs.C.{farthest}\nabbrev pub far : farthest\nfar = farthest\n"
         lower = "abbrev pub farthest : Type 0\nfarthest = ⊥\n"
-        # A use line and a definition in one paragraph are not separated.
-        with repository({"a/specs/A.antt": upper, "b/specs/B.antt": middle}):
-            self.assertRaises(Unclear, sources.definitions_of, "crates/b/specs/B.antt")
-        middle = middle.replace("\nabbrev", "\n\nabbrev")
         with repository({"a/specs/A.antt": upper, "b/specs/B.antt": middle, "b/specs/C.antt": lower}):
             ours, others = sources.rests_on([sources.definitions_of("crates/a/specs/A.antt")["near"]])
             self.assertEqual([name.word for name in ours], ["far", "farthest"])

@@ -8,8 +8,8 @@ use Rattle.model.specs.Listing.{placed, triangle_of}
 use Rattle.scene.specs.declared.draw.SceneDraw.{SceneDraw}
 use Rattle.scene.specs.declared.vertex.SceneVertex.{SceneVertex}
 use Rattle.scene.specs.Listed.{vertex_listed, state_listed, draw_listed}
-use Rattle.canvas.specs.Window.{moved}
-use Rattle.batch.specs.Seen.{vertex_at, vertex_seen, state_seen}
+use Rattle.canvas.specs.Window.{moved_state, moved}
+use Rattle.batch.specs.Seen.{vertex_at, vertex_seen}
 
 pub position_at : (vs : List SceneVertex) (k : ℕ) → position_of (map vertex_listed vs) k ≡ (vertex_listed (vertex_at vs k)).at
 position_at [] k = refl
@@ -31,7 +31,7 @@ module _ (x y : ℤ) (d : SceneDraw) (vs : List SceneVertex) (is : List ℕ) whe
   seen_at triangle i = vertex_seen x y (vertex_at own (slice_index triangle i))
 
   abbrev seen : List ℕ → Placed
-  seen triangle = triangle_of (state_seen x y (state_listed d)) (seen_at triangle 0) (seen_at triangle 1) (seen_at triangle 2)
+  seen triangle = triangle_of (moved_state x y (state_listed d)) (seen_at triangle 0) (seen_at triangle 1) (seen_at triangle 2)
 
   seen_is : (triangle : List ℕ) → seen triangle ≡ moved x y (placed (draw_listed d vs is) triangle)
   seen_is triangle =

@@ -1,25 +1,29 @@
 -- The draws of a batch, one at a time.
-use Rattle.std.proofs.Common.{◌≡◌, ◌∙◌, refl, sym, ap, subst, inl, inr, ℕ, ℤ, ◌+◌, ◌<◌, ◌≤◌, Option, None, Some, List, [], ◌∷◌, ◌++◌, length, map, take, drop, get_or, drop-cons, add-one, arith}
+use Rattle.std.proofs.Common.{◌≡◌, ◌∙◌, refl, sym, ap, subst, ℕ, ℤ, ◌+◌, ◌<◌, ◌≤◌, Option, List, [], ◌∷◌, ◌++◌, length, map, take, drop, get_or, drop-cons, add-one, arith}
 use Rattle.std.proofs.lemmas.List.{map-append, drop_all, length-map}
 use Rattle.shade.specs.declared.placed.Placed.{Placed}
 use Rattle.lanes.specs.declared.block_samples.BlockSamples.{BlockSamples}
 use Rattle.model.specs.declared.fault.ReadFault.{ReadFault}
+use Rattle.model.specs.declared.fault.ReadKind.{ReadKind}
 use Rattle.model.specs.declared.fault.ReadKind.TheVariants.{WrongKind}
+use Rattle.model.specs.Checking.{Checks, Pass, FirstIs}
+use Rattle.model.specs.Checks.{outside, in_draw}
 use Rattle.model.specs.Primitives.{triangles_of}
 use Rattle.model.specs.Listing.{placed, placed_all}
+use Rattle.model.proofs.Checking.{fails_as}
 use Rattle.model.proofs.Triangulated.{length-triangles_of}
 use Rattle.scene.specs.declared.draw.SceneDraw.{SceneDraw}
 use Rattle.scene.specs.declared.vertex.SceneVertex.{SceneVertex}
 use Rattle.scene.specs.Listed.{draw_listed, primitives_listed}
-use Rattle.scene.specs.Checking.{Pass, FirstIs}
 use Rattle.scene.specs.Checks.{triangles_listed}
+use Rattle.scene.proofs.Draws.{fails_here as fails_at, fails_later as fails_behind, passes_here as passes_at, passed_here as passed_at, end_fails as fails_at_end, end_passes as passes_at_end}
 use Rattle.canvas.specs.declared.canvas.Canvas.{Canvas}
 use Rattle.canvas.specs.Window.{moved}
 use Rattle.canvas.specs.Drawing.{HaveEnds}
 use Rattle.canvas.proofs.Ends.{ends_joined}
 use Rattle.batch.specs.Ids.{drawn_as, ids_after}
 use Rattle.batch.specs.Seen.{triangles_seen}
-use Rattle.batch.specs.Checks.{draw_checks, DrawsPass, IsFirstOfDraws}
+use Rattle.batch.specs.Checks.{draw_checks, batch_draws_checks}
 use Rattle.batch.proofs.Numbered.{drawn-append, nothing_drawn}
 
 -- ---- from the draw of number i on
@@ -30,18 +34,20 @@ module _ (x y : ℤ) (ds : List SceneDraw) (i : ℕ) (none : SceneDraw) (lt : i 
   from_here : drop i ds ≡ get_or ds i none ∷ drop (i + 1) ds
   from_here = rw (drop-cons ds i none lt, add-one) refl
 
-  pub fails_here : (fault : ReadFault) → FirstIs (draw_checks x y ids d vs is) fault.kind → fault.draw ≡ Some i → IsFirstOfDraws x y i ids (drop i ds) vs is fault
-  fails_here fault first number = rw from_here (inl (first, number))
+  abbrev later : Checks ReadFault
+  later = batch_draws_checks x y (i + 1) (ids_after ids (triangles_listed d is)) (drop (i + 1) ds) (drop d.vertices vs) (drop d.indices is)
 
-  pub fails_later : (fault : ReadFault) → Pass (draw_checks x y ids d vs is)
-      → IsFirstOfDraws x y (i + 1) (ids_after ids (triangles_listed d is)) (drop (i + 1) ds) (drop d.vertices vs) (drop d.indices is) fault → IsFirstOfDraws x y i ids (drop i ds) vs is fault
-  fails_later fault pass later = rw from_here (inr (pass, later))
+  pub fails_here : (kind : ReadKind) → FirstIs (draw_checks x y ids d vs is) kind → FirstIs (batch_draws_checks x y i ids (drop i ds) vs is) (in_draw i kind)
+  fails_here kind first = fails_at (draw_checks x y) ids_after ds i ids vs is none lt (in_draw i kind) (fails_as (in_draw i) (draw_checks x y ids d vs is) kind first)
 
-  pub passes_here : Pass (draw_checks x y ids d vs is) → DrawsPass x y (ids_after ids (triangles_listed d is)) (drop (i + 1) ds) (drop d.vertices vs) (drop d.indices is) → DrawsPass x y ids (drop i ds) vs is
-  passes_here pass later = rw from_here (pass, later)
+  pub fails_later : (fault : ReadFault) → Pass (draw_checks x y ids d vs is) → FirstIs later fault → FirstIs (batch_draws_checks x y i ids (drop i ds) vs is) fault
+  fails_later fault pass first = fails_behind (draw_checks x y) ids_after ds i ids vs is none lt fault pass first
 
-  pub passed_here : DrawsPass x y ids (drop i ds) vs is → Pass (draw_checks x y ids d vs is) × DrawsPass x y (ids_after ids (triangles_listed d is)) (drop (i + 1) ds) (drop d.vertices vs) (drop d.indices is)
-  passed_here passed = rw from_here at passed
+  pub passes_here : Pass (draw_checks x y ids d vs is) → Pass later → Pass (batch_draws_checks x y i ids (drop i ds) vs is)
+  passes_here pass rest = passes_at (draw_checks x y) ids_after ds i ids vs is none lt pass rest
+
+  pub passed_here : Pass (batch_draws_checks x y i ids (drop i ds) vs is) → Pass (draw_checks x y ids d vs is) × Pass later
+  passed_here passed = passed_at (draw_checks x y) ids_after ds i ids vs is none lt passed
 
   -- the triangles of this draw, and those of the draws behind it
   abbrev here : List Placed
@@ -66,17 +72,14 @@ module _ (x y : ℤ) (ds : List SceneDraw) (i : ℕ) (none : SceneDraw) (lt : i 
 
 -- ---- past the last draw
 module _ (x y : ℤ) (ds : List SceneDraw) (i : ℕ) (past : length ds ≤ i) (ids : Option ℕ) (vs : List SceneVertex) (is : List ℕ) where
-  nothing_left : drop i ds ≡ []
-  nothing_left = drop_all i ds past
+  pub end_fails : ((vs ≡ []) × (is ≡ []) → ⊥) → FirstIs (batch_draws_checks x y i ids (drop i ds) vs is) (outside WrongKind)
+  end_fails left_over = fails_at_end (draw_checks x y) ids_after ds i ids vs is past left_over
 
-  pub end_fails : ((vs ≡ []) × (is ≡ []) → ⊥) → IsFirstOfDraws x y i ids (drop i ds) vs is (record { kind = WrongKind; draw = None })
-  end_fails left_over = rw nothing_left (left_over, refl)
-
-  pub end_passes : vs ≡ [] → is ≡ [] → DrawsPass x y ids (drop i ds) vs is
-  end_passes no_vertices no_indices = rw nothing_left (no_vertices, no_indices)
+  pub end_passes : vs ≡ [] → is ≡ [] → Pass (batch_draws_checks x y i ids (drop i ds) vs is)
+  end_passes no_vertices no_indices = passes_at_end (draw_checks x y) ids_after ds i ids vs is past no_vertices no_indices
 
   pub end_drawn : (c : Canvas) (first end : ℕ) (xs : List BlockSamples) → HaveEnds (drawn_as ids (triangles_seen x y (drop i ds) vs is)) c first end xs xs
-  end_drawn c first end xs = subst (λ rest. HaveEnds (drawn_as ids (triangles_seen x y rest vs is)) c first end xs xs) (sym nothing_left) (nothing_drawn ids c first end xs)
+  end_drawn c first end xs = subst (λ rest. HaveEnds (drawn_as ids (triangles_seen x y rest vs is)) c first end xs xs) (sym (drop_all i ds past)) (nothing_drawn ids c first end xs)
 
 pub none_of_none : {X : Type 0} (xs : List X) → length xs ≡ 0 → xs ≡ []
 none_of_none [] e = refl

@@ -2,3 +2,4 @@ pub mod Chunks
 pub mod Corners
 pub mod Numbered
 pub mod Draws
+pub mod Faults

@@ -1,15 +1,17 @@
 -- The checks of a batch, in their order: those of a scene's arrays, but that there is no limit on vertices and triangles, that only
 -- vertices which an index names are looked at, and that a scissor may be as far as the guard band.
-use Rattle.std.specs.Prelude.{◌≡◌, ◌⊎◌, ℕ, ℤ, ◌+◌, ◌%◌, ◌<◌, ◌≤◌, ⊤, Option, None, Some, List, [], ◌∷◌, length, map, take, drop}
+use Rattle.std.specs.Prelude.{◌≡◌, ℕ, ℤ, ◌%◌, ◌<◌, ◌≤◌, ⊤, Option, List, length, map, take}
 use Rattle.std.specs.List.{All}
+use Rattle.model.specs.declared.fault.ReadKind.{ReadKind}
 use Rattle.model.specs.declared.fault.ReadKind.TheVariants.{WrongKind, OutOfRange, BadIndex, TooMany, NotConvex}
 use Rattle.model.specs.declared.fault.ReadFault.{ReadFault}
 use Rattle.model.specs.Primitives.{PrimitiveListing, triangle_list, triangle_strip, quad_list, count_of_triangles, IsConvexOver}
 use Rattle.scene.specs.declared.draw.SceneDraw.{SceneDraw}
 use Rattle.scene.specs.declared.vertex.SceneVertex.{SceneVertex}
 use Rattle.scene.specs.Listed.{vertex_listed, corners_of, primitives_listed}
-use Rattle.scene.specs.Checking.{Checks, done, check, followed_by, Pass, FirstIs}
-use Rattle.scene.specs.Checks.{opening_checks, triangles_listed}
+use Rattle.model.specs.Checking.{Checks, done, check, followed_by}
+use Rattle.model.specs.Checks.{outside}
+use Rattle.scene.specs.Checks.{opening_checks, draws_checks}
 use Rattle.batch.specs.Seen.{AreSeen}
 use Rattle.batch.specs.Ids.{HasIds, ids_after}
 
@@ -25,7 +27,7 @@ AreQuadsSeen x y vertices (triangle_strip indices) = ⊤
 AreQuadsSeen x y vertices (quad_list quads) = All (IsQuadSeen x y vertices) quads
 
 -- The primitives of a draw of these vertices. Once the vertices can be seen, only a quad that is not strictly convex fails the last one.
-abbrev pub primitives_checks : ℤ → ℤ → Option ℕ → List SceneVertex → ℕ → List ℕ → Checks
+abbrev pub primitives_checks : ℤ → ℤ → Option ℕ → List SceneVertex → ℕ → List ℕ → Checks ReadKind
 primitives_checks x y ids vertices kind indices =
     check (length indices % corners_of kind ≡ 0) WrongKind (
     check (HasIds ids (count_of_triangles (primitives_listed kind indices))) TooMany (
@@ -35,33 +37,15 @@ primitives_checks x y ids vertices kind indices =
     done))))
 
 -- A draw, whose vertices and indices are the first of these.
-abbrev pub draw_checks : ℤ → ℤ → Option ℕ → SceneDraw → List SceneVertex → List ℕ → Checks
+abbrev pub draw_checks : ℤ → ℤ → Option ℕ → SceneDraw → List SceneVertex → List ℕ → Checks ReadKind
 draw_checks x y ids d vertices indices =
     followed_by (opening_checks 32768 d vertices indices)
     (primitives_checks x y ids (take d.vertices vertices) d.primitives (take d.indices indices))
 
--- Each draw passes its checks, and no vertex and no index is left over.
-abbrev pub DrawsPass : ℤ → ℤ → Option ℕ → List SceneDraw → List SceneVertex → List ℕ → Type 0
-DrawsPass x y ids [] vertices indices = (vertices ≡ []) × (indices ≡ [])
-DrawsPass x y ids (d ∷ ds) vertices indices =
-    Pass (draw_checks x y ids d vertices indices)
-    × DrawsPass x y (ids_after ids (triangles_listed d indices)) ds (drop d.vertices vertices) (drop d.indices indices)
+-- The checks of the draws of a batch, which are numbered from `number` on.
+abbrev pub batch_draws_checks : ℤ → ℤ → ℕ → Option ℕ → List SceneDraw → List SceneVertex → List ℕ → Checks ReadFault
+batch_draws_checks x y = draws_checks (draw_checks x y) ids_after
 
--- The first check of draws that fails reports this fault. The draws are numbered from `number` on.
-abbrev pub IsFirstOfDraws : ℤ → ℤ → ℕ → Option ℕ → List SceneDraw → List SceneVertex → List ℕ → ReadFault → Type 0
-IsFirstOfDraws x y number ids [] vertices indices fault =
-    ((vertices ≡ []) × (indices ≡ []) → ⊥) × (fault ≡ record { kind = WrongKind; draw = None })
-IsFirstOfDraws x y number ids (d ∷ ds) vertices indices fault =
-    (FirstIs (draw_checks x y ids d vertices indices) fault.kind × (fault.draw ≡ Some number))
-    ⊎ (Pass (draw_checks x y ids d vertices indices)
-    × IsFirstOfDraws x y (number + 1) (ids_after ids (triangles_listed d indices)) ds (drop d.vertices vertices) (drop d.indices indices) fault)
-
--- The batch passes its checks: its draws can be counted by 32 bits, and each passes its own.
-pub record BatchPasses (x y : ℤ) (ids : Option ℕ) (draws : List SceneDraw) (vertices : List SceneVertex) (indices : List ℕ) : Type 0 where
-  pub number : length draws ≤ 4294967295
-  pub passed : DrawsPass x y ids draws vertices indices
-
--- The first check of a batch that fails reports this fault.
-pub data IsFirstFault (x y : ℤ) (ids : Option ℕ) (draws : List SceneDraw) (vertices : List SceneVertex) (indices : List ℕ) (fault : ReadFault) : Type 0 where
-  in_number : (length draws ≤ 4294967295 → ⊥) → fault ≡ record { kind = TooMany; draw = None } → IsFirstFault x y ids draws vertices indices fault
-  in_draws : length draws ≤ 4294967295 → IsFirstOfDraws x y 0 ids draws vertices indices fault → IsFirstFault x y ids draws vertices indices fault
+-- The checks of a batch: its draws can be counted by 32 bits, and then the draws.
+abbrev pub batch_checks : ℤ → ℤ → Option ℕ → List SceneDraw → List SceneVertex → List ℕ → Checks ReadFault
+batch_checks x y ids draws vertices indices = check (length draws ≤ 4294967295) (outside TooMany) (batch_draws_checks x y 0 ids draws vertices indices)

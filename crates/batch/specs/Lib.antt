@@ -6,7 +6,6 @@
 --   AreSeen: The same of each vertex that an index names.
 --   NameSeenVertices: Each of these indices names a vertex, which can be seen.
 --   vertex_seen: The vertex as it is seen.
---   state_seen: The state of triangles as they are seen: their scissor is moved.
 --   triangles_seen: The triangles of a batch in draw order, as the same arrays list them in a scene, seen from the corner of pixel (x, y).
 --
 -- Ids.antt
@@ -19,26 +18,14 @@
 --   AreQuadsSeen: If the primitives are quads, each of them is seen and strictly convex.
 --   primitives_checks: The primitives of a draw of these vertices.
 --   draw_checks: A draw, whose vertices and indices are the first of these.
---   DrawsPass: Each draw passes its checks, and no vertex and no index is left over.
---   IsFirstOfDraws: The first check of draws that fails reports this fault.
---   BatchPasses: The batch passes its checks: its draws can be counted by 32 bits, and each passes its own.
---   IsFirstFault: The first check of a batch that fails reports this fault.
+--   batch_draws_checks: The checks of the draws of a batch, which are numbered from `number` on.
+--   batch_checks: The checks of a batch: its draws can be counted by 32 bits, and then the draws.
 --
 -- Parts.antt
 --   triangles_in: The triangles of the part in draw order, each by the indices of its vertices.
 --   seen_in: The triangle of these vertices, as it is seen from the origin.
---   IsReady: There are such primitives, and their indices name vertices that can be seen.
---
--- Arrays.antt
---   HasSizes: The struct and the elements of its arrays have the sizes, in bytes, that this library knows.
---
--- Errors.antt
---   alone: An error of which the status says all; with the status 0 none.
---   reported_in: An error of the list with this number, in this draw, if it is in one.
 
 pub mod Seen
 pub mod Ids
 pub mod Checks
 pub mod Parts
-pub mod Arrays
-pub mod Errors

@@ -1,12 +1,12 @@
 -- The triangles of one draw.
-use Rattle.std.specs.Prelude.{ℕ, ◌≤◌, List, slice_index}
+use Rattle.std.specs.Prelude.{ℕ, List, slice_index}
 use Rattle.shade.specs.declared.placed.Placed.{Placed}
 use Rattle.model.specs.Primitives.{triangles_of}
 use Rattle.model.specs.declared.draw.Vertex.{Vertex}
 use Rattle.model.specs.Listing.{triangle_of}
 use Rattle.scene.specs.Listed.{primitives_listed}
 use Rattle.batch.specs.declared.part.Part.{Part}
-use Rattle.batch.specs.Seen.{vertex_at, vertex_seen, NameSeenVertices}
+use Rattle.batch.specs.Seen.{vertex_at, vertex_seen}
 
 -- The triangles of the part in draw order, each by the indices of its vertices.
 abbrev pub triangles_in : Part → List (List ℕ)
@@ -17,8 +17,3 @@ abbrev pub seen_in : Part → List ℕ → Placed
 seen_in p indices =
     let corner : ℕ → Vertex = λ i. vertex_seen p.origin.x p.origin.y (vertex_at p.vertices.now (slice_index indices i)) in
     triangle_of p.state (corner 0) (corner 1) (corner 2)
-
--- There are such primitives, and their indices name vertices that can be seen.
-pub record IsReady (p : Part) : Type 0 where
-  pub kind : p.kind ≤ 2
-  pub vertices : NameSeenVertices p.origin.x p.origin.y p.vertices.now p.indices.now

@@ -3,14 +3,13 @@ use Rattle.std.specs.Prelude.{ℕ, ℤ, pos, ◌<◌, List, length, map, slice_i
 use Rattle.std.specs.List.{All, flat_map}
 use Rattle.grid.specs.Position.{IsInGuardBand}
 use Rattle.shade.specs.declared.placed.Placed.{Placed}
-use Rattle.shade.specs.declared.state.State.{State}
 use Rattle.model.specs.declared.draw.Vertex.{Vertex}
 use Rattle.model.specs.Listing.{placed_all}
 use Rattle.scene.specs.declared.draw.SceneDraw.{SceneDraw}
 use Rattle.scene.specs.declared.vertex.SceneVertex.{SceneVertex}
 use Rattle.scene.specs.Listed.{vertex_listed, draws_listed}
 use Rattle.scene.specs.Ranges.{IsVertexInRange}
-use Rattle.canvas.specs.Window.{moved_position, moved_box, moved}
+use Rattle.canvas.specs.Window.{moved_position, moved}
 
 -- The vertex of this index; past the end one of zeros, which no triangle of a batch names.
 abbrev pub vertex_at : List SceneVertex → ℕ → SceneVertex
@@ -33,10 +32,6 @@ pub record NameSeenVertices (x y : ℤ) (vertices : List SceneVertex) (indices :
 -- The vertex as it is seen.
 abbrev pub vertex_seen : ℤ → ℤ → SceneVertex → Vertex
 vertex_seen x y v = record (vertex_listed v) { at = moved_position x y (record { x = v.x; y = v.y }) }
-
--- The state of triangles as they are seen: their scissor is moved.
-abbrev pub state_seen : ℤ → ℤ → State → State
-state_seen x y state = record state { scissor = moved_box x y state.scissor }
 
 -- The triangles of a batch in draw order, as the same arrays list them in a scene, seen from the corner of pixel (x, y).
 abbrev pub triangles_seen : ℤ → ℤ → List SceneDraw → List SceneVertex → List ℕ → List Placed

@@ -1,9 +1,8 @@
 //! The checks of a batch, before anything is drawn.
-ghost use Rattle.std.specs.Prelude.{◌≡◌, ◌↔◌, ◌≤◌, ◌⊎◌, length, IsOk, IsTrue, IfErr, MatchResult, Some};
+ghost use Rattle.std.specs.Prelude.{◌↔◌, ◌≤◌, length, IsTrue, ⊤};
+ghost use Rattle.model.specs.Checking.{IsJudged};
 ghost use Rattle.scene.specs.Listed.{primitives_listed};
-ghost use Rattle.scene.specs.Checking.{Pass, FirstIs};
-ghost use Rattle.scene.specs.Checks.{triangles_listed};
-ghost use Rattle.batch.specs.Checks.{AreQuadsSeen, primitives_checks, draw_checks, DrawsPass, IsFirstOfDraws, BatchPasses, IsFirstFault};
+ghost use Rattle.batch.specs.Checks.{AreQuadsSeen, primitives_checks, draw_checks, batch_draws_checks, batch_checks};
 
 use crate::ids::{after, has_ids};
 use crate::vertices::{are_quads_seen, are_seen};
@@ -33,7 +32,7 @@ fn check_primitives(
     origin: &Origin,
     ids: Option<u32>,
 ) -> Result<(), ReadKind>
-    ensures { let checks = primitives_checks origin.now.x origin.now.y ids vertices.now kind indices.now in MatchResult result (λ done. Pass checks) (λ kind. FirstIs checks kind) }
+    ensures { IsJudged (primitives_checks origin.now.x origin.now.y ids vertices.now kind indices.now) (λ done. ⊤) result }
 {
     if indices.len() % corners(kind) != 0 {
         return Err(ReadKind::WrongKind);
@@ -61,7 +60,7 @@ fn check_draw(
     origin: &Origin,
     ids: Option<u32>,
 ) -> Result<(), ReadKind>
-    ensures { let checks = draw_checks origin.now.x origin.now.y ids draw.now vertices.now indices.now in MatchResult result (λ done. Pass checks) (λ kind. FirstIs checks kind) }
+    ensures { IsJudged (draw_checks origin.now.x origin.now.y ids draw.now vertices.now indices.now) (λ done. ⊤) result }
 {
     let (own_vertices, own_indices) = (draw.vertices as usize, draw.indices as usize);
     if own_vertices > vertices.len() || own_indices > indices.len() {
@@ -88,9 +87,7 @@ fn check_draws(
     ids: Option<u32>,
 ) -> Result<(), ReadFault>
     requires { length draws.now ≤ 4294967295 }
-    ensures { MatchResult result
-        (λ done. DrawsPass origin.now.x origin.now.y ids draws.now vertices.now indices.now)
-        (λ fault. IsFirstOfDraws origin.now.x origin.now.y 0 ids draws.now vertices.now indices.now fault) }
+    ensures { IsJudged (batch_draws_checks origin.now.x origin.now.y 0 ids draws.now vertices.now indices.now) (λ done. ⊤) result }
 {
     let mut next_ids = ids;
     let (mut vertices_left, mut indices_left) = (vertices, indices);
@@ -117,9 +114,7 @@ pub(crate) fn check_batch(
     origin: &Origin,
     ids: Option<u32>,
 ) -> Result<(), ReadFault>
-    ensures { MatchResult result
-        (λ done. BatchPasses origin.now.x origin.now.y ids draws.now vertices.now indices.now)
-        (λ fault. IsFirstFault origin.now.x origin.now.y ids draws.now vertices.now indices.now fault) }
+    ensures { IsJudged (batch_checks origin.now.x origin.now.y ids draws.now vertices.now indices.now) (λ done. ⊤) result }
 {
     if u32::try_from(draws.len()).is_err() {
         return Err(ReadFault::outside(ReadKind::TooMany));

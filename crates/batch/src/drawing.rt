@@ -1,46 +1,47 @@
 //! A batch, drawn.
-ghost use Rattle.std.specs.Prelude.{◌≡◌, length, map, OnOk, OnErr, MatchResult};
+ghost use Rattle.std.specs.Prelude.{◌≡◌, map, OnOk, OnErr, ⊤};
 ghost use Rattle.model.specs.Listing.{placed_all};
 ghost use Rattle.scene.specs.Listed.{draw_listed};
-ghost use Rattle.scene.specs.Checking.{Pass};
+ghost use Rattle.model.specs.Checking.{IsJudged, Pass};
 ghost use Rattle.canvas.specs.Window.{moved};
-ghost use Rattle.canvas.specs.Layout.{planes_of_rows};
 ghost use Rattle.canvas.specs.Drawing.{HaveEnds};
 ghost use Rattle.batch.specs.Seen.{triangles_seen};
 ghost use Rattle.batch.specs.Ids.{drawn_as};
-ghost use Rattle.batch.specs.Checks.{draw_checks, BatchPasses, IsFirstFault};
+ghost use Rattle.batch.specs.Checks.{draw_checks, batch_checks};
 
 use crate::checking::check_batch;
 use crate::ids::after;
 use crate::part::Part;
-use crate::state::seen_state;
-use canvas::{Origin, TileRows};
-use lanes::BlockSamples;
+use canvas::{Ids, Origin, Piece};
 use model::ReadFault;
 use scene::{SceneDraw, SceneVertex, triangle_count};
 
 /// Draws a draw that passes its checks, whose vertices and indices are the first of these.
 fn draw_one(
-    rows: &TileRows,
+    piece: &mut Piece<'_>,
     draw: &SceneDraw,
     vertices: &[SceneVertex],
     indices: &[u32],
     origin: &Origin,
     ids: Option<u32>,
-    samples: &mut [BlockSamples],
 )
-    requires passed { Pass (draw_checks origin.now.x origin.now.y ids draw.now vertices.now indices.now) }
-    requires samples { length samples.old ≡ planes_of_rows rows.now.canvas rows.now.first rows.now.end }
-    ensures { HaveEnds (drawn_as ids (map (moved origin.now.x origin.now.y) (placed_all (draw_listed draw.now vertices.now indices.now)))) rows.now.canvas rows.now.first rows.now.end samples.old samples.new }
+    requires { Pass (draw_checks origin.now.x origin.now.y ids draw.now vertices.now indices.now) }
+    ensures drawn { HaveEnds (drawn_as ids (map (moved origin.now.x origin.now.y) (placed_all (draw_listed draw.now vertices.now indices.now))))
+        piece.old.rows.canvas piece.old.rows.first piece.old.rows.end piece.old.planes.now piece.new.planes.now }
+    ensures rows { piece.new.rows ≡ piece.old.rows }
+    ensures same { piece.new.planes.ghost_name ≡ piece.old.planes.ghost_name }
 {
     let part = Part {
-        state: seen_state(&draw.state(), origin),
+        state: origin.seen_state(&draw.state()),
         kind: draw.primitives,
         vertices: &vertices[..draw.vertices as usize],
         indices: &indices[..draw.indices as usize],
         origin: *origin,
     };
-    part.draw(rows, ids, samples);
+    match ids {
+        None => piece.draw(&part),
+        Some(first) => piece.draw(&Ids::new(&part, first).unwrap()),
+    }
 }
 
 /// Draws a batch at the samples of tile rows of a canvas whose upper left pixel is `origin` on the screen: in the colours of its
@@ -51,34 +52,25 @@ fn draw_one(
 /// One whose numbers are out of range, or which is outside of the guard band as it is seen from the corner of the pixel `origin`, is
 /// `OutOfRange`. The edges of a scissor are at most 32,768. A triangle whose id would be above 16,777,215 is `TooMany`.
 pub fn draw_batch(
-    rows: &TileRows,
+    piece: &mut Piece<'_>,
     draws: &[SceneDraw],
     vertices: &[SceneVertex],
     indices: &[u32],
     origin: &Origin,
     ids: Option<u32>,
-    samples: &mut [BlockSamples],
 ) -> Result<(), ReadFault>
-    requires { length samples.old ≡ planes_of_rows rows.now.canvas rows.now.first rows.now.end }
-    ensures judged { MatchResult result
-        (λ done. BatchPasses origin.now.x origin.now.y ids draws.now vertices.now indices.now)
-        (λ fault. IsFirstFault origin.now.x origin.now.y ids draws.now vertices.now indices.now fault) }
-    ensures drawn { OnOk result (HaveEnds (drawn_as ids (triangles_seen origin.now.x origin.now.y draws.now vertices.now indices.now)) rows.now.canvas rows.now.first rows.now.end samples.old samples.new) }
-    ensures kept { OnErr result (samples.new ≡ samples.old) }
+    ensures judged { IsJudged (batch_checks origin.now.x origin.now.y ids draws.now vertices.now indices.now) (λ done. ⊤) result }
+    ensures drawn { OnOk result (HaveEnds (drawn_as ids (triangles_seen origin.now.x origin.now.y draws.now vertices.now indices.now))
+        piece.old.rows.canvas piece.old.rows.first piece.old.rows.end piece.old.planes.now piece.new.planes.now) }
+    ensures kept { OnErr result (piece.new.planes.now ≡ piece.old.planes.now) }
+    ensures rows { piece.new.rows ≡ piece.old.rows }
+    ensures same { piece.new.planes.ghost_name ≡ piece.old.planes.ghost_name }
 {
     check_batch(draws, vertices, indices, origin, ids)?;
     let mut next_ids = ids;
     let (mut vertices_left, mut indices_left) = (vertices, indices);
     for draw in draws {
-        draw_one(
-            rows,
-            draw,
-            vertices_left,
-            indices_left,
-            origin,
-            next_ids,
-            samples,
-        );
+        draw_one(piece, draw, vertices_left, indices_left, origin, next_ids);
         let (own, later) = indices_left.split_at(draw.indices as usize);
         next_ids = after(next_ids, triangle_count(draw.primitives, own));
         indices_left = later;

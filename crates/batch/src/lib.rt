@@ -2,17 +2,11 @@
 //! scene, and then drawn at the samples of a canvas. No call allocates.
 #![tactic(auto)]
 
-mod arrays;
 mod checking;
 mod drawing;
-mod drawn;
-mod error;
 mod ids;
 mod part;
 mod primitives;
-mod state;
 mod vertices;
 
-pub use arrays::Batch;
 pub use drawing::draw_batch;
-pub use error::LibraryError;

@@ -1,17 +1,16 @@
 -- The runs of triangles, one triangle and one tile row after another.
-use Rattle.std.proofs.Common.{◌≡◌, ◌⊎◌, inl, inr, refl, sym, ap, ◌∙◌, subst, ℕ, zero, suc, true, cond, ◌+◌, ◌-◌, ◌*◌, ◌/◌, ◌%◌, ◌^◌, ◌<◌, ◌≤◌, List, [], ◌∷◌, ◌++◌, length, get_or, slice_get, slice_index, Some, arith}
+use Rattle.std.proofs.Common.{◌≡◌, ◌⊎◌, inl, inr, refl, sym, ap, ◌∙◌, subst, ℕ, zero, suc, true, cond, ◌+◌, ◌-◌, ◌*◌, ◌/◌, ◌%◌, ◌^◌, ◌<◌, ◌≤◌, min, List, [], ◌∷◌, ◌++◌, length, get_or, slice_get, slice_index, Some, arith}
 use Rattle.std.specs.List.{All, Contains}
 use Rattle.std.specs.List.Sorted.{IsStrictlyIncreasing}
 use Rattle.std.proofs.lemmas.List.{length_push, get_or_append_left, get_or_push}
 use Rattle.std.proofs.lemmas.Bool.{cases_Bool, cases_lt}
 use Rattle.std.proofs.lemmas.Bool.Decides.{nat_tests}
 use Rattle.std.proofs.lemmas.List.Elements.{All-nil, All-cons, All-head, All-tail, All-push, All-weaker, Contains-append_left, Contains-push}
-use Rattle.std.proofs.Math.Nat.{mul-le-mul, mul-le-mul_left, mul-le-mul_right, div-lt_iff_lt-mul, le-div_iff_mul-le}
-use Rattle.grid.specs.Pixels.{side_of, IsInBox}
+use Rattle.std.proofs.Math.Nat.{mod-lt, div-add-mod', mul-le-mul, mul-le-mul_left, mul-le-mul_right, div-lt_iff_lt-mul, le-div_iff_mul-le}
+use Rattle.grid.specs.Pixels.{side_of}
 use Rattle.grid.specs.declared.pixels.PixelBox.{PixelBox}
 use Rattle.grid.specs.declared.sample_count.SampleCount.{SampleCount}
-use Rattle.grid.specs.declared.triangle.Tri.{Tri}
-use Rattle.cover.specs.Bounds.{first_pixel, end_pixel, HoldsCovered}
+use Rattle.cover.specs.Bounds.{first_pixel, end_pixel}
 use Rattle.cover.proofs.Box.{box_holds}
 use Rattle.model.specs.Rows.{IsRowSpan}
 use Rattle.model.specs.declared.rows.RowSpan.{RowSpan}
@@ -19,31 +18,42 @@ use Rattle.std.proofs.lemmas.Int.{ints, clamps}
 use Rattle.cover.specs.Rasterized.{IsRasterized}
 use Rattle.shade.specs.declared.placed.Placed.{Placed}
 use Rattle.model.specs.Scene.{Scene}
-use Rattle.bins.specs.declared.reach.Columns.{Columns}
+use Rattle.reach.specs.declared.span.Span.{Span}
+use Rattle.reach.specs.Reach.{IsInSpan, HaveMet, HaveReached}
 use Rattle.bins.specs.declared.tile_run.TileRun.{TileRun}
 use Rattle.bins.specs.Bin.{MeetsRect}
-use Rattle.bins.specs.Grid.{TileGrid, columns_of, rows_of, rect_at, rect_of, IsWithinLimits}
-use Rattle.bins.specs.Reach.{HasColumn, ReachesTile, HaveReached}
+use Rattle.tiling.specs.Grid.{TileGrid, columns_of, rows_of, rect_at, rect_of, IsWithinLimits}
 use Rattle.bins.specs.TileRuns.{has_tile, triangles_at, IsTileRunOver, IsVisitedBefore, AreTileRuns}
-use Rattle.bins.proofs.Tiles.{column_of, row_of, rect_of_place, few_tiles}
+use Rattle.tiling.proofs.Tiles.{IsPixelOf, column_of, row_of, tile_is, tile_below, rect_of_place, few_tiles}
 use Rattle.bins.proofs.Placing.{triangles-push, triangles-has, triangles-has_not}
 
--- a triangle that meets the tile reaches it in its box and its scissor
-pub reaches_of_meets : (t : Placed) (count : SampleCount) (g : TileGrid) (column row : ℕ) (bounds rect : PixelBox) → IsWithinLimits g → HoldsCovered t.tri bounds
-    → ((i j : ℕ) → IsInBox bounds i j → IsInBox t.state.scissor i j → IsInBox rect i j) → MeetsRect t count (rect_at g column row) → ReachesTile t.tri count rect g column row
-reaches_of_meets t count g column row bounds rect limits holds overlap meets =
-    let across = column_of g column row meets.column meets.row meets.inside in
-    let along = row_of g column row meets.column meets.row meets.inside in
-    let box = holds count meets.column meets.row meets.sample (omega (arith, across.within, limits.width)) (omega (arith, along.within, limits.height)) meets.is_sample meets.meets.covered in
-    record {
-      i = meets.column;
-      j = meets.row;
-      sample = meets.sample;
-      is_sample = meets.is_sample;
-      in_tile = meets.inside;
-      in_rect = overlap meets.column meets.row box meets.meets.in_scissor;
-      covers = meets.meets.covered;
-    }
+-- a triangle that meets the tile of a column and a row of tiles
+module _ (t : Placed) (count : SampleCount) (g : TileGrid) (limits : IsWithinLimits g) (met met_rows : Span) (have : HaveMet t g.side met met_rows) (column row : ℕ) (meets : MeetsRect t count (rect_at g column row)) where
+  across : IsPixelOf g.side g.width column meets.column
+  across = column_of g column row meets.column meets.row meets.inside
+
+  along : IsPixelOf g.side g.height row meets.row
+  along = row_of g column row meets.column meets.row meets.inside
+
+  column_is : column ≡ meets.column / side_of g.side
+  column_is = tile_is g.side g.width column meets.column across
+
+  row_is : row ≡ meets.row / side_of g.side
+  row_is = tile_is g.side g.height row meets.row along
+
+  in_both : IsInSpan met (meets.column / side_of g.side) × IsInSpan met_rows (meets.row / side_of g.side)
+  in_both = have count meets.column meets.row meets.sample (record { column = omega (arith, across.within, limits.width); row = omega (arith, along.within, limits.height); is_sample = meets.is_sample; meets = meets.meets })
+
+  pub row_met : IsInSpan met_rows row
+  row_met = subst (λ n. IsInSpan met_rows n) (sym row_is) in_both.1
+
+  pub column_met : (columns cut : Span) → cut.first ≡ met.first → cut.end ≡ min met.end (columns_of g) → HaveReached t.tri count g.side row cut columns → IsInSpan columns column
+  column_met columns cut first end reached =
+      let from = in_both.0.from in
+      let below = in_both.0.below in
+      let inside : meets.column / side_of g.side < columns_of g = omega (arith, tile_below g.side g.width column meets.column across, column_is) in
+      subst (λ n. IsInSpan columns n) (sym column_is)
+      (reached meets.column meets.row meets.sample (sym row_is) meets.is_sample meets.meets.covered (record { from = omega (arith, first, from); below = omega (arith, end, below, inside) }))
 
 pub same_placed : (a b : Placed) → Some a ≡ Some b → a ≡ b
 same_placed a b e = cc
@@ -90,6 +100,10 @@ row_within row rows columns place h k =
     h' : row + 1 ≤ rows
     h' = omega arith
 
+some_columns : (columns rows tile : ℕ) → tile < rows * columns → 0 < columns
+some_columns zero rows tile h = absurd (omega (arith, h))
+some_columns (suc columns) rows tile h = omega arith
+
 module _ (l : Scene) (g : TileGrid) (first_row rows : ℕ) where
   -- none before the first triangle
   pub no_runs : AreTileRuns l g first_row rows 0 0 []
@@ -119,53 +133,57 @@ module _ (l : Scene) (g : TileGrid) (first_row rows : ℕ) where
         done : (m tile : ℕ) → m < n + 1 → tile < rows * columns_of g → IsVisitedBefore g n rows m tile
         done m tile h below = elim (cases_lt m n) [ inl less ↦ inl less | inr more ↦ inr (omega arith, below) ]
 
-    -- a triangle that meets no tile of these rows
-    pub runs_past : AreTileRuns l g first_row rows n 0 runs
-        → ((t : Placed) (tile : ℕ) → slice_get l.triangles n ≡ Some t → tile < rows * columns_of g → ¬ MeetsRect t l.count (rect_of g (first_row * columns_of g + tile)))
-        → AreTileRuns l g first_row rows (n + 1) 0 runs
-    runs_past are none = record {
-      few = omega (arith, are.few);
+    -- tile rows in which the triangle meets no tile
+    pub rows_past : (row next : ℕ) (t : Placed) → slice_get l.triangles n ≡ Some t → row ≤ next → next ≤ rows
+        → ((column k : ℕ) → row ≤ k → k < next → ¬ MeetsRect t l.count (rect_at g column (first_row + k))) → AreTileRuns l g first_row rows n row runs → AreTileRuns l g first_row rows n next runs
+    rows_past row next t known order within none are = record {
+      few = omega (arith, are.few, order);
       over = are.over;
-      earlier = All-weaker _ _ (next 0) runs are.earlier;
+      earlier = All-weaker _ _ further runs are.earlier;
       ascending = are.ascending;
-      whole = λ m tile t before below e meets. elim (cases_lt m n) [
-        | inl less ↦ are.whole m tile t (inl less) below e meets
-        | inr more ↦ absurd (elim before [
-          | inl h ↦ (let same : m ≡ n = omega arith in none t tile (rw same at e) below meets)
-          | inr h ↦ omega (arith, h.1)
-        ])
+      whole = λ m tile other before below e meets. elim before [
+        | inl h ↦ are.whole m tile other (inl h) below e meets
+        | inr h ↦ elim (cases_lt tile (row * columns_of g)) [
+          | inl less ↦ are.whole m tile other (inr (h.0, less)) below e meets
+          | inr more ↦ absurd (unmet tile other more h.1 (rw h.0 at e) meets)
+        ]
       ];
     }
+      where
+        wider : row * columns_of g ≤ next * columns_of g
+        wider = mul-le-mul_right (columns_of g) order
 
-    module _ (row : ℕ) (t : Placed) (columns : Columns) (known : slice_get l.triangles n ≡ Some t) (below : row < rows) (within : columns.end ≤ columns_of g)
-        (met : (column : ℕ) → MeetsRect t l.count (rect_at g column (first_row + row)) → HasColumn columns column) (are : AreTileRuns l g first_row rows n row runs) where
+        further : (run : TileRun) → (run.number < n) ⊎ ((run.number ≡ n) × (run.end ≤ row * columns_of g)) → (run.number < n) ⊎ ((run.number ≡ n) × (run.end ≤ next * columns_of g))
+        further run (inl h) = inl h
+        further run (inr h) = inr (h.0, omega (arith, h.1, wider))
+
+        unmet : (tile : ℕ) (other : Placed) → row * columns_of g ≤ tile → tile < next * columns_of g → slice_get l.triangles n ≡ Some other → ¬ MeetsRect other l.count (rect_of g (first_row * columns_of g + tile))
+        unmet tile other from before e meets =
+            let wide : 0 < columns_of g = some_columns (columns_of g) next tile before in
+            let k : ℕ = tile / columns_of g in
+            let column : ℕ = tile % columns_of g in
+            let low : row ≤ k = (le-div_iff_mul-le wide).1 from in
+            let high : k < next = (div-lt_iff_lt-mul wide).1 before in
+            let sum : k * columns_of g + column ≡ tile = div-add-mod' tile (columns_of g) in
+            let place : first_row * columns_of g + tile ≡ (first_row + k) * columns_of g + column = omega (arith, sum) in
+            let rect : rect_of g (first_row * columns_of g + tile) ≡ rect_at g column (first_row + k) = ap (rect_of g) place ∙ rect_of_place g column (first_row + k) (mod-lt tile wide) in
+            let same : other ≡ t = same_placed other t (sym e ∙ known) in
+            none column k low high (rw (rect, same) at meets)
+
+    module _ (row : ℕ) (t : Placed) (columns : Span) (known : slice_get l.triangles n ≡ Some t) (below : row < rows) (within : columns.end ≤ columns_of g)
+        (met : (column : ℕ) → MeetsRect t l.count (rect_at g column (first_row + row)) → IsInSpan columns column) (are : AreTileRuns l g first_row rows n row runs) where
       further : (run : TileRun) → (run.number < n) ⊎ ((run.number ≡ n) × (run.end ≤ row * columns_of g)) → (run.number < n) ⊎ ((run.number ≡ n) × (run.end ≤ (row + 1) * columns_of g))
       further run (inl h) = inl h
       further run (inr h) = inr (h.0, omega (arith, h.1))
 
       -- a tile of this row that the triangle meets
-      in_row : (tile : ℕ) (other : Placed) → row * columns_of g ≤ tile → tile < (row + 1) * columns_of g → slice_get l.triangles n ≡ Some other → MeetsRect other l.count (rect_of g (first_row * columns_of g + tile)) → HasColumn columns (tile - row * columns_of g)
+      in_row : (tile : ℕ) (other : Placed) → row * columns_of g ≤ tile → tile < (row + 1) * columns_of g → slice_get l.triangles n ≡ Some other → MeetsRect other l.count (rect_of g (first_row * columns_of g + tile)) → IsInSpan columns (tile - row * columns_of g)
       in_row tile other from before e meets =
           let column : ℕ = tile - row * columns_of g in
           let place : first_row * columns_of g + tile ≡ (first_row + row) * columns_of g + column = omega arith in
           let rect : rect_of g (first_row * columns_of g + tile) ≡ rect_at g column (first_row + row) = ap (rect_of g) place ∙ rect_of_place g column (first_row + row) (omega arith) in
           let same : other ≡ t = same_placed other t (sym e ∙ known) in
           met column (rw (rect, same) at meets)
-
-      pub row_empty : columns.end ≤ columns.first → AreTileRuns l g first_row rows n (row + 1) runs
-      row_empty empty = record {
-        few = omega (arith, are.few);
-        over = are.over;
-        earlier = All-weaker _ _ further runs are.earlier;
-        ascending = are.ascending;
-        whole = λ m tile other before in_rows e meets. elim before [
-          | inl h ↦ are.whole m tile other (inl h) in_rows e meets
-          | inr h ↦ elim (cases_lt tile (row * columns_of g)) [
-            | inl less ↦ are.whole m tile other (inr (h.0, less)) in_rows e meets
-            | inr more ↦ (let there = in_row tile other more h.1 (rw h.0 at e) meets in absurd (omega (arith, there.from, there.below)))
-          ]
-        ];
-      }
 
       older : (tile : ℕ) (other : TileRun) → row * columns_of g ≤ tile → (other.number < n) ⊎ ((other.number ≡ n) × (other.end ≤ row * columns_of g)) → has_tile tile other ≡ true → other.number < n
       older tile other from (inl h) has = h
@@ -202,18 +220,6 @@ module _ (l : Scene) (g : TileGrid) (first_row rows : ℕ) where
 
 pub drawn_of_meets : (t : Placed) (count : SampleCount) (r : PixelBox) → MeetsRect t count r → IsRasterized t.tri t.state.cull
 drawn_of_meets t count r meets = record { area = meets.meets.covered.area; kept = meets.meets.kept }
-
--- what the columns of a row have
-pub met_columns : (t : Placed) (count count' : SampleCount) (g : TileGrid) (row : ℕ) (setup : Tri) (bounds rect : PixelBox) (columns : Columns) → IsWithinLimits g → setup ≡ t.tri → count' ≡ count
-    → HoldsCovered setup bounds → ((i j : ℕ) → IsInBox bounds i j → IsInBox t.state.scissor i j → IsInBox rect i j) → HaveReached setup count' rect g row columns
-    → (column : ℕ) → MeetsRect t count (rect_at g column row) → HasColumn columns column
-met_columns t count count' g row setup bounds rect columns limits same same_count holds overlap have column meets =
-    let reaches = reaches_of_meets t count g column row bounds rect limits (subst (λ (s : Tri). HoldsCovered s bounds) same holds) overlap meets in
-    have column (rw (same, same_count) reaches)
-
-some_columns : (columns rows tile : ℕ) → tile < rows * columns → 0 < columns
-some_columns zero rows tile h = absurd (omega (arith, h))
-some_columns (suc columns) rows tile h = omega arith
 
 above : (a b : ℕ) → a < b → a + 1 ≤ b
 above a b h = omega arith

@@ -8,7 +8,7 @@ use Rattle.shade.specs.declared.placed.Placed.{Placed}
 use Rattle.model.specs.Scene.{Scene}
 use Rattle.bins.specs.declared.tile_run.TileRun.{TileRun}
 use Rattle.bins.specs.Bin.{MeetsRect}
-use Rattle.bins.specs.Grid.{TileGrid, columns_of, rect_of}
+use Rattle.tiling.specs.Grid.{TileGrid, columns_of, rect_of}
 use Rattle.bins.specs.TileRuns.{AreTileRuns, AreCandidates}
 use Rattle.std.proofs.lemmas.List.{get_or_default}
 use Rattle.std.proofs.Math.Nat.{mul-le-mul_right}

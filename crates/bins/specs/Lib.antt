@@ -1,17 +1,5 @@
 -- The definitions of this crate, each file behind those that it uses; `python3 -m tools.definitions` writes these lines.
 --
--- Grid.antt
---   TileGrid: The width and height of a picture in pixels, and its tile size.
---   tiles_over: How many tiles reach over this many pixels: the quotient by the tile size, rounded up.
---   columns_of: How many columns of tiles the picture has.
---   rows_of: How many rows of tiles the picture has.
---   tiles_of: How many tiles the picture has.
---   rect_at: The pixels of the tile of this column and row of tiles: a square, cut to the picture.
---   rect_of: The pixels of tile k, which stands in column k % columns and row k / columns of tiles.
---   IsTileOf: Pixel (i, j) is in the rectangle of tile k, and of no other tile.
---   IsInPicture: Pixel (i, j) is in the picture.
---   IsWithinLimits: A picture is at most 4096 by 4096 pixels, and not empty (this project's limits).
---
 -- Bin.antt
 --   MeetsRect: The triangle meets a sample of a pixel of the rectangle, whatever depth is stored there.
 --   IsBin: The bin is strictly ascending, and has numbers of triangles, among them that of each triangle that is needed.
@@ -25,12 +13,6 @@
 --   part_of: Part k of a list, which goes from its start to the start of the next.
 --   parts_of: All parts of a list, in their order.
 --   ArePartStarts: The starts cut the numbers: none is less than the one before it, or past the end.
---
--- Reach.antt
---   HasColumn: This column of tiles is one of the columns.
---   ReachesTile: The triangle covers a sample of a pixel of the tile, which is also in the rectangle.
---   HaveReached: The columns have each tile of this row that the triangle reaches.
---   MissesTile: The triangle covers no sample of a pixel of the tile.
 --
 -- TileRuns.antt
 --   has_tile: Whether a run has this tile.
@@ -46,15 +28,13 @@
 --   ArePlaces: The places are a zero, and then for each tile the index after those of its triangles that are placed.
 --   ArePlaced: The triangles of each tile that are placed stand from the tile's start on, in their order.
 --
--- Batch.antt
---   AreFetched: Element k of the batch is the triangle whose number stands at index first + k, while there are numbers.
---   IsBefore: The batch holds triangles of these numbers up to the one at this place, or just before it.
---   Has: The batch holds the triangle whose number stands at this place.
+-- Fetched.antt
+--   AreFetched: Element k of the triangles is the one whose number stands at index first + k, while there are numbers.
+--   IsBefore: Triangles of these numbers have been fetched up to the one at this place, or just before it.
+--   Has: The triangle whose number stands at this place is among those that have been fetched.
 
-pub mod Grid
 pub mod Bin
 pub mod Parts
-pub mod Reach
 pub mod TileRuns
 pub mod Sorting
-pub mod Batch
+pub mod Fetched

@@ -6,7 +6,7 @@ use Rattle.shade.specs.declared.placed.Placed.{Placed}
 use Rattle.model.specs.Scene.{Scene}
 use Rattle.bins.specs.declared.tile_run.TileRun.{TileRun}
 use Rattle.bins.specs.Bin.{MeetsRect}
-use Rattle.bins.specs.Grid.{TileGrid, columns_of, rect_of}
+use Rattle.tiling.specs.Grid.{TileGrid, columns_of, rect_of}
 
 -- Whether a run has this tile.
 abbrev pub has_tile : ℕ → TileRun → Bool

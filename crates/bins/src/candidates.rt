@@ -1,11 +1,11 @@
 //! Which triangles can have pixels in some tile rows.
 ghost use Rattle.std.specs.Prelude.{◌≡◌, ℕ, ◌+◌, ◌<◌, ◌≤◌, length, IfOk, IsTrue};
-ghost use Rattle.bins.specs.Grid.{rows_of, IsWithinLimits};
+ghost use Rattle.tiling.specs.Grid.{rows_of, IsWithinLimits};
 ghost use Rattle.bins.specs.TileRuns.{AreCandidates};
 
-use crate::tiling::Tiling;
 use model::{DrawList, RowSpan};
 use std::alloc::{AllocError, Global};
+use tiling::Tiling;
 
 /// Whether one of these rows of pixels lies between `top` and before `bottom`. There is one comparison and one branch: half of all
 /// triangles begin above the bottom, and half end below the top, but few do both.

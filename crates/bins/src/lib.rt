@@ -1,14 +1,12 @@
-//! The tiles of a picture, and which triangles are drawn in each.
+//! Which triangles are drawn in each tile of a picture.
 #![tactic(auto)]
 
-mod batch;
 mod bins;
 mod candidates;
-mod reach;
+mod fetched;
 mod sorting;
 mod tile_run;
-mod tiling;
 
-pub use batch::Batch;
 pub use bins::Bins;
+pub use fetched::Fetched;
 pub use tiling::Tiling;

@@ -1,13 +1,13 @@
 //! Runs of tiles that triangles can meet.
 ghost use Rattle.std.specs.Prelude.{◌≡◌, ◌+◌, ◌≤◌, ◌^◌, length, slice_get, Some, IfOk, OnOk};
-ghost use Rattle.bins.specs.Grid.{rows_of, IsWithinLimits};
+ghost use Rattle.tiling.specs.Grid.{rows_of, IsWithinLimits};
 
-use crate::batch::Batch;
-use crate::reach::{Columns, overlap};
-use crate::tiling::Tiling;
+use crate::fetched::Fetched;
 use cover::Setup;
 use model::{DrawList, Placed};
+use reach::{columns_met, tiles_met};
 use std::alloc::{AllocError, Global};
+use tiling::Tiling;
 
 /// Consecutive tiles of a row which a triangle can meet, from `first` to before `end`. They are counted from the first tile of
 /// the rows that are asked for.
@@ -39,15 +39,15 @@ impl TileRun {
         ensures runs { IfOk result (λ runs. AreTileRuns list.now tiling.now first_row rows (length list.now.triangles) 0 runs.items) }
     {
         let mut runs = Vec::new(alloc);
-        let Some(mut batch) = Batch::of(list, numbers) else {
+        let Some(mut fetched) = Fetched::of(list, numbers) else {
             return Ok(runs);
         };
         for place in 0..numbers.len() {
-            batch.go_on(list, numbers, place);
+            fetched.go_on(list, numbers, place);
             push_runs(
                 list,
                 numbers[place],
-                batch.triangle(place),
+                fetched.triangle(place),
                 tiling,
                 first_row,
                 rows,
@@ -79,11 +79,13 @@ fn push_runs(
     let Some(setup) = Setup::new(&triangle.tri, triangle.state.cull) else {
         return Ok(());
     };
-    let rect = overlap(&setup.bounds(), &triangle.state.scissor);
-    for row in 0..rows {
-        let columns = Columns::reached(&setup, list.count(), &rect, tiling, first_row + row);
+    let side = tiling.side();
+    let (columns, met) = tiles_met(triangle, &setup, side);
+    let columns = columns.up_to(tiling.columns());
+    for row in met.first.max(first_row)..met.end.min(first_row + rows) {
+        let columns = columns_met(&setup, list.count(), side, row, columns);
         if columns.first < columns.end {
-            let before = row * tiling.columns();
+            let before = tiling.tiles_in(row - first_row);
             runs.push(TileRun {
                 number,
                 first: before + columns.first,

@@ -1,5 +1,5 @@
 -- What triangles in the colours of their numbers make of a sample.
-use Rattle.std.proofs.Common.{◌≡◌, ◌⊎◌, inl, inr, refl, sym, ap, ◌∙◌, ℕ, ◌+◌, ◌/◌, ◌%◌, List, [], ◌∷◌, ◌++◌, length, Option, None, Some, if◌then◌else◌, true, false, Bool, arith}
+use Rattle.std.proofs.Common.{◌≡◌, ◌⊎◌, inl, inr, refl, sym, ap, ◌∙◌, ℕ, ◌+◌, ◌/◌, ◌%◌, ◌≤◌, List, [], ◌∷◌, ◌++◌, length, Option, None, Some, if◌then◌else◌, true, false, Bool, arith}
 use Rattle.grid.specs.Position.{Position}
 use Rattle.grid.specs.Samples.{sample_position}
 use Rattle.grid.specs.Triangle.{Covers}
@@ -10,6 +10,11 @@ use Rattle.shade.specs.Depth.{Passes}
 use Rattle.canvas.proofs.Flat.{IsFlat}
 use Rattle.shade.specs.Placed.{channel, IsInterpolated, Meets, Draws}
 use Rattle.shade.specs.Ending.{Ends}
+use Rattle.shade.specs.declared.operands.Channel.TheVariants.{Colour}
+use Rattle.shade.specs.Blend.{IsBlended}
+use Rattle.shade.specs.Presets.{replace}
+use Rattle.shade.specs.Merging.{operands_of}
+use Rattle.shade.proofs.Blended.{replaced}
 use Rattle.shade.proofs.Decided.{meets, passes}
 use Rattle.shade.proofs.Drawn.{draws}
 use Rattle.canvas.proofs.Flat.{flat_value}
@@ -48,6 +53,13 @@ module _ (t : Placed) (n : ℕ) (count : SampleCount) (i j s : ℕ) where
   colour : (k v w : ℕ) → IsFlat (channel u k) v → Covers t.tri.a t.tri.b t.tri.c p → IsInterpolated u p (channel u k) w → w ≡ v
   colour k v w flat covers is = quotient-unique _ _ w v is (flat_value u p (channel u k) v flat covers)
 
+  -- which replaces what is stored
+  stored : (k v w alpha old new : ℕ) → v ≤ 255 → IsFlat (channel u k) v → Covers t.tri.a t.tri.b t.tri.c p → IsInterpolated u p (channel u k) w
+      → IsBlended replace Colour (operands_of u.state.merge k w alpha old) new → new ≡ v
+  stored k v w alpha old new byte flat covers is blended =
+      let same = colour k v w flat covers is in
+      replaced (operands_of u.state.merge k w alpha old) new (omega (arith, byte, same)) blended ∙ same
+
   met_step : (start x old new next : Sample) → x.z ≡ old.z → Meets t count i j s → Draws t count i j s old new → Draws u count i j s x next → Step start x old new next
   met_step start x old new next same m d e =
       let f = d.met m in
@@ -63,9 +75,9 @@ module _ (t : Placed) (n : ℕ) (count : SampleCount) (i j s : ℕ) where
               case = inl (
                 record { meets = m; z = f.0.z; depth = f.1.depth; passes = pass },
                 record {
-                  red = other.red ∙ colour 0 (n % 256) g.0.r (record { first = refl; second = refl; third = refl }) m.covered g.1.red;
-                  green = other.green ∙ colour 1 (n / 256 % 256) g.0.g (record { first = refl; second = refl; third = refl }) m.covered g.1.green;
-                  blue = other.blue ∙ colour 2 (n / 65536 % 256) g.0.b (record { first = refl; second = refl; third = refl }) m.covered g.1.blue;
+                  red = stored 0 (n % 256) g.0.r g.0.a x.r next.r (omega arith) (record { first = refl; second = refl; third = refl }) m.covered g.1.red other.red;
+                  green = stored 1 (n / 256 % 256) g.0.g g.0.a x.g next.g (omega arith) (record { first = refl; second = refl; third = refl }) m.covered g.1.green other.green;
+                  blue = stored 2 (n / 65536 % 256) g.0.b g.0.a x.b next.b (omega arith) (record { first = refl; second = refl; third = refl }) m.covered g.1.blue other.blue;
                 },
               );
             }

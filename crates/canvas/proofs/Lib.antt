@@ -19,4 +19,3 @@ pub mod Moved
 pub mod Windows
 pub mod Listed
 pub mod Sources
-pub mod ColumnCuts

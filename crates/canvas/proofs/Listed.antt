@@ -9,6 +9,7 @@ use Rattle.grid.specs.Samples.{count_of}
 use Rattle.shade.specs.declared.depth.DepthTest.TheVariants.{Never}
 use Rattle.shade.specs.declared.sample.Sample.{Sample}
 use Rattle.shade.specs.declared.placed.Placed.{Placed}
+use Rattle.shade.specs.Presets.{none_blend}
 use Rattle.shade.specs.Placed.{Meets, Draws}
 use Rattle.shade.specs.Ending.{Ends}
 use Rattle.shade.proofs.Endings.{ends_more, ends_past, append-ends}
@@ -32,7 +33,7 @@ nothing = record {
   tri = record { a = record { x = pos 0; y = pos 0 }; b = record { x = pos 0; y = pos 0 }; c = record { x = pos 0; y = pos 0 } };
   z = [];
   rgba = [];
-  state = record { merge = record { test = Never; depth_write = false; write = []; over = false }; cull = Kept; sample_mask = 0; scissor = record { x0 = pos 0; y0 = pos 0; x1 = pos 0; y1 = pos 0 } };
+  state = record { merge = record { test = Never; depth_write = false; write = []; blend = none_blend }; cull = Kept; sample_mask = 0; scissor = record { x0 = pos 0; y0 = pos 0; x1 = pos 0; y1 = pos 0 } };
 }
 
 -- ---- triangles by their numbers

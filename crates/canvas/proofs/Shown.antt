@@ -1,5 +1,5 @@
 -- Tiles that begin with a later triangle, which hides those before it.
-use Rattle.std.proofs.Common.{zero, suc, ◌≡◌, ◌∙◌, inl, inr, refl, ap, subst, ℕ, ◌+◌, ◌-◌, ◌*◌, ◌/◌, ◌%◌, ◌^◌, ◌<◌, ◌≤◌, Bool, false, List, [], ◌∷◌, length, take, get_or, slice_get, Some, IsTrue, IsBitSet, arith}
+use Rattle.std.proofs.Common.{zero, suc, ◌≡◌, ◌∙◌, inl, inr, refl, ap, subst, ℕ, ◌+◌, ◌-◌, ◌*◌, ◌/◌, ◌%◌, ◌^◌, ◌<◌, ◌≤◌, Bool, false, slice_index_or, List, [], ◌∷◌, length, take, get_or, slice_get, Some, IsTrue, IsBitSet, arith}
 use Rattle.std.proofs.lemmas.Bool.{cases_lt}
 use Rattle.std.proofs.lemmas.Option.{get_or_from_slice_get}
 use Rattle.grid.specs.Samples.{count_of}
@@ -14,9 +14,14 @@ use Rattle.shade.specs.declared.sample.Shaded.{Shaded}
 use Rattle.shade.specs.declared.sample.Merge.{Merge}
 use Rattle.shade.specs.declared.state.State.{State}
 use Rattle.shade.specs.declared.placed.Placed.{Placed}
+use Rattle.shade.specs.declared.equation.Equation.{Equation}
+use Rattle.shade.specs.declared.operands.Channel.TheVariants.{Colour}
+use Rattle.shade.specs.declared.operands.Operands.{Operands}
 use Rattle.shade.specs.Blend.{IsBlended}
+use Rattle.shade.specs.Presets.{replace}
+use Rattle.shade.proofs.Blended.{replaced_alike}
 use Rattle.shade.specs.Depth.{Passes}
-use Rattle.shade.specs.Merging.{IsMerged}
+use Rattle.shade.specs.Merging.{Writes, operands_of, IsWritten, IsChannelMerged, IsMerged}
 use Rattle.shade.specs.Placed.{Meets, Draws}
 use Rattle.shade.specs.Ending.{Ends}
 use Rattle.shade.proofs.Decided.{IsDecided, meets, passes}
@@ -72,14 +77,19 @@ in_mask Sixteen mask (suc (suc (suc (suc (suc (suc (suc (suc (suc (suc (suc (suc
 always : (test : DepthTest) (new old : ℕ) → test ≡ Always → Passes test new old
 always test new old is = rw is tt
 
-replaced : (written over : Bool) (source alpha x y new : ℕ) → IsTrue written → over ≡ false → IsBlended written over source alpha x new → IsBlended written over source alpha y new
-replaced written over source alpha x y new is plain h = rw (is, plain) (rw (is, plain) at h)
+written_alike : (written : Bool) (e : Equation) (o p : Operands) (new : ℕ) → IsTrue written → e ≡ replace → o.source ≡ p.source → IsWritten written (IsBlended e Colour o) o.stored new
+    → IsWritten written (IsBlended e Colour p) p.stored new
+written_alike written e o p new is plain same h = rw (is, plain) (replaced_alike o p new same (rw (is, plain) at h))
+
+replaced : (m : Merge) (k source alpha x y new : ℕ) → Writes m k → m.blend.colour ≡ replace → IsChannelMerged m k source alpha x new → IsChannelMerged m k source alpha y new
+replaced m k source alpha x y new is plain h =
+    written_alike (slice_index_or m.write k false) m.blend.colour (operands_of m k source alpha x) (operands_of m k source alpha y) new is plain refl h
 
 merged_alike : (state : State) (count : SampleCount) (f : Shaded) (x y new : Sample) → ReplacesColours state count → y.z ≡ x.z → IsMerged state.merge f x new → IsMerged state.merge f y new
 merged_alike state count f x y new r same h = record {
-  red = replaced _ state.merge.over f.r f.a x.r y.r new.r r.red r.plain h.red;
-  green = replaced _ state.merge.over f.g f.a x.g y.g new.g r.green r.plain h.green;
-  blue = replaced _ state.merge.over f.b f.a x.b y.b new.b r.blue r.plain h.blue;
+  red = replaced state.merge 0 f.r f.a x.r y.r new.r r.red r.plain h.red;
+  green = replaced state.merge 1 f.g f.a x.g y.g new.g r.green r.plain h.green;
+  blue = replaced state.merge 2 f.b f.a x.b y.b new.b r.blue r.plain h.blue;
   depth = rw same h.depth;
 }
 

@@ -2,7 +2,6 @@
 use Rattle.std.proofs.Common.{rules, ◌≡◌, ◌∙◌, refl, sym, ap, ◌≤◌, ℕ, ℤ, pos, ◌-ℤ◌, ◌*ℤ◌, FitsSigned, to_z, of_z, w32, w64, Option, None, Some, IsSome, IfSome, List, map, arith}
 use Rattle.std.proofs.lemmas.Int.{ints, clamps}
 use Rattle.grid.specs.Position.{Position, IsInBand}
-use Rattle.grid.specs.declared.pixels.PixelBox.{PixelBox}
 use Rattle.lanes.specs.declared.block_samples.BlockSamples.{BlockSamples}
 use Rattle.shade.specs.declared.placed.Placed.{Placed}
 use Rattle.canvas.specs.declared.canvas.Canvas.{Canvas}
@@ -20,15 +19,6 @@ in_band_saturated z h = let low = h.low in let high = h.high in record { low = o
 
 -- ---- what the code computes
 -- a difference that is narrowed to 32 bits
-pub narrowed_difference : (a x f g r : ℤ) → FitsSigned w32 a → FitsSigned w32 x → f ≡ to_z w32 (of_z w32 a) → g ≡ to_z w32 (of_z w32 x)
-    → r ≡ saturated (to_z w64 (of_z w64 (to_z w64 (of_z w64 f) -ℤ to_z w64 (of_z w64 g)))) → to_z w32 (of_z w32 r) ≡ saturated (a -ℤ x)
-narrowed_difference a x f g r p q e h is =
-    let plain : to_z w64 (of_z w64 (to_z w64 (of_z w64 f) -ℤ to_z w64 (of_z w64 g))) ≡ a -ℤ x = omega (arith, ints) in
-    let same : r ≡ saturated (a -ℤ x) = is ∙ ap saturated plain in
-    let fits : to_z w32 (of_z w32 r) ≡ r = omega (arith, ints, clamps, same) in
-    fits ∙ same
-
--- the same of positions
 pub narrowed_position : (a x f g r : ℤ) → FitsSigned w32 a → FitsSigned w32 x → f ≡ to_z w32 (of_z w32 a) → g ≡ to_z w32 (of_z w32 x)
     → r ≡ saturated (to_z w64 (of_z w64 (to_z w64 (of_z w64 f) -ℤ to_z w64 (of_z w64 (pos 256 *ℤ to_z w64 (of_z w64 g)))))) → to_z w32 (of_z w32 r) ≡ saturated (a -ℤ pos 256 *ℤ x)
 narrowed_position a x f g r p q e h is =
@@ -39,9 +29,6 @@ narrowed_position a x f g r p q e h is =
 
 pub position_same : (q : Position) (a b : ℤ) → q.x ≡ a → q.y ≡ b → ◌≡◌ {A = Position} q (record { x = a; y = b })
 position_same q a b e f = rw (sym e, sym f) refl
-
-pub box_same : (x0 y0 x1 y1 a b c d : ℤ) → x0 ≡ a → y0 ≡ b → x1 ≡ c → y1 ≡ d → ◌≡◌ {A = PixelBox} (record { x0 = x0; y0 = y0; x1 = x1; y1 = y1 }) (record { x0 = a; y0 = b; x1 = c; y1 = d })
-box_same x0 y0 x1 y1 a b c d e f g h = rw (e, f, g, h) refl
 
 pub some_with : {X : Type 0} {B : Type 0} (r : Option X) {P Q : X → Type 0} → (IsSome r → B) → IfSome r P → ((x : X) → B → P x → Q x) → IfSome r Q
 some_with None b h f = h

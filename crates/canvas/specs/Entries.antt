@@ -1,21 +1,16 @@
 -- Entries in the caller's memory: one for each pixel, of the samples of one index.
-use Rattle.std.specs.Prelude.{◌≡◌, ◌≢◌, ◌⊎◌, ℕ, ◌<◌, ◌≤◌}
+use Rattle.std.specs.Prelude.{◌≡◌, ◌⊎◌, ℕ, ◌<◌, ◌≤◌}
 use Rattle.grid.specs.Samples.{count_of}
 use Rattle.canvas.specs.declared.canvas.Canvas.{Canvas}
 use Rattle.canvas.specs.declared.misfit.Misfit.{Misfit}
-use Rattle.canvas.specs.declared.misfit.Misfit.TheVariants.{Planes, Pixels, Sample}
-use Rattle.canvas.specs.Layout.{planes_of_rows}
+use Rattle.canvas.specs.declared.misfit.Misfit.TheVariants.{Pixels, Sample}
 use Rattle.canvas.specs.Pixels.{IsLargeEnough}
 
--- Planes of samples and entries fit the tile rows from `first` to before `end`. There are as many planes as they have, a pixel has
--- sample s, and `size` entries hold their rows of pixels.
-abbrev pub FitEntries : Canvas → ℕ → ℕ → ℕ → ℕ → ℕ → ℕ → Type 0
-FitEntries c first end planes s stride size =
-    (planes ≡ planes_of_rows c first end) × (s < count_of c.count) × IsLargeEnough c first end 1 stride size
+-- Entries fit the tile rows from `first` to before `end`. A pixel has sample s, and `size` entries hold their rows of pixels.
+abbrev pub FitEntries : Canvas → ℕ → ℕ → ℕ → ℕ → ℕ → Type 0
+FitEntries c first end s stride size = (s < count_of c.count) × IsLargeEnough c first end 1 stride size
 
--- What does not fit, if one of the three does not.
-abbrev pub IsEntriesMisfit : Canvas → ℕ → ℕ → ℕ → ℕ → ℕ → ℕ → Misfit → Type 0
-IsEntriesMisfit c first end planes s stride size misfit =
-    ((misfit ≡ Planes) × (planes ≢ planes_of_rows c first end))
-    ⊎ ((misfit ≡ Sample) × (count_of c.count ≤ s))
-    ⊎ ((misfit ≡ Pixels) × ¬ IsLargeEnough c first end 1 stride size)
+-- What does not fit, if one of the two does not.
+abbrev pub IsEntriesMisfit : Canvas → ℕ → ℕ → ℕ → ℕ → ℕ → Misfit → Type 0
+IsEntriesMisfit c first end s stride size misfit =
+    ((misfit ≡ Sample) × (count_of c.count ≤ s)) ⊎ ((misfit ≡ Pixels) × ¬ IsLargeEnough c first end 1 stride size)

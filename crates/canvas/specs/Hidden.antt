@@ -1,11 +1,12 @@
 -- What a later triangle hides in a tile.
-use Rattle.std.specs.Prelude.{◌≡◌, ℕ, ◌+◌, ◌-◌, ◌*◌, ◌%◌, ◌^◌, ◌<◌, List, slice_get, Some, false}
+use Rattle.std.specs.Prelude.{◌≡◌, ℕ, ◌+◌, ◌-◌, ◌*◌, ◌%◌, ◌^◌, ◌<◌, List, slice_get, Some}
 use Rattle.grid.specs.Samples.{count_of}
 use Rattle.grid.specs.declared.sample_count.SampleCount.{SampleCount}
 use Rattle.shade.specs.declared.depth.DepthTest.TheVariants.{Always}
 use Rattle.shade.specs.declared.sample.Sample.{Sample}
 use Rattle.shade.specs.declared.state.State.{State}
 use Rattle.shade.specs.declared.placed.Placed.{Placed}
+use Rattle.shade.specs.Presets.{replace}
 use Rattle.shade.specs.Merging.{Writes}
 use Rattle.shade.specs.Placed.{Draws}
 use Rattle.raster.specs.declared.tile.Tile.{Tile}
@@ -18,7 +19,7 @@ pub record ReplacesColours (s : State) (count : SampleCount) : Type 0 where
   pub red : Writes s.merge 0
   pub green : Writes s.merge 1
   pub blue : Writes s.merge 2
-  pub plain : s.merge.over ≡ false
+  pub plain : s.merge.blend.colour ≡ replace
   pub all_samples : s.sample_mask % 2 ^ count_of count ≡ 2 ^ count_of count - 1
 
 -- The triangle hides the colours that are stored in the tile: what it makes of a sample, it makes of each other of the same depth.

@@ -1,10 +1,11 @@
 -- Triangles that are drawn in their ids in place of their colours, so that each sample keeps the id of the last one that
 -- passed there (a visibility buffer; Burns and Hunt 2013).
-use Rattle.std.specs.Prelude.{◌≡◌, ◌⊎◌, ℕ, ◌+◌, ◌/◌, ◌%◌, true, false, List, [], ◌∷◌, Option, None, Some}
+use Rattle.std.specs.Prelude.{◌≡◌, ◌⊎◌, ℕ, ◌+◌, ◌/◌, ◌%◌, true, List, [], ◌∷◌, Option, None, Some}
 use Rattle.grid.specs.Samples.{sample_position}
 use Rattle.grid.specs.declared.sample_count.SampleCount.{SampleCount}
 use Rattle.shade.specs.declared.sample.Sample.{Sample}
 use Rattle.shade.specs.declared.placed.Placed.{Placed}
+use Rattle.shade.specs.Presets.{none_blend}
 use Rattle.shade.specs.Depth.{Passes}
 use Rattle.shade.specs.Placed.{IsInterpolated, Meets, Draws}
 
@@ -16,7 +17,7 @@ colour_of_id n = n % 256 ∷ n / 256 % 256 ∷ n / 65536 % 256 ∷ 255 ∷ []
 abbrev pub with_id : Placed → ℕ → Placed
 with_id t n = record t {
   rgba = colour_of_id n ∷ colour_of_id n ∷ colour_of_id n ∷ [];
-  state = record t.state { merge = record t.state.merge { write = true ∷ true ∷ true ∷ []; over = false } };
+  state = record t.state { merge = record t.state.merge { write = true ∷ true ∷ true ∷ []; blend = none_blend } };
 }
 
 -- The triangles in the colours of their ids, which are counted from n on.

@@ -27,15 +27,13 @@
 --   pixel_of: The bytes of a pixel of this red, green and blue, which is opaque if the format has alpha.
 --   shown_rows: How many rows of pixels of the picture stand in the tile rows from `first` to before `end`.
 --   IsLargeEnough: A row of pixels, of `unit` entries each, fits between the starts of two rows, and the last row ends within the slice.
---   FitPixels: Planes of samples and a slice fit the tile rows from `first` to before `end`.
---   IsPixelsMisfit: What does not fit, if one of the two does not.
 --   entry_of: The index of the first entry of pixel (i, j), of which there are `unit`.
 --   IsPixelRow: The row of this index among the rows of pixels in these tile rows.
 --   AreWritten: The entries of each pixel of the picture in these tile rows are as `IsPixel` says, and all other entries are unchanged.
 --
 -- Entries.antt
---   FitEntries: Planes of samples and entries fit the tile rows from `first` to before `end`.
---   IsEntriesMisfit: What does not fit, if one of the three does not.
+--   FitEntries: Entries fit the tile rows from `first` to before `end`.
+--   IsEntriesMisfit: What does not fit, if one of the two does not.
 --
 -- Colours.antt
 --   IsColourOfPixel: The colour of pixel (i, j): each channel resolved from the pixel's samples, in planes from tile row `first` on.
@@ -55,8 +53,6 @@
 --   IsMaskOf: A triangle whose bit is not set meets no sample of the tile.
 --   numbered: The triangles of these numbers; `none` stands for a number past the last triangle.
 --   AreOfRow: The first numbers are those of triangles, each with the columns of tiles in which it can meet a sample of this tile row.
---   MissesTile: The triangle covers no sample of this tile.
---   HasReached: Those of some columns of tiles in which the triangle covers a sample of this tile row are among the others.
 --   AreOfTile: Those of the triangles of these numbers that meet a sample of the tile have its column among theirs.
 --
 -- Hidden.antt
@@ -90,6 +86,7 @@
 --   moved_position: A position of the screen, as seen from the corner of pixel (x, y), in 1/256 pixel.
 --   saturated: The number, or the nearest one that has 32 bits.
 --   moved_box: A rectangle of the screen's pixels, as seen from pixel (x, y).
+--   moved_state: The state of triangles, with its scissor, as seen from pixel (x, y).
 --   moved: The triangle, with its scissor, as seen from the corner of pixel (x, y).
 --   CanMove: All vertices of the triangle are in the guard band as seen from the corner of pixel (x, y).
 --   HaveEndsOnScreen: Each sample ends as what the triangles make of it as a sample of the screen.

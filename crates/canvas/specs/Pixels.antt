@@ -1,10 +1,8 @@
 -- Pixels in the caller's memory.
-use Rattle.std.specs.Prelude.{◌≡◌, ◌≢◌, ◌⊎◌, ℕ, ◌+◌, ◌-◌, ◌*◌, ◌/◌, ◌<◌, ◌≤◌, min, List, [], ◌∷◌, slice_index}
+use Rattle.std.specs.Prelude.{◌≡◌, ◌≢◌, ℕ, ◌+◌, ◌-◌, ◌*◌, ◌/◌, ◌<◌, ◌≤◌, min, List, [], ◌∷◌, slice_index}
 use Rattle.canvas.specs.declared.canvas.Canvas.{Canvas}
 use Rattle.canvas.specs.declared.format.Format.{Format}
 use Rattle.canvas.specs.declared.format.Format.TheVariants.{Rgb8, Rgba8, Bgra8}
-use Rattle.canvas.specs.declared.misfit.Misfit.{Misfit}
-use Rattle.canvas.specs.declared.misfit.Misfit.TheVariants.{Planes, Pixels}
 use Rattle.canvas.specs.declared.pixel_rows.PixelRow.{PixelRow}
 use Rattle.canvas.specs.Layout.{HasPixel, planes_of_row, planes_of_rows}
 
@@ -28,18 +26,6 @@ shown_rows c first end = min (64 * end) c.height - 64 * first
 pub record IsLargeEnough (c : Canvas) (first end : ℕ) (unit stride size : ℕ) : Type 0 where
   pub wide : c.width * unit ≤ stride
   pub high : shown_rows c first end * stride + c.width * unit ≤ size + stride
-
--- Planes of samples and a slice fit the tile rows from `first` to before `end`. There are as many planes as they have, and `size`
--- entries hold their rows of pixels, `unit` of them a pixel.
-abbrev pub FitPixels : Canvas → ℕ → ℕ → ℕ → ℕ → ℕ → ℕ → Type 0
-FitPixels c first end planes unit stride size =
-    (planes ≡ planes_of_rows c first end) × IsLargeEnough c first end unit stride size
-
--- What does not fit, if one of the two does not.
-abbrev pub IsPixelsMisfit : Canvas → ℕ → ℕ → ℕ → ℕ → ℕ → ℕ → Misfit → Type 0
-IsPixelsMisfit c first end planes unit stride size misfit =
-    ((misfit ≡ Planes) × (planes ≢ planes_of_rows c first end))
-    ⊎ ((misfit ≡ Pixels) × ¬ IsLargeEnough c first end unit stride size)
 
 -- The index of the first entry of pixel (i, j), of which there are `unit`. The first pixel of the first tile row has index 0, and
 -- rows begin `stride` entries apart.

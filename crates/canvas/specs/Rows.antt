@@ -1,9 +1,5 @@
 -- The tiles that many triangles can meet, row by row.
 use Rattle.std.specs.Prelude.{◌≡◌, ℕ, ◌+◌, ◌*◌, ◌/◌, ◌<◌, List, map, take, length, slice_get, slice_index, slice_index_or, Some, IsBitSet}
-use Rattle.grid.specs.Samples.{count_of, sample_position}
-use Rattle.grid.specs.Triangle.{Covers}
-use Rattle.grid.specs.declared.sample_count.SampleCount.{SampleCount}
-use Rattle.grid.specs.declared.triangle.Tri.{Tri}
 use Rattle.shade.specs.declared.sample.Sample.{Sample}
 use Rattle.shade.specs.declared.placed.Placed.{Placed}
 use Rattle.shade.specs.Placed.{Meets}
@@ -34,15 +30,6 @@ pub record AreOfRow (ts : List Placed) (c : Canvas) (row n : ℕ) (numbers first
       → (i j s : ℕ) → IsStoredIn c row (row + 1) i j s → Meets t c.count i j s → HasPlace firsts ends p (i / 64) × IsInSpan span (i / 64)
   pub makes : (none : Placed) (i j s : ℕ) → IsStoredIn c row (row + 1) i j s → (x y : Sample)
       → Ends (numbered ts none (take many numbers)) c.count i j s x y → Ends (take n ts) c.count i j s x y
-
--- The triangle covers no sample of this tile.
-abbrev pub MissesTile : Tri → SampleCount → ℕ → ℕ → Type 0
-MissesTile t count column row = (i j s : ℕ) → i / 64 ≡ column → j / 64 ≡ row → s < count_of count → ¬ Covers t.a t.b t.c (sample_position i j s count)
-
--- Those of some columns of tiles in which the triangle covers a sample of this tile row are among the others.
-abbrev pub HasReached : Tri → Canvas → ℕ → Span → Span → Type 0
-HasReached t c row columns others =
-    (i j s : ℕ) → IsStoredIn c row (row + 1) i j s → Covers t.a t.b t.c (sample_position i j s c.count) → IsInSpan columns (i / 64) → IsInSpan others (i / 64)
 
 -- Those of the triangles of these numbers that meet a sample of the tile have its column among theirs.
 abbrev pub AreOfTile : List Placed → List ℕ → List ℕ → List ℕ → ℕ → ℕ → Tile → Type 0

@@ -5,6 +5,7 @@ use Rattle.grid.specs.Position.{Position, IsInGuardBand}
 use Rattle.grid.specs.declared.pixels.PixelBox.{PixelBox}
 use Rattle.lanes.specs.declared.block_samples.BlockSamples.{BlockSamples}
 use Rattle.shade.specs.declared.placed.Placed.{Placed}
+use Rattle.shade.specs.declared.state.State.{State}
 use Rattle.shade.specs.Ending.{Ends}
 use Rattle.canvas.specs.declared.canvas.Canvas.{Canvas}
 use Rattle.canvas.specs.declared.window.Origin.{Origin}
@@ -22,11 +23,15 @@ saturated z = int_max (int_min z (pos 2147483647)) (negsuc 2147483647)
 abbrev pub moved_box : ℤ → ℤ → PixelBox → PixelBox
 moved_box x y r = record { x0 = saturated (r.x0 -ℤ x); y0 = saturated (r.y0 -ℤ y); x1 = saturated (r.x1 -ℤ x); y1 = saturated (r.y1 -ℤ y) }
 
+-- The state of triangles, with its scissor, as seen from pixel (x, y).
+abbrev pub moved_state : ℤ → ℤ → State → State
+moved_state x y state = record state { scissor = moved_box x y state.scissor }
+
 -- The triangle, with its scissor, as seen from the corner of pixel (x, y).
 abbrev pub moved : ℤ → ℤ → Placed → Placed
 moved x y t = record t {
   tri = record { a = moved_position x y t.tri.a; b = moved_position x y t.tri.b; c = moved_position x y t.tri.c };
-  state = record t.state { scissor = moved_box x y t.state.scissor };
+  state = moved_state x y t.state;
 }
 
 -- All vertices of the triangle are in the guard band as seen from the corner of pixel (x, y).

@@ -1,9 +1,8 @@
 //! Samples that are all the same.
-ghost use Rattle.std.specs.Prelude.{◌≡◌, ◌↔◌, ◌-◌, ◌*◌, ◌≤◌, length, IsOk, OnOk, OnErr, IfErr};
+ghost use Rattle.std.specs.Prelude.{◌≡◌, ◌-◌, ◌*◌, ◌≤◌, length};
 ghost use Rattle.canvas.specs.Layout.{columns_of, planes_of_rows};
 ghost use Rattle.canvas.specs.Drawing.{AreCleared};
 
-use crate::misfit::Misfit;
 use crate::tile_planes::clear_tile;
 use crate::tile_rows::TileRows;
 use lanes::BlockSamples;
@@ -19,20 +18,14 @@ impl TileRows {
     }
 
     /// Makes each sample of these tile rows the given one.
-    pub fn clear(&self, samples: &mut [BlockSamples], sample: Sample) -> Result<(), Misfit>
-        ensures fits { IsOk result ↔ (length samples.old ≡ planes_of_rows self.now.canvas self.now.first self.now.end) }
-        ensures cleared { OnOk result (AreCleared self.now.canvas self.now.first self.now.end sample samples.new) }
-        ensures unfit { OnErr result (samples.new ≡ samples.old) }
-        ensures reason { IfErr result (λ misfit. misfit ≡ Misfit.Planes) }
+    pub(crate) fn clear_all(&self, sample: Sample, samples: &mut [BlockSamples])
+        requires { length samples.old ≡ planes_of_rows self.now.canvas self.now.first self.now.end }
+        ensures { AreCleared self.now.canvas self.now.first self.now.end sample samples.new }
     {
-        if samples.len() != self.planes() {
-            return Err(Misfit::Planes);
-        }
         let each = self.canvas.planes_of_tile();
         for number in 0..self.tiles() {
             let from = number * each;
             clear_tile(self.canvas.count, sample, &mut samples[from..from + each]);
         }
-        Ok(())
     }
 }

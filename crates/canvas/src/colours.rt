@@ -4,15 +4,15 @@ ghost use Rattle.grid.specs.Pixels.{side_of};
 ghost use Rattle.grid.specs.Samples.{count_of};
 ghost use Rattle.grid.specs.declared.sample_count.SampleCount.TheVariants.{One, Four};
 ghost use Rattle.raster.specs.Samples.{planes_of};
-ghost use Rattle.canvas.specs.Layout.{columns_of, rows_of, planes_of_tile, planes_of_row, planes_of_rows};
-ghost use Rattle.canvas.specs.Pixels.{pixel_bytes, FitPixels, IsPixelsMisfit};
+ghost use Rattle.canvas.specs.Layout.{columns_of, rows_of, planes_of_tile, planes_of_row};
+ghost use Rattle.canvas.specs.Pixels.{pixel_bytes, IsLargeEnough};
 ghost use Rattle.canvas.specs.Colours.{IsPixelOf, IsPixelIn, IsTilePixel, AreResolved};
 
 use crate::canvas::Canvas;
 use crate::format::{Format, arranged};
 use crate::misfit::Misfit;
 use crate::tile_planes::is_cleared;
-use crate::tile_rows::TileRows;
+use crate::view::View;
 use grid::{SampleCount, TileSide};
 use lanes::BlockSamples;
 use raster::{Tile, colours_by};
@@ -163,26 +163,25 @@ impl Canvas {
     }
 }
 
-impl TileRows {
+impl View<'_> {
     /// Writes the colour of each pixel of the picture in these tile rows, in the format, with alpha 255: the rows of pixels from
     /// top to bottom, each `stride` bytes behind the one above, the pixels of a row from left to right. The bytes begin with the
     /// first pixel of the first row. Bytes of no pixel are unchanged.
-    pub fn resolve(
-        &self,
-        samples: &[BlockSamples],
-        bytes: &mut [u8],
-        format: Format,
-        stride: usize,
-    ) -> Result<(), Misfit>
-        ensures fits { IsOk result ↔ FitPixels self.now.canvas self.now.first self.now.end (length samples.now) (pixel_bytes format) stride (length bytes.old) }
-        ensures resolved { OnOk result (AreResolved self.now.canvas self.now.first self.now.end samples.now format stride bytes.old bytes.new) }
+    pub fn resolve(&self, bytes: &mut [u8], format: Format, stride: usize) -> Result<(), Misfit>
+        ensures fits { IsOk result ↔ IsLargeEnough self.now.rows.canvas self.now.rows.first self.now.rows.end (pixel_bytes format) stride (length bytes.old) }
+        ensures resolved { OnOk result (AreResolved self.now.rows.canvas self.now.rows.first self.now.rows.end self.now.planes.now format stride bytes.old bytes.new) }
         ensures unfit { OnErr result (bytes.new ≡ bytes.old) }
-        ensures reason { IfErr result (IsPixelsMisfit self.now.canvas self.now.first self.now.end (length samples.now) (pixel_bytes format) stride (length bytes.old)) }
+        ensures reason { IfErr result (λ misfit. misfit ≡ Misfit.Pixels) }
     {
-        let rows = self.pixel_rows(samples.len(), format.pixel_bytes(), stride, bytes.len())?;
+        let rows = self
+            .rows
+            .pixel_rows(format.pixel_bytes(), stride, bytes.len())?;
         for index in 0..rows.count() {
             let row = rows.row(index);
-            self.canvas.resolve_row(row.j, &samples[row.planes], format, &mut bytes[row.entries]);
+            let planes = &self.planes[row.planes];
+            self.rows
+                .canvas
+                .resolve_row(row.j, planes, format, &mut bytes[row.entries]);
         }
         Ok(())
     }

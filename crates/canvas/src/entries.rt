@@ -9,7 +9,7 @@ ghost use Rattle.canvas.specs.Colours.{id_of, AreEntries, AreDepths, AreIds};
 
 use crate::canvas::Canvas;
 use crate::misfit::Misfit;
-use crate::tile_rows::TileRows;
+use crate::view::View;
 use lanes::BlockSamples;
 
 /// What is written of a sample: a number for each pixel.
@@ -65,62 +65,46 @@ impl Canvas {
     }
 }
 
-impl TileRows {
+impl View<'_> {
     /// Writes the entry of sample `s` of each pixel of the picture in these tile rows: the rows of pixels from top to bottom, each
     /// `stride` entries behind the one above, the pixels of a row from left to right. The entries begin with the first pixel of the
     /// first row. Entries of no pixel are unchanged.
-    pub fn entries<E: Entry>(
-        &self,
-        samples: &[BlockSamples],
-        s: u32,
-        entries: &mut [E],
-        stride: usize,
-    ) -> Result<(), Misfit>
-        ensures fits { IsOk result ↔ FitEntries self.now.canvas self.now.first self.now.end (length samples.now) s stride (length entries.old) }
-        ensures entries { OnOk result (AreEntries E.number_of self.now.canvas self.now.first self.now.end samples.now s stride (map E.number entries.old) (map E.number entries.new)) }
+    pub fn entries<E: Entry>(&self, s: u32, entries: &mut [E], stride: usize) -> Result<(), Misfit>
+        ensures fits { IsOk result ↔ FitEntries self.now.rows.canvas self.now.rows.first self.now.rows.end s stride (length entries.old) }
+        ensures entries { OnOk result (AreEntries E.number_of self.now.rows.canvas self.now.rows.first self.now.rows.end self.now.planes.now s stride (map E.number entries.old) (map E.number entries.new)) }
         ensures unfit { OnErr result (entries.new ≡ entries.old) }
-        ensures reason { IfErr result (IsEntriesMisfit self.now.canvas self.now.first self.now.end (length samples.now) s stride (length entries.old)) }
+        ensures reason { IfErr result (IsEntriesMisfit self.now.rows.canvas self.now.rows.first self.now.rows.end s stride (length entries.old)) }
     {
-        let rows = self.entry_rows(samples.len(), s, stride, entries.len())?;
+        let rows = self.rows.entry_rows(s, stride, entries.len())?;
         for index in 0..rows.count() {
             let row = rows.row(index);
-            self.canvas
-                .entry_row(row.j, s, &samples[row.planes], &mut entries[row.entries]);
+            let planes = &self.planes[row.planes];
+            self.rows
+                .canvas
+                .entry_row(row.j, s, planes, &mut entries[row.entries]);
         }
         Ok(())
     }
 
     /// Writes the depth of sample `s` of each pixel of the picture in these tile rows, laid out as by `entries`. Entries of no pixel are
     /// unchanged.
-    pub fn depths(
-        &self,
-        samples: &[BlockSamples],
-        s: u32,
-        depths: &mut [u16],
-        stride: usize,
-    ) -> Result<(), Misfit>
-        ensures fits { IsOk result ↔ FitEntries self.now.canvas self.now.first self.now.end (length samples.now) s stride (length depths.old) }
-        ensures depths { OnOk result (AreDepths self.now.canvas self.now.first self.now.end samples.now s stride depths.old depths.new) }
+    pub fn depths(&self, s: u32, depths: &mut [u16], stride: usize) -> Result<(), Misfit>
+        ensures fits { IsOk result ↔ FitEntries self.now.rows.canvas self.now.rows.first self.now.rows.end s stride (length depths.old) }
+        ensures depths { OnOk result (AreDepths self.now.rows.canvas self.now.rows.first self.now.rows.end self.now.planes.now s stride depths.old depths.new) }
         ensures unfit { OnErr result (depths.new ≡ depths.old) }
-        ensures reason { IfErr result (IsEntriesMisfit self.now.canvas self.now.first self.now.end (length samples.now) s stride (length depths.old)) }
+        ensures reason { IfErr result (IsEntriesMisfit self.now.rows.canvas self.now.rows.first self.now.rows.end s stride (length depths.old)) }
     {
-        self.entries(samples, s, depths, stride)
+        self.entries(s, depths, stride)
     }
 
     /// Writes the id that is stored in place of the colour of sample `s`, red + 256 * green + 65536 * blue, of each pixel of the
     /// picture in these tile rows, laid out as by `entries`. Entries of no pixel are unchanged.
-    pub fn ids(
-        &self,
-        samples: &[BlockSamples],
-        s: u32,
-        ids: &mut [u32],
-        stride: usize,
-    ) -> Result<(), Misfit>
-        ensures fits { IsOk result ↔ FitEntries self.now.canvas self.now.first self.now.end (length samples.now) s stride (length ids.old) }
-        ensures ids { OnOk result (AreIds self.now.canvas self.now.first self.now.end samples.now s stride ids.old ids.new) }
+    pub fn ids(&self, s: u32, ids: &mut [u32], stride: usize) -> Result<(), Misfit>
+        ensures fits { IsOk result ↔ FitEntries self.now.rows.canvas self.now.rows.first self.now.rows.end s stride (length ids.old) }
+        ensures ids { OnOk result (AreIds self.now.rows.canvas self.now.rows.first self.now.rows.end self.now.planes.now s stride ids.old ids.new) }
         ensures unfit { OnErr result (ids.new ≡ ids.old) }
-        ensures reason { IfErr result (IsEntriesMisfit self.now.canvas self.now.first self.now.end (length samples.now) s stride (length ids.old)) }
+        ensures reason { IfErr result (IsEntriesMisfit self.now.rows.canvas self.now.rows.first self.now.rows.end s stride (length ids.old)) }
     {
-        self.entries(samples, s, ids, stride)
+        self.entries(s, ids, stride)
     }
 }

@@ -4,15 +4,14 @@ ghost use Rattle.grid.specs.Samples.{count_of};
 ghost use Rattle.cover.specs.Rasterized.{IsRasterized};
 ghost use Rattle.cover.specs.Square.{CoversAll};
 ghost use Rattle.raster.specs.Drawing.{square_of};
-ghost use Rattle.raster.specs.Region.{HoldsTile};
 ghost use Rattle.canvas.specs.Rows.{IsMaskOf};
 ghost use Rattle.canvas.specs.Hidden.{ReplacesColours, Hides, FirstKeepDepths, CanBegin};
 
-use cover::{Class, Setup};
-use grid::{PixelBox, SampleCount, Tri};
-use raster::Tile;
+use cover::Setup;
+use grid::{SampleCount, Tri};
+use raster::{Tile, covers_tile, holds_tile};
 use reach::next_bit;
-use shade::{DepthTest, Placed, State};
+use shade::{DepthTest, Equation, Placed, State};
 
 /// Whether all samples of a pixel are in the mask.
 fn has_all_samples(mask: u16, count: SampleCount) -> bool
@@ -33,9 +32,10 @@ fn replaces_colours(state: &State, count: SampleCount) -> bool
 {
     let merge = state.merge;
     let [red, green, blue] = merge.write;
-    let plain = red && green && blue && !merge.over && has_all_samples(state.sample_mask, count);
+    let all = red && green && blue && has_all_samples(state.sample_mask, count);
+    let replaces = all && merge.blend.colour == Equation::REPLACE;
     match merge.test {
-        DepthTest::Always => plain,
+        DepthTest::Always => replaces,
         DepthTest::Never
         | DepthTest::Less
         | DepthTest::Equal
@@ -44,15 +44,6 @@ fn replaces_colours(state: &State, count: SampleCount) -> bool
         | DepthTest::NotEqual
         | DepthTest::GreaterEqual => false,
     }
-}
-
-/// Whether all pixels of the tile are in the scissor: its first and its last one.
-fn holds_tile(scissor: &PixelBox, tile: &Tile) -> bool
-    ensures { IsTrue result → HoldsTile scissor.now tile.now }
-{
-    let last = tile.side.pixels() - 1;
-    let (x, y) = (8 * tile.bx, 8 * tile.by);
-    scissor.has(x, y) && scissor.has(x + last, y + last)
 }
 
 /// Whether three coordinates lie on both sides of the pixels from `first` to before `end`, or in the outermost two of them.
@@ -71,7 +62,7 @@ fn is_large_enough(t: &Tri, tile: &Tile) -> bool {
 }
 
 /// Whether the triangle is seen to cover all samples of the tile, and is not culled.
-fn covers_tile(triangle: &Placed, tile: &Tile) -> bool
+fn is_over(triangle: &Placed, tile: &Tile) -> bool
     ensures drawn { IsTrue result → IsRasterized triangle.now.tri triangle.now.state.cull }
     ensures covers { IsTrue result → CoversAll (square_of triangle.now.tri tile.now) }
 {
@@ -80,10 +71,7 @@ fn covers_tile(triangle: &Placed, tile: &Tile) -> bool
     }
     match Setup::new(&triangle.tri, triangle.state.cull) {
         None => false,
-        Some(setup) => match setup.classify(tile.bx, tile.by, tile.side, tile.count) {
-            Class::All => true,
-            Class::Mixed | Class::Out => false,
-        },
+        Some(setup) => covers_tile(&setup, tile),
     }
 }
 
@@ -94,7 +82,7 @@ fn hides(triangle: &Placed, tile: &Tile) -> bool
     if !replaces_colours(&triangle.state, tile.count) {
         return false;
     }
-    holds_tile(&triangle.state.scissor, tile) && covers_tile(triangle, tile)
+    holds_tile(&triangle.state.scissor, tile) && is_over(triangle, tile)
 }
 
 /// How many triangles of the chunk, from its first on, are seen to keep the depths of the tile.

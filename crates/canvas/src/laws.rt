@@ -1,14 +1,15 @@
 //! Laws of what is drawn. Their functions do nothing.
-ghost use Rattle.std.specs.Prelude.{◌≡◌, ◌↔◌, ◌<◌, ℕ, ℤ, pos, ◌+ℤ◌, map, List, ◌++◌, Option as Maybe, None as Nothing};
+ghost use Rattle.std.specs.Prelude.{◌≡◌, ◌↔◌, ◌<◌, ◌≤◌, ℕ, ℤ, pos, ◌+ℤ◌, map, List, ◌++◌, Option as Maybe, None as Nothing};
 ghost use Rattle.grid.specs.declared.sample_count.SampleCount.{SampleCount};
 ghost use Rattle.lanes.specs.declared.block_samples.BlockSamples.{BlockSamples};
 ghost use Rattle.shade.specs.declared.sample.Sample.{Sample};
 ghost use Rattle.shade.specs.declared.placed.Placed.{Placed};
 ghost use Rattle.shade.specs.Ending.{Ends};
 ghost use Rattle.canvas.specs.declared.canvas.Canvas.{Canvas};
-ghost use Rattle.canvas.specs.Layout.{IsStoredIn, stored};
+ghost use Rattle.canvas.specs.declared.window.Origin.{Origin};
+ghost use Rattle.canvas.specs.Layout.{IsStoredIn, rows_of, stored};
 ghost use Rattle.canvas.specs.Drawing.{HaveEnds};
-ghost use Rattle.canvas.specs.Window.{moved};
+ghost use Rattle.canvas.specs.Window.{moved, HaveEndsOnScreen};
 ghost use Rattle.canvas.specs.Ids.{with_ids, IsLast, HasId};
 
 /// Triangles that are drawn in two calls make of each sample what all of them make of it in one call, and of a sample there is only one
@@ -29,8 +30,10 @@ pub fn tells_last()
 {}
 
 /// Triangles as seen from the corner of pixel (x, y) make of sample s of pixel (i, j) what the triangles themselves make of sample s of
-/// pixel (i + x, j + y) of the screen.
+/// pixel (i + x, j + y) of the screen; and so of all samples of a canvas.
 pub fn moves_by_pixels()
-    ensures { (x y : ℤ) (ts : List Placed) (count : SampleCount) (i j column row s : ℕ) (start end : Sample) → i < 4096 → j < 4096 → pos column ≡ pos i +ℤ x → pos row ≡ pos j +ℤ y
+    ensures sample { (x y : ℤ) (ts : List Placed) (count : SampleCount) (i j column row s : ℕ) (start end : Sample) → i < 4096 → j < 4096 → pos column ≡ pos i +ℤ x → pos row ≡ pos j +ℤ y
         → (Ends (map (moved x y) ts) count i j s start end ↔ Ends ts count column row s start end) }
+    ensures canvas { (origin : Origin) (ts : List Placed) (c : Canvas) (first end : ℕ) (old new : List BlockSamples) → end ≤ rows_of c
+        → HaveEnds (map (moved origin.x origin.y) ts) c first end old new → HaveEndsOnScreen origin ts c first end old new }
 {}

@@ -15,6 +15,7 @@ mod laws;
 mod loaded;
 mod many;
 mod misfit;
+mod piece;
 mod pixel_rows;
 mod place;
 mod row_list;
@@ -23,18 +24,22 @@ mod tile_planes;
 mod tile_rows;
 mod triangles;
 mod vertex;
+mod view;
 mod window;
 
 pub use canvas::Canvas;
 pub use entries::Entry;
 pub use format::Format;
-pub use ids::with_id;
+pub use ids::Ids;
+pub use indexed::Indexed;
 pub use laws::{joins_batches, moves_by_pixels, tells_last};
 pub use misfit::Misfit;
+pub use piece::Piece;
 pub use shade::Triangles;
 pub use tile_rows::TileRows;
 pub use vertex::Vertex;
-pub use window::{Origin, seen_point};
+pub use view::View;
+pub use window::{Origin, Window, seen_point};
 
 #[cfg(test)]
 mod tests;

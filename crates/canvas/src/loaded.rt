@@ -3,12 +3,13 @@ ghost use Rattle.std.specs.Prelude.{◌≡◌, ◌≢◌, ◌↔◌, ◌⊎◌, 
 ghost use Rattle.lanes.specs.Block.{stored_at};
 ghost use Rattle.grid.specs.Samples.{count_of};
 ghost use Rattle.canvas.specs.Layout.{planes_of_tile, planes_of_row, planes_of_rows, stored_in_tile};
-ghost use Rattle.canvas.specs.Pixels.{pixel_bytes, FitPixels, IsPixelsMisfit};
+ghost use Rattle.canvas.specs.Pixels.{pixel_bytes, IsLargeEnough};
 ghost use Rattle.canvas.specs.Loaded.{coloured, AreChanged, AreLoaded};
 
 use crate::canvas::Canvas;
 use crate::format::Format;
 use crate::misfit::Misfit;
+use crate::piece::Piece;
 use crate::place::place_in_tile;
 use crate::tile_planes::fill_tile;
 use crate::tile_rows::TileRows;
@@ -91,25 +92,40 @@ impl Canvas {
 }
 
 impl TileRows {
-    /// Stores a picture in place of the colours: all samples of each pixel of the picture in these tile rows have the colour of the
-    /// pixel's bytes, which are laid out as `resolve` writes them. Depths are unchanged, and alpha is not read.
-    pub fn load(
+    /// Stores a picture in place of the colours, as `Piece::load` does.
+    fn load_all(
         &self,
-        samples: &mut [BlockSamples],
         bytes: &[u8],
         format: Format,
         stride: usize,
+        samples: &mut [BlockSamples],
     ) -> Result<(), Misfit>
-        ensures fits { IsOk result ↔ FitPixels self.now.canvas self.now.first self.now.end (length samples.old) (pixel_bytes format) stride (length bytes.now) }
+        requires { length samples.old ≡ planes_of_rows self.now.canvas self.now.first self.now.end }
+        ensures fits { IsOk result ↔ IsLargeEnough self.now.canvas self.now.first self.now.end (pixel_bytes format) stride (length bytes.now) }
         ensures loaded { OnOk result (AreLoaded self.now.canvas self.now.first self.now.end bytes.now format stride samples.old samples.new) }
         ensures unfit { OnErr result (samples.new ≡ samples.old) }
-        ensures reason { IfErr result (IsPixelsMisfit self.now.canvas self.now.first self.now.end (length samples.old) (pixel_bytes format) stride (length bytes.now)) }
+        ensures reason { IfErr result (λ misfit. misfit ≡ Misfit.Pixels) }
     {
-        let rows = self.pixel_rows(samples.len(), format.pixel_bytes(), stride, bytes.len())?;
+        let rows = self.pixel_rows(format.pixel_bytes(), stride, bytes.len())?;
         for index in 0..rows.count() {
             let row = rows.row(index);
             self.canvas.load_row(row.j, &bytes[row.entries], format, &mut samples[row.planes]);
         }
         Ok(())
+    }
+}
+
+impl Piece<'_> {
+    /// Stores a picture in place of the colours: all samples of each pixel of the picture in these tile rows have the colour of the
+    /// pixel's bytes, which are laid out as `View::resolve` writes them. Depths are unchanged, and alpha is not read.
+    pub fn load(&mut self, bytes: &[u8], format: Format, stride: usize) -> Result<(), Misfit>
+        ensures fits { IsOk result ↔ IsLargeEnough self.old.rows.canvas self.old.rows.first self.old.rows.end (pixel_bytes format) stride (length bytes.now) }
+        ensures loaded { OnOk result (AreLoaded self.old.rows.canvas self.old.rows.first self.old.rows.end bytes.now format stride self.old.planes.now self.new.planes.now) }
+        ensures unfit { OnErr result (self.new.planes.now ≡ self.old.planes.now) }
+        ensures reason { IfErr result (λ misfit. misfit ≡ Misfit.Pixels) }
+        ensures rows { self.new.rows ≡ self.old.rows }
+        ensures same { self.new.planes.ghost_name ≡ self.old.planes.ghost_name }
+    {
+        self.rows.load_all(bytes, format, stride, self.planes)
     }
 }

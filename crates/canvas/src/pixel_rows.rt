@@ -61,7 +61,7 @@ impl PixelRows {
 }
 
 impl TileRows {
-    ghost use Rattle.canvas.specs.Pixels.{FitPixels, IsPixelsMisfit, shown_rows};
+    ghost use Rattle.canvas.specs.Pixels.{shown_rows};
     ghost use Rattle.canvas.specs.Entries.{FitEntries, IsEntriesMisfit};
 
     /// How many rows of pixels of the picture stand in these tile rows.
@@ -86,22 +86,18 @@ impl TileRows {
     }
 
     /// The rows of pixels in a slice of `size` entries, `unit` of them a pixel, in which each row begins `stride` entries behind the one
-    /// above. Returns `Planes` if these tile rows do not have this many planes of samples, or `Pixels` if the slice does not hold the rows.
+    /// above. Returns `Pixels` if the slice does not hold them.
     pub(crate) fn pixel_rows(
         &self,
-        planes: usize,
         unit: usize,
         stride: usize,
         size: usize,
     ) -> Result<PixelRows, Misfit>
         requires { unit ≤ 4 }
-        ensures fits { IsOk result ↔ FitPixels self.now.canvas self.now.first self.now.end planes unit stride size }
+        ensures fits { IsOk result ↔ IsLargeEnough self.now.canvas self.now.first self.now.end unit stride size }
         ensures rows { IfOk result (λ found. (found.tile_rows ≡ self.now) × (found.unit ≡ unit) × (found.stride ≡ stride) × (found.size ≡ size)) }
-        ensures reason { IfErr result (IsPixelsMisfit self.now.canvas self.now.first self.now.end planes unit stride size) }
+        ensures reason { IfErr result (λ misfit. misfit ≡ Misfit.Pixels) }
     {
-        if planes != self.planes() {
-            return Err(Misfit::Planes);
-        }
         if !self.is_large_enough(unit, stride, size) {
             return Err(Misfit::Pixels);
         }
@@ -114,20 +110,14 @@ impl TileRows {
     }
 
     /// The same of entries of the samples of index `s`, one for each pixel. Also returns `Sample` if a pixel has no such sample.
-    pub(crate) fn entry_rows(
-        &self,
-        planes: usize,
-        s: u32,
-        stride: usize,
-        size: usize,
-    ) -> Result<PixelRows, Misfit>
-        ensures fits { IsOk result ↔ FitEntries self.now.canvas self.now.first self.now.end planes s stride size }
+    pub(crate) fn entry_rows(&self, s: u32, stride: usize, size: usize) -> Result<PixelRows, Misfit>
+        ensures fits { IsOk result ↔ FitEntries self.now.canvas self.now.first self.now.end s stride size }
         ensures rows { IfOk result (λ found. (found.tile_rows ≡ self.now) × (found.unit ≡ 1) × (found.stride ≡ stride) × (found.size ≡ size)) }
-        ensures reason { IfErr result (IsEntriesMisfit self.now.canvas self.now.first self.now.end planes s stride size) }
+        ensures reason { IfErr result (IsEntriesMisfit self.now.canvas self.now.first self.now.end s stride size) }
     {
         if self.canvas.count.count() <= s {
             return Err(Misfit::Sample);
         }
-        self.pixel_rows(planes, 1, stride, size)
+        self.pixel_rows(1, stride, size)
     }
 }

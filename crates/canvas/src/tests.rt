@@ -1,9 +1,12 @@
 //! Pictures of many triangles compared with the definition, drawn sample by sample: batches, pieces, formats, strides, ids, and
 //! calls that do nothing.
-use crate::{Canvas, Format, Misfit, Origin, TileRows, Vertex};
+use crate::{Canvas, Format, Ids, Indexed, Misfit, Origin, Piece, TileRows, Vertex, View, Window};
 use grid::{Cull, PixelBox, Point, SampleCount, Tri, sample_at};
 use lanes::BlockSamples;
-use shade::{DepthTest, MAX_SAMPLES, Merge, Placed, Sample, State, Stored, apply, resolved_colour};
+use shade::{
+    Blend, BlendFactor, BlendOperation, DepthTest, Equation, MAX_SAMPLES, Merge, Placed, Sample,
+    State, Stored, apply, resolved_colour,
+};
 use std::alloc::Global;
 use std::process::Abort;
 use std::test::Fail;
@@ -61,13 +64,64 @@ impl Numbers {
         }
     }
 
+    fn factor(&mut self) -> BlendFactor {
+        match self.next() % 13 {
+            0 => BlendFactor::Zero,
+            1 => BlendFactor::One,
+            2 => BlendFactor::SourceColour,
+            3 => BlendFactor::InverseSourceColour,
+            4 => BlendFactor::SourceAlpha,
+            5 => BlendFactor::InverseSourceAlpha,
+            6 => BlendFactor::StoredAlpha,
+            7 => BlendFactor::InverseStoredAlpha,
+            8 => BlendFactor::StoredColour,
+            9 => BlendFactor::InverseStoredColour,
+            10 => BlendFactor::SourceAlphaSaturated,
+            11 => BlendFactor::Constant,
+            _ => BlendFactor::InverseConstant,
+        }
+    }
+
+    fn equation(&mut self) -> Equation {
+        let (source, stored) = (self.factor(), self.factor());
+        let operation = match self.next() % 7 {
+            0 => BlendOperation::Subtract,
+            1 => BlendOperation::ReverseSubtract,
+            2 => BlendOperation::Min,
+            3 => BlendOperation::Max,
+            _ => BlendOperation::Add,
+        };
+        Equation {
+            source,
+            stored,
+            operation,
+        }
+    }
+
+    /// A blend state: three times in four one that has a name, else any.
+    fn blend(&mut self) -> Blend {
+        match self.next() % 8 {
+            0 => Blend::NONE,
+            1 => Blend::OVER,
+            2 => Blend::PREMULTIPLIED,
+            3 => Blend::ADD,
+            4 => Blend::MULTIPLY,
+            5 => Blend::KEEP,
+            _ => Blend {
+                colour: self.equation(),
+                alpha: self.equation(),
+                constant: [self.byte(), self.byte(), self.byte(), self.byte()],
+            },
+        }
+    }
+
     fn state(&mut self) -> State {
         State {
             merge: Merge {
                 test: self.depth_test(),
                 depth_write: self.next() % 2 == 0,
                 write: [self.next() % 4 != 0, true, self.next() % 4 != 0],
-                over: self.next() % 2 == 0,
+                blend: self.blend(),
             },
             cull: if self.next() % 4 == 0 {
                 Cull::Back
@@ -143,14 +197,10 @@ fn end_at(triangles: &[Placed], count: SampleCount, i: u32, j: u32, s: u32) -> S
 
 /// Whether each sample of a canvas at the origin, of the pixels that are compared and lie on the screen, is what the triangles make
 /// of the clear sample there.
-fn are_ends_from(
-    origin: Origin,
-    rows: &TileRows,
-    samples: &[BlockSamples],
-    triangles: &[Placed],
-) -> bool {
-    for j in 0..rows.canvas.height {
-        for i in 0..rows.canvas.width {
+fn are_ends_from(origin: Origin, view: View<'_>, triangles: &[Placed]) -> bool {
+    let canvas = view.rows.canvas;
+    for j in 0..canvas.height {
+        for i in 0..canvas.width {
             let place = (
                 i.checked_add_signed(origin.x),
                 j.checked_add_signed(origin.y),
@@ -159,13 +209,13 @@ fn are_ends_from(
                 continue;
             };
             let samples_compared = if is_compared(i, j) {
-                rows.canvas.count.count()
+                canvas.count.count()
             } else {
                 0
             };
             for s in 0..samples_compared {
-                let end = end_at(triangles, rows.canvas.count, column, row, s);
-                if rows.sample(samples, i, j, s) != Some(end) {
+                let end = end_at(triangles, canvas.count, column, row, s);
+                if view.sample(i, j, s) != Some(end) {
                     return false;
                 }
             }
@@ -175,8 +225,8 @@ fn are_ends_from(
 }
 
 /// The same of a canvas that has the screen's upper left corner.
-fn are_ends(rows: &TileRows, samples: &[BlockSamples], triangles: &[Placed]) -> bool {
-    are_ends_from(Origin { x: 0, y: 0 }, rows, samples, triangles)
+fn are_ends(view: View<'_>, triangles: &[Placed]) -> bool {
+    are_ends_from(Origin { x: 0, y: 0 }, view, triangles)
 }
 
 /// The sample planes of tile rows, all samples the clear one.
@@ -186,6 +236,22 @@ fn cleared(alloc: Global, rows: &TileRows) -> Result<Vec<BlockSamples>, Fail> {
         samples.push(BlockSamples::filled(CLEAR))?;
     }
     Ok(samples)
+}
+
+fn stored(triangles: &[Placed]) -> Stored<'_> {
+    Stored { triangles }
+}
+
+/// Tile rows with their planes, to be drawn on.
+fn piece<'a>(rt: &impl Abort, rows: &TileRows, samples: &'a mut [BlockSamples]) -> Piece<'a> {
+    assert!(rt; rows.fits(samples.len()));
+    rows.over(samples)
+}
+
+/// Tile rows with their planes, to be read out.
+fn view<'a>(rt: &impl Abort, rows: &TileRows, samples: &'a [BlockSamples]) -> View<'a> {
+    assert!(rt; rows.fits(samples.len()));
+    rows.view(samples)
 }
 
 fn canvas(rt: &impl Abort, count: SampleCount) -> Canvas {
@@ -200,14 +266,13 @@ fn draws_batches(rt: &impl Abort, alloc: Global, count: SampleCount) -> Result<b
     let mut samples = cleared(alloc, &rows)?;
     let (first, others) = triangles.split_at(1.min(triangles.len()));
     let (second, third) = others.split_at(80.min(others.len()));
-    let one = rows.draw(first, &mut samples);
+    piece(rt, &rows, &mut samples).draw(&stored(first));
     let middle = upper.planes().min(samples.len());
     let (above, below) = samples.split_at_mut(middle);
-    let two = lower.draw(second, below);
-    let three = upper.draw(second, above);
-    let four = rows.draw(third, &mut samples);
-    let drawn = one.is_ok() && two.is_ok() && three.is_ok() && four.is_ok();
-    Ok(drawn && are_ends(&rows, &samples, &triangles))
+    piece(rt, &lower, below).draw(&stored(second));
+    piece(rt, &upper, above).draw(&stored(second));
+    piece(rt, &rows, &mut samples).draw(&stored(third));
+    Ok(are_ends(view(rt, &rows, &samples), &triangles))
 }
 
 #[test]
@@ -234,7 +299,7 @@ fn covering(rt: &impl Abort) -> Placed {
                 test: DepthTest::Always,
                 depth_write: false,
                 write: [true; 3],
-                over: false,
+                blend: Blend::NONE,
             },
             cull: Cull::None,
             sample_mask: u16::MAX,
@@ -268,8 +333,8 @@ fn draws_hidden(
         triangles.push(numbers.triangle(rt))?;
     }
     let mut samples = cleared(alloc, &rows)?;
-    let drawn = rows.draw(&triangles, &mut samples);
-    Ok(drawn.is_ok() && are_ends(&rows, &samples, &triangles))
+    piece(rt, &rows, &mut samples).draw(&stored(&triangles));
+    Ok(are_ends(view(rt, &rows, &samples), &triangles))
 }
 
 #[test]
@@ -286,11 +351,8 @@ fn draws_many(rt: &impl Abort, alloc: Global) -> Result<bool, Fail> {
     let rows = canvas(rt, SampleCount::One).all();
     let triangles = Numbers { state: 12 }.triangles(rt, alloc, 1100)?;
     let mut samples = cleared(alloc, &rows)?;
-    let source = Stored {
-        triangles: &triangles,
-    };
-    let drawn = rows.draw_from(&source, &mut samples);
-    Ok(drawn.is_ok() && are_ends(&rows, &samples, &triangles))
+    piece(rt, &rows, &mut samples).draw(&stored(&triangles));
+    Ok(are_ends(view(rt, &rows, &samples), &triangles))
 }
 
 #[test]
@@ -304,8 +366,10 @@ fn draws_window(rt: &impl Abort, alloc: Global, origin: Origin) -> Result<bool, 
     let rows = canvas(rt, SampleCount::Four).all();
     let triangles = Numbers { state: 9 }.triangles(rt, alloc, 70)?;
     let mut samples = cleared(alloc, &rows)?;
-    let drawn = rows.draw_window(&origin, &triangles, &mut samples);
-    Ok(drawn.is_ok() && are_ends_from(origin, &rows, &samples, &triangles))
+    let source = stored(&triangles);
+    let window = Window::new(&source, origin).expect(rt, "inside of the guard band");
+    piece(rt, &rows, &mut samples).draw(&window);
+    Ok(are_ends_from(origin, view(rt, &rows, &samples), &triangles))
 }
 
 #[test]
@@ -316,20 +380,17 @@ fn draws_a_window_anywhere_on_the_screen(rt: HostRuntime) -> Result<(), Fail> {
 }
 
 #[test]
-fn refuses_a_batch_that_leaves_the_guard_band(rt: HostRuntime) -> Result<(), Fail> {
-    let rows = canvas(&rt, SampleCount::One).all();
+fn has_no_window_that_leaves_the_guard_band(rt: HostRuntime) -> Result<(), Fail> {
     let triangles = Numbers { state: 10 }.triangles(&rt, rt.alloc(), 70)?;
-    let mut samples = cleared(rt.alloc(), &rows)?;
+    let source = stored(&triangles);
     let left = Origin { x: -32_700, y: 0 };
     let right = Origin {
         x: i32::MAX,
         y: i32::MIN,
     };
     for origin in [left, right] {
-        let refused = rows.draw_window(&origin, &triangles, &mut samples);
-        assert_eq!(rt; refused, Err(Misfit::OutOfRange));
+        assert!(rt; Window::new(&source, origin).is_none());
     }
-    assert!(rt; are_ends(&rows, &samples, &[]));
     Ok(())
 }
 
@@ -401,15 +462,15 @@ fn resolves(
     let rows = canvas.all();
     let triangles = Numbers { state: 4 }.triangles(rt, alloc, 40)?;
     let mut samples = cleared(alloc, &rows)?;
-    let drawn = rows.draw(&triangles, &mut samples);
+    piece(rt, &rows, &mut samples).draw(&stored(&triangles));
     let stride = 75 * format.pixel_bytes();
     let mut bytes = untouched(alloc, stride * 66)?;
-    let resolved = rows.resolve(&samples, &mut bytes, format, stride);
+    let resolved = view(rt, &rows, &samples).resolve(&mut bytes, format, stride);
     let mut other = cleared(alloc, &rows)?;
-    let loaded = rows.load(&mut other, &bytes, format, stride);
+    let loaded = piece(rt, &rows, &mut other).load(&bytes, format, stride);
     let mut again = untouched(alloc, stride * 66)?;
-    let returned = rows.resolve(&other, &mut again, format, stride);
-    let done = drawn.is_ok() && resolved.is_ok() && loaded.is_ok() && returned.is_ok();
+    let returned = view(rt, &rows, &other).resolve(&mut again, format, stride);
+    let done = resolved.is_ok() && loaded.is_ok() && returned.is_ok();
     Ok(done && are_resolved(&triangles, &canvas, format, &bytes) && again == bytes)
 }
 
@@ -430,17 +491,17 @@ fn resolves_pieces(rt: &impl Abort, alloc: Global) -> Result<bool, Fail> {
     let (upper, lower) = rows.split(1).expect(rt, "two rows of tiles");
     let triangles = Numbers { state: 5 }.triangles(rt, alloc, 40)?;
     let mut samples = cleared(alloc, &rows)?;
-    let drawn = rows.draw(&triangles, &mut samples);
+    piece(rt, &rows, &mut samples).draw(&stored(&triangles));
     let size = 300 * 65 + 210;
     let mut whole = untouched(alloc, size)?;
-    let one = rows.resolve(&samples, &mut whole, Format::Rgb8, 300);
+    let one = view(rt, &rows, &samples).resolve(&mut whole, Format::Rgb8, 300);
     let mut parts = untouched(alloc, size)?;
     let (above, below) = samples.split_at(upper.planes().min(samples.len()));
     let middle = (300 * 64).min(parts.len());
     let (first, last) = parts.split_at_mut(middle);
-    let two = upper.resolve(above, first, Format::Rgb8, 300);
-    let three = lower.resolve(below, last, Format::Rgb8, 300);
-    let done = drawn.is_ok() && one.is_ok() && two.is_ok() && three.is_ok();
+    let two = view(rt, &upper, above).resolve(first, Format::Rgb8, 300);
+    let three = view(rt, &lower, below).resolve(last, Format::Rgb8, 300);
+    let done = one.is_ok() && two.is_ok() && three.is_ok();
     Ok(done && whole == parts)
 }
 
@@ -459,7 +520,7 @@ fn last_at(triangles: &[Placed], count: SampleCount, i: u32, j: u32, s: u32) -> 
             test: triangle.state.merge.test,
             depth_write: triangle.state.merge.depth_write,
             write: [true; 3],
-            over: false,
+            blend: Blend::NONE,
         };
         marked.rgba = [[255, 255, 255, 255]; 3];
         let before = Sample {
@@ -507,15 +568,18 @@ fn draws_ids(rt: &impl Abort, alloc: Global) -> Result<bool, Fail> {
     let rows = canvas.all();
     let triangles = Numbers { state: 6 }.triangles(rt, alloc, 70)?;
     let mut samples = cleared(alloc, &rows)?;
-    let drawn = rows.draw_ids(&triangles, 70_000, &mut samples);
+    let source = stored(&triangles);
+    let ids = Ids::new(&source, 70_000).expect(rt, "ids of 24 bits");
+    piece(rt, &rows, &mut samples).draw(&ids);
     let (mut ids, mut depths) = (Vec::new(alloc), Vec::new(alloc));
     for _ in 0..70 * 66 {
         ids.push(0u32)?;
         depths.push(0u16)?;
     }
-    let one = rows.ids(&samples, 2, &mut ids, 70);
-    let two = rows.depths(&samples, 2, &mut depths, 70);
-    let done = drawn.is_ok() && one.is_ok() && two.is_ok();
+    let view = view(rt, &rows, &samples);
+    let one = view.ids(2, &mut ids, 70);
+    let two = view.depths(2, &mut depths, 70);
+    let done = one.is_ok() && two.is_ok();
     Ok(done && are_ids(&triangles, &canvas, &ids, &depths))
 }
 
@@ -538,13 +602,26 @@ fn draws_by_indices_and_refuses_one_that_names_no_vertex(rt: HostRuntime) -> Res
     let state = numbers.state();
     let mut samples = cleared(rt.alloc(), &rows)?;
     let vertices = [a, b, c, d];
-    let wrong = rows.draw_indexed(&vertices, &[[0, 1, 2], [0, 4, 1]], &state, &mut samples);
-    assert_eq!(rt; wrong, Err(Misfit::Indices));
-    assert!(rt; are_ends(&rows, &samples, &[]));
-    let right = rows.draw_indexed(&vertices, &[[0, 1, 2], [3, 2, 1]], &state, &mut samples);
-    assert_eq!(rt; right, Ok(()));
+    assert!(rt; Indexed::new(&vertices, &[[0, 1, 2], [0, 4, 1]], state).is_none());
+    let indexed = Indexed::new(&vertices, &[[0, 1, 2], [3, 2, 1]], state).expect(&rt, "4 vertices");
+    piece(&rt, &rows, &mut samples).draw(&indexed);
     let triangles = [placed(&a, &b, &c, state), placed(&d, &c, &b, state)];
-    assert!(rt; are_ends(&rows, &samples, &triangles));
+    assert!(rt; are_ends(view(&rt, &rows, &samples), &triangles));
+    Ok(())
+}
+
+#[test]
+fn clears_each_sample(rt: HostRuntime) -> Result<(), Fail> {
+    let rows = canvas(&rt, SampleCount::Two).all();
+    let mut samples = cleared(rt.alloc(), &rows)?;
+    let sample = Sample {
+        r: 1,
+        g: 2,
+        b: 3,
+        z: 4,
+    };
+    piece(&rt, &rows, &mut samples).clear(sample);
+    assert!(rt; view(&rt, &rows, &samples).sample(69, 65, 1) == Some(sample));
     Ok(())
 }
 
@@ -555,28 +632,20 @@ fn does_nothing_where_sizes_do_not_fit(rt: HostRuntime) -> Result<(), Fail> {
     let mut samples = cleared(rt.alloc(), &rows)?;
     let middle = 1.min(samples.len());
     let (_, short) = samples.split_at_mut(middle);
-    assert_eq!(rt; rows.clear(short, CLEAR), Err(Misfit::Planes));
-    assert_eq!(rt; rows.draw(&triangles, short), Err(Misfit::Planes));
-    let many = rows.draw_ids(&triangles, 16_777_215, &mut samples);
-    assert_eq!(rt; many, Err(Misfit::Ids));
-    assert!(rt; are_ends(&rows, &samples, &[]));
+    assert!(rt; !rows.fits(short.len()));
+    assert!(rt; Ids::new(&stored(&triangles), 16_777_215).is_none());
     let mut bytes = untouched(rt.alloc(), 210 * 66)?;
-    let narrow = rows.resolve(&samples, &mut bytes, Format::Rgb8, 209);
+    let narrow = view(&rt, &rows, &samples).resolve(&mut bytes, Format::Rgb8, 209);
     assert_eq!(rt; narrow, Err(Misfit::Pixels));
-    let long = rows.resolve(&samples, &mut bytes, Format::Rgb8, 211);
+    let long = view(&rt, &rows, &samples).resolve(&mut bytes, Format::Rgb8, 211);
     assert_eq!(rt; long, Err(Misfit::Pixels));
-    let wide = rows.load(&mut samples, &bytes, Format::Rgba8, 280);
+    let wide = piece(&rt, &rows, &mut samples).load(&bytes, Format::Rgba8, 280);
     assert_eq!(rt; wide, Err(Misfit::Pixels));
     assert!(rt; bytes == untouched(rt.alloc(), 210 * 66)?);
+    let view = view(&rt, &rows, &samples);
     let mut depths = [9u16; 4];
-    assert_eq!(rt;
-        rows.depths(&samples, 1, &mut depths, 70),
-        Err(Misfit::Sample)
-    );
-    assert_eq!(rt;
-        rows.depths(&samples, 0, &mut depths, 70),
-        Err(Misfit::Pixels)
-    );
+    assert_eq!(rt; view.depths(1, &mut depths, 70), Err(Misfit::Sample));
+    assert_eq!(rt; view.depths(0, &mut depths, 70), Err(Misfit::Pixels));
     assert_eq!(rt; depths, [9; 4]);
     Ok(())
 }

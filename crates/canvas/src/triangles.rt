@@ -1,5 +1,5 @@
 //! Triangles, drawn at the samples of tile rows.
-ghost use Rattle.std.specs.Prelude.{◌≡◌, ◌↔◌, ◌+◌, ◌<◌, ◌≤◌, length, take, IsOk, OnOk, OnErr, IfErr};
+ghost use Rattle.std.specs.Prelude.{◌≡◌, ◌+◌, ◌<◌, ◌≤◌, length, take};
 ghost use Rattle.raster.specs.Samples.{planes_of};
 ghost use Rattle.reach.specs.Reach.{AreReached};
 ghost use Rattle.grid.specs.declared.pixels.TileSide.TheVariants.{T64};
@@ -9,19 +9,21 @@ ghost use Rattle.canvas.specs.Rows.{IsMaskOf};
 
 use crate::canvas::Canvas;
 use crate::hidden::first_shown;
-use crate::misfit::Misfit;
 use crate::tile_planes::fill_tile;
 use crate::tile_rows::TileRows;
 use lanes::BlockSamples;
 use raster::{Tile, draw_triangle};
 use reach::{CHUNK, Reached, reach_of};
-use shade::{Chunk, Placed, Stored, Triangles};
+use shade::{Chunk, Placed, Triangles};
 
 /// How many triangles are drawn together at most.
 const LARGEST: usize = 16_384;
 
 /// How many are drawn together with little memory of the stack.
 const LARGE: usize = 1024;
+
+/// For how many triangles an array is filled in little time.
+const SMALL: usize = 8;
 
 /// Draws the first triangle that has to be drawn at the samples of a tile's own blocks, if it hides those before it. Returns how many
 /// triangles of the chunk are done with.
@@ -119,15 +121,16 @@ impl TileRows {
         }
     }
 
-    /// Draws the triangles of a source, of which there are at most as many as a word has bits.
-    fn draw_few<T: Triangles>(&self, triangles: &T, samples: &mut [BlockSamples])
+    /// Draws the triangles of a source, of which there are at most `N`, and at most as many as a word has bits.
+    fn draw_few<T: Triangles, const N: usize>(&self, triangles: &T, samples: &mut [BlockSamples])
         requires some { 0 < length (T.listed triangles.now) }
-        requires few { length (T.listed triangles.now) ≤ 64 }
+        requires fits { length (T.listed triangles.now) ≤ N }
+        requires few { N ≤ 64 }
         requires samples { length samples.old ≡ planes_of_rows self.now.canvas self.now.first self.now.end }
         ensures { HaveEnds (T.listed triangles.now) self.now.canvas self.now.first self.now.end samples.old samples.new }
     {
         let count = triangles.count();
-        let mut chunk = [triangles.triangle(0); CHUNK];
+        let mut chunk = [triangles.triangle(0); N];
         for k in 0..count {
             chunk[k] = triangles.triangle(k);
         }
@@ -142,8 +145,10 @@ impl TileRows {
         ensures { HaveEnds (T.listed triangles.now) self.now.canvas self.now.first self.now.end samples.old samples.new }
     {
         let count = triangles.count();
-        if count <= CHUNK {
-            self.draw_few(triangles, samples);
+        if count <= SMALL {
+            self.draw_few::<T, SMALL>(triangles, samples);
+        } else if count <= CHUNK {
+            self.draw_few::<T, CHUNK>(triangles, samples);
         } else if count <= LARGE {
             self.draw_many::<T, LARGE>(triangles, samples);
         } else {
@@ -168,42 +173,5 @@ impl TileRows {
             self.draw_part(&part, samples);
             done += count;
         }
-    }
-
-    /// Draws the triangles of a source in the same way as `draw`.
-    pub fn draw_from<T: Triangles>(
-        &self,
-        triangles: &T,
-        samples: &mut [BlockSamples],
-    ) -> Result<(), Misfit>
-        ensures fits { IsOk result ↔ (length samples.old ≡ planes_of_rows self.now.canvas self.now.first self.now.end) }
-        ensures drawn { OnOk result (HaveEnds (T.listed triangles.now) self.now.canvas self.now.first self.now.end samples.old samples.new) }
-        ensures unfit { OnErr result (samples.new ≡ samples.old) }
-        ensures reason { IfErr result (λ misfit. misfit ≡ Misfit.Planes) }
-    {
-        if samples.len() != self.planes() {
-            return Err(Misfit::Planes);
-        }
-        self.draw_all(triangles, samples);
-        Ok(())
-    }
-
-    /// Draws the triangles at each sample of these tile rows, one after another: what stood there is what they begin with. So the picture of
-    /// many calls is that of all their triangles in the order of the calls (`joins_batches`).
-    pub fn draw(&self, triangles: &[Placed], samples: &mut [BlockSamples]) -> Result<(), Misfit>
-        ensures fits { IsOk result ↔ (length samples.old ≡ planes_of_rows self.now.canvas self.now.first self.now.end) }
-        ensures drawn { OnOk result (HaveEnds triangles.now self.now.canvas self.now.first self.now.end samples.old samples.new) }
-        ensures unfit { OnErr result (samples.new ≡ samples.old) }
-        ensures reason { IfErr result (λ misfit. misfit ≡ Misfit.Planes) }
-    {
-        if samples.len() != self.planes() {
-            return Err(Misfit::Planes);
-        }
-        if triangles.len() <= CHUNK {
-            self.draw_chunk(triangles, samples);
-        } else {
-            self.draw_all(&Stored { triangles }, samples);
-        }
-        Ok(())
     }
 }

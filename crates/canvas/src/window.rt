@@ -1,15 +1,10 @@
 //! Triangles of the screen, drawn on a canvas that stands anywhere on the screen.
-ghost use Rattle.std.specs.Prelude.{◌≡◌, ◌≢◌, ◌↔◌, ◌⊎◌, ◌<◌, ◌≤◌, map, length, IsOk, IsSome, IsTrue, IfSome, OnOk, OnErr, IfErr};
+ghost use Rattle.std.specs.Prelude.{◌≡◌, ◌↔◌, ◌<◌, ◌-ℤ◌, map, IsSome, IfSome};
 ghost use Rattle.std.specs.List.{All};
 ghost use Rattle.grid.specs.Position.{IsInGuardBand};
-ghost use Rattle.canvas.specs.Layout.{planes_of_rows};
-ghost use Rattle.canvas.specs.Drawing.{HaveEnds};
-ghost use Rattle.canvas.specs.Window.{moved_position, moved_box, saturated, moved, CanMove, HaveEndsOnScreen};
+ghost use Rattle.canvas.specs.Window.{moved_position, moved_state, saturated, moved, CanMove};
 
-use crate::misfit::Misfit;
-use crate::tile_rows::TileRows;
 use grid::{PixelBox, Point, Tri};
-use lanes::BlockSamples;
 use shade::{Placed, State, Triangles};
 
 /// The pixel of the screen at which a canvas has its upper left pixel.
@@ -38,27 +33,38 @@ pub fn seen_point(p: Point, origin: &Origin) -> Option<Point>
     Point::new(narrowed(across), narrowed(down))
 }
 
-/// The rectangle as seen from the origin.
-fn seen_box(pixels: &PixelBox, origin: &Origin) -> PixelBox
-    ensures { result ≡ moved_box origin.now.x origin.now.y pixels.now }
+/// An edge of a rectangle as seen from a pixel, or the nearest number that has 32 bits.
+fn seen_edge(edge: i32, pixel: i32) -> i32
+    ensures { result ≡ saturated (edge -ℤ pixel) }
 {
-    let (x, y) = (i64::from(origin.x), i64::from(origin.y));
-    PixelBox {
-        x0: narrowed(i64::from(pixels.x0) - x),
-        y0: narrowed(i64::from(pixels.y0) - y),
-        x1: narrowed(i64::from(pixels.x1) - x),
-        y1: narrowed(i64::from(pixels.y1) - y),
-    }
+    edge.saturating_sub(pixel)
 }
 
 impl Origin {
+    /// The state, with its scissor, as seen from this pixel.
+    pub fn seen_state(&self, state: &State) -> State
+        ensures { result ≡ moved_state self.now.x self.now.y state.now }
+    {
+        let scissor = state.scissor;
+        State {
+            merge: state.merge,
+            cull: state.cull,
+            sample_mask: state.sample_mask,
+            scissor: PixelBox {
+                x0: seen_edge(scissor.x0, self.x),
+                y0: seen_edge(scissor.y0, self.y),
+                x1: seen_edge(scissor.x1, self.x),
+                y1: seen_edge(scissor.y1, self.y),
+            },
+        }
+    }
+
     /// The triangle, with its scissor, as seen from the corner of this pixel, or `None` if a vertex is outside of the guard band then.
     pub fn seen(&self, triangle: &Placed) -> Option<Placed>
         ensures some { IsSome result ↔ CanMove self.now.x self.now.y triangle.now }
         ensures value { IfSome result (λ t. t ≡ moved self.now.x self.now.y triangle.now) }
     {
         let tri = triangle.tri;
-        let state = triangle.state;
         let a = seen_point(tri.a, self)?;
         let b = seen_point(tri.b, self)?;
         let c = seen_point(tri.c, self)?;
@@ -66,76 +72,46 @@ impl Origin {
             tri: Tri::new(a, b, c),
             z: triangle.z,
             rgba: triangle.rgba,
-            state: State {
-                merge: state.merge,
-                cull: state.cull,
-                sample_mask: state.sample_mask,
-                scissor: seen_box(&state.scissor, self),
-            },
+            state: self.seen_state(&triangle.state),
         })
     }
 }
 
-/// Whether all vertices of the triangles stay in the guard band, as seen from the corner of the origin.
-fn are_seen(triangles: &[Placed], origin: &Origin) -> bool
-    ensures { IsTrue result ↔ All (CanMove origin.now.x origin.now.y) triangles.now }
-{
-    triangles
-        .iter()
-        .all(|triangle| origin.seen(triangle).is_some())
-}
-
-/// Triangles of the screen as seen from the corner of a pixel.
+/// The triangles of a source on the screen, as a canvas sees them whose upper left pixel is the origin: sample s of pixel (i, j) of the
+/// canvas is sample s of pixel (i + x, j + y) of the screen (`moves_by_pixels`). Scissors are in pixels of the screen. Samples to the left
+/// of the screen and above it are drawn too, each triangle as seen from the origin (`Origin::seen`).
 #[derive(Drop)]
-struct Seen<'a> {
+pub struct Window<'a, S: Triangles> {
+    source: &'a S,
     origin: Origin,
-    triangles: &'a [Placed],
-    ghost seen: { All (CanMove origin.x origin.y) triangles.now },
+    ghost seen: { All (CanMove origin.x origin.y) (S.listed source.now) },
 }
 
-impl Triangles for Seen<'_> {
-    ghost listed = { λ s. map (moved s.origin.x s.origin.y) s.triangles.now };
+impl<'a, S: Triangles> Window<'a, S> {
+    /// The triangles of the source, or `None` if a vertex is outside of the guard band as seen from the origin.
+    pub fn new(source: &'a S, origin: Origin) -> Option<Window<'a, S>>
+        ensures some { IsSome result ↔ All (CanMove origin.x origin.y) (S.listed source.now) }
+        ensures listed { IfSome result (λ window. ⟦<Window<'a, S> as Triangles>⟧.listed window ≡ map (moved origin.x origin.y) (S.listed source.now)) }
+    {
+        for number in 0..source.count() {
+            if origin.seen(&source.triangle(number)).is_none() {
+                return None;
+            }
+        }
+        Some(Window { source, origin })
+    }
+}
+
+impl<S: Triangles> Triangles for Window<'_, S> {
+    ghost listed = { λ s. map (moved s.origin.x s.origin.y) (S.listed s.source.now) };
 
     #[inline(always)]
     fn count(&self) -> usize {
-        self.triangles.len()
+        self.source.count()
     }
 
     #[inline(always)]
     fn triangle(&self, number: usize) -> Placed {
-        self.origin.seen(&self.triangles[number]).unwrap()
-    }
-}
-
-impl TileRows {
-    /// Draws triangles of the screen on a canvas whose upper left pixel is the origin: sample s of pixel (i, j) of the canvas is
-    /// sample s of pixel (i + x, j + y) of the screen. Scissors are in pixels of the screen. Samples to the left of the screen and
-    /// above it are drawn too, each triangle as seen from the origin (`Origin::seen`).
-    pub fn draw_window(
-        &self,
-        origin: &Origin,
-        triangles: &[Placed],
-        samples: &mut [BlockSamples],
-    ) -> Result<(), Misfit>
-        ensures fits { IsOk result ↔ ((length samples.old ≡ planes_of_rows self.now.canvas self.now.first self.now.end) × All (CanMove origin.now.x origin.now.y) triangles.now) }
-        ensures on_screen { OnOk result (HaveEndsOnScreen origin.now triangles.now self.now.canvas self.now.first self.now.end samples.old samples.new) }
-        ensures drawn { OnOk result (HaveEnds (map (moved origin.now.x origin.now.y) triangles.now) self.now.canvas self.now.first self.now.end samples.old samples.new) }
-        ensures unfit { OnErr result (samples.new ≡ samples.old) }
-        ensures reason { IfErr result (λ misfit.
-            ((misfit ≡ Misfit.Planes) × (length samples.old ≢ planes_of_rows self.now.canvas self.now.first self.now.end))
-            ⊎ ((misfit ≡ Misfit.OutOfRange) × ¬ All (CanMove origin.now.x origin.now.y) triangles.now)) }
-    {
-        if samples.len() != self.planes() {
-            return Err(Misfit::Planes);
-        }
-        if !are_seen(triangles, origin) {
-            return Err(Misfit::OutOfRange);
-        }
-        let seen = Seen {
-            origin: *origin,
-            triangles,
-        };
-        self.draw_all(&seen, samples);
-        Ok(())
+        self.origin.seen(&self.source.triangle(number)).unwrap()
     }
 }

@@ -1,5 +1,6 @@
 -- Tile rows of a canvas, as the caller names them, and the checks of the calls.
 use Rattle.std.specs.Prelude.{◌≡◌, ◌⊎◌, ℕ, ◌==◌, ◌+◌, ◌-◌, ◌*◌, ◌/◌, ◌<◌, ◌≤◌, min, if◌then◌else◌}
+use Rattle.model.specs.Checking.{Checks, done, check, followed_by}
 use Rattle.scene.specs.Listed.{samples_listed}
 use Rattle.canvas.specs.declared.canvas.Canvas.{Canvas}
 use Rattle.canvas.specs.declared.format.Format.{Format}
@@ -7,8 +8,9 @@ use Rattle.canvas.specs.declared.format.Format.TheVariants.{Rgb8, Rgba8, Bgra8}
 use Rattle.canvas.specs.declared.tile_rows.TileRows.{TileRows}
 use Rattle.canvas.specs.Layout.{IsCanvasSize}
 use Rattle.canvas.specs.Pixels.{pixel_bytes}
+use Rattle.c_abi.specs.declared.status.Status.{Status}
+use Rattle.c_abi.specs.declared.status.Status.TheVariants.{BufferTooSmall, BadTileRows, BadStructSize, BadCanvas, BadMemory, BadFormat, BadSample}
 use Rattle.canvas_c.specs.declared.piece.CanvasHead.{CanvasHead}
-use Rattle.canvas_c.specs.Statuses.{Checks, done, check, followed_by}
 
 -- There is a canvas of this size.
 pub record IsCanvas (width height samples : ℕ) : Type 0 where
@@ -48,12 +50,12 @@ pub record HasRoom (head : CanvasHead) (unit stride size : ℕ) : Type 0 where
 -- What each call on tile rows checks first.
 -- These are the size of the struct, that there is such a canvas, that it has these tile rows, and that the memory has as many planes as
 -- they.
-abbrev pub piece_checks : CanvasHead → ℕ → Checks
+abbrev pub piece_checks : CanvasHead → ℕ → Checks Status
 piece_checks head planes =
-    check (head.struct_size ≡ 48) 7 (
-    check (IsCanvas head.width head.height head.samples) 8 (
-    check (HasRows head.height head.first head.end) 6 (
-    check (planes ≡ planes_of head.width head.samples head.first head.end) 9
+    check (head.struct_size ≡ 48) BadStructSize (
+    check (IsCanvas head.width head.height head.samples) BadCanvas (
+    check (HasRows head.height head.first head.end) BadTileRows (
+    check (planes ≡ planes_of head.width head.samples head.first head.end) BadMemory
     done)))
 
 -- The formats by their numbers.
@@ -61,17 +63,17 @@ abbrev pub format_of : ℕ → Format
 format_of n = if n == 0 then Rgb8 else (if n == 1 then Rgba8 else Bgra8)
 
 -- A picture of `size` bytes is read or written, whose rows begin `stride` bytes behind each other.
-abbrev pub image_checks : CanvasHead → ℕ → ℕ → ℕ → ℕ → Checks
+abbrev pub image_checks : CanvasHead → ℕ → ℕ → ℕ → ℕ → Checks Status
 image_checks head planes format stride size =
     followed_by (piece_checks head planes) (
-    check (format ≤ 2) 10 (
-    check (HasRoom head (pixel_bytes (format_of format)) stride size) 4
+    check (format ≤ 2) BadFormat (
+    check (HasRoom head (pixel_bytes (format_of format)) stride size) BufferTooSmall
     done))
 
 -- The samples of one index are read to `size` entries, whose rows begin `stride` entries behind each other.
-abbrev pub entries_checks : CanvasHead → ℕ → ℕ → ℕ → ℕ → Checks
+abbrev pub entries_checks : CanvasHead → ℕ → ℕ → ℕ → ℕ → Checks Status
 entries_checks head planes sample stride size =
     followed_by (piece_checks head planes) (
-    check (sample < head.samples) 11 (
-    check (HasRoom head 1 stride size) 4
+    check (sample < head.samples) BadSample (
+    check (HasRoom head 1 stride size) BufferTooSmall
     done))

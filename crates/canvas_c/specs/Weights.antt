@@ -4,9 +4,11 @@ use Rattle.grid.specs.Position.{Position, IsInBand}
 use Rattle.grid.specs.Edge.{side}
 use Rattle.grid.specs.Triangle.{Covers, doubled_area}
 use Rattle.grid.specs.declared.triangle.Tri.{Tri}
+use Rattle.model.specs.Checking.{Checks, done, check}
+use Rattle.c_abi.specs.declared.status.Status.{Status}
+use Rattle.c_abi.specs.declared.status.Status.TheVariants.{BadPosition}
 use Rattle.canvas_c.specs.declared.weights.Corners.{Corners}
 use Rattle.canvas_c.specs.declared.weights.Edges.{Edges}
-use Rattle.canvas_c.specs.Statuses.{Checks, done, check}
 
 -- The first corner.
 abbrev pub a_of : Corners → Position
@@ -30,8 +32,8 @@ pub record AreInBand (t : Corners) : Type 0 where
   pub cy : IsInBand t.cy
 
 -- The checks of a call that writes edge functions: the corners are in the guard band, and so is the point.
-abbrev pub weights_checks : Corners → Position → Checks
-weights_checks t p = check (AreInBand t) 12 (check (IsInBand p.x × IsInBand p.y) 12 done)
+abbrev pub weights_checks : Corners → Position → Checks Status
+weights_checks t p = check (AreInBand t) BadPosition (check (IsInBand p.x × IsInBand p.y) BadPosition done)
 
 -- The edge functions at a point, each of the edge across from its corner, the doubled area, and whether the point is covered.
 pub record AreEdgesOf (t : Tri) (p : Position) (edges : Edges) : Type 0 where

@@ -1,59 +1,46 @@
 //! Batches, drawn at the samples of tile rows.
-ghost use Rattle.std.specs.Prelude.{◌≡◌, ◌≢◌, ◌↔◌, length, IsOk, OnOk, OnErr, IfErr, None as Nothing, Some as Just, ⊤};
+ghost use Rattle.std.specs.Prelude.{◌≡◌, ◌≢◌, length, OnOk, OnErr, None as Nothing, Some as Just, ⊤};
 ghost use Rattle.canvas.specs.Drawing.{HaveEnds};
 ghost use Rattle.canvas.specs.Ids.{with_ids};
 ghost use Rattle.batch.specs.Seen.{triangles_seen};
 ghost use Rattle.batch.specs.Ids.{drawn_as};
-ghost use Rattle.canvas_c.specs.Statuses.{IsJudged, IsStatus, Ended};
+ghost use Rattle.c_abi.specs.Calls.{IsCall, IsReport};
 ghost use Rattle.canvas_c.specs.Pieces.{OnRows};
-ghost use Rattle.canvas_c.specs.Batches.{batch_checks, IsReported, IsReport, IsFaultOf};
+ghost use Rattle.canvas_c.specs.Batches.{draw_checks, IsFirstOfBatch};
 
 use crate::piece::{CanvasHead, CanvasPiece, rows_of};
-use crate::status::{CallError, status};
-use batch::{Batch, LibraryError, draw_batch};
+use batch::draw_batch;
+use c_abi::{CallError, Error, Status, report};
 use canvas::Origin;
 use lanes::BlockSamples;
+use scene::Arrays;
 
 /// Draws a batch, in its colours or by ids.
 fn draw_into(
     head: &CanvasHead,
     planes: &mut [BlockSamples],
-    batch: &Batch<'_>,
+    batch: &Arrays<'_>,
     ids: Option<u32>,
 ) -> Result<(), CallError>
-    ensures judged { IsJudged (batch_checks head.now (length planes.old) ids batch.now) (λ done. ⊤) result }
-    ensures fault { IfErr result (IsFaultOf head.now ids batch.now) }
+    ensures judged { IsCall (draw_checks head.now (length planes.old) ids batch.now) (IsFirstOfBatch head.now ids batch.now) (λ done. ⊤) result }
     ensures drawn { OnOk result (OnRows head.now (λ c first end.
         HaveEnds (drawn_as ids (triangles_seen head.now.origin_x head.now.origin_y batch.now.draws.now batch.now.vertices.now batch.now.indices.now)) c first end planes.old planes.new)) }
     ensures kept { OnErr result (planes.new ≡ planes.old) }
 {
     let rows = rows_of(head, planes)?;
     if !batch.has_sizes() {
-        return Err(CallError::StructSize);
+        return Err(CallError::from(Status::BadStructSize));
     }
     let origin = Origin {
         x: head.origin_x,
         y: head.origin_y,
     };
     let (draws, vertices, indices) = (batch.draws, batch.vertices, batch.indices);
-    match draw_batch(&rows, draws, vertices, indices, &origin, ids, planes) {
+    let mut piece = rows.over(planes);
+    match draw_batch(&mut piece, draws, vertices, indices, &origin, ids) {
         Ok(()) => Ok(()),
-        Err(fault) => Err(CallError::Batch(fault)),
+        Err(fault) => Err(CallError::of_list(fault)),
     }
-}
-
-/// Writes how a call ended into the caller's error. Returns the status.
-fn report(ended: Result<(), CallError>, error: &mut LibraryError) -> u32
-    ensures ended { Ended ended result }
-    ensures done { result ≡ 0 ↔ IsOk ended }
-    ensures reported { IsReported ended error.new }
-{
-    *error = match ended {
-        Ok(()) => LibraryError::alone(0),
-        Err(CallError::Batch(fault)) => LibraryError::of_list(fault),
-        Err(failed) => LibraryError::alone(failed.number()),
-    };
-    status(ended)
 }
 
 /// Draws a batch at the samples of these tile rows, over what is stored there. Returns the status, and writes the error. If the status is
@@ -61,14 +48,13 @@ fn report(ended: Result<(), CallError>, error: &mut LibraryError) -> u32
 #[unsafe(no_mangle)]
 pub extern "C" fn trirast_canvas_draw(
     canvas: &mut CanvasPiece<'_>,
-    batch: &Batch<'_>,
-    error: &mut LibraryError,
+    batch: &Arrays<'_>,
+    error: &mut Error,
 ) -> u32
-    ensures status { IsStatus (batch_checks canvas.old.head (length canvas.old.planes.now) Nothing batch.now) result }
+    ensures report { IsReport (draw_checks canvas.old.head (length canvas.old.planes.now) Nothing batch.now) (IsFirstOfBatch canvas.old.head Nothing batch.now) result error.new }
     ensures drawn { result ≡ 0 → OnRows canvas.old.head (λ c first end.
         HaveEnds (triangles_seen canvas.old.head.origin_x canvas.old.head.origin_y batch.now.draws.now batch.now.vertices.now batch.now.indices.now) c first end canvas.old.planes.now canvas.new.planes.now) }
     ensures kept { result ≢ 0 → canvas.new.planes.now ≡ canvas.old.planes.now }
-    ensures report { IsReport canvas.old.head Nothing batch.now result error.new }
     ensures head { canvas.new.head ≡ canvas.old.head }
     ensures same { canvas.new.planes.ghost_name ≡ canvas.old.planes.ghost_name }
 {
@@ -80,15 +66,14 @@ pub extern "C" fn trirast_canvas_draw(
 #[unsafe(no_mangle)]
 pub extern "C" fn trirast_canvas_draw_ids(
     canvas: &mut CanvasPiece<'_>,
-    batch: &Batch<'_>,
+    batch: &Arrays<'_>,
     first_id: u32,
-    error: &mut LibraryError,
+    error: &mut Error,
 ) -> u32
-    ensures status { IsStatus (batch_checks canvas.old.head (length canvas.old.planes.now) (Just first_id) batch.now) result }
+    ensures report { IsReport (draw_checks canvas.old.head (length canvas.old.planes.now) (Just first_id) batch.now) (IsFirstOfBatch canvas.old.head (Just first_id) batch.now) result error.new }
     ensures drawn { result ≡ 0 → OnRows canvas.old.head (λ c first end.
         HaveEnds (with_ids (triangles_seen canvas.old.head.origin_x canvas.old.head.origin_y batch.now.draws.now batch.now.vertices.now batch.now.indices.now) first_id) c first end canvas.old.planes.now canvas.new.planes.now) }
     ensures kept { result ≢ 0 → canvas.new.planes.now ≡ canvas.old.planes.now }
-    ensures report { IsReport canvas.old.head (Just first_id) batch.now result error.new }
     ensures head { canvas.new.head ≡ canvas.old.head }
     ensures same { canvas.new.planes.ghost_name ≡ canvas.old.planes.ghost_name }
 {

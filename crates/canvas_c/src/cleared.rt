@@ -1,29 +1,25 @@
 //! Samples that are all made the same.
 ghost use Rattle.std.specs.Prelude.{◌≡◌, ◌≢◌, length, slice_index, OnOk, OnErr, ⊤};
 ghost use Rattle.canvas.specs.Drawing.{AreCleared};
-ghost use Rattle.canvas_c.specs.Statuses.{IsJudged, IsStatus};
+ghost use Rattle.model.specs.Checking.{IsJudged};
+ghost use Rattle.c_abi.specs.Calls.{IsStatus};
 ghost use Rattle.canvas_c.specs.Pieces.{OnRows, piece_checks};
 
 use crate::piece::{CanvasHead, CanvasPiece, rows_of};
-use crate::status::{CallError, status};
+use c_abi::{Status, status_of};
 use lanes::BlockSamples;
 use shade::Sample;
 
 /// Makes each sample of these tile rows the given one.
-fn clear_into(
-    head: &CanvasHead,
-    planes: &mut [BlockSamples],
-    sample: Sample,
-) -> Result<(), CallError>
+fn clear_into(head: &CanvasHead, planes: &mut [BlockSamples], sample: Sample) -> Result<(), Status>
     ensures judged { IsJudged (piece_checks head.now (length planes.old)) (λ done. ⊤) result }
     ensures cleared { OnOk result (OnRows head.now (λ c first end. AreCleared c first end sample planes.new)) }
     ensures kept { OnErr result (planes.new ≡ planes.old) }
 {
     let rows = rows_of(head, planes)?;
-    match rows.clear(planes, sample) {
-        Ok(()) => Ok(()),
-        Err(_) => Err(CallError::Memory),
-    }
+    let mut piece = rows.over(planes);
+    piece.clear(sample);
+    Ok(())
 }
 
 /// Makes each sample of these tile rows the one of this colour and depth. Returns the status. If it is not 0, the samples are unchanged.
@@ -46,5 +42,5 @@ pub extern "C" fn trirast_canvas_clear(
         z: depth,
     };
     let head = canvas.head;
-    status(clear_into(&head, canvas.planes, sample))
+    status_of(clear_into(&head, canvas.planes, sample))
 }

@@ -1,11 +1,12 @@
 //! Depths and ids, written to the caller's memory.
 ghost use Rattle.std.specs.Prelude.{◌≡◌, ◌≢◌, length, map, OnOk, OnErr, ⊤};
 ghost use Rattle.canvas.specs.Colours.{AreEntries, AreDepths, AreIds};
-ghost use Rattle.canvas_c.specs.Statuses.{IsJudged, IsStatus};
+ghost use Rattle.model.specs.Checking.{IsJudged};
+ghost use Rattle.c_abi.specs.Calls.{IsStatus};
 ghost use Rattle.canvas_c.specs.Pieces.{OnRows, entries_checks};
 
-use crate::piece::{CanvasHead, CanvasPiece, rows_of};
-use crate::status::{CallError, fitted, status};
+use crate::piece::{CanvasHead, CanvasPiece, fitted, rows_of};
+use c_abi::{Status, status_of};
 use canvas::Entry;
 use lanes::BlockSamples;
 
@@ -16,16 +17,16 @@ fn entries_into<E: Entry>(
     sample: u32,
     entries: &mut [E],
     stride: usize,
-) -> Result<(), CallError>
+) -> Result<(), Status>
     ensures judged { IsJudged (entries_checks head.now (length planes.now) sample stride (length entries.old)) (λ done. ⊤) result }
     ensures written { OnOk result (OnRows head.now (λ c first end. AreEntries E.number_of c first end planes.now sample stride (map E.number entries.old) (map E.number entries.new))) }
     ensures kept { OnErr result (entries.new ≡ entries.old) }
 {
     let rows = rows_of(head, planes)?;
     if sample >= head.samples {
-        return Err(CallError::Sample);
+        return Err(Status::BadSample);
     }
-    fitted(rows.entries(planes, sample, entries, stride))
+    fitted(rows.view(planes).entries(sample, entries, stride))
 }
 
 /// Writes the depth of sample `sample` of each pixel of these tile rows. Entries of no pixel are unchanged. Returns the status. If it is
@@ -41,7 +42,7 @@ pub extern "C" fn trirast_canvas_depths(
     ensures written { result ≡ 0 → OnRows canvas.now.head (λ c first end. AreDepths c first end canvas.now.planes.now sample stride depths.old depths.new) }
     ensures kept { result ≢ 0 → depths.new ≡ depths.old }
 {
-    status(entries_into(&canvas.head, canvas.planes, sample, depths, stride))
+    status_of(entries_into(&canvas.head, canvas.planes, sample, depths, stride))
 }
 
 /// Writes the id of sample `sample` of each pixel of these tile rows. Entries of no pixel are unchanged. Returns the status. If it is not
@@ -57,5 +58,5 @@ pub extern "C" fn trirast_canvas_ids(
     ensures written { result ≡ 0 → OnRows canvas.now.head (λ c first end. AreIds c first end canvas.now.planes.now sample stride ids.old ids.new) }
     ensures kept { result ≢ 0 → ids.new ≡ ids.old }
 {
-    status(entries_into(&canvas.head, canvas.planes, sample, ids, stride))
+    status_of(entries_into(&canvas.head, canvas.planes, sample, ids, stride))
 }

@@ -3,11 +3,13 @@ ghost use Rattle.std.specs.Prelude.{◌≡◌, ◌≢◌, ◌↔◌, ◌≤◌, 
 ghost use Rattle.canvas.specs.Layout.{planes_of_rows};
 ghost use Rattle.canvas.specs.Colours.{AreResolved};
 ghost use Rattle.canvas.specs.Loaded.{AreLoaded};
-ghost use Rattle.canvas_c.specs.Statuses.{IsJudged, IsStatus, check, followed_by, done as checked};
+ghost use Rattle.model.specs.Checking.{IsJudged, check, followed_by, done as checked};
+ghost use Rattle.c_abi.specs.Calls.{IsStatus};
+ghost use Rattle.c_abi.specs.declared.status.Status.TheVariants as failed;
 ghost use Rattle.canvas_c.specs.Pieces.{AreRowsOf, OnRows, format_of as format_named, piece_checks, image_checks};
 
-use crate::piece::{CanvasHead, CanvasPiece, rows_of};
-use crate::status::{CallError, fitted, status};
+use crate::piece::{CanvasHead, CanvasPiece, fitted, rows_of};
+use c_abi::{Status, status_of};
 use canvas::{Format, TileRows};
 use lanes::BlockSamples;
 
@@ -29,15 +31,15 @@ fn image_rows(
     head: &CanvasHead,
     planes: &[BlockSamples],
     format: u32,
-) -> Result<(TileRows, Format), CallError>
-    ensures judged { IsJudged (followed_by (piece_checks head.now (length planes.now)) (check (format ≤ 2) 10 checked)) (λ found. AreRowsOf head.now found.0) result }
+) -> Result<(TileRows, Format), Status>
+    ensures judged { IsJudged (followed_by (piece_checks head.now (length planes.now)) (check (format ≤ 2) failed.BadFormat checked)) (λ found. AreRowsOf head.now found.0) result }
     ensures planes { IfOk result (λ found. length planes.now ≡ planes_of_rows found.0.canvas found.0.first found.0.end) }
     ensures format { IfOk result (λ found. found.1 ≡ format_named format) }
 {
     let rows = rows_of(head, planes)?;
     match format_of(format) {
         Some(format) => Ok((rows, format)),
-        None => Err(CallError::Format),
+        None => Err(Status::BadFormat),
     }
 }
 
@@ -48,13 +50,14 @@ fn load_into(
     format: u32,
     pixels: &[u8],
     stride: usize,
-) -> Result<(), CallError>
+) -> Result<(), Status>
     ensures judged { IsJudged (image_checks head.now (length planes.old) format stride (length pixels.now)) (λ done. ⊤) result }
     ensures loaded { OnOk result (OnRows head.now (λ c first end. AreLoaded c first end pixels.now (format_named format) stride planes.old planes.new)) }
     ensures kept { OnErr result (planes.new ≡ planes.old) }
 {
     let (rows, format) = image_rows(head, planes, format)?;
-    fitted(rows.load(planes, pixels, format, stride))
+    let mut piece = rows.over(planes);
+    fitted(piece.load(pixels, format, stride))
 }
 
 /// Makes a picture in this format the colour of all samples of its pixels in these tile rows; depths are unchanged. Returns the status. If
@@ -73,7 +76,7 @@ pub extern "C" fn trirast_canvas_load(
     ensures same { canvas.new.planes.ghost_name ≡ canvas.old.planes.ghost_name }
 {
     let head = canvas.head;
-    status(load_into(&head, canvas.planes, format, pixels, stride))
+    status_of(load_into(&head, canvas.planes, format, pixels, stride))
 }
 
 /// Writes the colour of each pixel of these tile rows in this format. Bytes of no pixel are unchanged. Returns the status. If it is not 0,
@@ -90,7 +93,10 @@ pub extern "C" fn trirast_canvas_resolve(
     ensures kept { result ≢ 0 → pixels.new ≡ pixels.old }
 {
     match image_rows(&canvas.head, canvas.planes, format) {
-        Ok((rows, format)) => status(fitted(rows.resolve(canvas.planes, pixels, format, stride))),
+        Ok((rows, format)) => {
+            let view = rows.view(canvas.planes);
+            status_of(fitted(view.resolve(pixels, format, stride)))
+        }
         Err(failed) => failed.number(),
     }
 }

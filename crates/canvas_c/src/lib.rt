@@ -6,7 +6,6 @@ mod cleared;
 mod entries;
 mod images;
 mod piece;
-mod status;
 mod weights;
 
 pub use batches::{trirast_canvas_draw, trirast_canvas_draw_ids};
@@ -16,5 +15,4 @@ pub use images::{trirast_canvas_load, trirast_canvas_resolve};
 pub use piece::{
     CanvasHead, CanvasPiece, trirast_canvas_bytes, trirast_canvas_row_pixels, trirast_canvas_rows,
 };
-pub use status::CallError;
 pub use weights::{Corners, Edges, trirast_weights};

@@ -1,12 +1,12 @@
 //! Tile rows of a canvas, as the caller names them.
-ghost use Rattle.std.specs.Prelude.{◌≡◌, ◌↔◌, ◌⊎◌, ◌+◌, ◌*◌, ◌/◌, ◌≤◌, length, IsSome, IfSome, IfOk};
+ghost use Rattle.std.specs.Prelude.{◌≡◌, ◌↔◌, ◌⊎◌, ◌+◌, ◌*◌, ◌/◌, ◌≤◌, length, IsSome, IfSome, IsOk, IfOk, IfErr};
+ghost use Rattle.model.specs.Checking.{IsJudged};
 ghost use Rattle.scene.specs.Listed.{samples_listed};
 ghost use Rattle.canvas.specs.Layout.{planes_of_rows};
-ghost use Rattle.canvas_c.specs.Statuses.{IsJudged};
 ghost use Rattle.canvas_c.specs.Pieces.{IsCanvas, HasRows, planes_of, AreRowsOf, piece_checks};
 
-use crate::status::CallError;
-use canvas::{Canvas, TileRows};
+use c_abi::Status;
+use canvas::{Canvas, Misfit, TileRows};
 use grid::SampleCount;
 use lanes::BlockSamples;
 
@@ -75,23 +75,34 @@ fn canvas(width: u32, height: u32, samples: u32) -> Option<Canvas>
 }
 
 /// The tile rows that the caller names, if their memory has as many planes.
-pub(crate) fn rows_of(head: &CanvasHead, planes: &[BlockSamples]) -> Result<TileRows, CallError>
+pub(crate) fn rows_of(head: &CanvasHead, planes: &[BlockSamples]) -> Result<TileRows, Status>
     ensures judged { IsJudged (piece_checks head.now (length planes.now)) (AreRowsOf head.now) result }
     ensures planes { IfOk result (λ rows. length planes.now ≡ planes_of_rows rows.canvas rows.first rows.end) }
 {
     if head.struct_size != PIECE_SIZE {
-        return Err(CallError::StructSize);
+        return Err(Status::BadStructSize);
     }
     let Some(canvas) = canvas(head.width, head.height, head.samples) else {
-        return Err(CallError::Canvas);
+        return Err(Status::BadCanvas);
     };
     let Some(rows) = canvas.rows(head.first, head.end) else {
-        return Err(CallError::TileRows);
+        return Err(Status::BadTileRows);
     };
-    if planes.len() != rows.planes() {
-        return Err(CallError::Memory);
+    if !rows.fits(planes.len()) {
+        return Err(Status::BadMemory);
     }
     Ok(rows)
+}
+
+/// How a call ended that reads or writes rows of pixels: whatever does not fit, the caller's memory is too small for them.
+pub(crate) fn fitted(ended: Result<(), Misfit>) -> Result<(), Status>
+    ensures done { IsOk result ↔ IsOk ended }
+    ensures small { IfErr result (λ failed. failed ≡ Status.BufferTooSmall) }
+{
+    match ended {
+        Ok(()) => Ok(()),
+        Err(_) => Err(Status::BufferTooSmall),
+    }
 }
 
 /// The bytes of the samples of the tile rows from `first` to before `end` of a canvas. Returns 0 if there is no such canvas or it has no

@@ -1,9 +1,10 @@
 //! The edge functions of a triangle at a point.
 ghost use Rattle.std.specs.Prelude.{◌≡◌, ◌≢◌, ◌↔◌, IsSome, IfSome};
-ghost use Rattle.canvas_c.specs.Statuses.{IsJudged, IsStatus};
+ghost use Rattle.model.specs.Checking.{IsJudged};
+ghost use Rattle.c_abi.specs.Calls.{IsStatus};
 ghost use Rattle.canvas_c.specs.Weights.{a_of, b_of, c_of, AreInBand, weights_checks, AreEdgesOf, AreEdges};
 
-use crate::status::CallError;
+use c_abi::Status;
 use grid::{Point, Tri, side};
 
 /// The corners of a triangle in 1/256 pixel, laid out as in C.
@@ -63,14 +64,14 @@ fn edges_of(triangle: &Tri, point: Point) -> Edges
 }
 
 /// The edge functions of the triangle with these corners at the point (x, y).
-fn edges_at(corners: &Corners, x: i32, y: i32) -> Result<Edges, CallError>
+fn edges_at(corners: &Corners, x: i32, y: i32) -> Result<Edges, Status>
     ensures judged { IsJudged (weights_checks corners.now (record { x = x; y = y })) (AreEdges corners.now (record { x = x; y = y })) result }
 {
     let Some(triangle) = triangle_of(corners) else {
-        return Err(CallError::Position);
+        return Err(Status::BadPosition);
     };
     let Some(point) = Point::new(x, y) else {
-        return Err(CallError::Position);
+        return Err(Status::BadPosition);
     };
     Ok(edges_of(&triangle, point))
 }

@@ -6,7 +6,7 @@ ghost use Rattle.model.specs.Denotes.{OrDefault, IsTruth, IsWriteMask, IsSampleM
 
 use crate::array::has_length;
 use crate::number::whole_number;
-use crate::word::{blends_over, cull, depth_test};
+use crate::word::{blend, cull, depth_test};
 use grid::PixelBox;
 use model::{ALL_SAMPLES, DEFAULT_STATE, MOST_PIXELS, ReadKind};
 use serde_json::Value;
@@ -100,13 +100,13 @@ fn merge(value: &Value) -> Result<Merge, ReadKind>
 {
     let test = depth_test(value.get("depth_test"))?;
     let depth_write = depth_write(value.get("depth_write"))?;
-    let over = blends_over(value.get("blend"))?;
+    let blend = blend(value.get("blend"))?;
     let write = write_mask(value.get("write"))?;
     Ok(Merge {
         test,
         depth_write,
         write,
-        over,
+        blend,
     })
 }
 

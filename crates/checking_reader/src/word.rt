@@ -1,7 +1,8 @@
-ghost use Rattle.std.specs.Prelude.{◌≡◌, Some, None, option_map, false, MatchResult};
+ghost use Rattle.std.specs.Prelude.{◌≡◌, Some, None, option_map, MatchResult};
 ghost use Rattle.serde_json.specs.View.{view};
 ghost use Rattle.grid.specs.declared.cull.Cull.TheVariants as cull_of;
 ghost use Rattle.shade.specs.declared.depth.DepthTest.TheVariants as test_of;
+ghost use Rattle.shade.specs.Presets.{none_blend};
 ghost use Rattle.model.specs.declared.fault.ReadKind.TheVariants.{WrongKind};
 ghost use Rattle.model.specs.declared.output.Output.TheVariants as output_of;
 ghost use Rattle.model.specs.Json.{text};
@@ -16,7 +17,7 @@ use model::{
     output_named,
 };
 use serde_json::Value;
-use shade::DepthTest;
+use shade::{Blend, DepthTest};
 
 /// The string that a value is.
 fn word(value: &Value) -> Result<&str, ReadKind>
@@ -59,13 +60,13 @@ pub(crate) fn depth_test(value: Option<&Value>) -> Result<DepthTest, ReadKind>
     depth_test_named(word(value)?).ok_or(ReadKind::OutOfRange)
 }
 
-/// Whether a draw is blended over what is stored; the default if the key is absent.
-pub(crate) fn blends_over(value: Option<&Value>) -> Result<bool, ReadKind>
+/// How a draw is blended; the default if the key is absent.
+pub(crate) fn blend(value: Option<&Value>) -> Result<Blend, ReadKind>
     ensures { let seen = option_map (λ v. view v.now) value.entry in
-        Answers (where_there (word_checks blend_words) seen) (OrDefault false IsBlend seen) result }
+        Answers (where_there (word_checks blend_words) seen) (OrDefault none_blend IsBlend seen) result }
 {
     let Some(value) = value else {
-        return Ok(DEFAULT_STATE.merge.over);
+        return Ok(DEFAULT_STATE.merge.blend);
     };
     blend_named(word(value)?).ok_or(ReadKind::OutOfRange)
 }

@@ -3,3 +3,4 @@ pub mod Lexing
 pub mod Blanks
 pub mod Places
 pub mod Eights
+pub mod Rows

@@ -23,8 +23,14 @@
 --
 -- Blank.antt
 --   is_no_space: The byte is no space.
+--
+-- Row.antt
+--   IsAhead: The mask says which bytes from an index on are no digits, the first lowest, and eight more bytes follow them.
+--   TookIntegers: The tokens `old` begin with these integers, and `new` is what follows them.
+--   TookRow: The tokens `old` begin with an array of these integers, and `new` is what follows it.
 
 pub mod Lexed
 pub mod Tokens
 pub mod Eight
 pub mod Blank
+pub mod Row

@@ -1,19 +1,15 @@
 -- What one token says.
-use Rattle.std.proofs.Common.{◌≡◌, ℕ, zero, suc, ◌<◌, ◌≤◌, ◌^◌, ℤ, pos, ◌<ℤ◌, List, [], ◌∷◌, ◌++◌, append-nil, option_map, get_or, drop, length, Bool, true, false, ◌==◌, Option, Some, None, IfSome, option_and_then, FitsSigned, SFits, w64, to_z, of_z, to_z-of_z, ◌-ℤ◌, refl, sym, ap, ◌∙◌, arith, lt-ltb, le-leb}
-use lib.Signed.{lt_z}
+use Rattle.std.proofs.Common.{◌≡◌, ℕ, ◌<◌, ◌≤◌, ℤ, pos, List, ◌∷◌, option_map, Bool, Option, Some, None, option_and_then, refl, sym, ap, ◌∙◌, arith}
 use Rattle.std.proofs.lemmas.Int.{ints}
-use Rattle.std.specs.Option.{SomeIff}
-use Rattle.std.specs.Str.Parse.{digits_value, AllDigits}
-use Rattle.fast_float.specs.Text.{Parts, scan, digits_of, with_sign, IsInteger, IsWellFormed}
-use Rattle.fast_float.proofs.Writing.{scan-text_of}
 use Rattle.json.specs.Token.{Token}
 use Rattle.json.specs.Json.{value}
 use Rattle.json.proofs.Grammar.{value_is}
-use Rattle.serde_json.specs.Data.{Data, Num, number, string, boolean, unsigned, negative}
+use Rattle.serde_json.specs.Data.{Data, Num, number, string, boolean}
 use Rattle.model.specs.Json.{text, truth}
-use Rattle.model.specs.Denotes.{IsWhole}
+use Rattle.cursor.specs.Lexed.{TookInteger}
+use Rattle.model.specs.Denotes.{IsWhole, IsIndex}
 use Rattle.serde_json.specs.Find.{as_integer}
-use Rattle.serde_json.specs.Read.{is_integer, number_from, number_of, of_json, converted}
+use Rattle.serde_json.specs.Read.{number_of, of_json, converted}
 use Rattle.fast_reader.specs.Took.{Took, IsNumber}
 
 -- ---- the token
@@ -50,7 +46,13 @@ took_truth b old new first = record {
   read = λ depth deep. ap (λ ts. converted of_json (value depth ts)) first ∙ ap (converted of_json) (value_is depth (Token.boolean b ∷ new));
 }
 
-pub took_up_to : (high n : ℕ) (s : List ℕ) (old new : List Token) → old ≡ Token.number s ∷ new → option_and_then as_integer (number_of s) ≡ Some (pos n) → n ≤ high
-    → Took 0 (λ d n. IsWhole (pos 0) (pos high) (Some d) (pos n)) old n new
-took_up_to high n s old new first e within =
-    took_also 0 IsNumber (λ d n. IsWhole (pos 0) (pos high) (Some d) (pos n)) old new (pos n) n (λ d is. (is, grind (arith, ints), grind (arith, ints))) (took_number s (pos n) old new first e)
+pub took_integer : (old : List Token) (z : ℤ) (new : List Token) → TookInteger old z new → Took 0 IsNumber old z new
+took_integer old z new t = took_number t.written z old new t.first t.whole
+
+pub took_up_to : (high n k : ℕ) (old new : List Token) → TookInteger old (pos n) new → k ≡ n → k ≤ high → Took 0 (λ d k. IsWhole (pos 0) (pos high) (Some d) (pos k)) old k new
+took_up_to high n k old new t same within =
+    took_also 0 IsNumber (λ d k. IsWhole (pos 0) (pos high) (Some d) (pos k)) old new (pos n) k (λ d is. (is ∙ ap (λ m. Some (pos m)) (sym same), grind (arith, ints), grind (arith, ints))) (took_integer old (pos n) new t)
+
+pub took_index : (count n k : ℕ) (old new : List Token) → TookInteger old (pos n) new → k ≡ n → k < count → Took 0 (λ d k. IsIndex count (Some d) k) old k new
+took_index count n k old new t same within =
+    took_also 0 IsNumber (λ d k. IsIndex count (Some d) k) old new (pos n) k (λ d is. (is ∙ ap (λ m. Some (pos m)) (sym same), within)) (took_integer old (pos n) new t)

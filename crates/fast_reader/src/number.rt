@@ -1,4 +1,4 @@
-ghost use Rattle.std.specs.Prelude.{IfSome, Some, pos};
+ghost use Rattle.std.specs.Prelude.{◌≡◌, ◌≤◌, ◌<◌, IfSome, Some};
 ghost use Rattle.model.specs.Denotes.{IsWhole, IsDepthNumber, IsChannel, IsIndex, IsSize, IsSampleMask, IsSampleCount};
 ghost use Rattle.fast_reader.specs.Took.{Took, IsNumber};
 
@@ -27,29 +27,61 @@ pub(super) fn take_between(reader: &mut Cursor<'_>, low: i64, high: i64) -> Opti
     }
 }
 
-/// Takes an integer from 0 to `high`.
+/// The number, if it is at most `high`.
 #[inline(always)]
-fn take_up_to(reader: &mut Cursor<'_>, high: u64) -> Option<u64>
-    ensures { IfSome result (λ n. Took 0 (λ d n. IsWhole (pos 0) (pos high) (Some d) (pos n)) reader.old n reader.new) }
+fn up_to(number: u64, high: u64) -> Option<u64>
+    ensures { IfSome result (λ n. (n ≡ number) × (n ≤ high)) }
 {
-    let number = reader.take_natural()?;
     if number <= high { Some(number) } else { None }
 }
 
-/// Takes an integer of 32 bits.
+/// The number as a coordinate.
 #[inline(always)]
-pub(super) fn take_i32(reader: &mut Cursor<'_>) -> Option<i32>
-    ensures { IfSome result (λ z. Took 0 IsNumber reader.old z reader.new) }
+pub(super) fn coordinate(number: i64) -> Option<i32>
+    ensures { IfSome result (λ z. z ≡ number) }
 {
-    Some(take_between(reader, i64::from(i32::MIN), i64::from(i32::MAX))? as i32)
+    if i64::from(i32::MIN) <= number && number <= i64::from(i32::MAX) {
+        Some(number as i32)
+    } else {
+        None
+    }
+}
+
+/// The number as a depth.
+#[inline(always)]
+pub(super) fn depth(number: u64) -> Option<u16>
+    ensures { IfSome result (λ n. (n ≡ number) × (n ≤ 65535)) }
+{
+    Some(up_to(number, u64::from(u16::MAX))? as u16)
+}
+
+/// The number as a colour channel or an alpha.
+#[inline(always)]
+pub(super) fn channel(number: u64) -> Option<u8>
+    ensures { IfSome result (λ n. (n ≡ number) × (n ≤ 255)) }
+{
+    Some(up_to(number, u64::from(u8::MAX))? as u8)
+}
+
+/// The number as the index of one of `count` vertices.
+#[inline(always)]
+pub(super) fn index(number: u64, count: usize) -> Option<u32>
+    ensures { IfSome result (λ k. (k ≡ number) × (k < count)) }
+{
+    let found = up_to(number, MOST_VERTICES as u64 - 1)? as u32;
+    if (found as usize) < count {
+        Some(found)
+    } else {
+        None
+    }
 }
 
 /// Takes a depth.
-#[inline(always)]
 pub(super) fn take_depth(reader: &mut Cursor<'_>) -> Option<u16>
     ensures { IfSome result (λ n. Took 0 (λ d n. IsDepthNumber (Some d) n) reader.old n reader.new) }
 {
-    Some(take_up_to(reader, u64::from(u16::MAX))? as u16)
+    let number = reader.take_natural()?;
+    depth(number)
 }
 
 /// Takes a colour channel or an alpha.
@@ -57,7 +89,8 @@ pub(super) fn take_depth(reader: &mut Cursor<'_>) -> Option<u16>
 pub(super) fn take_channel(reader: &mut Cursor<'_>) -> Option<u8>
     ensures { IfSome result (λ n. Took 0 (λ d n. IsChannel (Some d) n) reader.old n reader.new) }
 {
-    Some(take_up_to(reader, u64::from(u8::MAX))? as u8)
+    let number = reader.take_natural()?;
+    channel(number)
 }
 
 /// Takes the index of one of `count` vertices.
@@ -65,12 +98,8 @@ pub(super) fn take_channel(reader: &mut Cursor<'_>) -> Option<u8>
 pub(super) fn take_index(reader: &mut Cursor<'_>, count: usize) -> Option<u32>
     ensures { IfSome result (λ k. Took 0 (λ d k. IsIndex count (Some d) k) reader.old k reader.new) }
 {
-    let index = take_up_to(reader, MOST_VERTICES as u64 - 1)? as u32;
-    if (index as usize) < count {
-        Some(index)
-    } else {
-        None
-    }
+    let number = reader.take_natural()?;
+    index(number, count)
 }
 
 /// Takes the width or the height of a picture, in pixels.

@@ -4,7 +4,7 @@ ghost use Rattle.model.specs.Denotes.{IsTriangle, IsArrayOf};
 ghost use Rattle.fast_reader.specs.Took.{Took};
 
 use crate::array::take_begin_array;
-use crate::number::take_index;
+use crate::number::index;
 use cursor::Cursor;
 use model::MOST_TRIANGLES;
 use std::alloc::Global;
@@ -14,15 +14,10 @@ use std::alloc::Global;
 fn take_triangle(reader: &mut Cursor<'_>, count: usize) -> Option<[u32; 3]>
     ensures { IfSome result (λ t. Took 1 (IsTriangle count) reader.old t reader.new) }
 {
-    if !take_begin_array(reader) {
-        return None;
-    }
-    let first = take_index(reader, count)?;
-    let second = take_index(reader, count)?;
-    let third = take_index(reader, count)?;
-    if !reader.take_end_array() {
-        return None;
-    }
+    let (first, second, third) = reader.take_three()?;
+    let first = index(first, count)?;
+    let second = index(second, count)?;
+    let third = index(third, count)?;
     Some([first, second, third])
 }
 

@@ -4,7 +4,7 @@ ghost use Rattle.model.specs.Denotes.{IsVertex, IsArrayOf};
 ghost use Rattle.fast_reader.specs.Took.{Took};
 
 use crate::array::take_begin_array;
-use crate::number::{take_channel, take_depth, take_i32};
+use crate::number::{channel, coordinate, depth};
 use cursor::Cursor;
 use grid::Point;
 use model::{MOST_VERTICES, Vertex};
@@ -15,20 +15,15 @@ use std::alloc::Global;
 fn take_vertex(reader: &mut Cursor<'_>) -> Option<Vertex>
     ensures { IfSome result (λ v. Took 1 IsVertex reader.old v reader.new) }
 {
-    if !take_begin_array(reader) {
-        return None;
-    }
-    let x = take_i32(reader)?;
-    let y = take_i32(reader)?;
+    let (x, y, z, red, green, blue, alpha) = reader.take_seven()?;
+    let x = coordinate(x)?;
+    let y = coordinate(y)?;
     let at = Point::new(x, y)?;
-    let z = take_depth(reader)?;
-    let red = take_channel(reader)?;
-    let green = take_channel(reader)?;
-    let blue = take_channel(reader)?;
-    let alpha = take_channel(reader)?;
-    if !reader.take_end_array() {
-        return None;
-    }
+    let z = depth(z)?;
+    let red = channel(red)?;
+    let green = channel(green)?;
+    let blue = channel(blue)?;
+    let alpha = channel(alpha)?;
     Some(Vertex {
         at,
         z,

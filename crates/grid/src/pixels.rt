@@ -1,4 +1,4 @@
-ghost use Rattle.std.specs.Prelude.{◌≡◌, ◌↔◌, IsTrue};
+ghost use Rattle.std.specs.Prelude.{◌≡◌, ◌↔◌, ℕ, IsTrue};
 
 /// A rectangle of pixels: columns `x0` to before `x1`, rows `y0` to before `y1`. It is empty if `x0` is not below `x1`, or `y0` not
 /// below `y1`.
@@ -22,6 +22,19 @@ impl PixelBox {
             && x < i64::from(self.x1)
             && i64::from(self.y0) <= y
             && y < i64::from(self.y1)
+    }
+
+    /// The pixels that both rectangles have.
+    #[inline]
+    pub fn overlap(&self, other: &PixelBox) -> PixelBox
+        ensures { (i j : ℕ) → (IsInBox result i j ↔ (IsInBox self.now i j × IsInBox other.now i j)) }
+    {
+        PixelBox {
+            x0: self.x0.max(other.x0),
+            y0: self.y0.max(other.y0),
+            x1: self.x1.min(other.x1),
+            y1: self.y1.min(other.y1),
+        }
     }
 }
 

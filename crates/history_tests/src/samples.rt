@@ -1,6 +1,6 @@
 use grid::{Cull, PixelBox, Point, SampleCount, Tri};
 use history::{Event, Outcome, SampleHistory, changes, events_of, samples_met};
-use shade::{DepthTest, Merge, Placed, Sample, State, Stored};
+use shade::{Blend, DepthTest, Merge, Placed, Sample, State, Stored};
 use std::process::Abort;
 
 const BLACK: Sample = Sample {
@@ -25,7 +25,7 @@ fn corner(rt: &impl Abort, depth: u16) -> Placed {
                 test: DepthTest::Less,
                 depth_write: true,
                 write: [true, true, true],
-                over: false,
+                blend: Blend::NONE,
             },
             cull: Cull::None,
             sample_mask: 15,

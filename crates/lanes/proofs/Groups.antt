@@ -1,21 +1,20 @@
 -- Sixteen samples drawn at once: what a depth test, a mask and the channels make of one of them.
-use Rattle.std.proofs.Common.{◌≡◌, ◌≢◌, inl, inr, refl, sym, subst, ◌∙◌, ℕ, Bool, true, false, if◌then◌else◌, slice_index_or}
+use Rattle.std.proofs.Common.{◌≡◌, ◌≢◌, inl, inr, refl, sym, subst, ◌∙◌, ℕ, if◌then◌else◌}
 use Rattle.grid.specs.Position.{Position}
 use Rattle.grid.specs.Triangle.{Covers}
 use Rattle.shade.specs.declared.sample.Merge.{Merge}
 use Rattle.shade.specs.declared.sample.Sample.{Sample}
 use Rattle.shade.specs.declared.sample.Shaded.{Shaded}
 use Rattle.shade.specs.declared.placed.Placed.{Placed}
-use Rattle.shade.specs.Blend.{IsBlended}
 use Rattle.shade.specs.Depth.{Passes}
 use Rattle.lanes.specs.Lanes.{IsMaskLane}
-use Rattle.shade.specs.Merging.{IsMerged, Writes}
+use Rattle.shade.specs.Merging.{IsMerged, IsChannelMerged, Writes, ReadsAlpha}
 use Rattle.lanes.specs.Merging.{IsTested}
 use Rattle.shade.specs.Placed.{channel, IsInterpolated, IsFragmentAt, IsDrawnAt}
 use Rattle.lanes.specs.Sources.{NeedsNoDepth}
 use Rattle.shade.proofs.Decided.{IsDecided, passes}
 use Rattle.shade.proofs.Drawn.{fragment, same_sample}
-use Rattle.shade.proofs.Merged.{same_blended}
+use Rattle.shade.proofs.Merged.{same_merged}
 use Rattle.shade.proofs.Values.{quotient-unique}
 
 -- ---- the depth test
@@ -44,24 +43,21 @@ pub tested_as : (t : Placed) (p : Position) (m : Merge) (z given old new lane : 
 tested_as t p m z given old new lane is has tested = subst (λ v. IsTested m v old new lane) (quotient-unique _ _ _ _ has is) tested
 
 -- ---- a channel that is drawn if the mask's lane is set, and unchanged if it is not
-pub record IsMasked (written over : Bool) (lane s a old new : ℕ) : Type 0 where
-  pub set : lane ≡ 65535 → IsBlended written over s a old new
+pub record IsMasked (m : Merge) (k lane s a old new : ℕ) : Type 0 where
+  pub set : lane ≡ 65535 → IsChannelMerged m k s a old new
   pub clear : lane ≡ 0 → new ≡ old
 
 -- ---- a sample
-abbrev written_of : Merge → ℕ → Bool
-written_of m k = slice_index_or m.write k false
-
 combined_when : (t : Placed) (p : Position) (m : Merge) (f : Shaded) (old new : Sample) (lane r g b a : ℕ) → t.state.merge ≡ m → IsFragmentAt t p f → IsDecided (Passes m.test f.z old.z)
-    → IsTested m f.z old.z new.z lane → (Writes m 0 → r ≡ f.r) → (Writes m 1 → g ≡ f.g) → (Writes m 2 → b ≡ f.b) → (m.over ≡ true → a ≡ f.a)
-    → IsMasked (written_of m 0) m.over lane r a old.r new.r → IsMasked (written_of m 1) m.over lane g a old.g new.g → IsMasked (written_of m 2) m.over lane b a old.b new.b
+    → IsTested m f.z old.z new.z lane → (Writes m 0 → r ≡ f.r) → (Writes m 1 → g ≡ f.g) → (Writes m 2 → b ≡ f.b) → (ReadsAlpha m → a ≡ f.a)
+    → IsMasked m 0 lane r a old.r new.r → IsMasked m 1 lane g a old.g new.g → IsMasked m 2 lane b a old.b new.b
     → IsDrawnAt t p old new
 combined_when t p m f old new lane r g b a e is (inl pass) tested er eg eb ea red green blue =
     let full = (tested.passed pass).0 in
     let merged : IsMerged m f old new = record {
-      red = same_blended _ _ _ _ _ _ _ _ er ea (red.set full);
-      green = same_blended _ _ _ _ _ _ _ _ eg ea (green.set full);
-      blue = same_blended _ _ _ _ _ _ _ _ eb ea (blue.set full);
+      red = same_merged m 0 _ _ _ _ _ _ er ea (red.set full);
+      green = same_merged m 1 _ _ _ _ _ _ eg ea (green.set full);
+      blue = same_merged m 2 _ _ _ _ _ _ eb ea (blue.set full);
       depth = (tested.passed pass).1;
     } in
     (f, is, rw e (record { passed = λ _. merged; failed = λ fails. absurd (fails pass) }))
@@ -72,8 +68,8 @@ combined_when t p m f old new lane r g b a e is (inr fail) tested er eg eb ea re
 -- the channels that are read are the triangle's if it covers the point
 pub combined : (t : Placed) (p : Position) (m : Merge) (old new : Sample) (lane r g b a : ℕ) → t.state.merge ≡ m → Covers t.tri.a t.tri.b t.tri.c p
     → ((z : ℕ) → IsInterpolated t p t.z z → IsTested m z old.z new.z lane)
-    → (Writes m 0 → IsInterpolated t p (channel t 0) r) → (Writes m 1 → IsInterpolated t p (channel t 1) g) → (Writes m 2 → IsInterpolated t p (channel t 2) b) → (m.over ≡ true → IsInterpolated t p (channel t 3) a)
-    → IsMasked (written_of m 0) m.over lane r a old.r new.r → IsMasked (written_of m 1) m.over lane g a old.g new.g → IsMasked (written_of m 2) m.over lane b a old.b new.b
+    → (Writes m 0 → IsInterpolated t p (channel t 0) r) → (Writes m 1 → IsInterpolated t p (channel t 1) g) → (Writes m 2 → IsInterpolated t p (channel t 2) b) → (ReadsAlpha m → IsInterpolated t p (channel t 3) a)
+    → IsMasked m 0 lane r a old.r new.r → IsMasked m 1 lane g a old.g new.g → IsMasked m 2 lane b a old.b new.b
     → IsDrawnAt t p old new
 combined t p m old new lane r g b a e covered tested ir ig ib ia red green blue =
     let f = fragment t p covered in

@@ -4,46 +4,8 @@ use Rattle.std.specs.Int.{bit_at}
 use Rattle.std.proofs.Math.Nat.{div-div-eq-div-mul}
 use Rattle.std.proofs.lemmas.Nat.{pow_pos, pow-add, and_mask, and_comm}
 use Rattle.std.proofs.lemmas.Nat.Bits.{and_pow, bit_at-lt, bit_at-zero, bit_at_cat_low}
-use Rattle.std.proofs.Math.Nat.{mul-le-mul_right, zero-mul}
+use Rattle.std.proofs.Math.Nat.{zero-mul}
 use Rattle.shade.specs.Quotient.{IsQuotient}
-use Rattle.shade.specs.Blend.{IsOver}
-
--- the quotient by 255, up to which the sum does not wrap
-pub by_255 : (n : ℕ) → n ≤ 65152 → IsQuotient n 255 ((n + 1 + n / 256) / 256)
-by_255 n h = record { low = omega arith; high = omega arith }
-
--- the sum of the two products
-pub sum_small : (s a d : ℕ) → s ≤ 255 → a ≤ 255 → d ≤ 255 → s * a + d * (255 - a) ≤ 65025
-sum_small s a d i j k =
-    let left : s * a ≤ 255 * a = mul-le-mul_right a i in
-    let right : d * (255 - a) ≤ 255 * (255 - a) = mul-le-mul_right (255 - a) k in
-    omega (arith, left, right)
-
--- the sum as the lanes form it
-abbrev pub lane_sum : ℕ → ℕ → ℕ → ℕ
-lane_sum s a d = ((s * a % 65536 + d * ((255 + (65536 - a)) % 65536) % 65536) % 65536 + 127) % 65536
-
-abbrev pub lane_quotient : ℕ → ℕ
-lane_quotient n = ((n + 1) % 65536 + n / 256) % 65536 / 256
-
-pub lane_sum_is : (s a d : ℕ) → s ≤ 255 → a ≤ 255 → d ≤ 255 → lane_sum s a d ≡ s * a + d * (255 - a) + 127
-lane_sum_is s a d i j k =
-    let rest : (255 + (65536 - a)) % 65536 ≡ 255 - a = omega arith in
-    let whole = sum_small s a d i j k in
-    let product : d * ((255 + (65536 - a)) % 65536) ≡ d * (255 - a) = ap (λ n. d * n) rest in
-    omega (arith, whole, product)
-
-pub lane_quotient_is : (n : ℕ) → n ≤ 65152 → lane_quotient n ≡ (n + 1 + n / 256) / 256
-lane_quotient_is n h = omega arith
-
-pub over_lane : (s a d : ℕ) → s ≤ 255 → a ≤ 255 → d ≤ 255 → IsOver s a d (lane_quotient (lane_sum s a d))
-over_lane s a d i j k =
-    let n = s * a + d * (255 - a) + 127 in
-    let small : n ≤ 65152 = omega (arith, sum_small s a d i j k) in
-    rw (lane_sum_is s a d i j k, lane_quotient_is n small) (by_255 n small)
-
-pub over-bound : (s a d q : ℕ) → s ≤ 255 → a ≤ 255 → d ≤ 255 → IsOver s a d q → q ≤ 255
-over-bound s a d q i j k is = omega (arith, is.low, sum_small s a d i j k)
 
 -- ---- the mean of four
 pub lane_mean : (a b c d : ℕ) → a ≤ 255 → b ≤ 255 → c ≤ 255 → d ≤ 255

@@ -16,12 +16,21 @@
 --   IsMaskLane: A lane of a mask says whether P holds: all its bits are set if it does, and none if it does not.
 --   IsMask: m has sixteen lanes, and lane k says whether P k holds.
 --
+-- Operands.antt
+--   AreByteLanes: v has sixteen lanes of at most 255.
+--   AreTerms: v has sixteen lanes, each at most the product of two bytes.
+--   AreByteOperands: The operands of sixteen lanes are bytes.
+--   lane_of: The operands of lane i.
+--   AreNearest: v has sixteen lanes, and lane i is the byte nearest to x i / 255.
+--   AreBlended: v has sixteen lanes, and each is the blended channel of its operands, a byte.
+--   HasSmallSum: The two terms of bytes with these factors add up to at most 255 * 255.
+--
 -- Sources.antt
 --   IsFlat: The three vertices have the same value v.
 --   NeedsNoDepth: The depth has no part in what the triangle draws: each depth passes, and none is stored.
 --   IsDepthOf: The source gives the triangle's depth.
---   IsFlatColour: The vertices have the same red, green and blue if they are written, and the same alpha if it is blended.
---   IsColourOf: The source gives the triangle's colour in the channels that are written, and its alpha if it is blended.
+--   IsFlatColour: The vertices have the same red, green and blue if they are written, and the same alpha if the draw blends by it.
+--   IsColourOf: The source gives the triangle's colour in the channels that are written, and its alpha if the draw blends by it.
 --
 -- Mode.antt
 --   IsDepthMode: What has to hold so that a triangle's depth can be computed in this mode.
@@ -33,6 +42,7 @@
 --   IsDrawModeOf: The triangle can be drawn in this mode: sample by sample, or sixteen samples at once by these planes.
 --   AreSourcesOf: What a triangle is drawn by: the merge of its draw, its depth and its colour.
 --   WritesAllChannels: The merge writes red, green and blue.
+--   known_of: The colour equation of a draw list's `over`, or of its `none`.
 --
 -- Merging.antt
 --   IsTested: What the depth test makes of a stored depth, and the lane of its result: all ones if it passed, else 0.
@@ -43,6 +53,7 @@
 pub mod Block
 pub mod BlockMask
 pub mod Lanes
+pub mod Operands
 pub mod Sources
 pub mod Mode
 pub mod Merging

@@ -1,7 +1,9 @@
 -- How a triangle is drawn.
-use Rattle.std.specs.Prelude.{◌≡◌, true, [], ◌∷◌}
+use Rattle.std.specs.Prelude.{◌≡◌, Bool, true, false, [], ◌∷◌}
 use Rattle.shade.specs.declared.placed.Placed.{Placed}
 use Rattle.shade.specs.declared.sample.Merge.{Merge}
+use Rattle.shade.specs.declared.known.KnownEquation.{KnownEquation}
+use Rattle.shade.specs.declared.known.KnownEquation.TheVariants.{Replace, Over}
 use Rattle.lanes.specs.declared.sources.DepthSource.{DepthSource}
 use Rattle.lanes.specs.declared.sources.ColourSource.{ColourSource}
 use Rattle.planes.specs.declared.depth_plane.DepthPlane.{DepthPlane}
@@ -59,3 +61,8 @@ pub record AreSourcesOf (t : Placed) (merge : Merge) (depth : DepthSource) (colo
 -- The merge writes red, green and blue.
 abbrev pub WritesAllChannels : Merge → Type 0
 WritesAllChannels m = m.write ≡ true ∷ true ∷ true ∷ []
+
+-- The colour equation of a draw list's `over`, or of its `none`.
+abbrev pub known_of : Bool → KnownEquation
+known_of false = Replace
+known_of true = Over

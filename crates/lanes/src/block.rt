@@ -2,23 +2,25 @@
 ghost use Rattle.std.specs.Prelude.{◌≡◌, ℕ, ◌+◌, ◌*◌, ◌<◌, IsBitSet, IsTrue, false, length};
 ghost use Rattle.grid.specs.Samples.{part_size};
 ghost use Rattle.shade.specs.declared.placed.Placed.{Placed as Triangle};
+ghost use Rattle.shade.specs.Presets.{IsKnown};
 ghost use Rattle.planes.specs.Group.{position_in};
 ghost use Rattle.lanes.specs.Block.{IsOnScreen, CoversMask, AreDrawn};
 ghost use Rattle.lanes.specs.BlockMask.{CoversBlock, IsBlockDrawn};
 ghost use Rattle.lanes.specs.Lanes.{IsMask};
-ghost use Rattle.lanes.specs.Mode.{AreSourcesOf, WritesAllChannels};
+ghost use Rattle.lanes.specs.Mode.{AreSourcesOf, WritesAllChannels, known_of};
 
 use crate::block_mask::BlockMask;
 use crate::block_samples::BlockSamples;
 use crate::group::draw_group;
 use crate::interpolants::Interpolants;
+use crate::known::{of_lists, with_known};
 use crate::lane_mask::lanes_of_mask;
 use crate::mode::DrawMode;
 use crate::one_by_one::draw_each;
 use crate::sources::{ColourSource, DepthSource};
 use grid::Point;
 use planes::Corrections;
-use shade::Merge;
+use shade::{KnownEquation, Merge};
 use std::simd::prelude::*;
 
 /// Whether some pixel of a group of two rows is in the mask.
@@ -119,7 +121,8 @@ fn is_whole(mask: u64) -> bool
     mask == u64::MAX
 }
 
-/// The same with code of its own for a block that is drawn whole, without masks, and none for one that is not drawn.
+/// The same, and nothing for a block that is not drawn. One that is drawn whole needs no masks: the compiler makes code of its own for it.
+/// Two calls in place of one would be too large to stand in line, and what is known of the merge would be lost.
 #[inline(always)]
 fn draw_by_mask(
     merge: &Merge,
@@ -133,10 +136,9 @@ fn draw_by_mask(
     requires { IsOnScreen p }
     ensures { (t : Triangle) → AreSourcesOf t merge.now depth.now colour.now → CoversMask t p mask → AreDrawn t p mask samples.old samples.new 0 64 }
 {
-    if is_whole(mask) {
-        draw_block(merge, depth, colour, true, p, mask, samples, corrections);
-    } else if mask != 0 {
-        draw_block(merge, depth, colour, false, p, mask, samples, corrections);
+    let whole = is_whole(mask);
+    if whole || mask != 0 {
+        draw_block(merge, depth, colour, whole, p, mask, samples, corrections);
     }
 }
 
@@ -168,9 +170,10 @@ fn draw_planes(
     }
 }
 
-/// The same, not in line: few draws leave channels as they are.
+/// The same, not in line, for a merge that leaves channels as they are, or blends by another equation than those of draw lists.
 #[inline(never)]
-fn draw_some_channels(
+fn draw_otherwise(
+    known: KnownEquation,
     merge: &Merge,
     depth: &DepthSource<'_>,
     colour: &ColourSource<'_>,
@@ -178,11 +181,22 @@ fn draw_some_channels(
     samples: &mut [BlockSamples],
     corrections: &mut Corrections,
 )
-    requires { length samples.old ≡ part_size mask.now.count }
+    requires known { IsKnown known merge.now.blend.colour }
+    requires samples { length samples.old ≡ part_size mask.now.count }
     ensures drawn { (t : Triangle) → AreSourcesOf t merge.now depth.now colour.now → CoversBlock t mask.now → IsBlockDrawn t mask.now samples.old samples.new }
     ensures samples { length samples.new ≡ length samples.old }
 {
-    draw_planes(merge, depth, colour, mask, samples, corrections);
+    match known {
+        KnownEquation::Replace => {
+            let merge = &with_known(KnownEquation::Replace, merge);
+            draw_planes(merge, depth, colour, mask, samples, corrections);
+        }
+        KnownEquation::Over => {
+            let merge = &with_known(KnownEquation::Over, merge);
+            draw_planes(merge, depth, colour, mask, samples, corrections);
+        }
+        KnownEquation::Other => draw_planes(merge, depth, colour, mask, samples, corrections),
+    }
 }
 
 /// Whether a merge writes all three channels.
@@ -194,18 +208,24 @@ fn writes_all(merge: &Merge) -> bool
     red && green && blue
 }
 
-/// The merge made again, so that what it writes and whether it blends are known if the code is inlined.
+/// The merge made again, so that what it writes and its equation are known if the code is inlined.
 #[inline(always)]
-fn known<const OVER: bool>(merge: &Merge) -> Merge
-    requires over { merge.now.over ≡ OVER }
+fn whole<const OVER: bool>(merge: &Merge) -> Merge
+    requires known { IsKnown (known_of OVER) merge.now.blend.colour }
     requires all { WritesAllChannels merge.now }
     ensures { result ≡ merge.now }
 {
+    let Merge {
+        test,
+        depth_write,
+        blend,
+        ..
+    } = with_known(of_lists(OVER), merge);
     Merge {
-        test: merge.test,
-        depth_write: merge.depth_write,
+        test,
+        depth_write,
         write: [true; 3],
-        over: OVER,
+        blend,
     }
 }
 
@@ -220,13 +240,13 @@ fn draw_by_sources<const OVER: bool>(
     samples: &mut [BlockSamples],
     corrections: &mut Corrections,
 )
-    requires over { merge.now.over ≡ OVER }
+    requires known { IsKnown (known_of OVER) merge.now.blend.colour }
     requires all { WritesAllChannels merge.now }
     requires samples { length samples.old ≡ part_size mask.now.count }
     ensures drawn { (t : Triangle) → AreSourcesOf t merge.now depth.now colour.now → CoversBlock t mask.now → IsBlockDrawn t mask.now samples.old samples.new }
     ensures samples { length samples.new ≡ length samples.old }
 {
-    let merge = &known::<OVER>(merge);
+    let merge = &whole::<OVER>(merge);
     match colour {
         ColourSource::Flat(rgba) => {
             let colour = &ColourSource::Flat(*rgba);
@@ -289,9 +309,10 @@ fn draw_by_sources<const OVER: bool>(
     }
 }
 
-/// The same with code of its own for a merge that writes all channels: blended over the stored ones, or not.
+/// The same with code of its own for a merge that writes all channels: blended over the stored ones, or in their place.
 #[inline(always)]
 fn draw_by_merge(
+    known: KnownEquation,
     merge: &Merge,
     depth: &DepthSource<'_>,
     colour: &ColourSource<'_>,
@@ -299,17 +320,25 @@ fn draw_by_merge(
     samples: &mut [BlockSamples],
     corrections: &mut Corrections,
 )
-    requires { length samples.old ≡ part_size mask.now.count }
+    requires known { IsKnown known merge.now.blend.colour }
+    requires samples { length samples.old ≡ part_size mask.now.count }
     ensures drawn { (t : Triangle) → AreSourcesOf t merge.now depth.now colour.now → CoversBlock t mask.now → IsBlockDrawn t mask.now samples.old samples.new }
     ensures samples { length samples.new ≡ length samples.old }
 {
-    if !writes_all(merge) {
-        draw_some_channels(merge, depth, colour, mask, samples, corrections);
-    } else if merge.over {
-        draw_by_sources::<true>(merge, depth, colour, mask, samples, corrections);
-    } else {
-        draw_by_sources::<false>(merge, depth, colour, mask, samples, corrections);
+    if writes_all(merge) {
+        match known {
+            KnownEquation::Replace => {
+                draw_by_sources::<false>(merge, depth, colour, mask, samples, corrections);
+                return;
+            }
+            KnownEquation::Over => {
+                draw_by_sources::<true>(merge, depth, colour, mask, samples, corrections);
+                return;
+            }
+            _ => {}
+        }
     }
+    draw_otherwise(known, merge, depth, colour, mask, samples, corrections);
 }
 
 impl Interpolants {
@@ -333,6 +362,7 @@ impl Interpolants {
                 let depth = depth.source(&self.placed, &self.depth);
                 let colour = colour.source(&self.placed, &self.colour);
                 draw_by_merge(
+                    self.equation,
                     &self.placed.state.merge,
                     &depth,
                     &colour,

@@ -1,63 +1,93 @@
 //! Sixteen samples of a block drawn at once: two rows of eight pixels.
-ghost use Rattle.std.specs.Prelude.{◌≡◌, ◌⊎◌, ℕ, true, if◌then◌else◌, ◌+◌, ◌<◌, ◌≤◌, length, slice_index};
+ghost use Rattle.std.specs.Prelude.{◌≡◌, ◌⊎◌, ℕ, if◌then◌else◌, ◌+◌, ◌<◌, ◌≤◌, length, slice_index};
 ghost use Rattle.std.specs.Simd.Lanes.{Each1};
 ghost use Rattle.grid.specs.Triangle.{Covers};
+ghost use Rattle.shade.specs.declared.operands.Channel.TheVariants.{Colour};
 ghost use Rattle.shade.specs.Blend.{IsBlended};
+ghost use Rattle.shade.specs.Merging.{operands_of, IsChannelMerged};
 ghost use Rattle.lanes.specs.Merging.{IsTested};
 ghost use Rattle.shade.specs.declared.placed.Placed.{Placed as Triangle};
 ghost use Rattle.shade.specs.Placed.{IsInterpolated, IsDrawnAt};
 ghost use Rattle.planes.specs.Group.{position_in, IsGroupOnScreen};
 ghost use Rattle.lanes.specs.Block.{stored_at};
+ghost use Rattle.lanes.specs.Operands.{AreByteLanes, AreByteOperands, lane_of};
 ghost use Rattle.lanes.specs.Sources.{IsDepthOf, IsColourOf};
 
-use crate::blend::over_lanes;
+use crate::blend::coloured_lanes;
 use crate::block_samples::BlockSamples;
 use crate::lane_bytes::{narrow, widen};
 use crate::lane_mask::{both, choose, choose_bytes, is_clear};
 use crate::merging::passes_lanes;
+use crate::operands::LaneOperands;
 use crate::sources::{ColourSource, DepthSource};
 use planes::Corrections;
 use shade::{Merge, Placed};
 use std::simd::prelude::*;
 
+/// The same byte in each lane.
+#[inline(always)]
+fn same_lanes(byte: u8) -> u16x16
+    ensures bytes { AreByteLanes result }
+    ensures value { (i : ℕ) → i < 16 → slice_index result i ≡ byte }
+{
+    u16x16::splat(u16::from(byte))
+}
+
+/// What the blend equation of a channel reads of a fragment's channel and alpha and of the stored channel.
+#[inline(always)]
+fn operands(merge: &Merge, number: usize, s: u16x16, a: u16x16, d: u8x16) -> LaneOperands
+    requires number { number < 3 }
+    requires bytes { Each1 (λ n. n ≤ 255) s × Each1 (λ n. n ≤ 255) a }
+    ensures bytes { AreByteOperands result }
+    ensures each { (i : ℕ) → i < 16 → lane_of result i ≡ operands_of merge.now number (slice_index s i) (slice_index a i) (slice_index d i) }
+{
+    LaneOperands {
+        source: s,
+        source_alpha: a,
+        stored: widen(d),
+        stored_alpha: same_lanes(255),
+        constant: same_lanes(merge.blend.constant[number]),
+    }
+}
+
 /// A written channel, where the mask is set.
 #[inline(always)]
-fn drawn_lanes(over: bool, mask: u16x16, s: u16x16, a: u16x16, d: u8x16) -> u8x16
+fn drawn_lanes(merge: &Merge, number: usize, mask: u16x16, s: u16x16, a: u16x16, d: u8x16) -> u8x16
+    requires number { number < 3 }
     requires bytes { Each1 (λ n. n ≤ 255) s × Each1 (λ n. n ≤ 255) a }
     ensures whole { length result ≡ 16 }
-    ensures set { (i : ℕ) → i < 16 → slice_index mask i ≡ 65535 → IsBlended true over (slice_index s i) (slice_index a i) (slice_index d i) (slice_index result i) }
+    ensures set { (i : ℕ) → i < 16 → slice_index mask i ≡ 65535
+        → IsBlended merge.now.blend.colour Colour (operands_of merge.now number (slice_index s i) (slice_index a i) (slice_index d i)) (slice_index result i) }
     ensures clear { (i : ℕ) → i < 16 → slice_index mask i ≡ 0 → slice_index result i ≡ slice_index d i }
 {
-    let new = if over {
-        narrow(over_lanes(s, a, widen(d)))
-    } else {
-        narrow(s)
-    };
+    let o = operands(merge, number, s, a, d);
+    let new = narrow(coloured_lanes(&merge.blend.colour, &o));
     choose_bytes(mask, new, d)
 }
 
-/// A channel of stored samples, where the mask is set.
+/// Red, green or blue of stored samples, where the mask is set.
 #[inline(always)]
 fn draw_channel(
-    written: bool,
-    over: bool,
+    merge: &Merge,
+    number: usize,
     mask: u16x16,
     s: u16x16,
     a: u16x16,
     stored: &mut [u8],
     at: usize,
 )
+    requires number { number < 3 }
     requires room { at + 16 ≤ length stored.old }
     requires bytes { Each1 (λ n. n ≤ 255) s × Each1 (λ n. n ≤ 255) a }
     ensures set { (i : ℕ) → i < 16 → slice_index mask i ≡ 65535
-        → IsBlended written over (slice_index s i) (slice_index a i) (slice_index stored.old (at + i)) (slice_index stored.new (at + i)) }
+        → IsChannelMerged merge.now number (slice_index s i) (slice_index a i) (slice_index stored.old (at + i)) (slice_index stored.new (at + i)) }
     ensures clear { (i : ℕ) → i < 16 → slice_index mask i ≡ 0 → slice_index stored.new (at + i) ≡ slice_index stored.old (at + i) }
     ensures elsewhere { (k : ℕ) → (k < at) ⊎ (at + 16 ≤ k) → slice_index stored.new k ≡ slice_index stored.old k }
     ensures room { length stored.new ≡ length stored.old }
 {
-    if written {
+    if merge.write[number] {
         let old = u8x16::from_slice(&stored[at..]);
-        drawn_lanes(over, mask, s, a, old).copy_to_slice(&mut stored[at..]);
+        drawn_lanes(merge, number, mask, s, a, old).copy_to_slice(&mut stored[at..]);
     }
 }
 
@@ -157,31 +187,7 @@ pub(crate) fn draw_group(
         return;
     }
     let c = colour.values(merge, x, y, corrections);
-    draw_channel(
-        merge.write[0],
-        merge.over,
-        drawn,
-        c.r,
-        c.a,
-        &mut samples.r,
-        at,
-    );
-    draw_channel(
-        merge.write[1],
-        merge.over,
-        drawn,
-        c.g,
-        c.a,
-        &mut samples.g,
-        at,
-    );
-    draw_channel(
-        merge.write[2],
-        merge.over,
-        drawn,
-        c.b,
-        c.a,
-        &mut samples.b,
-        at,
-    );
+    draw_channel(merge, 0, drawn, c.r, c.a, &mut samples.r, at);
+    draw_channel(merge, 1, drawn, c.g, c.a, &mut samples.g, at);
+    draw_channel(merge, 2, drawn, c.b, c.a, &mut samples.b, at);
 }

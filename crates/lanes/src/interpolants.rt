@@ -4,7 +4,7 @@ ghost use Rattle.grid.specs.Triangle.{doubled_area};
 
 use crate::mode::{ColourMode, DepthMode, DrawMode};
 use planes::{ColourPlanes, ColourSlopes, DepthPlane, Reciprocal, Slope};
-use shade::Placed;
+use shade::{KnownEquation, Placed};
 use std::marker::Model;
 
 /// A triangle made ready to be drawn: how its depth, its colour and its alpha change from pixel to pixel, and which mode of
@@ -13,6 +13,8 @@ use std::marker::Model;
 pub struct Interpolants {
     pub(crate) placed: Placed,
     pub(crate) mode: DrawMode,
+    /// The blend equation of the draw, if it is one of draw lists.
+    pub(crate) equation: KnownEquation,
     /// The depth, if the mode needs a plane of it.
     pub(crate) depth: DepthPlane,
     /// The colour, if the mode needs planes of it.
@@ -21,13 +23,14 @@ pub struct Interpolants {
 
 impl Model for Interpolants {
     ghost use Rattle.shade.specs.declared.placed.Placed.{Placed as Triangle};
+    ghost use Rattle.shade.specs.Presets.{IsKnown};
     ghost use Rattle.lanes.specs.Mode.{IsDrawModeOf};
 
     ghost Value = { Triangle };
 
     ghost view = { λ i. i.placed };
 
-    ghost invariant = { λ i. IsDrawModeOf i.placed i.mode i.depth i.colour };
+    ghost invariant = { λ i. IsDrawModeOf i.placed i.mode i.depth i.colour × IsKnown i.equation i.placed.state.merge.blend.colour };
 }
 
 /// The doubled area of a triangle that has one, with its reciprocal.
@@ -63,12 +66,14 @@ impl Interpolants {
         requires { ¬ (doubled_area placed.now.tri.a placed.now.tri.b placed.now.tri.c ≡ pos 0) }
         ensures { result ≡ placed.now }
     {
+        let equation = KnownEquation::of(&placed.state.merge.blend.colour);
         let (depth, colour) = (DepthMode::of(placed), ColourMode::of(placed));
         let (by_plane, by_planes) = (depth.is_by_plane(), colour.is_by_planes());
         if !by_plane && !by_planes {
             return Interpolants {
                 placed: *placed,
                 mode: DrawMode::Groups(depth, colour),
+                equation,
                 depth: DepthPlane::none(),
                 colour: ColourPlanes::none(),
             };
@@ -80,6 +85,7 @@ impl Interpolants {
             return Interpolants {
                 placed: *placed,
                 mode: DrawMode::Each,
+                equation,
                 depth: DepthPlane::none(),
                 colour: ColourPlanes::none(),
             };
@@ -87,6 +93,7 @@ impl Interpolants {
         Interpolants {
             placed: *placed,
             mode: DrawMode::Groups(depth, colour),
+            equation,
             depth: DepthPlane::of_used(by_plane, &depth_slope, reciprocal, search),
             colour: ColourPlanes::of_used(by_planes, &slopes, reciprocal, search),
         }

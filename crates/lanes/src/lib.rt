@@ -1,17 +1,21 @@
 //! A triangle drawn at sixteen samples at once: masks, depth tests, blending, merging, the samples of a block, and resolve.
 #![tactic(auto)]
 
+mod arithmetic;
 mod blend;
 mod block;
 mod block_mask;
 mod block_samples;
+mod factors;
 mod group;
 mod interpolants;
+mod known;
 mod lane_bytes;
 mod lane_mask;
 mod merging;
 mod mode;
 mod one_by_one;
+mod operands;
 mod resolve;
 mod sources;
 

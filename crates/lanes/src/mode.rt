@@ -101,7 +101,7 @@ impl ColourMode {
         if is_flat_if(merge.write[0], placed, 0)
             && is_flat_if(merge.write[1], placed, 1)
             && is_flat_if(merge.write[2], placed, 2)
-            && is_flat_if(merge.over, placed, 3)
+            && is_flat_if(merge.reads_alpha(), placed, 3)
         {
             return ColourMode::Flat(placed.rgba[0]);
         }

@@ -1,11 +1,11 @@
 //! How depth and colour of a triangle are computed at sixteen samples at once: two rows of eight pixels.
-ghost use Rattle.std.specs.Prelude.{◌≡◌, ◌≤◌, ◌<◌, ℕ, true, length, slice_index};
+ghost use Rattle.std.specs.Prelude.{◌≡◌, ◌≤◌, ◌<◌, ℕ, length, slice_index};
 ghost use Rattle.std.specs.Simd.Lanes.{Each1};
 ghost use Rattle.grid.specs.Triangle.{Covers};
 ghost use Rattle.shade.specs.declared.placed.Placed.{Placed as Triangle};
 ghost use Rattle.shade.specs.Placed.{channel, IsInterpolated};
 ghost use Rattle.planes.specs.Group.{position_in, IsGroupOnScreen};
-ghost use Rattle.shade.specs.Merging.{Writes};
+ghost use Rattle.shade.specs.Merging.{Writes, ReadsAlpha};
 ghost use Rattle.lanes.specs.Sources.{IsFlatColour};
 
 use planes::{ColourPlanes, Colours, Corrections, DepthPlane};
@@ -73,7 +73,7 @@ impl<'a> ColourSource<'a> {
             → IsInterpolated t (position_in (record { x = x; y = y }) i) (channel t 1) (slice_index result.g i) }
         ensures blue { (t : Triangle) (i : ℕ) → t.state.merge ≡ merge.now → Writes merge.now 2 → IsColourOf t self.now → i < 16 → Covers t.tri.a t.tri.b t.tri.c (position_in (record { x = x; y = y }) i)
             → IsInterpolated t (position_in (record { x = x; y = y }) i) (channel t 2) (slice_index result.b i) }
-        ensures alpha { (t : Triangle) (i : ℕ) → t.state.merge ≡ merge.now → merge.now.over ≡ true → IsColourOf t self.now → i < 16 → Covers t.tri.a t.tri.b t.tri.c (position_in (record { x = x; y = y }) i)
+        ensures alpha { (t : Triangle) (i : ℕ) → t.state.merge ≡ merge.now → ReadsAlpha merge.now → IsColourOf t self.now → i < 16 → Covers t.tri.a t.tri.b t.tri.c (position_in (record { x = x; y = y }) i)
             → IsInterpolated t (position_in (record { x = x; y = y }) i) (channel t 3) (slice_index result.a i) }
     {
         match self {

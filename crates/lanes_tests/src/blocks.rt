@@ -10,7 +10,7 @@ use crate::fixtures::{everywhere, point};
 use grid::{Point, SampleCount, Tri};
 use lanes::{BlockMask, BlockSamples, Interpolants, sample_position};
 use planes::Corrections;
-use shade::{DepthTest, Merge, Placed, Sample};
+use shade::{Blend, DepthTest, Merge, Placed, Sample};
 
 /// Whether the triangle covers the samples in the mask that belong to one sample index.
 fn covers_plane(t: &Tri, p: Point, mask: u64) -> bool
@@ -83,7 +83,7 @@ fn corrects_nothing_after_the_planes_are_raised(rt: HostRuntime) {
         test: DepthTest::Always,
         depth_write: true,
         write: [true, true, true],
-        over: false,
+        blend: Blend::NONE,
     };
     let t = Placed {
         tri: Tri::new(

@@ -6,7 +6,7 @@ ghost use Rattle.planes.specs.Multiple.{IsSixteenth};
 use crate::fixtures::{GREATEST, GREATEST_TURNED, everywhere, triangle};
 use grid::Point;
 use planes::{ColourPlanes, ColourSlopes, Corrections, DepthPlane, Reciprocal, Slope};
-use shade::{DepthTest, Merge, Placed, floor_at};
+use shade::{Blend, DepthTest, Merge, Placed, floor_at};
 use std::process::Abort;
 
 /// The last coordinates at which a group of two rows of eight pixels is on the screen.
@@ -44,7 +44,7 @@ fn placed(rt: &impl Abort, at: [(i32, i32); 3], z: [u16; 3], red: [u8; 3]) -> Pl
         test: DepthTest::Always,
         depth_write: true,
         write: [true, true, true],
-        over: true,
+        blend: Blend::OVER,
     };
     Placed {
         tri: triangle(rt, at),

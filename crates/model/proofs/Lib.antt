@@ -22,3 +22,4 @@ pub mod OneList
 pub mod FaultKinds
 pub mod Denoted
 pub mod UnknownWord
+pub mod Checking

@@ -1,14 +1,15 @@
 -- A JSON value denotes at most one state of a draw.
-use Rattle.std.proofs.Common.{◌≡◌, refl, sym, ap, ◌∙◌, ℕ, ℤ, List, Bool, true, false, if◌then◌else◌, bytes_eq, codes}
+use Rattle.std.proofs.Common.{◌≡◌, inl, inr, refl, sym, ap, ◌∙◌, ℕ, ℤ, List, Bool, false, if◌then◌else◌, bytes_eq, codes, get_or, arith}
 use Rattle.grid.specs.declared.cull.Cull.{Cull}
 use Rattle.grid.specs.declared.cull.Cull.TheVariants as cull
 use Rattle.grid.specs.declared.pixels.PixelBox.{PixelBox}
 use Rattle.shade.specs.declared.depth.DepthTest.{DepthTest}
 use Rattle.shade.specs.declared.depth.DepthTest.TheVariants as test
+use Rattle.shade.specs.declared.blend.Blend.{Blend}
 use Rattle.shade.specs.declared.sample.Merge.{Merge}
 use Rattle.shade.specs.declared.state.State.{State}
 use Rattle.model.specs.Json.{whole, text, truth}
-use Rattle.model.specs.Keys.{cull_word, depth_test_word, blend_word}
+use Rattle.model.specs.Keys.{cull_word, depth_test_word, NamesBlend}
 use Rattle.model.specs.Denotes.{IsTruth, IsCull, IsDepthTest, IsBlend, IsWriteMask, IsSampleMask, IsScissor, IsMerge, IsState}
 use Rattle.model.proofs.OneValue.{IsUnique, same_some, same_number, default-unique, same_three}
 
@@ -45,13 +46,15 @@ depth_test_of_word test.NotEqual = refl
 depth_test_of_word test.GreaterEqual = refl
 depth_test_of_word test.Always = refl
 
-blend_of : List ℕ → Bool
-blend_of word = bytes_eq word (codes "over")
+two_words : codes "none" ≡ codes "over" → ⊥
+two_words e = let first : get_or (codes "none") 0 0 ≡ get_or (codes "over") 0 0 = ap (λ (w : List ℕ). get_or w 0 0) e in omega (arith, first)
 
-blend_of_word : (over : Bool) → over ≡ blend_of (blend_word over)
-unfolding blend_of
-blend_of_word false = refl
-blend_of_word true = refl
+-- no word names two blendings
+blend-named : (word : List ℕ) (x y : Blend) → NamesBlend word x → NamesBlend word y → x ≡ y
+blend-named word x y (inl h) (inl k) = h.1 ∙ sym k.1
+blend-named word x y (inl h) (inr k) = absurd (two_words (sym h.0 ∙ k.0))
+blend-named word x y (inr h) (inl k) = absurd (two_words (sym k.0 ∙ h.0))
+blend-named word x y (inr h) (inr k) = h.1 ∙ sym k.1
 
 cull-unique : IsUnique IsCull
 cull-unique value x y h k = cull_of_word x ∙ ap cull_of (same_some (text value) _ _ h k) ∙ sym (cull_of_word y)
@@ -60,7 +63,7 @@ depth_test-unique : IsUnique IsDepthTest
 depth_test-unique value x y h k = depth_test_of_word x ∙ ap depth_test_of (same_some (text value) _ _ h k) ∙ sym (depth_test_of_word y)
 
 blend-unique : IsUnique IsBlend
-blend-unique value x y h k = blend_of_word x ∙ ap blend_of (same_some (text value) _ _ h k) ∙ sym (blend_of_word y)
+blend-unique value x y h k = blend-named h.0 x y h.2 (rw (same_some (text value) _ _ k.1 h.1) at k.2)
 
 -- ---- the state
 
@@ -88,15 +91,15 @@ scissor-unique : IsUnique IsScissor
 scissor-unique value x y h k =
     same_box x y (same_some _ _ _ h.left.0 k.left.0) (same_some _ _ _ h.top.0 k.top.0) (same_some _ _ _ h.right.0 k.right.0) (same_some _ _ _ h.bottom.0 k.bottom.0)
 
-merge : DepthTest → Bool → List Bool → Bool → Merge
-merge test depth_write write over = record { test = test; depth_write = depth_write; write = write; over = over }
+merge : DepthTest → Bool → List Bool → Blend → Merge
+merge test depth_write write blend = record { test = test; depth_write = depth_write; write = write; blend = blend }
 
-made_same_merge : (t t' : DepthTest) (d d' : Bool) (w w' : List Bool) (o o' : Bool) → t ≡ t' → d ≡ d' → w ≡ w' → o ≡ o' → merge t d w o ≡ merge t' d' w' o'
-made_same_merge t t' d d' w w' o o' e f g h = cc
+made_same_merge : (t t' : DepthTest) (d d' : Bool) (w w' : List Bool) (b b' : Blend) → t ≡ t' → d ≡ d' → w ≡ w' → b ≡ b' → merge t d w b ≡ merge t' d' w' b'
+made_same_merge t t' d d' w w' b b' e f g h = cc
 
-same_merge : (x y : Merge) → x.test ≡ y.test → x.depth_write ≡ y.depth_write → x.write ≡ y.write → x.over ≡ y.over → x ≡ y
+same_merge : (x y : Merge) → x.test ≡ y.test → x.depth_write ≡ y.depth_write → x.write ≡ y.write → x.blend ≡ y.blend → x ≡ y
 unfolding merge
-same_merge x y e f g h = made_same_merge x.test y.test x.depth_write y.depth_write x.write y.write x.over y.over e f g h
+same_merge x y e f g h = made_same_merge x.test y.test x.depth_write y.depth_write x.write y.write x.blend y.blend e f g h
 
 merge-unique : IsUnique IsMerge
 merge-unique value x y h k =

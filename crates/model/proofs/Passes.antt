@@ -1,5 +1,5 @@
 -- What denotes a draw list passes each check.
-use Rattle.std.proofs.Common.{◌≡◌, ℕ, ◌+◌, ◌≤◌, ℤ, pos, negsuc, ◌≤ℤ◌, ◌<◌, ◌-ℤ◌, List, [], ◌∷◌, ◌++◌, length, map, sum_by, Bool, true, false, Option, Some, None, IsSome, is_some, is_none, nat_lt, codes, arith, rules, refl, ap, ◌∙◌}
+use Rattle.std.proofs.Common.{◌≡◌, inl, inr, ℕ, ◌+◌, ◌≤◌, ℤ, pos, negsuc, ◌≤ℤ◌, ◌<◌, ◌-ℤ◌, List, [], ◌∷◌, ◌++◌, length, map, sum_by, Bool, true, false, Option, Some, None, IsSome, is_some, is_none, nat_lt, codes, arith, rules, refl, ap, ◌∙◌}
 use Rattle.std.proofs.lemmas.Int.{ints}
 use Rattle.std.proofs.lemmas.List.Sums.{sum_by-append}
 use Rattle.std.proofs.lemmas.Bool.Decides.{nat_tests}
@@ -14,15 +14,16 @@ use Rattle.grid.specs.declared.sample_count.SampleCount.{SampleCount}
 use Rattle.grid.specs.declared.sample_count.SampleCount.TheVariants as samples
 use Rattle.shade.specs.declared.depth.DepthTest.{DepthTest}
 use Rattle.shade.specs.declared.depth.DepthTest.TheVariants as test
+use Rattle.shade.specs.declared.blend.Blend.{Blend}
 use Rattle.shade.specs.declared.sample.Merge.{Merge}
 use Rattle.shade.specs.declared.state.State.{State}
 use Rattle.model.specs.declared.draw.Vertex.{Vertex}
 use Rattle.model.specs.declared.fault.ReadKind.{ReadKind}
 use Rattle.model.specs.declared.fault.ReadKind.TheVariants.{NotConvex}
-use Rattle.model.specs.Json.{whole, array_of, count, elements}
+use Rattle.model.specs.Json.{whole, text, array_of, count, elements}
 use Rattle.model.specs.declared.output.Output.{Output}
 use Rattle.model.specs.declared.output.Output.TheVariants as output
-use Rattle.model.specs.Keys.{output_words, cull_words, depth_test_words, blend_words}
+use Rattle.model.specs.Keys.{output_words, cull_words, depth_test_words, NamesBlend, blend_words}
 use Rattle.model.specs.Primitives.{PrimitiveListing, triangle_list, triangle_strip, quad_list, strip_count, quads_count, count_of_triangles, IsConvexOver}
 use Rattle.model.specs.Listing.{DrawListing, Listing}
 use Rattle.model.specs.FirstFault.{Check, first_fault, reported_as}
@@ -96,9 +97,12 @@ depth_test_passes v test.NotEqual is = rw is refl
 depth_test_passes v test.GreaterEqual is = rw is refl
 depth_test_passes v test.Always is = rw is refl
 
-blend_passes : (v : Data) (over : Bool) → IsBlend (Some v) over → first_fault (word_checks blend_words (Some v)) ≡ None
-blend_passes v false is = rw is refl
-blend_passes v true is = rw is refl
+blend_passes : (v : Data) (blend : Blend) → IsBlend (Some v) blend → first_fault (word_checks blend_words (Some v)) ≡ None
+blend_passes v blend is = named is.0 is.1 is.2
+  where
+    named : (word : List ℕ) → text (Some v) ≡ Some word → NamesBlend word blend → first_fault (word_checks blend_words (Some v)) ≡ None
+    named word found (inl none) = rw (found, none.0) refl
+    named word found (inr over) = rw (found, over.0) refl
 
 -- ---- arrays of a fixed length
 
@@ -197,7 +201,7 @@ merge_passes : (d : Data) (merge : Merge) → IsMerge d merge → first_fault (m
 unfolding merge_checks
 merge_passes d merge is =
     let write = key_passes _ IsWriteMask write_mask_checks write_mask_passes (get (codes "write") d) merge.write is.write in
-    let blend = key_passes _ IsBlend (word_checks blend_words) blend_passes (get (codes "blend") d) merge.over is.blend in
+    let blend = key_passes _ IsBlend (word_checks blend_words) blend_passes (get (codes "blend") d) merge.blend is.blend in
     let depth_write = key_passes _ IsTruth truth_checks truth_passes (get (codes "depth_write") d) merge.depth_write is.depth_write in
     let depth_test = key_passes _ IsDepthTest (word_checks depth_test_words) depth_test_passes (get (codes "depth_test") d) merge.test is.depth_test in
     let writes : Checks = where_there write_mask_checks (get (codes "write") d) in

@@ -11,13 +11,15 @@ use Rattle.grid.specs.declared.sample_count.SampleCount.{SampleCount}
 use Rattle.grid.specs.declared.sample_count.SampleCount.TheVariants as samples
 use Rattle.shade.specs.declared.depth.DepthTest.{DepthTest}
 use Rattle.shade.specs.declared.depth.DepthTest.TheVariants as test
+use Rattle.shade.specs.declared.blend.Blend.{Blend}
+use Rattle.shade.specs.Presets.{none_blend}
 use Rattle.shade.specs.declared.sample.Merge.{Merge}
 use Rattle.shade.specs.declared.state.State.{State}
 use Rattle.model.specs.declared.draw.Vertex.{Vertex}
 use Rattle.model.specs.declared.output.Output.{Output}
 use Rattle.model.specs.declared.output.Output.TheVariants as output
 use Rattle.model.specs.Json.{json_of, whole, text, truth, array_of, element, elements, length_of, has_other_key}
-use Rattle.model.specs.Keys.{top_keys, draw_keys, output_word, cull_word, depth_test_word, blend_word}
+use Rattle.model.specs.Keys.{top_keys, draw_keys, output_word, cull_word, depth_test_word, NamesBlend}
 use Rattle.model.specs.Primitives.{PrimitiveListing, triangle_list, triangle_strip, quad_list, count_of_triangles, IsConvexOver}
 use Rattle.model.specs.Listing.{DrawListing, Listing, scene_of}
 use Rattle.model.specs.Scene.{Scene}
@@ -126,9 +128,9 @@ IsCull value mode = text value ≡ Some (cull_word mode)
 abbrev pub IsDepthTest : Option Data → DepthTest → Type 0
 IsDepthTest value t = text value ≡ Some (depth_test_word t)
 
--- The value is the word for this blending: over what is stored if `over` holds, else in its place.
-abbrev pub IsBlend : Option Data → Bool → Type 0
-IsBlend value over = text value ≡ Some (blend_word over)
+-- The value is the word for this blending.
+abbrev pub IsBlend : Option Data → Blend → Type 0
+IsBlend value blend = (word : List ℕ) × (text value ≡ Some word) × NamesBlend word blend
 
 -- The value is this write mask: [red, green, blue], each a boolean that says whether the channel is written.
 pub record IsWriteMask (value : Option Data) (write : List Bool) : Type 0 where
@@ -158,7 +160,7 @@ pub record IsScissor (value : Option Data) (scissor : PixelBox) : Type 0 where
 pub record IsMerge (value : Data) (merge : Merge) : Type 0 where
   pub depth_test : OrDefault test.Always IsDepthTest (get (codes "depth_test") value) merge.test
   pub depth_write : OrDefault false IsTruth (get (codes "depth_write") value) merge.depth_write
-  pub blend : OrDefault false IsBlend (get (codes "blend") value) merge.over
+  pub blend : OrDefault none_blend IsBlend (get (codes "blend") value) merge.blend
   pub write : OrDefault (true ∷ true ∷ true ∷ []) IsWriteMask (get (codes "write") value) merge.write
 
 -- The state of the draw that the value is, on a picture of these pixels.

@@ -1,7 +1,9 @@
 -- The keys and the words of a draw list in JSON.
-use Rattle.std.specs.Prelude.{ℕ, List, [], ◌∷◌, Bool, true, false, codes}
+use Rattle.std.specs.Prelude.{◌≡◌, ◌⊎◌, ℕ, List, [], ◌∷◌, codes}
 use Rattle.grid.specs.declared.cull.Cull.{Cull}
 use Rattle.grid.specs.declared.cull.Cull.TheVariants as cull
+use Rattle.shade.specs.declared.blend.Blend.{Blend}
+use Rattle.shade.specs.Presets.{none_blend, over_blend}
 use Rattle.shade.specs.declared.depth.DepthTest.{DepthTest}
 use Rattle.shade.specs.declared.depth.DepthTest.TheVariants as test
 use Rattle.model.specs.declared.output.Output.{Output}
@@ -53,11 +55,10 @@ depth_test_words =
     depth_test_word test.Never ∷ depth_test_word test.Less ∷ depth_test_word test.Equal ∷ depth_test_word test.LessEqual
     ∷ depth_test_word test.Greater ∷ depth_test_word test.NotEqual ∷ depth_test_word test.GreaterEqual ∷ depth_test_word test.Always ∷ []
 
--- The word for a blending: over what is stored if true, in its place if false.
-abbrev pub blend_word : Bool → List ℕ
-blend_word false = codes "none"
-blend_word true = codes "over"
+-- The word names this blending: in place of what is stored, or over it.
+abbrev pub NamesBlend : List ℕ → Blend → Type 0
+NamesBlend word blend = ((word ≡ codes "none") × (blend ≡ none_blend)) ⊎ ((word ≡ codes "over") × (blend ≡ over_blend))
 
 -- The words for both blendings.
 abbrev pub blend_words : List (List ℕ)
-blend_words = blend_word false ∷ blend_word true ∷ []
+blend_words = codes "none" ∷ codes "over" ∷ []

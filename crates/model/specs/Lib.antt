@@ -91,7 +91,7 @@
 --   cull_words: The words for all cullings.
 --   depth_test_word: The word for each depth test.
 --   depth_test_words: The words for all depth tests.
---   blend_word: The word for a blending: over what is stored if true, in its place if false.
+--   NamesBlend: The word names this blending: in place of what is stored, or over it.
 --   blend_words: The words for both blendings.
 --
 -- Fault.antt
@@ -107,6 +107,14 @@
 --   reported_as: The same checks, of which each reports what f makes of its report.
 --   is_before: Whether an error is in no draw, or in a draw before draw n.
 --   PassesBefore: No check fails that reports an error in no draw or in a draw before draw n.
+--
+-- Checking.antt
+--   Checks: Checks, one after another: what has to hold, and what is reported if it does not.
+--   followed_by: The first checks, and then the later ones.
+--   reported_as: The same checks, of which each reports what f makes of its report.
+--   Pass: Each check holds.
+--   FirstIs: The first check that does not hold reports this, or an allocation that fails before it.
+--   IsJudged: The result is right: each check holds, and so does P of what was found, or what the first failure reports is the error.
 --
 -- Checks.antt
 --   Checks: Checks of a draw list, each with the kind of error that it reports.
@@ -189,7 +197,7 @@
 --   IsPrimitives: The values of a draw's keys `triangles`, `strip` and `quads` are these primitives, and one of the three is there.
 --   IsCull: The value is the word for this culling.
 --   IsDepthTest: The value is the word for this depth test.
---   IsBlend: The value is the word for this blending: over what is stored if `over` holds, else in its place.
+--   IsBlend: The value is the word for this blending.
 --   IsWriteMask: The value is this write mask: [red, green, blue], each a boolean that says whether the channel is written.
 --   IsSampleMask: The value is this sample mask, a number of four bits: bit s is that of sample s.
 --   IsScissorSide: The value is a side of a scissor, in pixels.
@@ -225,6 +233,7 @@ pub mod Json
 pub mod Keys
 pub mod Fault
 pub mod FirstFault
+pub mod Checking
 pub mod Checks
 pub mod Denotes
 pub mod Beginning

@@ -5,7 +5,7 @@ ghost use Rattle.model.specs.Defaults.{default_state as state_by_default};
 use crate::limits::{ALL_SAMPLES, MOST_PIXELS};
 use crate::output::Output;
 use grid::{Cull, PixelBox, SampleCount};
-use shade::{DepthTest, Merge, Sample, State};
+use shade::{Blend, DepthTest, Merge, Sample, State};
 
 /// The number of samples of a pixel.
 pub const DEFAULT_SAMPLE_COUNT: SampleCount = SampleCount::One;
@@ -28,7 +28,7 @@ pub const DEFAULT_STATE: State = State {
         test: DepthTest::Always,
         depth_write: false,
         write: [true, true, true],
-        over: false,
+        blend: Blend::NONE,
     },
     cull: Cull::None,
     sample_mask: ALL_SAMPLES,

@@ -1,11 +1,11 @@
 //! The words of a draw list in JSON, each with what it names.
 ghost use Rattle.std.specs.Prelude.{◌≡◌, false, MatchOption};
 ghost use Rattle.model.specs.Json.{is_among};
-ghost use Rattle.model.specs.Keys.{cull_word, cull_words, depth_test_word, depth_test_words, blend_word, blend_words, output_word, output_words};
+ghost use Rattle.model.specs.Keys.{cull_word, cull_words, depth_test_word, depth_test_words, NamesBlend, blend_words, output_word, output_words};
 
 use crate::output::Output;
 use grid::Cull;
-use shade::DepthTest;
+use shade::{Blend, DepthTest};
 
 /// The culling that a word names. Returns `None` if it is none of the words.
 pub fn cull_named(word: &str) -> Option<Cull>
@@ -36,13 +36,13 @@ pub fn depth_test_named(word: &str) -> Option<DepthTest>
     }
 }
 
-/// Whether a word names blending over what is stored (`over`), or none (`none`). Returns `None` if it is none of the words.
-pub fn blend_named(word: &str) -> Option<bool>
-    ensures { MatchOption result (is_among blend_words word.now ≡ false) (λ over. word.now ≡ blend_word over) }
+/// The blending that a word names. Returns `None` if it is none of the words.
+pub fn blend_named(word: &str) -> Option<Blend>
+    ensures { MatchOption result (is_among blend_words word.now ≡ false) (λ blend. NamesBlend word.now blend) }
 {
     match word {
-        "none" => Some(false),
-        "over" => Some(true),
+        "none" => Some(Blend::NONE),
+        "over" => Some(Blend::OVER),
         _ => None,
     }
 }

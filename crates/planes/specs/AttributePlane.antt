@@ -1,5 +1,5 @@
 -- What a triangle's vertices have, as planes.
-use Rattle.std.specs.Prelude.{◌≡◌, ◌⊎◌, ℕ, IsTrue, true, pos, ◌*◌, ◌/◌, ◌%◌, ◌<◌, ◌≤◌, List, length, slice_index}
+use Rattle.std.specs.Prelude.{◌≡◌, ◌⊎◌, ℕ, IsTrue, pos, ◌*◌, ◌/◌, ◌%◌, ◌<◌, ◌≤◌, List, length, slice_index}
 use Rattle.std.specs.Int.RustNames.{unsigned_abs}
 use Rattle.grid.specs.Position.{Position}
 use Rattle.grid.specs.Triangle.{doubled_area, Covers}
@@ -10,7 +10,7 @@ use Rattle.planes.specs.Candidate.{IsCandidate, IsNear}
 use Rattle.planes.specs.Slope.{IsSlope, IsBounded}
 use Rattle.planes.specs.Plane.{IsCandidatePlane, IsLevel, IsHighPart}
 use Rattle.planes.specs.declared.slope.Slope.{Slope}
-use Rattle.shade.specs.Merging.{Writes}
+use Rattle.shade.specs.Merging.{Writes, ReadsAlpha}
 use Rattle.shade.specs.Placed.{channel}
 use Rattle.shade.specs.declared.placed.Placed.{Placed}
 use Rattle.planes.specs.declared.plane.Plane.{Plane}
@@ -77,20 +77,20 @@ pub record IsChannelSlope (t : Placed) (k : ℕ) (s : Slope) : Type 0 where
 abbrev pub IsDepthPlane : Placed → DepthPlane → Type 0
 IsDepthPlane t p = IsAttributePlane 16 t.tri.a t.tri.b t.tri.c t.z p.depth
 
--- A channel has a plane if the draw reads it: red, green and blue if they are written, and alpha if it is blended.
+-- A channel has a plane if the draw reads it: red, green and blue if they are written, and alpha if it blends by it.
 pub record AreColourPlanes (t : Placed) (p : ColourPlanes) : Type 0 where
   pub of_red : Writes t.state.merge 0 → IsAttributePlane 24 t.tri.a t.tri.b t.tri.c (channel t 0) p.red
   pub of_green : Writes t.state.merge 1 → IsAttributePlane 24 t.tri.a t.tri.b t.tri.c (channel t 1) p.green
   pub of_blue : Writes t.state.merge 2 → IsAttributePlane 24 t.tri.a t.tri.b t.tri.c (channel t 2) p.blue
-  pub of_alpha : t.state.merge.over ≡ true → IsAttributePlane 24 t.tri.a t.tri.b t.tri.c (channel t 3) p.alpha
+  pub of_alpha : ReadsAlpha t.state.merge → IsAttributePlane 24 t.tri.a t.tri.b t.tri.c (channel t 3) p.alpha
 
 -- The slopes of a triangle's channels that the draw reads.
 pub record AreColourSlopes (t : Placed) (s : ColourSlopes) : Type 0 where
   pub of_red : Writes t.state.merge 0 → IsChannelSlope t 0 s.red
   pub of_green : Writes t.state.merge 1 → IsChannelSlope t 1 s.green
   pub of_blue : Writes t.state.merge 2 → IsChannelSlope t 2 s.blue
-  pub of_alpha : t.state.merge.over ≡ true → IsChannelSlope t 3 s.alpha
-  pub has_alpha : t.state.merge.over ≡ true → IsTrue s.has_alpha
+  pub of_alpha : ReadsAlpha t.state.merge → IsChannelSlope t 3 s.alpha
+  pub has_alpha : ReadsAlpha t.state.merge → IsTrue s.has_alpha
 
 -- The growths of all four channels fit 41 bits and a sign.
 pub record AreBounded (s : ColourSlopes) : Type 0 where

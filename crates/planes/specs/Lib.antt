@@ -61,7 +61,7 @@
 --   IsSlopeOf: How one attribute of a triangle grows with x and y.
 --   IsChannelSlope: How channel k of a triangle grows with x and y, which is red, green, blue or alpha.
 --   IsDepthPlane: The plane of the depth of a triangle, for candidates of 16 fractional bits.
---   AreColourPlanes: A channel has a plane if the draw reads it: red, green and blue if they are written, and alpha if it is blended.
+--   AreColourPlanes: A channel has a plane if the draw reads it: red, green and blue if they are written, and alpha if it blends by it.
 --   AreColourSlopes: The slopes of a triangle's channels that the draw reads.
 --   AreBounded: The growths of all four channels fit 41 bits and a sign.
 --   AreLevel: The slopes of all four channels are not steep, so that they have gradients of 56 fractional bits.

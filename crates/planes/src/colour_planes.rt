@@ -1,11 +1,11 @@
-ghost use Rattle.std.specs.Prelude.{◌≡◌, ◌<◌, ◌≤◌, ◌%◌, ◌^◌, ℕ, IsTrue, true, length, slice_index};
+ghost use Rattle.std.specs.Prelude.{◌≡◌, ◌<◌, ◌≤◌, ◌%◌, ◌^◌, ℕ, IsTrue, length, slice_index};
 ghost use Rattle.std.specs.Int.RustNames.{unsigned_abs};
 ghost use Rattle.std.specs.Simd.Lanes.{Each1};
 ghost use Rattle.grid.specs.Triangle.{doubled_area, Covers};
 ghost use Rattle.shade.specs.Placed.{channel, IsInterpolated};
 ghost use Rattle.planes.specs.Group.{position_in, IsGroupOnScreen};
 ghost use Rattle.planes.specs.AttributePlane.{AreBytes, IsAttributePlane, IsChannelSlope};
-ghost use Rattle.shade.specs.Merging.{Writes};
+ghost use Rattle.shade.specs.Merging.{Writes, ReadsAlpha};
 ghost use Rattle.planes.specs.Slope.{IsBounded};
 ghost use Rattle.shade.specs.declared.placed.Placed.{Placed as Triangle};
 
@@ -65,20 +65,21 @@ pub struct ColourSlopes {
 impl ColourSlopes {
     ghost use Rattle.planes.specs.AttributePlane.{AreColourSlopes, AreBounded, AreLevel};
 
-    /// The slopes of a triangle's channels that are asked for: of red, green and blue if they are written, and of alpha if it is
-    /// blended.
+    /// The slopes of a triangle's channels that are asked for: of red, green and blue if they are written, and of alpha if the
+    /// draw blends by it.
     #[inline(always)]
     pub fn of_used(used: bool, placed: &Placed) -> ColourSlopes
         ensures slopes { IsTrue used → AreColourSlopes placed.now result }
         ensures bounded { AreBounded result }
     {
         let merge = placed.state.merge;
+        let has_alpha = used && merge.reads_alpha();
         ColourSlopes {
             red: channel_slope(used && merge.write[0], placed, 0),
             green: channel_slope(used && merge.write[1], placed, 1),
             blue: channel_slope(used && merge.write[2], placed, 2),
-            alpha: channel_slope(used && merge.over, placed, 3),
-            has_alpha: used && merge.over,
+            alpha: channel_slope(has_alpha, placed, 3),
+            has_alpha,
         }
     }
 
@@ -207,7 +208,7 @@ impl ColourPlanes {
             → IsInterpolated placed.now (position_in (record { x = x; y = y }) i) (channel placed.now 1) (slice_index result.g i) }
         ensures blue { (i : ℕ) → Writes placed.now.state.merge 2 → AreColourPlanes placed.now self.now → i < 16 → Covers placed.now.tri.a placed.now.tri.b placed.now.tri.c (position_in (record { x = x; y = y }) i)
             → IsInterpolated placed.now (position_in (record { x = x; y = y }) i) (channel placed.now 2) (slice_index result.b i) }
-        ensures alpha { (i : ℕ) → placed.now.state.merge.over ≡ true → AreColourPlanes placed.now self.now → i < 16 → Covers placed.now.tri.a placed.now.tri.b placed.now.tri.c (position_in (record { x = x; y = y }) i)
+        ensures alpha { (i : ℕ) → ReadsAlpha placed.now.state.merge → AreColourPlanes placed.now self.now → i < 16 → Covers placed.now.tri.a placed.now.tri.b placed.now.tri.c (position_in (record { x = x; y = y }) i)
             → IsInterpolated placed.now (position_in (record { x = x; y = y }) i) (channel placed.now 3) (slice_index result.a i) }
     {
         let merge = placed.state.merge;
@@ -215,13 +216,13 @@ impl ColourPlanes {
             r: ColourPlanes::channel_at(&self.red, placed, merge.write[0], 0, x, y),
             g: ColourPlanes::channel_at(&self.green, placed, merge.write[1], 1, x, y),
             b: ColourPlanes::channel_at(&self.blue, placed, merge.write[2], 2, x, y),
-            a: ColourPlanes::channel_at(&self.alpha, placed, merge.over, 3, x, y),
+            a: ColourPlanes::channel_at(&self.alpha, placed, merge.reads_alpha(), 3, x, y),
         }
     }
 
     /// The colours of the triangle at sixteen samples, two rows of eight pixels, the first of which is at (x, y): right at each
     /// sample that it covers. Only what the merge of its draw reads is computed: red, green and blue if they are written, and alpha
-    /// if it is blended.
+    /// if the draw blends by it.
     #[inline(always)]
     pub fn values(
         &self,
@@ -240,13 +241,13 @@ impl ColourPlanes {
             → IsInterpolated placed.now (position_in (record { x = x; y = y }) i) (channel placed.now 1) (slice_index result.g i) }
         ensures blue { (i : ℕ) → placed.now.state.merge ≡ merge.now → Writes merge.now 2 → AreColourPlanes placed.now self.now → i < 16 → Covers placed.now.tri.a placed.now.tri.b placed.now.tri.c (position_in (record { x = x; y = y }) i)
             → IsInterpolated placed.now (position_in (record { x = x; y = y }) i) (channel placed.now 2) (slice_index result.b i) }
-        ensures alpha { (i : ℕ) → placed.now.state.merge ≡ merge.now → merge.now.over ≡ true → AreColourPlanes placed.now self.now → i < 16 → Covers placed.now.tri.a placed.now.tri.b placed.now.tri.c (position_in (record { x = x; y = y }) i)
+        ensures alpha { (i : ℕ) → placed.now.state.merge ≡ merge.now → ReadsAlpha merge.now → AreColourPlanes placed.now self.now → i < 16 → Covers placed.now.tri.a placed.now.tri.b placed.now.tri.c (position_in (record { x = x; y = y }) i)
             → IsInterpolated placed.now (position_in (record { x = x; y = y }) i) (channel placed.now 3) (slice_index result.a i) }
     {
         let red = self.red.candidates_if(merge.write[0], x, y);
         let green = self.green.candidates_if(merge.write[1], x, y);
         let blue = self.blue.candidates_if(merge.write[2], x, y);
-        let alpha = self.alpha.candidates_if(merge.over, x, y);
+        let alpha = self.alpha.candidates_if(merge.reads_alpha(), x, y);
         if !are_all_sure(red, green, blue, alpha) {
             corrections.add();
             return self.channels(placed, x, y);

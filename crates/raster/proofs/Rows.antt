@@ -1,7 +1,5 @@
 -- The blocks of a region, row by row.
-use Rattle.std.proofs.Common.{◌≡◌, refl, ◌⊎◌, inl, inr, zero, suc, ℕ, ◌+◌, ◌-◌, ◌*◌, ◌<◌, ◌≤◌, List, [], ◌∷◌, IsBitSet, slice_index, ℤ, ◌≤ℤ◌, ◌<ℤ◌, FitsSigned, to_z, of_z, w32, arith}
-use Rattle.std.proofs.lemmas.Int.{ints, clamps}
-use Rattle.std.specs.Int.{int_min, int_max}
+use Rattle.std.proofs.Common.{◌≡◌, refl, ◌⊎◌, inl, inr, zero, suc, ℕ, ◌+◌, ◌-◌, ◌*◌, ◌<◌, ◌≤◌, List, [], ◌∷◌, IsBitSet, slice_index, arith}
 use Rattle.std.proofs.lemmas.Bool.{cases_lt}
 use Rattle.std.proofs.lemmas.Nat.Bits.{bit_at_ones}
 use Rattle.grid.specs.Pixels.{side_of, IsInBox}
@@ -37,13 +35,6 @@ corner_on_screen T8 n h = let a = h.aligned in omega (arith, h.on_screen)
 corner_on_screen T16 n h = let a = h.aligned in omega (arith, h.on_screen)
 corner_on_screen T32 n h = let a = h.aligned in omega (arith, h.on_screen)
 corner_on_screen T64 n h = let a = h.aligned in omega (arith, h.on_screen)
-
--- the greater of two bounds from below, as the code forms it, and the lesser of two from above
-pub common_low : (m a b i : ℤ) → m ≡ int_max (to_z w32 (of_z w32 a)) (to_z w32 (of_z w32 b)) → FitsSigned w32 a → FitsSigned w32 b → a ≤ℤ i → b ≤ℤ i → to_z w32 (of_z w32 m) ≤ℤ i
-common_low m a b i e f g h k = omega (arith, ints, clamps)
-
-pub common_high : (m a b i : ℤ) → m ≡ int_min (to_z w32 (of_z w32 a)) (to_z w32 (of_z w32 b)) → FitsSigned w32 a → FitsSigned w32 b → i <ℤ a → i <ℤ b → i <ℤ to_z w32 (of_z w32 m)
-common_high m a b i e f g h k = omega (arith, ints, clamps)
 
 -- four words of all bits
 all_set : (s k : ℕ) → s < 4 → k < 64 → IsBitSet (slice_index (18446744073709551615 ∷ 18446744073709551615 ∷ 18446744073709551615 ∷ 18446744073709551615 ∷ []) s) k

@@ -11,5 +11,6 @@ mod tile;
 
 pub use cleared::clear;
 pub use pixel_row::{colours, colours_by};
-pub use rasterize::draw_triangle;
+pub use rasterize::{covers_tile, draw_triangle};
+pub use scissor::holds_tile;
 pub use tile::Tile;

@@ -53,15 +53,11 @@ fn planes<const N: u32>(block: &Square, class: Class, from: u32) -> Option<[u64;
     }
 }
 
-/// Whether the triangle covers all samples of the tile. It is tested only if the region has all of the tile's blocks, since a
-/// smaller triangle does not cover the tile.
+/// Whether the triangle is seen to cover all samples of the tile.
 #[inline]
-fn covers_tile(setup: &Setup, tile: &Tile, region: &Region) -> bool
+pub fn covers_tile(setup: &Setup, tile: &Tile) -> bool
     ensures { IsTrue result → CoversAll (square_of setup.now tile.now) }
 {
-    if !region.has_all_of(tile) {
-        return false;
-    }
     match setup.classify(tile.bx, tile.by, tile.side, tile.count) {
         Class::All => true,
         Class::Mixed | Class::Out => false,
@@ -210,7 +206,8 @@ fn draw_blocks<const N: u32>(
     ensures { DrawsTile triangle.now tile.now samples.old samples.new }
 {
     let region = Region::of(tile, &setup.bounds(), &triangle.state.scissor);
-    let all = covers_tile(setup, tile, &region);
+    // A triangle whose region has not all of the tile's blocks does not cover the tile.
+    let all = region.has_all_of(tile) && covers_tile(setup, tile);
     let whole = holds_tile(&triangle.state.scissor, tile);
     let mut interpolants = None;
     let mut corrections = Corrections::none();

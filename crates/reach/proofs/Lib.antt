@@ -1,3 +1,3 @@
 pub mod Bits
-pub mod Boxes
 pub mod Sixteen
+pub mod TileColumns

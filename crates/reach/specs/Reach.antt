@@ -1,7 +1,11 @@
 -- Which rows and columns of tiles a triangle can meet.
 use Rattle.std.specs.Prelude.{◌≡◌, ℕ, ◌/◌, ◌<◌, ◌≤◌, List, slice_get, slice_index, Some, IsBitSet}
-use Rattle.grid.specs.Samples.{count_of}
+use Rattle.grid.specs.Pixels.{side_of}
+use Rattle.grid.specs.Samples.{count_of, sample_position}
+use Rattle.grid.specs.Triangle.{Covers}
+use Rattle.grid.specs.declared.pixels.TileSide.{TileSide}
 use Rattle.grid.specs.declared.sample_count.SampleCount.{SampleCount}
+use Rattle.grid.specs.declared.triangle.Tri.{Tri}
 use Rattle.shade.specs.declared.placed.Placed.{Placed}
 use Rattle.shade.specs.Placed.{Meets}
 use Rattle.reach.specs.declared.span.Span.{Span}
@@ -20,9 +24,21 @@ pub record MeetsOnScreen (t : Placed) (count : SampleCount) (i j s : ℕ) : Type
   pub is_sample : s < count_of count
   pub meets : Meets t count i j s
 
--- The tiles of each sample that the triangle meets are in these columns and rows of tiles.
-abbrev pub HaveMet : Placed → Span → Span → Type 0
-HaveMet t columns rows = (count : SampleCount) (i j s : ℕ) → MeetsOnScreen t count i j s → IsInSpan columns (i / 64) × IsInSpan rows (j / 64)
+-- The tiles of this size of each sample that the triangle meets are in these columns and rows of tiles.
+abbrev pub HaveMet : Placed → TileSide → Span → Span → Type 0
+HaveMet t side columns rows =
+    (count : SampleCount) (i j s : ℕ) → MeetsOnScreen t count i j s → IsInSpan columns (i / side_of side) × IsInSpan rows (j / side_of side)
+
+-- The triangle covers no sample of the tile of this size in a column and a row of tiles.
+abbrev pub MissesTile : Tri → SampleCount → TileSide → ℕ → ℕ → Type 0
+MissesTile t count side column row =
+    (i j s : ℕ) → i / side_of side ≡ column → j / side_of side ≡ row → s < count_of count → ¬ Covers t.a t.b t.c (sample_position i j s count)
+
+-- Those of some columns of tiles in which the triangle covers a sample of this tile row are among the others.
+abbrev pub HaveReached : Tri → SampleCount → TileSide → ℕ → Span → Span → Type 0
+HaveReached t count side row columns others =
+    (i j s : ℕ) → j / side_of side ≡ row → s < count_of count → Covers t.a t.b t.c (sample_position i j s count)
+    → IsInSpan columns (i / side_of side) → IsInSpan others (i / side_of side)
 
 -- Column n of the tiles, or tile row n, bears the mark of triangle k.
 pub record IsMarked (marks : Marks) (n k : ℕ) : Type 0 where

@@ -2,8 +2,9 @@
 ghost use Rattle.std.specs.Prelude.{◌≤◌, length};
 ghost use Rattle.reach.specs.Bounds.{AreBounds};
 
-use crate::span::{Span, tiles_met};
+use crate::span::Span;
 use crate::spans::Spans;
+use crate::tiles::tiles_of;
 use shade::Triangles;
 
 /// The columns of tiles and the tile rows in which each of up to `N` triangles can meet a sample.
@@ -24,7 +25,7 @@ impl<const N: usize> Bounds<N> {
         ensures { AreBounds (T.listed triangles.now) (length (T.listed triangles.now)) self.new.columns.firsts self.new.columns.ends self.new.rows.firsts self.new.rows.ends self.new.span }
     {
         for number in 0..triangles.count() {
-            let (columns, rows) = tiles_met(&triangles.triangle(number));
+            let (columns, rows) = tiles_of(&triangles.triangle(number));
             self.columns.set(number, columns);
             self.rows.set(number, rows);
             self.span = self.span.joined(rows);

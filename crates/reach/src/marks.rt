@@ -2,7 +2,8 @@
 ghost use Rattle.std.specs.Prelude.{ℕ, ◌<◌, ◌≤◌, length};
 ghost use Rattle.reach.specs.Reach.{IsInSpan, IsMarked, AreReached};
 
-use crate::span::{NOWHERE, Span, tiles_met};
+use crate::span::{NOWHERE, Span};
+use crate::tiles::tiles_of;
 use shade::Placed;
 
 /// How many triangles a chunk has at most: one for each bit of a word.
@@ -55,7 +56,7 @@ pub fn reach_of(chunk: &[Placed]) -> Reached
     let mut columns = UNMARKED;
     let mut rows = UNMARKED;
     for k in 0..chunk.len() {
-        let (across, down) = tiles_met(&chunk[k]);
+        let (across, down) = tiles_of(&chunk[k]);
         columns.mark(across, k);
         rows.mark(down, k);
     }

@@ -1,12 +1,12 @@
-//! Which rows and columns of tiles a triangle can meet.
-ghost use Rattle.std.specs.Prelude.{ℕ, ◌/◌, ◌<◌, ◌≤◌, ◌≤ℤ◌, ◌<ℤ◌, pos};
-ghost use Rattle.reach.specs.Reach.{IsInSpan, HaveMet};
+//! Tiles in a row or a column of tiles.
+ghost use Rattle.std.specs.Prelude.{◌≡◌, ℕ, ◌*◌, ◌/◌, ◌<◌, ◌≤◌, ◌≤ℤ◌, ◌<ℤ◌, min, pos};
+ghost use Rattle.grid.specs.Pixels.{side_of};
+ghost use Rattle.reach.specs.Reach.{IsInSpan};
 
-use cover::Setup;
-use shade::Placed;
+use grid::TileSide;
 
 /// The tiles from `first` to before `end`, in a row or a column of tiles. There are none if `end` is not above `first`.
-#[derive(Clone, Copy)]
+#[derive(Clone, Copy, Debug, PartialEq, Eq)]
 pub struct Span {
     /// The first tile.
     pub first: u32,
@@ -14,7 +14,7 @@ pub struct Span {
     pub end: u32,
 }
 
-/// No tile: it begins behind tile 63, the last one, and ends before the first.
+/// No tile: it begins behind tile 63, the last one of 64 pixels, and ends before the first.
 pub const NOWHERE: Span = Span { first: 64, end: 0 };
 
 impl Span {
@@ -29,36 +29,33 @@ impl Span {
             end: self.end.max(other.end),
         }
     }
-}
 
-/// The tiles, in a row or a column, that have pixels from pixel `low` to before `high`.
-fn tiles_with(low: i32, high: i32) -> Span
-    ensures first { result.first ≤ 64 }
-    ensures few { result.end ≤ 64 }
-    ensures all { (i : ℕ) → i < 4096 → low ≤ℤ pos i → pos i <ℤ high → IsInSpan result (i / 64) }
-{
-    Span {
-        first: low.clamp(0, 4096) as u32 / 64,
-        end: (high.clamp(0, 4096) as u32).div_ceil(64),
+    /// Those of the tiles that come before tile `end`.
+    #[inline]
+    pub fn up_to(self, end: u32) -> Span
+        ensures first { result.first ≡ self.first }
+        ensures end { result.end ≡ min self.end end }
+    {
+        Span {
+            first: self.first,
+            end: self.end.min(end),
+        }
     }
-}
 
-/// The columns and the rows of tiles in which the triangle can meet a sample: those of the box round it, cut by its scissor.
-pub(crate) fn tiles_met(triangle: &Placed) -> (Span, Span)
-    ensures first_column { result.0.first ≤ 64 }
-    ensures columns { result.0.end ≤ 64 }
-    ensures first_row { result.1.first ≤ 64 }
-    ensures rows { result.1.end ≤ 64 }
-    ensures all { HaveMet triangle.now result.0 result.1 }
-{
-    let Some(setup) = Setup::new(&triangle.tri, triangle.state.cull) else {
-        return (NOWHERE, NOWHERE);
-    };
-    let bounds = setup.bounds();
-    let scissor = triangle.state.scissor;
-    let (x0, x1) = (bounds.x0.max(scissor.x0), bounds.x1.min(scissor.x1));
-    let (y0, y1) = (bounds.y0.max(scissor.y0), bounds.y1.min(scissor.y1));
-    let columns = tiles_with(x0, x1);
-    let rows = tiles_with(y0, y1);
-    (columns, rows)
+    /// The tiles of this size that have pixels of the screen from pixel `low` to before `high`.
+    #[inline]
+    pub(crate) fn with_pixels(low: i32, high: i32, side: TileSide) -> Span
+        ensures first { side_of side * result.first ≤ 4096 }
+        ensures end { side_of side * result.end ≤ 4096 }
+        ensures all { (i : ℕ) → i < 4096 → low ≤ℤ pos i → pos i <ℤ high → IsInSpan result (i / side_of side) }
+    {
+        if high <= low {
+            return NOWHERE;
+        }
+        let pixels = side.pixels();
+        Span {
+            first: low.clamp(0, 4096) as u32 / pixels,
+            end: (high.clamp(0, 4096) as u32).div_ceil(pixels),
+        }
+    }
 }

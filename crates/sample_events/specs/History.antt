@@ -2,20 +2,18 @@
 use Rattle.std.specs.Prelude.{◌≡◌, ◌≢◌, ◌↔◌, ℕ, ◌<◌, List, Bool, IsTrue}
 use Rattle.grid.specs.Samples.{count_of, sample_position}
 use Rattle.shade.specs.declared.sample.Sample.{Sample as Stored}
-use Rattle.model.specs.Checks.{all_checks}
+use Rattle.model.specs.Checking.{Checks, check, done}
 use Rattle.model.specs.Denotes.{Denotes}
-use Rattle.model.specs.FirstFault.{IsFirstFault}
-use Rattle.model.specs.Json.{json_of}
 use Rattle.model.specs.Picture.{IsEnd}
 use Rattle.model.specs.Scene.{Scene}
 use Rattle.model.specs.declared.output.Output.{Output}
 use Rattle.model.specs.declared.output.Output.TheVariants.{Color, Depth}
-use Rattle.sample_events.specs.declared.error.HistoryError.{HistoryError}
-use Rattle.sample_events.specs.declared.error.HistoryError.TheVariants.{List as BadList, InputTooLong, OutOfMemory, StructSize, Sample, Pixel, Triangle}
+use Rattle.c_abi.specs.Calls.{text_checks}
+use Rattle.c_abi.specs.declared.status.Status.{Status}
+use Rattle.c_abi.specs.declared.status.Status.TheVariants.{BadStructSize, BadSample, BadPixel}
 use Rattle.sample_events.specs.declared.event.SampleEvent.{SampleEvent}
 use Rattle.sample_events.specs.declared.request.HistoryRequest.{HistoryRequest}
 use Rattle.sample_events.specs.declared.sample_info.SampleInfo.{SampleInfo}
-use Rattle.sample_events.specs.Errors.{IsShort}
 use Rattle.sample_events.specs.Events.{stored_of}
 use Rattle.list_history.specs.Walk.{start_of}
 use Rattle.sample_events.specs.Walk.{AreWritten}
@@ -65,29 +63,15 @@ pub record HoldsHistory (json : List ℕ) (request : HistoryRequest) (old new : 
   pub is_end : IsEnd list request.x request.y request.sample end
   pub is_info : IsInfoOf list request event_count end info
 
--- The list that the text denotes has this fault.
-pub record HasFault (json : List ℕ) (Fails : Scene → Type 0) : Type 0 where
-  pub list : Scene
-  pub means : Denotes json list
-  pub fails : Fails list
+-- The checks of a list that was read: its picture has the pixel, and the pixel has the sample.
+abbrev pub place_checks : Scene → HistoryRequest → Checks Status
+place_checks l request = check (HasPixel l request) BadPixel (check (HasSample l request) BadSample done)
 
--- What an error says of a list that is read: that its picture has no such pixel, or else that the pixel has no such sample.
-abbrev pub ExplainsLack : Scene → HistoryRequest → HistoryError → Type 0
-ExplainsLack l request (BadList fault) = ⊥
-ExplainsLack l request InputTooLong = ⊥
-ExplainsLack l request OutOfMemory = ⊥
-ExplainsLack l request StructSize = ⊥
-ExplainsLack l request Sample = HasPixel l request × ¬ HasSample l request
-ExplainsLack l request Pixel = ¬ HasPixel l request
-ExplainsLack l request Triangle = ⊥
-
--- What each error of a call says that writes a history. Each says too that no check before it fails: the sizes, the length of the text,
--- whether it denotes a list, the pixel, and the sample. Out of memory says that the sizes are right.
-abbrev pub ExplainsHistory : List ℕ → HistoryRequest → HistoryError → Type 0
-ExplainsHistory json request (BadList fault) = HasSizes request × IsShort json × IsFirstFault (all_checks (json_of json)) fault
-ExplainsHistory json request InputTooLong = HasSizes request × ¬ IsShort json
-ExplainsHistory json request OutOfMemory = HasSizes request
-ExplainsHistory json request StructSize = ¬ HasSizes request
-ExplainsHistory json request Sample = HasSizes request × HasFault json (λ l. HasPixel l request × ¬ HasSample l request)
-ExplainsHistory json request Pixel = HasSizes request × HasFault json (λ l. ¬ HasPixel l request)
-ExplainsHistory json request Triangle = ⊥
+-- The checks of a call that writes a history. Those of the pixel and the sample are of each list that the text denotes.
+abbrev pub history_checks : List ℕ → HistoryRequest → Checks Status
+history_checks json request =
+    check (HasSizes request) BadStructSize (
+    text_checks json (
+    check ((l : Scene) → Denotes json l → HasPixel l request) BadPixel (
+    check ((l : Scene) → Denotes json l → HasSample l request) BadSample
+    done)))

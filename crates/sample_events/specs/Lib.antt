@@ -1,12 +1,5 @@
 -- The definitions of this crate, each file behind those that it uses; `python3 -m tools.definitions` writes these lines.
 --
--- Errors.antt
---   number_of: The status of a call that ends in this error.
---   reported: What the caller gets of each error.
---   IsReported: The status and the error that the caller gets of a call that ended so.
---   IsShort: The text has as few bytes as a draw list may have.
---   ExplainsRead: What each error says of the text of a call that reads a list alone: that it is too long, or its first error.
---
 -- Events.antt
 --   flag: The value of a flag if it is set, and else 0.
 --   fails_an_edge: The sample fails the top-left rule at one of the edges.
@@ -32,16 +25,14 @@
 --   output_number: What a picture shows, by its number in C.
 --   IsInfoOf: The sample beside its events: their number, what the picture is, where it lies, and what it begins and ends with.
 --   HoldsHistory: The caller's memory holds the history of the sample that is asked for, of the list that the text denotes.
---   HasFault: The list that the text denotes has this fault.
---   ExplainsLack: What an error says of a list that is read: that its picture has no such pixel, or else that the pixel has no such sample.
---   ExplainsHistory: What each error of a call says that writes a history.
+--   place_checks: The checks of a list that was read: its picture has the pixel, and the pixel has the sample.
+--   history_checks: The checks of a call that writes a history.
 --
 -- Triangles.antt
 --   HoldsSamples: The caller's memory holds the counts of the triangle in this place, of the list that the text denotes.
---   LacksTriangle: The list that the text denotes has no triangle in this place.
---   ExplainsSamples: What each error of a call says that counts the samples of a triangle.
+--   HasTriangle: The list has a triangle in this place.
+--   samples_checks: The checks of a call that counts the samples of a triangle.
 
-pub mod Errors
 pub mod Events
 pub mod Walk
 pub mod History

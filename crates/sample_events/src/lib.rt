@@ -2,7 +2,6 @@
 //! in C.
 #![tactic(auto)]
 
-mod error;
 mod event;
 mod flags;
 mod request;
@@ -13,10 +12,10 @@ mod text;
 mod triangle;
 mod walk;
 
-pub use error::{HistoryError, report};
 pub use event::SampleEvent;
 pub use request::HistoryRequest;
 pub use sample_history::write_history;
 pub use sample_info::SampleInfo;
 pub use stored::{Fragment, StoredSample};
+pub use text::list_of;
 pub use triangle::{TriangleSamples, write_triangle_samples};

@@ -1,10 +1,11 @@
-ghost use Rattle.std.specs.Prelude.{◌≡◌, ◌≢◌, ◌<◌, ◌↔◌, IsTrue, IfErr, OnOk};
+ghost use Rattle.std.specs.Prelude.{◌≡◌, ◌≢◌, ◌<◌, ◌↔◌, IsTrue, OnOk, ⊤};
 ghost use Rattle.grid.specs.Samples.{count_of};
-ghost use Rattle.sample_events.specs.History.{HasSizes, HasPixel, HasSample, ExplainsLack};
+ghost use Rattle.model.specs.Checking.{IsJudged};
+ghost use Rattle.sample_events.specs.History.{HasSizes, HasPixel, HasSample, place_checks};
 
-use crate::error::HistoryError;
 use crate::event::SampleEvent;
 use crate::sample_info::SampleInfo;
+use c_abi::Status;
 use model::DrawList;
 
 /// The sizes in bytes of the structs.
@@ -59,18 +60,16 @@ impl HistoryRequest {
         self.x < list.width() && self.y < list.height()
     }
 
-    /// Fails with `Pixel` if the picture has no such pixel, else with `Sample` if the pixel has no such sample.
-    pub(crate) fn check(&self, list: &DrawList) -> Result<(), HistoryError>
-        ensures pixel { OnOk result (HasPixel list.now self.now) }
+    /// Fails with `BadPixel` if the picture has no such pixel, else with `BadSample` if the pixel has no such sample.
+    pub(crate) fn check(&self, list: &DrawList) -> Result<(), Status>
+        ensures judged { IsJudged (place_checks list.now self.now) (λ done. ⊤) result }
         ensures screen { OnOk result ((self.now.x < 4096) × (self.now.y < 4096)) }
-        ensures sample { OnOk result (HasSample list.now self.now) }
-        ensures error { IfErr result (ExplainsLack list.now self.now) }
     {
         if !self.has_pixel(list) {
-            return Err(HistoryError::Pixel);
+            return Err(Status::BadPixel);
         }
         if self.sample >= list.count().count() {
-            return Err(HistoryError::Sample);
+            return Err(Status::BadSample);
         }
         Ok(())
     }

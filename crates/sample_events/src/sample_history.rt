@@ -1,14 +1,14 @@
 //! The history of a sample, in the caller's memory.
-ghost use Rattle.std.specs.Prelude.{◌≡◌, ◌↔◌, OnOk, OnErr, IfErr, Err};
-ghost use Rattle.sample_events.specs.History.{HasSizes, HoldsHistory, ExplainsHistory};
-ghost use Rattle.sample_events.specs.declared.error.HistoryError.TheVariants as call;
+ghost use Rattle.std.specs.Prelude.{◌≡◌, OnOk, OnErr, ⊤};
+ghost use Rattle.c_abi.specs.Calls.{IsCall, IsFirstOfText};
+ghost use Rattle.sample_events.specs.History.{HoldsHistory, history_checks};
 
-use crate::error::HistoryError;
 use crate::event::SampleEvent;
 use crate::request::HistoryRequest;
 use crate::sample_info::SampleInfo;
 use crate::text::list_of;
 use crate::walk::write_events;
+use c_abi::{CallError, Status};
 use std::alloc::Global;
 
 /// Writes the events of a sample's history at the beginning of the array, in draw order, as many as it holds, and into `info` how many
@@ -20,15 +20,14 @@ pub fn write_history(
     request: &HistoryRequest,
     events: &mut [SampleEvent],
     info: &mut SampleInfo,
-) -> Result<(), HistoryError>
+) -> Result<(), CallError>
     ensures written { OnOk result (HoldsHistory json.now request.now events.old events.new info.new) }
     ensures events { OnErr result (events.new ≡ events.old) }
     ensures info { OnErr result (info.new ≡ info.old) }
-    ensures error { IfErr result (ExplainsHistory json.now request.now) }
-    ensures sizes { (result ≡ Err call.StructSize) ↔ ¬ HasSizes request.now }
+    ensures judged { IsCall (history_checks json.now request.now) (IsFirstOfText json.now) (λ done. ⊤) result }
 {
     if !request.has_sizes() {
-        return Err(HistoryError::StructSize);
+        return Err(CallError::from(Status::BadStructSize));
     }
     let list = list_of(alloc, json)?;
     request.check(&list)?;

@@ -1,23 +1,21 @@
 //! The draw list that the caller gives.
-ghost use Rattle.std.specs.Prelude.{IfOk, IfErr};
+ghost use Rattle.std.specs.Prelude.{◌≡◌, IfOk};
+ghost use Rattle.model.specs.Checking.{done};
 ghost use Rattle.model.specs.Denotes.{Denotes};
-ghost use Rattle.sample_events.specs.Errors.{ExplainsRead};
+ghost use Rattle.model.specs.Scene.{Scene};
+ghost use Rattle.c_abi.specs.Calls.{IsCall, IsFirstOfText, text_checks};
 
-use crate::error::HistoryError;
-use list::{DrawList, MOST_BYTES, ReadKind, read};
+use c_abi::{CallError, Status};
+use list::{DrawList, MOST_BYTES, read};
 use std::alloc::Global;
 
 /// Reads the list that the bytes denote.
-pub(crate) fn list_of(alloc: Global, json: &[u8]) -> Result<DrawList, HistoryError>
-    ensures ok { IfOk result (Denotes json.now) }
-    ensures error { IfErr result (ExplainsRead json.now) }
+pub fn list_of(alloc: Global, json: &[u8]) -> Result<DrawList, CallError>
+    ensures judged { IsCall (text_checks json.now done) (IsFirstOfText json.now) (Denotes json.now) result }
+    ensures only { (list : Scene) → Denotes json.now list → IfOk result (λ found. found ≡ list) }
 {
     if json.len() > MOST_BYTES {
-        return Err(HistoryError::InputTooLong);
+        return Err(CallError::from(Status::InputTooLong));
     }
-    match read(alloc, json) {
-        Ok(list) => Ok(list),
-        Err(fault) if fault.kind == ReadKind::OutOfMemory => Err(HistoryError::OutOfMemory),
-        Err(fault) => Err(HistoryError::List(fault)),
-    }
+    Ok(read(alloc, json)?)
 }

@@ -1,9 +1,10 @@
 //! How many samples of the picture a triangle has, in the caller's memory.
-ghost use Rattle.std.specs.Prelude.{◌≡◌, OnOk, OnErr, IfErr};
-ghost use Rattle.sample_events.specs.Triangles.{HoldsSamples, ExplainsSamples};
+ghost use Rattle.std.specs.Prelude.{◌≡◌, OnOk, OnErr, ⊤};
+ghost use Rattle.c_abi.specs.Calls.{IsCall, IsFirstOfText};
+ghost use Rattle.sample_events.specs.Triangles.{HoldsSamples, samples_checks};
 
-use crate::error::HistoryError;
 use crate::text::list_of;
+use c_abi::{CallError, Status};
 use list_history::{counts_of, number_of as number_in};
 use model::TrianglePlace;
 use std::alloc::Global;
@@ -27,14 +28,14 @@ pub fn write_triangle_samples(
     json: &[u8],
     place: TrianglePlace,
     samples: &mut TriangleSamples,
-) -> Result<(), HistoryError>
+) -> Result<(), CallError>
     ensures written { OnOk result (HoldsSamples json.now place samples.new) }
     ensures kept { OnErr result (samples.new ≡ samples.old) }
-    ensures error { IfErr result (ExplainsSamples json.now place) }
+    ensures judged { IsCall (samples_checks json.now place) (IsFirstOfText json.now) (λ done. ⊤) result }
 {
     let list = list_of(alloc, json)?;
     let Some(number) = number_in(&list, place) else {
-        return Err(HistoryError::Triangle);
+        return Err(CallError::from(Status::BadTriangle));
     };
     let counts = counts_of(alloc, &list, number)?;
     *samples = TriangleSamples {

@@ -2,4 +2,3 @@ pub mod Draws
 pub mod Limits
 pub mod Faults
 pub mod Chunks
-pub mod Numbered

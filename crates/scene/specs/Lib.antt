@@ -6,6 +6,7 @@
 --   truth_listed: A boolean by its number: 0 is false, and 1 is true.
 --   cull_listed: A culling by its number: 0 is none, 1 is front, and 2 is back.
 --   depth_test_listed: A depth test by its number: 0 never, 1 <, 2 =, 3 at most, 4 >, 5 not =, 6 at least, 7 always.
+--   blend_listed: The blending with this number.
 --   vertex_listed: A vertex by the caller's numbers.
 --   state_listed: The state of a draw by the caller's numbers.
 --   corners_of: How many indices each primitive of a kind takes: 0 is triangles, 1 a strip, 2 quads.
@@ -21,29 +22,21 @@
 --   IsVertexInRange: The numbers of a vertex are in range: coordinates of the guard band, depth, colour and alpha.
 --   IsDrawInRange: The numbers are in range that say what primitives a draw has, and its state.
 --
--- Checking.antt
---   Checks: Checks, one after another: what has to hold, and what is reported if it does not.
---   followed_by: The checks of one list, and then those of another.
---   Pass: Each check holds.
---   FirstIs: A check does not hold, and the first that does not reports this.
---   Reads: The result is right: each check holds, or the first that does not is reported, unless memory ran out.
---
 -- Checks.antt
---   number_checks: There are at most 65536 vertices, else `TooMany` is reported.
---   vertices_checks: There are at most 65536 vertices, and each is in range, else `OutOfRange` is reported.
+--   vertices_checks: There are at most 65536 vertices, and each is in range.
 --   primitives_checks: The primitives of a draw of these vertices, before which the draws have `earlier` triangles.
 --   opening_checks: The checks of a draw that come before its vertices and primitives.
 --   draw_checks: The checks of a draw, whose vertices and indices are the first of these.
---   checks_before_vertices: The checks of a draw that come before those of its single vertices.
 --   triangles_listed: How many triangles a draw has, whose indices are the first of these.
---   DrawsPass: Each draw passes its checks, and no vertex and no index is left over.
---   IsFirstOfDraws: The first check of draws that fails reports this error.
---   IsReached: Draw n is one of these, which are numbered from `number` on, and no check of a draw before it fails.
---   Reaches: The draw that an error names was reached: the numbers of the picture and the number of draws pass their checks too.
---   IsFirstFault: The first check of a scene that fails reports this error.
+--   draws_checks: The checks of draws, numbered from `number` on: those of each in turn, and then that no vertex and no index is left.
+--   list_draws_checks: The checks of the draws of a scene.
+--   scene_checks: The checks of a scene: the numbers of its picture, the number of its draws, and then the draws.
 --   IsListOf: The arrays pass each check, and list this scene.
+--
+-- Arrays.antt
+--   HasSizes: The struct and the elements of its arrays have the sizes, in bytes, that this library knows.
 
 pub mod Listed
 pub mod Ranges
-pub mod Checking
 pub mod Checks
+pub mod Arrays

@@ -5,6 +5,8 @@ use Rattle.grid.specs.declared.cull.Cull.{Cull}
 use Rattle.grid.specs.declared.cull.Cull.TheVariants as cull
 use Rattle.grid.specs.declared.sample_count.SampleCount.{SampleCount}
 use Rattle.grid.specs.declared.sample_count.SampleCount.TheVariants as samples
+use Rattle.shade.specs.declared.blend.Blend.{Blend}
+use Rattle.shade.specs.Presets.{none_blend, over_blend}
 use Rattle.shade.specs.declared.depth.DepthTest.{DepthTest}
 use Rattle.shade.specs.declared.depth.DepthTest.TheVariants as test
 use Rattle.shade.specs.declared.sample.Sample.{Sample}
@@ -55,6 +57,10 @@ depth_test_listed n =
     else (if n == 6 then test.GreaterEqual
     else test.Always))))))
 
+-- The blending with this number.
+abbrev pub blend_listed : ℕ → Blend
+blend_listed n = if n == 1 then over_blend else none_blend
+
 -- ---- a vertex, a draw's state and its primitives
 
 -- A vertex by the caller's numbers.
@@ -68,7 +74,7 @@ state_listed d = record {
     test = depth_test_listed d.depth_test;
     depth_write = truth_listed d.depth_write;
     write = truth_listed d.write_red ∷ truth_listed d.write_green ∷ truth_listed d.write_blue ∷ [];
-    over = truth_listed d.blend;
+    blend = blend_listed d.blend;
   };
   cull = cull_listed d.cull;
   sample_mask = d.sample_mask;

@@ -1,10 +1,11 @@
-ghost use Rattle.std.specs.Prelude.{◌≡◌, ◌≢◌, ◌≤◌, length, map, IfOk, IfErr, IfSome, Some, MatchResult};
+ghost use Rattle.std.specs.Prelude.{◌≡◌, ◌≤◌, length, map, IfOk, IfErr, MatchResult};
+ghost use Rattle.model.specs.Checking.{allocate, reported_as, FirstIs, IsJudged};
+ghost use Rattle.model.specs.Checks.{outside as fault_outside, in_draw as fault_in_draw};
 ghost use Rattle.model.specs.Scene.{Scene};
 ghost use Rattle.model.specs.Listing.{draw_listing};
 ghost use Rattle.model.specs.declared.fault.ReadKind.TheVariants.{OutOfMemory};
 ghost use Rattle.scene.specs.Listed.{draw_listed, draws_listed};
-ghost use Rattle.scene.specs.Checking.{Pass, FirstIs};
-ghost use Rattle.scene.specs.Checks.{draw_checks, checks_before_vertices, DrawsPass, IsFirstOfDraws, IsFirstFault, IsReached, Reaches, IsListOf};
+ghost use Rattle.scene.specs.Checks.{draw_checks, list_draws_checks, scene_checks, IsListOf};
 
 use crate::draw::SceneDraw;
 use crate::head::SceneHead;
@@ -22,15 +23,13 @@ fn numbered_draw(
     earlier: usize,
 ) -> Result<Draw, ReadFault>
     requires { earlier ≤ 65536 }
-    ensures reported { let checks = draw_checks earlier draw.now vertices.now indices.now in MatchResult result
-        (λ found. Pass checks × (draw_listing found ≡ draw_listed draw.now vertices.now indices.now))
-        (λ fault. fault.kind ≢ OutOfMemory → FirstIs checks fault.kind) }
-    ensures named { IfErr result (λ fault. fault.draw ≡ Some number) }
-    ensures memory { IfErr result (λ fault. fault.kind ≡ OutOfMemory
-        → Pass (checks_before_vertices draw.now vertices.now indices.now)) }
+    ensures { IsJudged (reported_as (fault_in_draw number) (draw_checks earlier draw.now vertices.now indices.now))
+        (λ found. draw_listing found ≡ draw_listed draw.now vertices.now indices.now) result }
 {
-    draw.draw(alloc, vertices, indices, earlier)
-        .map_err(|kind| ReadFault::in_draw(kind, number))
+    match draw.draw(alloc, vertices, indices, earlier) {
+        Ok(found) => Ok(found),
+        Err(kind) => Err(ReadFault::in_draw(kind, number)),
+    }
 }
 
 /// The draws of a scene.
@@ -41,12 +40,8 @@ fn draws_of(
     indices: &[u32],
 ) -> Result<Vec<Draw>, ReadFault>
     requires { length draws.now ≤ 1024 }
-    ensures ok { IfOk result (λ found. DrawsPass 0 draws.now vertices.now indices.now
-        × (map draw_listing found.items ≡ draws_listed draws.now vertices.now indices.now)) }
-    ensures fault { IfErr result (λ fault. fault.kind ≢ OutOfMemory
-        → IsFirstOfDraws 0 0 draws.now vertices.now indices.now fault) }
-    ensures reached { IfErr result (λ fault. IfSome fault.draw
-        (IsReached 0 0 draws.now vertices.now indices.now fault.kind)) }
+    ensures { IsJudged (allocate (fault_outside OutOfMemory) (list_draws_checks 0 0 draws.now vertices.now indices.now))
+        (λ found. map draw_listing found.items ≡ draws_listed draws.now vertices.now indices.now) result }
 {
     let mut found = Vec::with_capacity(alloc, draws.len())?;
     let mut earlier = 0;
@@ -89,11 +84,8 @@ pub fn build(
     // If the arrays list a scene, that very one is made, or memory ran out.
     ensures only { (list : Scene) → IsListOf head.now draws.now vertices.now indices.now list
         → MatchResult result (λ found. found ≡ list) (λ fault. fault.kind ≡ OutOfMemory) }
-    // A fault is the first one, unless memory ran out.
-    ensures first { IfErr result (λ fault. fault.kind ≢ OutOfMemory
-        → IsFirstFault head.now draws.now vertices.now indices.now fault) }
-    // Out of memory too names a draw only if all before that draw is right, and all of it before its vertices.
-    ensures reached { IfErr result (Reaches head.now draws.now vertices.now indices.now) }
+    // A fault is the first one. Where memory ran out, each check before the allocation holds.
+    ensures first { IfErr result (FirstIs (scene_checks head.now draws.now vertices.now indices.now)) }
 {
     if !head.is_in_range() {
         return Err(ReadFault::outside(ReadKind::OutOfRange));

@@ -1,16 +1,15 @@
-ghost use Rattle.std.specs.Prelude.{◌≡◌, ◌↔◌, ◌≤◌, IsTrue, IfErr};
+ghost use Rattle.std.specs.Prelude.{◌≡◌, ◌↔◌, ◌≤◌, IsTrue};
+ghost use Rattle.model.specs.Checking.{IsJudged};
 ghost use Rattle.model.specs.Listing.{draw_listing};
-ghost use Rattle.model.specs.declared.fault.ReadKind.TheVariants.{OutOfMemory};
-ghost use Rattle.scene.specs.Listed.{truth_listed, cull_listed, depth_test_listed, state_listed, draw_listed};
+ghost use Rattle.scene.specs.Listed.{truth_listed, cull_listed, depth_test_listed, blend_listed, state_listed, draw_listed};
 ghost use Rattle.scene.specs.Ranges.{IsDrawInRange};
-ghost use Rattle.scene.specs.Checking.{Pass, Reads};
-ghost use Rattle.scene.specs.Checks.{draw_checks, checks_before_vertices};
+ghost use Rattle.scene.specs.Checks.{draw_checks};
 
 use crate::primitives::primitives_of;
 use crate::vertex::{SceneVertex, vertices_of};
 use grid::{Cull, PixelBox};
 use model::{Draw, MOST_PIXELS, ReadKind, State};
-use shade::{DepthTest, Merge};
+use shade::{Blend, DepthTest, Merge};
 use std::alloc::Global;
 
 /// A draw: how many of the scene's vertices and indices are its own, what primitives the indices are, and the state in which these
@@ -77,6 +76,17 @@ fn depth_test(number: u32) -> DepthTest
     }
 }
 
+/// How the new colour is combined with the stored one.
+fn blend(number: u32) -> Blend
+    ensures { result ≡ blend_listed number }
+{
+    if number == 1 {
+        Blend::OVER
+    } else {
+        Blend::NONE
+    }
+}
+
 impl SceneDraw {
     /// Whether each number of the state is in its range, the edges of the scissor up to `farthest`.
     pub fn is_in_range(&self, farthest: u32) -> bool
@@ -109,7 +119,7 @@ impl SceneDraw {
                     self.write_green == 1,
                     self.write_blue == 1,
                 ],
-                over: self.blend == 1,
+                blend: blend(self.blend),
             },
             cull: cull(self.cull),
             sample_mask: self.sample_mask as u16,
@@ -131,10 +141,8 @@ impl SceneDraw {
         earlier: usize,
     ) -> Result<Draw, ReadKind>
         requires { earlier ≤ 65536 }
-        ensures reported { Reads (draw_checks earlier self.now vertices.now indices.now)
+        ensures { IsJudged (draw_checks earlier self.now vertices.now indices.now)
             (λ found. draw_listing found ≡ draw_listed self.now vertices.now indices.now) result }
-        ensures memory { IfErr result (λ kind. kind ≡ OutOfMemory
-            → Pass (checks_before_vertices self.now vertices.now indices.now)) }
     {
         let (own_vertices, own_indices) = (self.vertices as usize, self.indices as usize);
         if own_vertices > vertices.len() || own_indices > indices.len() {

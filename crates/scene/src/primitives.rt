@@ -1,7 +1,7 @@
 ghost use Rattle.std.specs.Prelude.{◌≡◌, ◌≤◌, length, IfOk};
+ghost use Rattle.model.specs.Checking.{IsJudged};
 ghost use Rattle.model.specs.Primitives.{primitive_listing, count_of_triangles};
 ghost use Rattle.scene.specs.Listed.{corners_of, primitives_listed};
-ghost use Rattle.scene.specs.Checking.{Reads};
 ghost use Rattle.scene.specs.Checks.{primitives_checks};
 
 use model::{
@@ -54,7 +54,7 @@ pub(crate) fn primitives_of(
     vertices: &[Vertex],
 ) -> Result<Primitives, ReadKind>
     requires { earlier ≤ MOST_TRIANGLES }
-    ensures { Reads (primitives_checks earlier vertices.now kind indices.now)
+    ensures { IsJudged (primitives_checks earlier vertices.now kind indices.now)
         (λ found. primitive_listing found ≡ primitives_listed kind indices.now) result }
 {
     if indices.len() % corners(kind) != 0 {

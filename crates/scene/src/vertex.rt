@@ -1,9 +1,8 @@
-ghost use Rattle.std.specs.Prelude.{◌≡◌, ◌↔◌, ◌≤◌, IsSome, IfSome, IfErr, length, map};
-ghost use Rattle.model.specs.declared.fault.ReadKind.TheVariants.{OutOfMemory};
+ghost use Rattle.std.specs.Prelude.{◌≡◌, ◌↔◌, IsSome, IfSome, length, map};
+ghost use Rattle.model.specs.Checking.{IsJudged};
 ghost use Rattle.scene.specs.Listed.{vertex_listed};
 ghost use Rattle.scene.specs.Ranges.{IsVertexInRange};
-ghost use Rattle.scene.specs.Checking.{Pass, Reads};
-ghost use Rattle.scene.specs.Checks.{number_checks, vertices_checks};
+ghost use Rattle.scene.specs.Checks.{vertices_checks};
 
 use grid::Point;
 use model::{MOST_VERTICES, ReadKind, Vertex};
@@ -49,8 +48,7 @@ impl SceneVertex {
 
 /// The vertices of a draw.
 pub(crate) fn vertices_of(alloc: Global, vertices: &[SceneVertex]) -> Result<Vec<Vertex>, ReadKind>
-    ensures reported { Reads (vertices_checks vertices.now) (λ found. found.items ≡ map vertex_listed vertices.now) result }
-    ensures memory { IfErr result (λ kind. kind ≡ OutOfMemory → Pass (number_checks vertices.now)) }
+    ensures { IsJudged (vertices_checks vertices.now) (λ found. found.items ≡ map vertex_listed vertices.now) result }
 {
     if vertices.len() > MOST_VERTICES {
         return Err(ReadKind::TooMany);

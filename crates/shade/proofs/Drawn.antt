@@ -1,5 +1,5 @@
 -- A triangle makes exactly one sample of each sample.
-use Rattle.std.proofs.Common.{◌≡◌, inl, inr, refl, sym, ◌∙◌, ℕ, ◌+◌, ◌-◌, ◌*◌, List, Bool, true, false, if◌then◌else◌, slice_index_or, arith}
+use Rattle.std.proofs.Common.{◌≡◌, inl, inr, refl, sym, ◌∙◌, ℕ, List, Bool, true, false, if◌then◌else◌, slice_index_or}
 use Rattle.grid.specs.Position.{Position}
 use Rattle.grid.specs.Triangle.{Covers}
 use Rattle.grid.specs.Samples.{sample_position}
@@ -7,9 +7,13 @@ use Rattle.grid.specs.declared.sample_count.SampleCount.{SampleCount}
 use Rattle.shade.specs.declared.sample.Sample.{Sample}
 use Rattle.shade.specs.declared.sample.Shaded.{Shaded}
 use Rattle.shade.specs.declared.sample.Merge.{Merge}
+use Rattle.shade.specs.declared.equation.Equation.{Equation}
+use Rattle.shade.specs.declared.operands.Channel.TheVariants.{Colour}
+use Rattle.shade.specs.declared.operands.Operands.{Operands}
 use Rattle.shade.specs.Blend.{IsBlended}
 use Rattle.shade.specs.Depth.{Passes}
-use Rattle.shade.specs.Merging.{IsMerged, IsApplied, IsChannelMerged}
+use Rattle.shade.specs.Merging.{operands_of, IsWritten, IsChannelMerged, IsMerged, IsApplied}
+use Rattle.shade.proofs.Blended.{blended, blended-unique}
 use Rattle.shade.proofs.Values.{quotient, quotient-unique, area_positive}
 use Rattle.shade.specs.declared.placed.Placed.{Placed}
 use Rattle.shade.specs.Placed.{channel, IsInterpolated, IsFragmentAt, Meets, Draws}
@@ -54,29 +58,31 @@ fragment-unique t p f f' h k =
     same_shaded f f' (quotient-unique _ _ _ _ h.red k.red) (quotient-unique _ _ _ _ h.green k.green) (quotient-unique _ _ _ _ h.blue k.blue) (quotient-unique _ _ _ _ h.alpha k.alpha) (quotient-unique _ _ _ _ h.depth k.depth)
 
 -- ---- what it makes of a sample
-drawn : (written over : Bool) (source alpha stored : ℕ) → (new : ℕ) × IsBlended written over source alpha stored new
-drawn false over source alpha stored = (stored, refl)
-drawn true false source alpha stored = (source, refl)
-drawn true true source alpha stored = (_, quotient (source * alpha + stored * (255 - alpha) + 127) 255 (omega arith))
+drawn : (written : Bool) (e : Equation) (o : Operands) (stored : ℕ) → (new : ℕ) × IsWritten written (IsBlended e Colour o) stored new
+drawn false e o stored = (stored, refl)
+drawn true e o stored = blended e o
 
-drawn-unique : (written over : Bool) (source alpha stored new new' : ℕ) → IsBlended written over source alpha stored new → IsBlended written over source alpha stored new' → new ≡ new'
-drawn-unique false over source alpha stored new new' h k = h ∙ sym k
-drawn-unique true false source alpha stored new new' h k = h ∙ sym k
-drawn-unique true true source alpha stored new new' h k = quotient-unique _ _ _ _ h k
+drawn-unique : (written : Bool) (e : Equation) (o : Operands) (stored new new' : ℕ) → IsWritten written (IsBlended e Colour o) stored new → IsWritten written (IsBlended e Colour o) stored new' → new ≡ new'
+drawn-unique false e o stored new new' h k = h ∙ sym k
+drawn-unique true e o stored new new' h k = blended-unique e o new new' h k
 
-channel_drawn : (m : Merge) (f : Shaded) (place source stored : ℕ) → (new : ℕ) × IsChannelMerged m f place source stored new
-channel_drawn m f place source stored = drawn (slice_index_or m.write place false) m.over source f.a stored
+channel_drawn : (m : Merge) (k source alpha stored : ℕ) → (new : ℕ) × IsChannelMerged m k source alpha stored new
+channel_drawn m k source alpha stored = drawn (slice_index_or m.write k false) m.blend.colour (operands_of m k source alpha stored) stored
+
+channel_drawn-unique : (m : Merge) (k source alpha stored new new' : ℕ) → IsChannelMerged m k source alpha stored new → IsChannelMerged m k source alpha stored new' → new ≡ new'
+channel_drawn-unique m k source alpha stored new new' h i = drawn-unique (slice_index_or m.write k false) m.blend.colour (operands_of m k source alpha stored) stored new new' h i
 
 merged : (m : Merge) (f : Shaded) (old : Sample) → (new : Sample) × IsMerged m f old new
 merged m f old =
-    let r = channel_drawn m f 0 f.r old.r in
-    let g = channel_drawn m f 1 f.g old.g in
-    let b = channel_drawn m f 2 f.b old.b in
+    let r = channel_drawn m 0 f.r f.a old.r in
+    let g = channel_drawn m 1 f.g f.a old.g in
+    let b = channel_drawn m 2 f.b f.a old.b in
     (record { r = r.0; g = g.0; b = b.0; z = if m.depth_write then f.z else old.z }, record { red = r.1; green = g.1; blue = b.1; depth = refl })
 
 merged-unique : (m : Merge) (f : Shaded) (old new new' : Sample) → IsMerged m f old new → IsMerged m f old new' → new ≡ new'
 merged-unique m f old new new' h k =
-    same_sample new new' (drawn-unique _ _ _ _ _ _ _ h.red k.red) (drawn-unique _ _ _ _ _ _ _ h.green k.green) (drawn-unique _ _ _ _ _ _ _ h.blue k.blue) (h.depth ∙ sym k.depth)
+    same_sample new new' (channel_drawn-unique m 0 f.r f.a old.r _ _ h.red k.red) (channel_drawn-unique m 1 f.g f.a old.g _ _ h.green k.green)
+    (channel_drawn-unique m 2 f.b f.a old.b _ _ h.blue k.blue) (h.depth ∙ sym k.depth)
 
 applied_when : (m : Merge) (f : Shaded) (old : Sample) → IsDecided (Passes m.test f.z old.z) → (new : Sample) × IsApplied m f old new
 applied_when m f old (inl p) = let new = merged m f old in (new.0, record { passed = λ _. new.1; failed = λ n. absurd (n p) })

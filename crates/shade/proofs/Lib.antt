@@ -1,5 +1,6 @@
 pub mod Values
 pub mod Steps
+pub mod Blended
 pub mod Decided
 pub mod Drawn
 pub mod Endings

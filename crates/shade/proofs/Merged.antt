@@ -1,12 +1,17 @@
 -- A triangle drawn at a covered point, where only what is needed of its fragment is formed.
-use Rattle.std.proofs.Common.{◌≡◌, refl, ◌∙◌, ℕ, Bool, true, false, IsTrue, slice_index, List}
+use Rattle.std.proofs.Common.{◌≡◌, refl, ℕ, Bool, true, false, IsTrue, slice_index, slice_index_or, List}
 use Rattle.grid.specs.Position.{Position}
 use Rattle.grid.specs.Triangle.{Covers}
 use Rattle.shade.specs.declared.sample.Sample.{Sample}
 use Rattle.shade.specs.declared.sample.Shaded.{Shaded}
-use Rattle.shade.specs.Blend.{IsBlended}
+use Rattle.shade.specs.declared.sample.Merge.{Merge}
+use Rattle.shade.specs.declared.equation.Equation.{Equation}
+use Rattle.shade.specs.declared.operands.Channel.TheVariants.{Colour}
+use Rattle.shade.specs.declared.operands.Operands.{Operands}
+use Rattle.shade.specs.Blend.{IsBlended, ReadsSourceAlpha}
 use Rattle.shade.specs.Depth.{Passes}
-use Rattle.shade.specs.Merging.{IsMerged}
+use Rattle.shade.specs.Merging.{Writes, ReadsAlpha, operands_of, IsWritten, IsChannelMerged, IsMerged}
+use Rattle.shade.proofs.Blended.{alike}
 use Rattle.shade.specs.Value.{IsValueAt}
 use Rattle.shade.specs.Weights.{TriangleAndPoint}
 use Rattle.shade.proofs.Values.{quotient-unique}
@@ -20,20 +25,25 @@ pub interpolated : (t : Placed) (w : TriangleAndPoint) (values given : List ℕ)
 interpolated t w values given v h e value = rw (← h.a, ← h.b, ← h.c, ← e) value
 
 -- a channel becomes the same by all of a fragment as by what is read of it
-pub same_blended : (written over : Bool) (source source' alpha alpha' stored new : ℕ) → (IsTrue written → source ≡ source') → (IsTrue over → alpha ≡ alpha') → IsBlended written over source alpha stored new
-    → IsBlended written over source' alpha' stored new
-same_blended false over source source' alpha alpha' stored new e f h = h
-same_blended true false source source' alpha alpha' stored new e f h = h ∙ e refl
-same_blended true true source source' alpha alpha' stored new e f h = rw (← e refl, ← f refl) h
+same_written : (written : Bool) (e : Equation) (o : Operands) (source alpha new : ℕ) → (IsTrue written → o.source ≡ source) → (ReadsSourceAlpha e → o.source_alpha ≡ alpha)
+    → IsWritten written (IsBlended e Colour o) o.stored new
+    → IsWritten written (IsBlended e Colour (record { source = source; source_alpha = alpha; stored = o.stored; stored_alpha = o.stored_alpha; constant = o.constant })) o.stored new
+same_written false e o source alpha new f g h = h
+same_written true e o source alpha new f g h = rw (← f refl) (alike e o alpha new g h)
+
+pub same_merged : (m : Merge) (k source source' alpha alpha' stored new : ℕ) → (Writes m k → source ≡ source') → (ReadsAlpha m → alpha ≡ alpha') → IsChannelMerged m k source alpha stored new
+    → IsChannelMerged m k source' alpha' stored new
+same_merged m k source source' alpha alpha' stored new e f h =
+    same_written (slice_index_or m.write k false) m.blend.colour (operands_of m k source alpha stored) source' alpha' new e f h
 
 merged_by_needed : (t : Placed) (p : Position) (old new : Sample) (f g : Shaded) → IsFragmentAt t p f → IsNeededAt t p g → IsMerged t.state.merge g old new → IsMerged t.state.merge f old new
 merged_by_needed t p old new f g is needed h =
-    let alpha : IsTrue t.state.merge.over → g.a ≡ f.a = λ blends. quotient-unique _ _ _ _ (needed.alpha blends) is.alpha in
+    let alpha : ReadsAlpha t.state.merge → g.a ≡ f.a = λ blends. quotient-unique _ _ _ _ (needed.alpha blends) is.alpha in
     let depth : g.z ≡ f.z = quotient-unique _ _ _ _ needed.depth is.depth in
     record {
-      red = same_blended _ _ g.r f.r g.a f.a old.r new.r (λ written. quotient-unique _ _ _ _ (needed.red written) is.red) alpha h.red;
-      green = same_blended _ _ g.g f.g g.a f.a old.g new.g (λ written. quotient-unique _ _ _ _ (needed.green written) is.green) alpha h.green;
-      blue = same_blended _ _ g.b f.b g.a f.a old.b new.b (λ written. quotient-unique _ _ _ _ (needed.blue written) is.blue) alpha h.blue;
+      red = same_merged t.state.merge 0 g.r f.r g.a f.a old.r new.r (λ written. quotient-unique _ _ _ _ (needed.red written) is.red) alpha h.red;
+      green = same_merged t.state.merge 1 g.g f.g g.a f.a old.g new.g (λ written. quotient-unique _ _ _ _ (needed.green written) is.green) alpha h.green;
+      blue = same_merged t.state.merge 2 g.b f.b g.a f.a old.b new.b (λ written. quotient-unique _ _ _ _ (needed.blue written) is.blue) alpha h.blue;
       depth = rw depth at h.depth;
     }
 

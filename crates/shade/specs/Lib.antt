@@ -25,11 +25,37 @@
 --   IsRowAt: A value at the covered point p, with the remainder of the weighted sum, and the step from there.
 --
 -- Blend.antt
---   IsOver: The source over the stored channel by the source's alpha, of which 255 is opaque, rounded to nearest.
---   IsBlended: The channel that a drawn sample takes: unchanged if it is not written, else the source, or the source over it.
+--   saturated: The saturated source alpha.
+--   factor: A blend factor times 255 (Direct3D 11, D3D11_BLEND).
+--   IsNearest: n is the number from 0 to 255 that is nearest to x / 255.
+--   IsCombined: What an operation makes of s with the factor f and d with the factor g (Direct3D 11, D3D11_BLEND_OP).
+--   IsBlended: The channel that a blend equation stores.
+--   IsOver: The source over the stored channel by the source's alpha, rounded to nearest.
+--   IsOfSourceAlpha: The factor of a colour channel is made from the source's alpha.
+--   HasFactors: The operation multiplies its operands by their factors.
+--   ReadsSourceAlpha: The equation of the colour channels reads the source's alpha.
+--
+-- Presets.antt
+--   AreBytes: The operands are at most 255.
+--   clamped: q, but at least 0 and at most 255.
+--   replace: The source replaces the stored channel.
+--   keep: The stored channel is left.
+--   over: The source over the stored channel (Porter and Duff 1984), for a colour that is not multiplied by its alpha.
+--   premultiplied_over: The same for a colour that is multiplied by its alpha, and for alpha itself.
+--   add: The sum.
+--   add_by_alpha: The sum, with the source multiplied by its alpha.
+--   multiply: The product, the stored channel as the factor of the source.
+--   multiply_stored: The product, the source as the factor of the stored channel.
+--   none_blend: The blend state in which the new colour replaces the stored one.
+--   over_blend: The blend state in which the new colour is laid over the stored one by its alpha.
+--   AreAlike: Two equations have the same parts.
+--   IsKnown: The equation is the known one.
 --
 -- Merging.antt
 --   Writes: Whether a draw writes red, green or blue, which are the channels 0 to 2 (Direct3D 11, write mask).
+--   ReadsAlpha: Whether the colours of a draw are blended by the alpha of its fragments.
+--   operands_of: What the blend equation of channel k reads of a fragment's channel and alpha and of the stored channel.
+--   IsWritten: A channel of the write mask takes a value with P, and another is unchanged.
 --   IsChannelMerged: What a channel of a sample becomes, by its index in the write mask: red is 0, green is 1, blue is 2.
 --   IsMerged: The sample after a fragment that passed the depth test (Direct3D 11, output merger).
 --   IsApplied: The sample after a fragment: if the depth test fails, nothing changes (Direct3D 11, output merger).
@@ -47,7 +73,7 @@
 --   channel: What the three vertices have as red, green, blue or alpha, which are the channels 0 to 3.
 --   IsInterpolated: The value at p of an attribute that has these values at the three vertices.
 --   IsFragmentAt: The fragment of a triangle at p: depth, colour and alpha, each the value at p of what the vertices have.
---   IsNeededAt: What a draw reads of a fragment at p: the depth, each channel that is written, and alpha if the draw blends.
+--   IsNeededAt: What a draw reads of a fragment at p: the depth, each channel that is written, and alpha if the draw blends by it.
 --   AreWeightsOf: The weights are those of this triangle, at their point.
 --   IsDrawnAt: What the triangle makes of a sample at a point p that it covers.
 --   Meets: The triangle meets sample s of pixel (i, j), whatever depth is stored there.
@@ -62,6 +88,7 @@ pub mod Value
 pub mod Weights
 pub mod Row
 pub mod Blend
+pub mod Presets
 pub mod Merging
 pub mod Resolve
 pub mod Mean

@@ -2,9 +2,14 @@
 #![tactic(auto)]
 
 mod blend;
+mod blend_laws;
 mod depth;
+mod equation;
+mod factor;
 mod gradient;
+mod known;
 mod merging;
+mod operands;
 mod placed;
 mod resolve;
 mod row;
@@ -15,10 +20,18 @@ mod step;
 mod value;
 mod weights;
 
-pub use blend::over;
+pub use blend::{Blend, over};
+pub use blend_laws::{
+    add_is_blended, is_clamped, is_determined, keep_is_blended, lists_are_blended,
+    multiply_is_blended, over_is_blended, premultiplied_is_blended, replace_is_blended,
+};
 pub use depth::DepthTest;
+pub use equation::{BlendOperation, Equation};
+pub use factor::BlendFactor;
 pub use gradient::Gradient;
+pub use known::KnownEquation;
 pub use merging::{apply, passes};
+pub use operands::{Channel, Operands};
 pub use placed::Placed;
 pub use resolve::{MAX_SAMPLES, resolved_colour};
 pub use row::Row;

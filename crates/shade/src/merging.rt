@@ -1,10 +1,14 @@
-ghost use Rattle.std.specs.Prelude.{◌≡◌, ◌↔◌, IsTrue};
+ghost use Rattle.std.specs.Prelude.{◌≡◌, ◌↔◌, ◌<◌, IsTrue};
+ghost use Rattle.shade.specs.declared.operands.Channel.TheVariants.{Colour};
 ghost use Rattle.shade.specs.Blend.{IsBlended};
 ghost use Rattle.shade.specs.Depth.{Passes};
-ghost use Rattle.shade.specs.Merging.{IsMerged, IsApplied};
+ghost use Rattle.shade.specs.Merging.{IsChannelMerged, IsMerged, IsApplied};
 
 use crate::blend::over;
 use crate::depth::DepthTest;
+use crate::equation::Equation;
+use crate::known::KnownEquation;
+use crate::operands::{Channel, Operands};
 use crate::sample::{Merge, Sample, Shaded};
 
 /// Whether the new depth passes the test against the stored one: the new depth stands on the left of the comparison.
@@ -27,27 +31,44 @@ pub fn apply(m: &Merge, new: &Shaded, old: Sample) -> Sample
 }
 
 /// The stored sample after a triangle's sample that passed the depth test. A channel of the new sample is read only if it is
-/// written, and alpha only if the new colour is blended.
+/// written, and alpha only if the new colour is blended by it.
 pub(crate) fn merged(m: &Merge, new: &Shaded, old: Sample) -> Sample
     ensures { IsMerged m.now new.now old result }
 {
     Sample {
-        r: drawn(m.write[0], m.over, new.r, new.a, old.r),
-        g: drawn(m.write[1], m.over, new.g, new.a, old.g),
-        b: drawn(m.write[2], m.over, new.b, new.a, old.b),
+        r: drawn(m, 0, new.r, new.a, old.r),
+        g: drawn(m, 1, new.g, new.a, old.g),
+        b: drawn(m, 2, new.b, new.a, old.b),
         z: if m.depth_write { new.z } else { old.z },
     }
 }
 
-/// A channel after a triangle's sample that passed the depth test.
-fn drawn(written: bool, over_stored: bool, source: u8, alpha: u8, stored: u8) -> u8
-    ensures { IsBlended written over_stored source alpha stored result }
+/// Red, green or blue after a triangle's sample that passed the depth test.
+fn drawn(m: &Merge, number: usize, source: u8, source_alpha: u8, stored: u8) -> u8
+    requires { number < 3 }
+    ensures { IsChannelMerged m.now number source source_alpha stored result }
 {
-    if !written {
-        stored
-    } else if over_stored {
-        over(source, alpha, stored)
-    } else {
-        source
+    if !m.write[number] {
+        return stored;
+    }
+    let operands = Operands {
+        source,
+        source_alpha,
+        stored,
+        stored_alpha: 255,
+        constant: m.blend.constant[number],
+    };
+    coloured(&m.blend.colour, operands)
+}
+
+/// A colour channel by its blend equation. The two equations of draw lists are computed without factors.
+#[inline(always)]
+fn coloured(equation: &Equation, operands: Operands) -> u8
+    ensures { IsBlended equation.now Colour operands result }
+{
+    match KnownEquation::of(equation) {
+        KnownEquation::Replace => operands.source,
+        KnownEquation::Over => over(operands.source, operands.source_alpha, operands.stored),
+        KnownEquation::Other => equation.blended(Channel::Colour, &operands),
     }
 }

@@ -1,5 +1,6 @@
-ghost use Rattle.std.specs.Prelude.{◌≡◌};
+ghost use Rattle.std.specs.Prelude.{◌≡◌, ◌↔◌, IsTrue};
 
+use crate::blend::Blend;
 use crate::depth::DepthTest;
 
 /// A stored sample: its colour, 0 to 255 a channel, and its depth, 0 to 65535.
@@ -30,6 +31,18 @@ pub struct Merge {
     pub depth_write: bool,
     /// Which of red, green and blue are written.
     pub write: [bool; 3],
-    /// Whether the new colour is blended over the stored one by its alpha, and does not replace it.
-    pub over: bool,
+    /// How the new colour is combined with the stored one.
+    pub blend: Blend,
+}
+
+impl Merge {
+    ghost use Rattle.shade.specs.Merging.{ReadsAlpha};
+
+    /// Whether the colours are blended by the alpha of fragments.
+    #[inline(always)]
+    pub fn reads_alpha(&self) -> bool
+        ensures { IsTrue result ↔ ReadsAlpha self.now }
+    {
+        self.blend.colour.reads_source_alpha()
+    }
 }

@@ -10,7 +10,7 @@ use Rattle.model.proofs.PixelPrefix.{prefix_run}
 use Rattle.model.proofs.Pixels.{same_pixel, pixel_of_part, pixel_of_three, pixel_of_two, pixel_of_colour, pixel_of_depth}
 use Rattle.raster.specs.declared.tile.Tile.{Tile}
 use Rattle.raster.specs.Samples.{place_of, stored}
-use Rattle.tile_row.specs.Pixels.{AddsPixelRun}
+use Rattle.tiling.specs.Pixels.{AddsPixelRun}
 use Rattle.tile.specs.Picture.{IsShown, AreEnds, AreDepthsAt}
 use Rattle.raster.specs.Colours.{AreColoursAt}
 use Rattle.tile.proofs.Shown.{colour_shown}

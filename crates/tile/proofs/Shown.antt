@@ -8,13 +8,13 @@ use Rattle.lanes.specs.declared.block_samples.BlockSamples.{BlockSamples}
 use Rattle.shade.specs.Resolve.{IsResolved}
 use Rattle.model.specs.Scene.{Scene}
 use Rattle.model.specs.Picture.{IsColour, IsPart}
-use Rattle.bins.specs.Grid.{TileGrid, columns_of, rows_of, tiles_of, rect_of}
+use Rattle.tiling.specs.Grid.{TileGrid, columns_of, rows_of, tiles_of, rect_of}
 use Rattle.bins.specs.Bin.{IsBinOf}
-use Rattle.bins.proofs.Tiles.{starts_within, in_rect}
+use Rattle.tiling.proofs.Tiles.{starts_within, in_rect}
 use Rattle.bins.proofs.Drawn.{bin_at_sample}
 use Rattle.raster.specs.declared.tile.Tile.{Tile}
 use Rattle.raster.specs.Samples.{stored}
-use Rattle.tile_row.specs.Pixels.{IsPictureIn}
+use Rattle.tiling.specs.Pixels.{IsPictureIn}
 use Rattle.tile.specs.Picture.{IsTileAt, IsShown, IsTileBin, AreEnds}
 use Rattle.raster.specs.Colours.{IsColourAt}
 

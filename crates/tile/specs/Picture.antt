@@ -5,7 +5,7 @@ use Rattle.lanes.specs.declared.block_samples.BlockSamples.{BlockSamples}
 use Rattle.shade.specs.Placed.{Meets}
 use Rattle.model.specs.Scene.{Scene}
 use Rattle.model.specs.Picture.{IsEnd}
-use Rattle.bins.specs.Grid.{TileGrid, columns_of}
+use Rattle.tiling.specs.Grid.{TileGrid, columns_of}
 use Rattle.bins.specs.Bin.{IsBin}
 use Rattle.raster.specs.declared.tile.Tile.{Tile}
 use Rattle.raster.specs.Samples.{IsSampleOf, stored}

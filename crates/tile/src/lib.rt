@@ -8,4 +8,4 @@ mod tile_pixels;
 
 pub use store::Store;
 pub use tile_pixels::render;
-pub use tile_row::TilePixels;
+pub use tiling::TilePixels;

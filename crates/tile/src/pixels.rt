@@ -4,7 +4,7 @@ ghost use Rattle.grid.specs.Pixels.{side_of};
 ghost use Rattle.model.specs.PixelPrefix.{IsPixelPrefix};
 ghost use Rattle.model.specs.Picture.{IsPart};
 ghost use Rattle.raster.specs.Samples.{planes_of};
-ghost use Rattle.tile_row.specs.Pixels.{AddsPixelRun};
+ghost use Rattle.tiling.specs.Pixels.{AddsPixelRun};
 ghost use Rattle.tile.specs.Picture.{IsShown, AreEnds};
 
 use crate::depths::depths;

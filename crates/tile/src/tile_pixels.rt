@@ -2,21 +2,21 @@
 ghost use Rattle.std.specs.Prelude.{◌≡◌, ◌+◌, ◌*◌, ◌/◌, ◌%◌, ◌<◌, ◌≤◌, ℕ, length, ◌-◌, min, IfOk};
 ghost use Rattle.std.specs.List.{All};
 ghost use Rattle.grid.specs.Pixels.{side_of};
-ghost use Rattle.bins.specs.Grid.{tiles_of, rect_of};
+ghost use Rattle.tiling.specs.Grid.{tiles_of, rect_of};
 ghost use Rattle.bins.specs.Bin.{HasTile, IsBinOf, bin_of};
 ghost use Rattle.raster.specs.Samples.{planes_of, AreAll};
-ghost use Rattle.tile_row.specs.Pixels.{IsPictureIn};
+ghost use Rattle.tiling.specs.Pixels.{IsPictureIn};
 ghost use Rattle.tile.specs.Picture.{IsTileAt, IsTileBin, AreEnds};
 
 use crate::pixels::SampledTile;
 use crate::store::Store;
-use bins::{Batch, Bins, Tiling};
+use bins::{Bins, Fetched};
 use grid::{OutOfMemory, SampleCount, TileSide};
 use lanes::BlockSamples;
 use model::DrawList;
 use raster::{Tile, clear, draw_triangle};
 use std::alloc::Global;
-use tile_row::TilePixels;
+use tiling::{TilePixels, Tiling};
 
 /// Draws the triangles of the tile's bin, one after another, over cleared samples. They are fetched some at a time.
 fn draw_bin(list: &DrawList, numbers: &[u32], tile: &Tile, samples: &mut [BlockSamples])
@@ -27,12 +27,12 @@ fn draw_bin(list: &DrawList, numbers: &[u32], tile: &Tile, samples: &mut [BlockS
     requires bin { IsTileBin list.now tile.now numbers.now }
     ensures { AreEnds list.now tile.now samples.new }
 {
-    let Some(mut batch) = Batch::of(list, numbers) else {
+    let Some(mut fetched) = Fetched::of(list, numbers) else {
         return;
     };
     for place in 0..numbers.len() {
-        batch.go_on(list, numbers, place);
-        draw_triangle(batch.triangle(place), tile, samples);
+        fetched.go_on(list, numbers, place);
+        draw_triangle(fetched.triangle(place), tile, samples);
     }
 }
 

@@ -1,10 +1,10 @@
 -- Tile rows that are drawn together.
 use Rattle.std.specs.Prelude.{ℕ, ◌-◌, ◌*◌, ◌<◌, List, IfOk, IfErr, IfSome}
 use Rattle.bins.specs.Bin.{TileBins, AreBins}
-use Rattle.bins.specs.Grid.{columns_of}
-use Rattle.tile_row.specs.declared.tile_pixels.TilePixels.{TilePixels}
-use Rattle.tile_row.specs.TileRow.{AreTileRows}
-use Rattle.tile_row.specs.Tiles.{AreTiles}
+use Rattle.tiling.specs.Grid.{columns_of}
+use Rattle.tiling.specs.declared.tile_pixels.TilePixels.{TilePixels}
+use Rattle.tiling.specs.TileRow.{AreTileRows}
+use Rattle.tiling.specs.Tiles.{AreTiles}
 use Rattle.tile_rows.specs.declared.tile_rows.Beside.{Beside}
 use Rattle.tile_rows.specs.declared.tile_rows.TileRows.{TileRows}
 

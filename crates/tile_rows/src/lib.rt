@@ -3,4 +3,4 @@
 
 mod tile_rows;
 
-pub use tile_rows::{Beside, TileRows, rows_together};
+pub use tile_rows::{Beside, InFlight, TileRows, rows_together};

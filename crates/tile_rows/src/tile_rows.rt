@@ -1,8 +1,8 @@
 //! Tile rows that are drawn together, by several workers or on the calling thread, and put together.
 ghost use Rattle.std.specs.Prelude.{◌≡◌, ◌+◌, ◌-◌, ◌*◌, ◌<◌, ◌≤◌, min, IfOk, OnOk, IfErr, IfSome};
-ghost use Rattle.bins.specs.Grid.{rows_of};
+ghost use Rattle.tiling.specs.Grid.{rows_of};
 
-use bins::{Bins, Tiling};
+use bins::Bins;
 use grid::OutOfMemory;
 use model::DrawList;
 use pool::{Desks, Gate, Job, PoolFault, run_beside};
@@ -10,7 +10,7 @@ use std::alloc::Global;
 use std::sync::Wait;
 use std::thread::Threads;
 use tile::{Store, render};
-use tile_row::{TilePixels, TileRow};
+use tiling::{TilePixels, TileRow, Tiling};
 
 /// The most pixels in a batch of more than one tile row: as many as one tile row of the widest picture has with the largest tiles.
 const MAX_PIXELS: u32 = 262_144;
@@ -63,7 +63,7 @@ impl<G: Gate> Job for TileJob<'_, G> {
     type Scratch = Store;
 
     ghost use Rattle.std.specs.Prelude.{ℕ};
-    ghost use Rattle.tile_row.specs.Tiles.{IsTileIn};
+    ghost use Rattle.tiling.specs.Tiles.{IsTileIn};
     ghost use Rattle.tile_rows.specs.TileRows.{AreBinsOf, tiles_in};
 
     ghost right = { λ job n pixels. IsTileIn job.rows.now.list.now job.rows.now.tiling.now job.rows.now.first n pixels };
@@ -83,6 +83,19 @@ impl<G: Gate> Job for TileJob<'_, G> {
     }
 }
 
+/// What moves from one batch of tile rows to the next.
+#[derive(Drop)]
+pub struct InFlight {
+    /// The first tile row of which nothing is written. From there on to the batch all are drawn.
+    pub above: u32,
+    /// The tiles of these tile rows.
+    pub tiles: Vec<TilePixels>,
+    /// Bytes that are no longer needed, in whose place those of these tile rows come.
+    pub bytes: Vec<u8>,
+    /// The bins of the batch, if they are made.
+    pub bins: Option<Bins>,
+}
+
 /// What the calling thread made while tile rows were drawn.
 #[derive(Drop)]
 pub struct Beside {
@@ -93,8 +106,8 @@ pub struct Beside {
 }
 
 impl<'a> TileRows<'a> {
-    ghost use Rattle.tile_row.specs.TileRow.{AddsTileRows};
-    ghost use Rattle.tile_row.specs.Tiles.{AreTiles};
+    ghost use Rattle.tiling.specs.TileRow.{AddsTileRows};
+    ghost use Rattle.tiling.specs.Tiles.{AreTiles};
     ghost use Rattle.tile_rows.specs.TileRows.{AreBinsOf, AreBytesOf, AreTilesOf, IsBeside, tiles_in};
 
     /// The tile rows of this list's picture from `first` to before `end`.
@@ -237,20 +250,23 @@ impl<'a> TileRows<'a> {
         alloc: Global,
         workers: u32,
         gate: &G,
-        bins: Option<Bins>,
-        above: u32,
-        tiles: Vec<TilePixels>,
-        bytes: Vec<u8>,
+        in_flight: InFlight,
         below: u32,
     ) -> (Result<Vec<TilePixels>, PoolFault>, Beside)
         requires workers { (1 ≤ workers) × (workers ≤ 16) }
-        requires bins { IfSome bins (AreBinsOf self.now) }
-        requires above { above ≤ self.now.first }
-        requires tiles { AreTiles self.now.list.now self.now.tiling.now above self.now.first tiles.items }
+        requires bins { IfSome in_flight.bins (AreBinsOf self.now) }
+        requires above { in_flight.above ≤ self.now.first }
+        requires tiles { AreTiles self.now.list.now self.now.tiling.now in_flight.above self.now.first in_flight.tiles.items }
         requires below { (self.now.end ≤ below) × (below ≤ rows_of self.now.tiling.now) }
         ensures tiles { IfOk result.0 (λ tiles. AreTilesOf self.now tiles.items) }
-        ensures beside { IsBeside self.now above below result.1 }
+        ensures beside { IsBeside self.now in_flight.above below result.1 }
     {
+        let InFlight {
+            above,
+            tiles,
+            bytes,
+            bins,
+        } = in_flight;
         let bins = match bins {
             Some(bins) => bins,
             None => match self.bins(alloc) {

@@ -14,8 +14,8 @@ use Rattle.model.specs.Picture.{IsPart, pixel_bytes}
 use Rattle.model.proofs.Parts.{part-append}
 use Rattle.model.proofs.Pixels.{bytes_of_none, bytes_up_to}
 use Rattle.bins.specs.Bin.{TileBins, AreBins}
-use Rattle.bins.specs.Grid.{TileGrid, tiles_over}
-use Rattle.tile_row.specs.TileRow.{AddsTileRows, AreTileRows}
+use Rattle.tiling.specs.Grid.{TileGrid, tiles_over}
+use Rattle.tiling.specs.TileRow.{AddsTileRows, AreTileRows}
 use Rattle.trirast.specs.Runs.{WritesAll}
 use Rattle.trirast.specs.Picture.{CutsRows, EndsRows, ExplainsPicture, ExplainsRows, WritesRows}
 use Rattle.trirast.specs.declared.picture.PictureFault.{PictureFault}

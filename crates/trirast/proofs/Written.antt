@@ -13,12 +13,12 @@ use Rattle.model.specs.Picture.{IsPart}
 use Rattle.model.proofs.Exists.{part-exists}
 use Rattle.model.proofs.Parts.{part-append}
 use Rattle.model.proofs.Pixels.{bytes_of_none}
-use Rattle.bins.specs.Grid.{tiles_over}
-use Rattle.tile_row.specs.TileRow.{AreTileRows}
+use Rattle.tiling.specs.Grid.{tiles_over}
+use Rattle.tiling.specs.TileRow.{AreTileRows}
 use Rattle.picture_file.specs.File.{header_of, file_of, IsPictureFile}
 use Rattle.trirast.specs.Runs.{WritesAll, WritesTileRows, WritesFileUpTo, bytes_before}
 use Rattle.picture_file.proofs.Beginnings.{Appends-front}
-use Rattle.tile_row.proofs.Intervals.{begins_within, interval_before, intervals_all}
+use Rattle.tiling.proofs.Intervals.{begins_within, interval_before, intervals_all}
 
 -- rows that are there, and the others of the picture
 pub file_with : (l : Scene) (y : ℕ) (rows : List ℕ) → 1 ≤ l.width → y ≤ l.height → IsPart l 0 0 l.width y rows → (rest : List ℕ) × IsPictureFile l (file_of l.output l.width l.height (rows ++ rest))

@@ -3,7 +3,7 @@ use Rattle.std.specs.Prelude.{◌≡◌, ◌↔◌, ℕ, ◌+◌, ◌-◌, ◌<�
 use Rattle.std.specs.Io.KnownBytes.{Keeps, Appends}
 use Rattle.grid.specs.declared.pixels.TileSide.{TileSide}
 use Rattle.model.specs.Scene.{Scene}
-use Rattle.tile_row.specs.TileRow.{AreTileRows}
+use Rattle.tiling.specs.TileRow.{AreTileRows}
 use Rattle.trirast.specs.Runs.{WritesTileRows, WritesFileUpTo}
 use Rattle.program_input.specs.declared.fault.Fault.{Fault}
 use Rattle.program_input.specs.declared.fault.Fault.TheVariants.{OutOfMemory as NoMemory, WriteFailed as FailedWrite}

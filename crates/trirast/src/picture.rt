@@ -5,7 +5,6 @@ ghost use Rattle.trirast.specs.Picture.{EndsRows, ExplainsPicture, fault_of};
 ghost use Rattle.trirast.specs.Runs.{WritesAll, WritesFile};
 ghost use Rattle.trirast.specs.declared.picture.PictureFault.TheVariants as picture;
 
-use bins::Tiling;
 use command_line::Options;
 use model::DrawList;
 use picture_file::{Counted, WriteFault, ppm_rows, write_header};
@@ -15,7 +14,8 @@ use std::alloc::Global;
 use std::io::Write;
 use std::sync::Wait;
 use std::thread::Threads;
-use tile_rows::{Beside, TileRows, rows_together};
+use tile_rows::{Beside, InFlight, TileRows, rows_together};
+use tiling::Tiling;
 
 /// Why a picture's file was not written whole.
 #[derive(Clone, Copy, Debug, PartialEq, Eq)]
@@ -109,15 +109,18 @@ fn write_together<R: Threads + Wait + Sync, W: Write, G: Gate>(
     while first < rows.end() {
         let batch = rows.batch(first, together);
         let below = rows.batch(batch.end(), together);
+        let in_flight = InFlight {
+            above,
+            tiles,
+            bytes,
+            bins,
+        };
         let (drawn, Beside { joined, bins: next }) = batch.draw(
             rt,
             alloc,
             workers,
             gate,
-            bins,
-            above,
-            tiles,
-            bytes,
+            in_flight,
             below.end(),
         );
         let Ok(joined) = joined else {

@@ -1,10 +1,9 @@
 //! The bytes of a picture, drawn on the calling thread alone: no thread is started, and none is waited for.
 ghost use Rattle.std.specs.Prelude.{◌≡◌, ◌≤◌, IfOk, OnOk};
-ghost use Rattle.bins.specs.Grid.{tiles_over};
-ghost use Rattle.tile_row.specs.TileRow.{AreTileRows, AddsTileRows};
+ghost use Rattle.tiling.specs.Grid.{tiles_over};
+ghost use Rattle.tiling.specs.TileRow.{AreTileRows, AddsTileRows};
 ghost use Rattle.picture_file.specs.File.{IsPictureFile};
 
-use bins::Tiling;
 use grid::{OutOfMemory, TileSide};
 use model::DrawList;
 use picture_file::{HEADER_BYTES, file_header};
@@ -12,6 +11,7 @@ use pool::Open;
 use std::alloc::Global;
 use tile::Store;
 use tile_rows::TileRows;
+use tiling::Tiling;
 
 /// How many bytes the rows of pixels in `rows` tile rows take at most.
 fn most_bytes(list: &DrawList, tile: TileSide, rows: u32) -> usize

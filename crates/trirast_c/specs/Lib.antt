@@ -1,11 +1,5 @@
 -- The definitions of this crate, each file behind those that it uses; `python3 -m tools.definitions` writes these lines.
 --
--- Errors.antt
---   number_of: The status of a call that ends in this error.
---   no_error: The error that the caller gets of a call that did not fail.
---   reported: What the caller gets of each error.
---   IsReported: The status and the error that the caller gets of a call that ended so.
---
 -- Library.antt
 --   IsTileSize: There are tiles of this size in pixels: 8, 16, 32 or 64.
 --   IsPut: The buffer begins with the bytes, and holds behind them what it held before.
@@ -14,24 +8,16 @@
 --   HasRows: The list's picture has these tile rows, at least one.
 --   HoldsRows: The buffer begins with the bytes of the rows of pixels in these tile rows.
 --   DrawsRows: The buffer begins with the bytes of these tile rows of the list that the caller gave.
+--   file_length: How many bytes the file of a list's picture has: those of the header, and of each pixel.
 --   IsInfoOf: The width and height of a list's picture in pixels, and the bytes of a pixel, of the header and of the whole file.
 --   HoldsInfo: The image info of the list that the caller gave.
---   IsFileLonger: The file has more bytes than the buffer.
---   AreRowsLonger: The rows of pixels in these tile rows have more bytes than the buffer.
---   IsSmallForFile: The buffer is too small for the file of the list that the caller gave.
---   IsSmallForRows: The buffer is too small for these tile rows of the list that the caller gave.
---   LacksRows: The picture of the list that the caller gave has no such tile rows.
+--   rows_length: How many bytes the rows of pixels in these tile rows have.
+--   file_checks: The checks of a list whose file is drawn: its bytes fit.
+--   draw_checks: The checks of a call that draws the file of a list.
+--   rows_checks: The checks of a call that draws tile rows of a list.
 --   HasSizes: The structs and the elements of the arrays have the sizes, in bytes, that this library knows.
---   Given: What is known of the list that the caller gave: what it is, its first error, and that it is too long.
---   text: A list that the caller gives as bytes.
---   arrays: A list that the caller gives as arrays, which may have any length.
---   Explains: What each error says of what the caller gave.
---   ExplainsRead: What each error of a call says that reads a list alone.
---   ExplainsDraw: What each error of a call says that draws a file.
---   ExplainsRows: What each error of a call says that draws tile rows.
---   IsSceneOf: The draw list of a scene, as its head and its batch list it.
---   scene: A list that the caller gives as a head and a batch.
---   ExplainsScene: What each error of a call says that draws the file of a scene.
+--   IsSceneOf: The draw list of a scene, as its head and its arrays list it.
+--   IsFirstOfScene: What the first error of a scene is.
+--   scene_checks: The checks of a call that draws the file of a scene.
 
-pub mod Errors
 pub mod Library

@@ -1,26 +1,22 @@
 -- What the library's calls did. `Means` says which draw list the caller gave, as bytes or as arrays, `tile_size` is the number of
 -- pixels along one edge of a tile, and `size` is the number of bytes of the caller's buffer.
-use Rattle.std.specs.Prelude.{◌≡◌, ℕ, ◌<◌, ◌≤◌, List, ◌++◌, length, drop, ⊤}
+use Rattle.std.specs.Prelude.{◌≡◌, ℕ, ◌+◌, ◌-◌, ◌*◌, ◌<◌, ◌≤◌, List, ◌++◌, length, drop, min}
 use Rattle.grid.specs.Pixels.{side_of}
 use Rattle.grid.specs.declared.pixels.TileSide.{TileSide}
-use Rattle.model.specs.Checks.{all_checks}
+use Rattle.model.specs.Checking.{Checks, done, check, allocate, FirstIs}
 use Rattle.model.specs.Denotes.{Denotes}
-use Rattle.model.specs.Json.{json_of}
 use Rattle.model.specs.Picture.{pixel_bytes}
-use Rattle.model.specs.FirstFault.{IsFirstFault}
 use Rattle.model.specs.Scene.{Scene}
 use Rattle.model.specs.declared.fault.ReadFault.{ReadFault}
-use Rattle.scene.specs.Checks.{IsListOf, IsFirstFault as IsFirstOfArrays}
-use Rattle.scene.specs.declared.draw.SceneDraw.{SceneDraw}
-use Rattle.scene.specs.declared.head.SceneHead.{SceneHead}
-use Rattle.scene.specs.declared.vertex.SceneVertex.{SceneVertex}
-use Rattle.bins.specs.Grid.{tiles_over}
-use Rattle.tile_row.specs.TileRow.{AreTileRows}
+use Rattle.scene.specs.Arrays.{HasSizes as HasArraySizes}
+use Rattle.scene.specs.Checks.{IsListOf, scene_checks as checks_of_arrays}
+use Rattle.scene.specs.declared.arrays.Arrays.{Arrays}
+use Rattle.tiling.specs.Grid.{tiles_over}
+use Rattle.tiling.specs.TileRow.{AreTileRows}
 use Rattle.picture_file.specs.File.{header_of, IsPictureFile}
-use Rattle.batch.specs.Arrays.{HasSizes as HasBatchSizes}
-use Rattle.batch.specs.declared.arrays.Batch.{Batch}
-use Rattle.trirast_c.specs.declared.error.CallError.{CallError}
-use Rattle.trirast_c.specs.declared.error.CallError.TheVariants.{List as BadList, InputTooLong, OutOfMemory, BufferTooSmall, TileSize, TileRows, StructSize}
+use Rattle.c_abi.specs.Calls.{list_checks, text_checks}
+use Rattle.c_abi.specs.declared.status.Status.{Status}
+use Rattle.c_abi.specs.declared.status.Status.TheVariants.{OutOfMemory, BufferTooSmall, BadTileSize, BadTileRows, BadStructSize}
 use Rattle.trirast_c.specs.declared.image_info.ImageInfo.{ImageInfo}
 use Rattle.trirast_c.specs.declared.scene_picture.PictureHead.{PictureHead}
 
@@ -68,13 +64,17 @@ pub record DrawsRows (Means : Scene → Type 0) (tile_size first end : ℕ) (old
 
 -- ---- the image info
 
+-- How many bytes the file of a list's picture has: those of the header, and of each pixel.
+abbrev pub file_length : Scene → ℕ
+file_length l = length (header_of l.output l.width l.height) + pixel_bytes l.output * (l.height * l.width)
+
 -- The width and height of a list's picture in pixels, and the bytes of a pixel, of the header and of the whole file.
 pub record IsInfoOf (list : Scene) (info : ImageInfo) : Type 0 where
   pub width : info.width ≡ list.width
   pub height : info.height ≡ list.height
   pub pixel : info.pixel_bytes ≡ pixel_bytes list.output
   pub header : info.header_bytes ≡ length (header_of list.output list.width list.height)
-  pub file : (file : List ℕ) → IsPictureFile list file → info.file_bytes ≡ length file
+  pub file : info.file_bytes ≡ file_length list
 
 -- The image info of the list that the caller gave.
 pub record HoldsInfo (Means : Scene → Type 0) (info : ImageInfo) : Type 0 where
@@ -82,90 +82,53 @@ pub record HoldsInfo (Means : Scene → Type 0) (info : ImageInfo) : Type 0 wher
   pub means : Means list
   pub is : IsInfoOf list info
 
--- ---- why a call failed
+-- ---- the checks of calls
 
--- The file has more bytes than the buffer.
-abbrev pub IsFileLonger : Scene → ℕ → Type 0
-IsFileLonger list size = (file : List ℕ) → IsPictureFile list file → size < length file
+-- How many bytes the rows of pixels in these tile rows have.
+abbrev pub rows_length : Scene → TileSide → ℕ → ℕ → ℕ
+rows_length l side first end = pixel_bytes l.output * ((min l.height (side_of side * end) - side_of side * first) * l.width)
 
--- The rows of pixels in these tile rows have more bytes than the buffer.
-abbrev pub AreRowsLonger : Scene → TileSide → ℕ → ℕ → ℕ → Type 0
-AreRowsLonger list side first end size = (rows : List ℕ) → AreTileRows list side first end rows → size < length rows
+-- The checks of a list whose file is drawn: its bytes fit. Then memory is allocated.
+abbrev pub file_checks : Scene → ℕ → Checks Status
+file_checks l size = check (file_length l ≤ size) BufferTooSmall (allocate OutOfMemory done)
 
--- The buffer is too small for the file of the list that the caller gave.
-pub record IsSmallForFile (Means : Scene → Type 0) (size : ℕ) : Type 0 where
-  pub list : Scene
-  pub means : Means list
-  pub longer : IsFileLonger list size
+-- The checks of a call that draws the file of a list. That of the buffer is of each list that the text denotes.
+abbrev pub draw_checks : List ℕ → ℕ → ℕ → Checks Status
+draw_checks json tile_size size =
+    check (IsTileSize tile_size) BadTileSize (
+    text_checks json (
+    check ((l : Scene) → Denotes json l → file_length l ≤ size) BufferTooSmall
+    done))
 
--- The buffer is too small for these tile rows of the list that the caller gave.
-pub record IsSmallForRows (Means : Scene → Type 0) (tile_size first end size : ℕ) : Type 0 where
-  pub list : Scene
-  pub means : Means list
-  pub side : TileSide
-  pub of_tile : side_of side ≡ tile_size
-  pub longer : AreRowsLonger list side first end size
-
--- The picture of the list that the caller gave has no such tile rows.
-pub record LacksRows (Means : Scene → Type 0) (tile_size first end : ℕ) : Type 0 where
-  pub list : Scene
-  pub means : Means list
-  pub side : TileSide
-  pub of_tile : side_of side ≡ tile_size
-  pub lacks : ¬ HasRows list side first end
-
--- The structs and the elements of the arrays have the sizes, in bytes, that this library knows.
-pub record HasSizes (head : PictureHead) (batch : Batch) : Type 0 where
-  pub head_size : head.struct_size ≡ 36
-  pub batch_sizes : HasBatchSizes batch
-
--- What is known of the list that the caller gave: what it is, its first error, and that it is too long.
-pub record Given : Type 1 where
-  pub Means : Scene → Type 0
-  pub IsFirst : ReadFault → Type 0
-  pub IsTooLong : Type 0
-
--- A list that the caller gives as bytes.
-abbrev pub text : List ℕ → Given
-text bytes = record { Means = Denotes bytes; IsFirst = IsFirstFault (all_checks (json_of bytes)); IsTooLong = 67_108_864 < length bytes }
-
--- A list that the caller gives as arrays, which may have any length.
-abbrev pub arrays : SceneHead → List SceneDraw → List SceneVertex → List ℕ → Given
-arrays head draws vertices indices = record { Means = IsListOf head draws vertices indices; IsFirst = IsFirstOfArrays head draws vertices indices; IsTooLong = ⊥ }
-
--- What each error says of what the caller gave. Of the last four errors `too_small`, `no_tile_size`, `no_rows` and `no_sizes` are
--- what the call has them say.
-abbrev pub Explains : Given → Type 0 → Type 0 → Type 0 → Type 0 → CallError → Type 0
-Explains given too_small no_tile_size no_rows no_sizes (BadList fault) = given.IsFirst fault
-Explains given too_small no_tile_size no_rows no_sizes InputTooLong = given.IsTooLong
-Explains given too_small no_tile_size no_rows no_sizes OutOfMemory = ⊤
-Explains given too_small no_tile_size no_rows no_sizes BufferTooSmall = too_small
-Explains given too_small no_tile_size no_rows no_sizes TileSize = no_tile_size
-Explains given too_small no_tile_size no_rows no_sizes TileRows = no_rows
-Explains given too_small no_tile_size no_rows no_sizes StructSize = no_sizes
-
--- What each error of a call says that reads a list alone.
-abbrev pub ExplainsRead : Given → CallError → Type 0
-ExplainsRead given = Explains given ⊥ ⊥ ⊥ ⊥
-
--- What each error of a call says that draws a file.
-abbrev pub ExplainsDraw : Given → ℕ → ℕ → CallError → Type 0
-ExplainsDraw given tile_size size = Explains given (IsSmallForFile given.Means size) (¬ IsTileSize tile_size) ⊥ ⊥
-
--- What each error of a call says that draws tile rows.
-abbrev pub ExplainsRows : Given → ℕ → ℕ → ℕ → ℕ → CallError → Type 0
-ExplainsRows given tile_size first end size = Explains given (IsSmallForRows given.Means tile_size first end size) (¬ IsTileSize tile_size) (LacksRows given.Means tile_size first end) ⊥
+-- The checks of a call that draws tile rows of a list. Those of the rows are of each list that the text denotes.
+abbrev pub rows_checks : List ℕ → ℕ → ℕ → ℕ → ℕ → Checks Status
+rows_checks json tile_size first end size =
+    check (IsTileSize tile_size) BadTileSize (
+    text_checks json (
+    check ((l : Scene) (side : TileSide) → Denotes json l → side_of side ≡ tile_size → HasRows l side first end) BadTileRows (
+    check ((l : Scene) (side : TileSide) → Denotes json l → side_of side ≡ tile_size → rows_length l side first end ≤ size) BufferTooSmall
+    done)))
 
 -- ---- a scene
 
--- The draw list of a scene, as its head and its batch list it.
-abbrev pub IsSceneOf : PictureHead → Batch → Scene → Type 0
-IsSceneOf head batch = IsListOf head.numbers batch.draws.now batch.vertices.now batch.indices.now
+-- The structs and the elements of the arrays have the sizes, in bytes, that this library knows.
+pub record HasSizes (head : PictureHead) (arrays : Arrays) : Type 0 where
+  pub head_size : head.struct_size ≡ 36
+  pub array_sizes : HasArraySizes arrays
 
--- A list that the caller gives as a head and a batch.
-abbrev pub scene : PictureHead → Batch → Given
-scene head batch = arrays head.numbers batch.draws.now batch.vertices.now batch.indices.now
+-- The draw list of a scene, as its head and its arrays list it.
+abbrev pub IsSceneOf : PictureHead → Arrays → Scene → Type 0
+IsSceneOf head arrays = IsListOf head.numbers arrays.draws.now arrays.vertices.now arrays.indices.now
 
--- What each error of a call says that draws the file of a scene.
-abbrev pub ExplainsScene : PictureHead → Batch → ℕ → ℕ → CallError → Type 0
-ExplainsScene head batch tile_size size = Explains (scene head batch) (IsSmallForFile (IsSceneOf head batch) size) (¬ IsTileSize tile_size) ⊥ (¬ HasSizes head batch)
+-- What the first error of a scene is.
+abbrev pub IsFirstOfScene : PictureHead → Arrays → ReadFault → Type 0
+IsFirstOfScene head arrays = FirstIs (checks_of_arrays head.numbers arrays.draws.now arrays.vertices.now arrays.indices.now)
+
+-- The checks of a call that draws the file of a scene.
+abbrev pub scene_checks : PictureHead → Arrays → ℕ → ℕ → Checks Status
+scene_checks head arrays tile_size size =
+    check (HasSizes head arrays) BadStructSize (
+    check (IsTileSize tile_size) BadTileSize (
+    list_checks (IsSceneOf head arrays) (
+    check ((l : Scene) → IsSceneOf head arrays l → file_length l ≤ size) BufferTooSmall
+    done)))

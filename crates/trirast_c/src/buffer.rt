@@ -1,10 +1,10 @@
 //! Bytes at the beginning of the caller's buffer.
-ghost use Rattle.std.specs.Prelude.{◌≡◌, ◌≤◌, ◌<◌, ◌⊎◌, length, OnOk, OnErr, IfErr};
-ghost use Rattle.trirast_c.specs.Library.{HoldsFile, IsFileLonger, IsPut};
-ghost use Rattle.trirast_c.specs.declared.error.CallError.TheVariants as call;
+ghost use Rattle.std.specs.Prelude.{◌≡◌, ◌≤◌, length, OnOk, OnErr, ⊤};
+ghost use Rattle.model.specs.Checking.{IsJudged};
+ghost use Rattle.trirast_c.specs.Library.{HoldsFile, IsPut, file_checks};
 
-use crate::error::CallError;
 use crate::image_info::ImageInfo;
+use c_abi::Status;
 use grid::TileSide;
 use list::DrawList;
 use std::alloc::Global;
@@ -25,13 +25,13 @@ pub(crate) fn file_into(
     list: &DrawList,
     side: TileSide,
     buffer: &mut [u8],
-) -> Result<(), CallError>
+) -> Result<(), Status>
     ensures drawn { OnOk result (HoldsFile list.now buffer.old buffer.new) }
     ensures kept { OnErr result (buffer.new ≡ buffer.old) }
-    ensures error { IfErr result (λ e. (e ≡ call.OutOfMemory) ⊎ ((e ≡ call.BufferTooSmall) × IsFileLonger list.now (length buffer.old))) }
+    ensures judged { IsJudged (file_checks list.now (length buffer.old)) (λ done. ⊤) result }
 {
     if ImageInfo::of(list).file_bytes > buffer.len() as u64 {
-        return Err(CallError::BufferTooSmall);
+        return Err(Status::BufferTooSmall);
     }
     put(&draw(alloc, list, side)?, buffer);
     Ok(())

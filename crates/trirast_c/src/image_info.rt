@@ -1,13 +1,13 @@
 //! The size of a picture and of its file.
-ghost use Rattle.std.specs.Prelude.{◌≡◌, ◌≢◌, ◌<◌, ◌↔◌, length, OnOk, OnErr, IfErr};
+ghost use Rattle.std.specs.Prelude.{◌≡◌, ◌≢◌, length, OnOk, OnErr, ⊤};
+ghost use Rattle.model.specs.Checking.{done as checked};
 ghost use Rattle.model.specs.Denotes.{Denotes};
-ghost use Rattle.trirast_c.specs.Errors.{no_error, number_of, reported};
-ghost use Rattle.trirast_c.specs.Library.{ExplainsRead, HoldsInfo, IsInfoOf, text};
+ghost use Rattle.c_abi.specs.Calls.{IsCall, IsFirstOfText, IsReport, text_checks};
+ghost use Rattle.trirast_c.specs.Library.{HoldsInfo, IsInfoOf};
 
-use crate::error::{CallError, report};
-use crate::input::list_of;
-use batch::LibraryError;
+use c_abi::{CallError, Error, report};
 use list::DrawList;
+use sample_events::list_of;
 use std::alloc::Global;
 use trirast::file_header;
 
@@ -49,7 +49,7 @@ impl ImageInfo {
 fn info_into(alloc: Global, json: &[u8], info: &mut ImageInfo) -> Result<(), CallError>
     ensures info { OnOk result (HoldsInfo (Denotes json.now) info.new) }
     ensures kept { OnErr result (info.new ≡ info.old) }
-    ensures error { IfErr result (ExplainsRead (text json.now)) }
+    ensures judged { IsCall (text_checks json.now checked) (IsFirstOfText json.now) (λ done. ⊤) result }
 {
     *info = ImageInfo::of(&list_of(alloc, json)?);
     Ok(())
@@ -62,12 +62,11 @@ pub extern "C" fn trirast_read_image_info(
     alloc: Global,
     json: &[u8],
     info: &mut ImageInfo,
-    error: &mut LibraryError,
+    error: &mut Error,
 ) -> u32
     ensures info { result ≡ 0 → HoldsInfo (Denotes json.now) info.new }
-    ensures no_error { result ≡ 0 → error.new ≡ no_error }
     ensures kept { result ≢ 0 → info.new ≡ info.old }
-    ensures error { result ≢ 0 → (e : CallError) × (result ≡ number_of e) × (error.new ≡ reported e) × ExplainsRead (text json.now) e }
+    ensures report { IsReport (text_checks json.now checked) (IsFirstOfText json.now) result error.new }
 {
     report(info_into(alloc, json, info), error)
 }

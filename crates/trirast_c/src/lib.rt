@@ -4,7 +4,6 @@
 ghost use Rattle.std.specs.Prelude.{◌≡◌};
 
 mod buffer;
-mod error;
 mod image_info;
 mod input;
 mod messages;
@@ -13,14 +12,14 @@ mod picture_rows;
 mod sample_history;
 mod scene_picture;
 
-pub use batch::{Batch, LibraryError};
-pub use error::CallError;
+pub use c_abi::{CallError, Error};
 pub use image_info::{ImageInfo, trirast_read_image_info};
 pub use messages::trirast_error_line;
 pub use picture::trirast_draw;
 pub use picture_rows::trirast_draw_rows;
 pub use sample_events::{HistoryRequest, SampleEvent, SampleInfo, TriangleSamples};
 pub use sample_history::{trirast_history, trirast_triangle_samples};
+pub use scene::Arrays;
 pub use scene_picture::{PictureHead, trirast_draw_scene};
 
 /// The version of these calls and structs. A greater one has all that a smaller one has, in the same form.

@@ -1,10 +1,9 @@
 //! The line of an error, in the caller's buffer.
 ghost use Rattle.std.specs.Prelude.{◌≡◌, ◌≤◌, length, drop, IfSome};
 ghost use Rattle.model.specs.Fault.{number_of as list_number_of};
-ghost use Rattle.trirast_c.specs.Errors.{reported};
+ghost use Rattle.c_abi.specs.Errors.{error_of};
 
-use crate::error::CallError;
-use batch::LibraryError;
+use c_abi::{CallError, Error, Status};
 use list::{ReadFault, ReadKind};
 use trirast::{Fault, FaultLine, fault_line};
 
@@ -27,57 +26,48 @@ fn list_kind(number: u32) -> Option<ReadKind>
     }
 }
 
-/// The error that a call reports in this form.
-fn reported_so(error: &LibraryError) -> Option<CallError>
-    ensures { IfSome result (λ e. reported e ≡ error.now) }
+/// The error that a call which draws a picture reports in this form.
+fn reported_so(error: &Error) -> Option<CallError>
+    ensures { IfSome result (λ e. error_of e ≡ error.now) }
 {
-    let found = match error.status {
-        1 => CallError::List(ReadFault {
+    if error.status > Status::BadStructSize.number() {
+        return None;
+    }
+    let status = Status::of_number(error.status)?;
+    let fault = match status {
+        Status::BadList => Some(ReadFault {
             kind: list_kind(error.list_error)?,
             draw: match error.in_draw {
                 0 => None,
                 _ => Some(error.draw),
             },
         }),
-        2 => CallError::InputTooLong,
-        3 => CallError::OutOfMemory,
-        4 => CallError::BufferTooSmall,
-        5 => CallError::TileSize,
-        6 => CallError::TileRows,
-        7 => CallError::StructSize,
-        _ => return None,
+        _ => None,
     };
-    if found.reported() == *error {
+    let found = CallError { status, fault };
+    if Error::of(found) == *error {
         Some(found)
     } else {
         None
     }
 }
 
-/// The line of an error: the program's, if the program can end in it.
+/// The line of an error, as the program has it too, if the program can end in it.
 fn line_of(error: CallError) -> FaultLine {
-    match error {
-        CallError::List(fault) => fault_line(&Fault::List(fault)),
-        CallError::InputTooLong => fault_line(&Fault::InputTooLong),
-        CallError::OutOfMemory => fault_line(&Fault::OutOfMemory),
-        CallError::BufferTooSmall => line("trirast: buffer too small\n"),
-        CallError::TileSize => line("trirast: no such tile size\n"),
-        CallError::TileRows => line("trirast: no such tile rows\n"),
-        CallError::StructSize => line("trirast: no such struct size\n"),
+    if let Some(fault) = error.fault {
+        return fault_line(&Fault::List(fault));
     }
-}
-
-/// A line of this string, which is shorter than 96 bytes.
-fn line(text: &str) -> FaultLine {
     let mut line = FaultLine::new();
-    let _ = line.try_push_str(text);
+    let _ = line.try_push_str("trirast: ");
+    let _ = line.try_push_str(error.status.text());
+    let _ = line.try_push_str("\n");
     line
 }
 
 /// Writes the line of an error, with its line feed, at the beginning of the buffer, or as much of it as fits. Bytes behind it are
 /// unchanged. Returns the length of the whole line in bytes. Returns 0 and writes nothing if no call reports this error.
 #[unsafe(no_mangle)]
-pub extern "C" fn trirast_error_line(error: &LibraryError, buffer: &mut [u8]) -> usize
+pub extern "C" fn trirast_error_line(error: &Error, buffer: &mut [u8]) -> usize
     ensures behind { drop result buffer.new ≡ drop result buffer.old }
     ensures short { result ≤ 96 }
 {

@@ -1,26 +1,27 @@
 //! Tile rows of a list's picture, as bytes in the caller's buffer.
-ghost use Rattle.std.specs.Prelude.{◌≡◌, ◌≢◌, ◌<◌, ◌≤◌, ℕ, List, length, OnOk, OnErr, IfErr};
+ghost use Rattle.std.specs.Prelude.{◌≡◌, ◌≢◌, ◌<◌, ◌≤◌, ℕ, List, length, OnOk, OnErr, ⊤};
 ghost use Rattle.model.specs.Denotes.{Denotes};
-ghost use Rattle.bins.specs.Grid.{tiles_over};
-ghost use Rattle.tile_row.specs.TileRow.{AreTileRows};
-ghost use Rattle.trirast_c.specs.Errors.{no_error, number_of, reported};
-ghost use Rattle.trirast_c.specs.Library.{DrawsRows, ExplainsRows, text};
+ghost use Rattle.tiling.specs.Grid.{tiles_over};
+ghost use Rattle.tiling.specs.TileRow.{AreTileRows};
+ghost use Rattle.c_abi.specs.Calls.{IsCall, IsFirstOfText, IsReport};
+ghost use Rattle.trirast_c.specs.Library.{DrawsRows, rows_checks, rows_length};
 
 use crate::buffer::put;
-use crate::error::{CallError, report};
-use crate::input::{list_of, side_of};
-use batch::LibraryError;
-use bins::Tiling;
+use crate::input::side_of;
+use c_abi::{CallError, Error, Status, report};
 use grid::TileSide;
 use list::DrawList;
+use sample_events::list_of;
 use std::alloc::Global;
+use tiling::Tiling;
 use trirast::draw_rows;
 
 /// The number of bytes of the rows of pixels in these tile rows.
 fn bytes_of_rows(list: &DrawList, side: TileSide, first: u32, end: u32) -> u64
     requires order { first < end }
     requires within { end ≤ tiles_over list.now.height side }
-    ensures { (rows : List ℕ) → AreTileRows list.now side first end rows → result ≡ length rows }
+    ensures length { result ≡ rows_length list.now side first end }
+    ensures rows { (rows : List ℕ) → AreTileRows list.now side first end rows → result ≡ length rows }
 {
     let height = list.height();
     let top = side.pixels() * first;
@@ -40,15 +41,15 @@ fn draw_rows_into(
 ) -> Result<(), CallError>
     ensures drawn { OnOk result (DrawsRows (Denotes json.now) tile_size first end buffer.old buffer.new) }
     ensures kept { OnErr result (buffer.new ≡ buffer.old) }
-    ensures error { IfErr result (ExplainsRows (text json.now) tile_size first end (length buffer.old)) }
+    ensures judged { IsCall (rows_checks json.now tile_size first end (length buffer.old)) (IsFirstOfText json.now) (λ done. ⊤) result }
 {
     let side = side_of(tile_size)?;
     let list = list_of(alloc, json)?;
     if first >= end || end > Tiling::new(list.width(), list.height(), side).rows() {
-        return Err(CallError::TileRows);
+        return Err(CallError::from(Status::BadTileRows));
     }
     if bytes_of_rows(&list, side, first, end) > buffer.len() as u64 {
-        return Err(CallError::BufferTooSmall);
+        return Err(CallError::from(Status::BufferTooSmall));
     }
     put(&draw_rows(alloc, &list, side, first, end)?, buffer);
     Ok(())
@@ -66,12 +67,11 @@ pub extern "C" fn trirast_draw_rows(
     first: u32,
     end: u32,
     buffer: &mut [u8],
-    error: &mut LibraryError,
+    error: &mut Error,
 ) -> u32
     ensures drawn { result ≡ 0 → DrawsRows (Denotes json.now) tile_size first end buffer.old buffer.new }
-    ensures no_error { result ≡ 0 → error.new ≡ no_error }
     ensures kept { result ≢ 0 → buffer.new ≡ buffer.old }
-    ensures error { result ≢ 0 → (e : CallError) × (result ≡ number_of e) × (error.new ≡ reported e) × ExplainsRows (text json.now) tile_size first end (length buffer.old) e }
+    ensures report { IsReport (rows_checks json.now tile_size first end (length buffer.old)) (IsFirstOfText json.now) result error.new }
 {
     report(
         draw_rows_into(alloc, json, tile_size, first, end, buffer),

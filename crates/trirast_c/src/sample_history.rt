@@ -1,16 +1,13 @@
 //! The history of a sample, and how many samples a triangle has, in the caller's memory.
-ghost use Rattle.std.specs.Prelude.{◌≡◌, ◌≢◌, ◌↔◌};
-ghost use Rattle.batch.specs.Errors.{alone};
-ghost use Rattle.sample_events.specs.Errors.{number_of, reported};
-ghost use Rattle.sample_events.specs.History.{HasSizes, HoldsHistory, ExplainsHistory};
-ghost use Rattle.sample_events.specs.Triangles.{HoldsSamples, ExplainsSamples};
-ghost use Rattle.sample_events.specs.declared.error.HistoryError.{HistoryError};
+ghost use Rattle.std.specs.Prelude.{◌≡◌, ◌≢◌};
+ghost use Rattle.c_abi.specs.Calls.{IsFirstOfText, IsReport};
+ghost use Rattle.sample_events.specs.History.{HoldsHistory, history_checks};
+ghost use Rattle.sample_events.specs.Triangles.{HoldsSamples, samples_checks};
 
-use batch::LibraryError;
+use c_abi::{Error, report};
 use model::TrianglePlace;
 use sample_events::{
-    HistoryRequest, SampleEvent, SampleInfo, TriangleSamples, report, write_history,
-    write_triangle_samples,
+    HistoryRequest, SampleEvent, SampleInfo, TriangleSamples, write_history, write_triangle_samples,
 };
 use std::alloc::Global;
 
@@ -24,14 +21,12 @@ pub extern "C" fn trirast_history(
     request: &HistoryRequest,
     events: &mut [SampleEvent],
     info: &mut SampleInfo,
-    error: &mut LibraryError,
+    error: &mut Error,
 ) -> u32
     ensures written { result ≡ 0 → HoldsHistory json.now request.now events.old events.new info.new }
-    ensures no_error { result ≡ 0 → error.new ≡ alone 0 }
     ensures events { result ≢ 0 → events.new ≡ events.old }
     ensures info { result ≢ 0 → info.new ≡ info.old }
-    ensures error { result ≢ 0 → (e : HistoryError) × (result ≡ number_of e) × (error.new ≡ reported e) × ExplainsHistory json.now request.now e }
-    ensures sizes { (result ≡ 7) ↔ ¬ HasSizes request.now }
+    ensures report { IsReport (history_checks json.now request.now) (IsFirstOfText json.now) result error.new }
 {
     report(write_history(alloc, json, request, events, info), error)
 }
@@ -45,12 +40,11 @@ pub extern "C" fn trirast_triangle_samples(
     draw: usize,
     triangle: usize,
     samples: &mut TriangleSamples,
-    error: &mut LibraryError,
+    error: &mut Error,
 ) -> u32
     ensures written { result ≡ 0 → HoldsSamples json.now (record { draw = draw; triangle = triangle }) samples.new }
-    ensures no_error { result ≡ 0 → error.new ≡ alone 0 }
     ensures kept { result ≢ 0 → samples.new ≡ samples.old }
-    ensures error { result ≢ 0 → (e : HistoryError) × (result ≡ number_of e) × (error.new ≡ reported e) × ExplainsSamples json.now (record { draw = draw; triangle = triangle }) e }
+    ensures report { IsReport (samples_checks json.now (record { draw = draw; triangle = triangle })) (IsFirstOfText json.now) result error.new }
 {
     let place = TrianglePlace { draw, triangle };
     report(write_triangle_samples(alloc, json, place, samples), error)

@@ -1,14 +1,12 @@
 //! The picture of a scene: a head, and draws, vertices and indices in the caller's arrays.
-ghost use Rattle.std.specs.Prelude.{◌≡◌, ◌≢◌, ◌↔◌, length, IsTrue, OnOk, OnErr, IfErr, Err};
-ghost use Rattle.trirast_c.specs.Errors.{no_error, number_of, reported};
-ghost use Rattle.trirast_c.specs.Library.{DrawsFile, ExplainsScene, HasSizes, IsSceneOf};
-ghost use Rattle.trirast_c.specs.declared.error.CallError.TheVariants as call;
+ghost use Rattle.std.specs.Prelude.{◌≡◌, ◌≢◌, ◌↔◌, length, IsTrue, OnOk, OnErr, ⊤};
+ghost use Rattle.c_abi.specs.Calls.{IsCall, IsReport};
+ghost use Rattle.trirast_c.specs.Library.{DrawsFile, HasSizes, IsFirstOfScene, IsSceneOf, scene_checks};
 
 use crate::buffer::file_into;
-use crate::error::{CallError, report};
 use crate::input::{list_of_arrays, side_of};
-use batch::{Batch, LibraryError};
-use scene::SceneHead;
+use c_abi::{CallError, Error, Status, report};
+use scene::{Arrays, SceneHead};
 use std::alloc::Global;
 
 /// The size in bytes of the struct.
@@ -25,37 +23,36 @@ pub struct PictureHead {
 }
 
 /// Whether the structs and the elements of the arrays have the sizes that this library knows.
-fn has_sizes(head: &PictureHead, batch: &Batch<'_>) -> bool
-    ensures { IsTrue result ↔ HasSizes head.now batch.now }
+fn has_sizes(head: &PictureHead, arrays: &Arrays<'_>) -> bool
+    ensures { IsTrue result ↔ HasSizes head.now arrays.now }
 {
-    head.struct_size == HEAD_SIZE && batch.has_sizes()
+    head.struct_size == HEAD_SIZE && arrays.has_sizes()
 }
 
 /// Draws the file of the picture of a scene into the buffer.
 fn draw_scene_into(
     alloc: Global,
     head: &PictureHead,
-    batch: &Batch<'_>,
+    arrays: &Arrays<'_>,
     tile_size: u32,
     buffer: &mut [u8],
 ) -> Result<(), CallError>
-    ensures drawn { OnOk result (DrawsFile (IsSceneOf head.now batch.now) buffer.old buffer.new) }
+    ensures drawn { OnOk result (DrawsFile (IsSceneOf head.now arrays.now) buffer.old buffer.new) }
     ensures kept { OnErr result (buffer.new ≡ buffer.old) }
-    ensures error { IfErr result (ExplainsScene head.now batch.now tile_size (length buffer.old)) }
-    ensures sizes { (result ≡ Err call.StructSize) ↔ ¬ HasSizes head.now batch.now }
+    ensures judged { IsCall (scene_checks head.now arrays.now tile_size (length buffer.old)) (IsFirstOfScene head.now arrays.now) (λ done. ⊤) result }
 {
-    if !has_sizes(head, batch) {
-        return Err(CallError::StructSize);
+    if !has_sizes(head, arrays) {
+        return Err(CallError::from(Status::BadStructSize));
     }
     let side = side_of(tile_size)?;
     let list = list_of_arrays(
         alloc,
         &head.numbers,
-        batch.draws,
-        batch.vertices,
-        batch.indices,
+        arrays.draws,
+        arrays.vertices,
+        arrays.indices,
     )?;
-    file_into(alloc, &list, side, buffer)
+    Ok(file_into(alloc, &list, side, buffer)?)
 }
 
 /// Draws the picture of a scene by tiles of this size, in pixels, and writes its file at the beginning of the buffer. Bytes behind the
@@ -65,19 +62,17 @@ fn draw_scene_into(
 pub extern "C" fn trirast_draw_scene(
     alloc: Global,
     head: &PictureHead,
-    batch: &Batch<'_>,
+    arrays: &Arrays<'_>,
     tile_size: u32,
     buffer: &mut [u8],
-    error: &mut LibraryError,
+    error: &mut Error,
 ) -> u32
-    ensures drawn { result ≡ 0 → DrawsFile (IsSceneOf head.now batch.now) buffer.old buffer.new }
-    ensures no_error { result ≡ 0 → error.new ≡ no_error }
+    ensures drawn { result ≡ 0 → DrawsFile (IsSceneOf head.now arrays.now) buffer.old buffer.new }
     ensures kept { result ≢ 0 → buffer.new ≡ buffer.old }
-    ensures error { result ≢ 0 → (e : CallError) × (result ≡ number_of e) × (error.new ≡ reported e) × ExplainsScene head.now batch.now tile_size (length buffer.old) e }
-    ensures sizes { (result ≡ 7) ↔ ¬ HasSizes head.now batch.now }
+    ensures report { IsReport (scene_checks head.now arrays.now tile_size (length buffer.old)) (IsFirstOfScene head.now arrays.now) result error.new }
 {
     report(
-        draw_scene_into(alloc, head, batch, tile_size, buffer),
+        draw_scene_into(alloc, head, arrays, tile_size, buffer),
         error,
     )
 }

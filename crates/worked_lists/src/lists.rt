@@ -1,5 +1,6 @@
 //! What a list that was read has, as text.
 use list::{DrawList, MOST_BYTES, read};
+use shade::Blend;
 use std::alloc::{AllocError, Global};
 
 pub(crate) fn list_of(alloc: Global, text: &str) -> Option<DrawList> {
@@ -63,7 +64,7 @@ pub(crate) fn state_of(
     let state = list.triangle(number).state;
     let (cull, mask, scissor) = (state.cull, state.sample_mask, state.scissor);
     let (test, depth_write) = (state.merge.test, state.merge.depth_write);
-    let (write, over) = (state.merge.write, state.merge.over);
+    let (write, over) = (state.merge.write, state.merge.blend == Blend::OVER);
     let (x0, y0, x1, y1) = (scissor.x0, scissor.y0, scissor.x1, scissor.y1);
     format!(in alloc;
         "{cull:?} {test:?} {depth_write:?} {write:?} {over:?} {mask} {x0} {y0} {x1} {y1}"

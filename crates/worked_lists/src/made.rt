@@ -1,7 +1,7 @@
 //! Lists that are made without a text, of which their maker says only whether they are within the limits.
 use grid::{Cull, PixelBox, Point, SampleCount};
 use list::{Draw, DrawList, Output, Primitives, State, Vertex};
-use shade::{DepthTest, Merge, Sample};
+use shade::{Blend, DepthTest, Merge, Sample};
 use std::alloc::{AllocError, Global};
 
 const STATE: State = State {
@@ -9,7 +9,7 @@ const STATE: State = State {
         test: DepthTest::Always,
         depth_write: false,
         write: [true, true, true],
-        over: false,
+        blend: Blend::NONE,
     },
     cull: Cull::None,
     sample_mask: 15,

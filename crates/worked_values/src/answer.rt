@@ -14,6 +14,8 @@ pub(crate) enum Answer {
     Stored(Sample),
     Colour(u8, u8, u8),
     Rectangle(PixelBox),
+    /// The word of one sample.
+    Mask(u64),
     /// The number of samples, and their words; those of the others are zero.
     Covered(u32, Masks),
     /// The same of two triangles.
@@ -86,6 +88,7 @@ impl Answer {
             Answer::Stored(it) => words.sample() == Some(*it),
             Answer::Colour(r, g, b) => says_colour(words, [*r, *g, *b]),
             Answer::Rectangle(it) => words.rectangle() == Some(*it),
+            Answer::Mask(it) => words.hexadecimal() == Some(*it),
             Answer::Covered(samples, masks) => says_masks(words, *samples, masks),
             Answer::BothCovered(samples, first, second) => {
                 says_masks(words, *samples, first) && says_masks(words, *samples, second)

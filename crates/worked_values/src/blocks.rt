@@ -4,9 +4,9 @@ ghost use Rattle.cover.specs.Square.{IsCorner};
 
 use crate::answer::{Answer, whole};
 use crate::words::Words;
-use bins::Tiling;
 use cover::{Pair, Setup, pair_masks, quad_masks};
 use grid::{Cull, TileSide};
+use tiling::Tiling;
 
 /// A block of the screen.
 fn block_of(words: &mut Words<'_>) -> Option<(u32, u32)>

@@ -1,7 +1,7 @@
 //! The calls of a line, and whether they give what the line says.
 use crate::answer::Answer;
 use crate::words::Words;
-use crate::{blocks, points, values};
+use crate::{blocks, points, polygon, values};
 
 /// What the call with this name gives, or `None` if there is no such call with these words.
 fn given(name: &str, words: &mut Words<'_>) -> Option<Answer> {
@@ -21,6 +21,10 @@ fn given(name: &str, words: &mut Words<'_>) -> Option<Answer> {
         "is_clockwise" => points::is_clockwise_of(words),
         "turned" => points::turned_of(words),
         "reversed" => points::reversed_of(words),
+        "ring" => polygon::ring_of(words),
+        "rings" => polygon::rings_of(words),
+        "covering" => polygon::covering_of(words),
+        "strip" => polygon::strip_of(words),
         _ => given_of_values(name, words),
     }
 }
@@ -33,6 +37,7 @@ fn given_of_values(name: &str, words: &mut Words<'_>) -> Option<Answer> {
         "row" => values::row_of(words),
         "passes" => values::passes_of(words),
         "over" => values::over_of(words),
+        "blended" => values::blended_of(words),
         "mean" => values::mean_of(words),
         "resolved" => values::resolved_of(words),
         "apply" => values::apply_of(words),

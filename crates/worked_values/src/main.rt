@@ -1,4 +1,4 @@
-//! Worked values of `grid`, `shade`, `cover` and `bins`. Each line of standard input is a call, an equals sign and the result that a
+//! Worked values of `grid`, `polygons`, `shade`, `cover` and `tiling`. Each line of standard input is a call, an equals sign and the result that a
 //! reader finds by hand from the rules; what follows a `#` is a comment. A line that does not hold, or that is not a call with its
 //! result, is printed, and last how many held and how many did not.
 #![tactic(auto)]
@@ -7,6 +7,7 @@ mod answer;
 mod blocks;
 mod calls;
 mod points;
+mod polygon;
 mod values;
 mod words;
 

@@ -3,7 +3,7 @@ use crate::answer::{Answer, whole};
 use crate::words::Words;
 use grid::{Point, Tri};
 use shade::{
-    MAX_SAMPLES, Merge, Row, Sample, Weights, apply, floor_at, over, passes, resolved_colour,
+    Blend, MAX_SAMPLES, Merge, Row, Sample, Weights, apply, floor_at, over, passes, resolved_colour,
 };
 
 pub(crate) fn value_of(words: &mut Words<'_>) -> Option<Answer> {
@@ -74,6 +74,12 @@ pub(crate) fn over_of(words: &mut Words<'_>) -> Option<Answer> {
     Some(whole(u32::from(over(s, a, d))))
 }
 
+pub(crate) fn blended_of(words: &mut Words<'_>) -> Option<Answer> {
+    let (equation, channel) = (words.equation()?, words.colour_or_alpha()?);
+    let value = equation.blended(channel, &words.operands()?);
+    Some(whole(u32::from(value)))
+}
+
 /// The mean of a channel over the samples of a pixel: of red, beside which the others are the same at each sample.
 pub(crate) fn mean_of(words: &mut Words<'_>) -> Option<Answer> {
     let count = words.samples()?;
@@ -109,7 +115,7 @@ pub(crate) fn apply_of(words: &mut Words<'_>) -> Option<Answer> {
         test,
         depth_write,
         write,
-        over,
+        blend: if over { Blend::OVER } else { Blend::NONE },
     };
     let new = words.shaded()?;
     Some(Answer::Stored(apply(&merge, &new, words.sample()?)))

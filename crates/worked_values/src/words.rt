@@ -1,6 +1,6 @@
 //! The words of a line.
 use grid::{Cull, PixelBox, Point, Quad, SampleCount, TileSide, Tri};
-use shade::{DepthTest, Sample, Shaded};
+use shade::{BlendFactor, BlendOperation, Channel, DepthTest, Equation, Operands, Sample, Shaded};
 use std::str::SplitWhitespace;
 
 /// What stands before a comment.
@@ -144,5 +144,68 @@ impl<'a> Words<'a> {
             "always" => Some(DepthTest::Always),
             _ => None,
         }
+    }
+
+    fn factor(&mut self) -> Option<BlendFactor> {
+        match self.word()? {
+            "zero" => Some(BlendFactor::Zero),
+            "one" => Some(BlendFactor::One),
+            "source_colour" => Some(BlendFactor::SourceColour),
+            "inverse_source_colour" => Some(BlendFactor::InverseSourceColour),
+            "source_alpha" => Some(BlendFactor::SourceAlpha),
+            "inverse_source_alpha" => Some(BlendFactor::InverseSourceAlpha),
+            "stored_alpha" => Some(BlendFactor::StoredAlpha),
+            "inverse_stored_alpha" => Some(BlendFactor::InverseStoredAlpha),
+            "stored_colour" => Some(BlendFactor::StoredColour),
+            "inverse_stored_colour" => Some(BlendFactor::InverseStoredColour),
+            "source_alpha_saturated" => Some(BlendFactor::SourceAlphaSaturated),
+            "constant" => Some(BlendFactor::Constant),
+            "inverse_constant" => Some(BlendFactor::InverseConstant),
+            _ => None,
+        }
+    }
+
+    fn operation(&mut self) -> Option<BlendOperation> {
+        match self.word()? {
+            "add" => Some(BlendOperation::Add),
+            "subtract" => Some(BlendOperation::Subtract),
+            "reverse_subtract" => Some(BlendOperation::ReverseSubtract),
+            "min" => Some(BlendOperation::Min),
+            "max" => Some(BlendOperation::Max),
+            _ => None,
+        }
+    }
+
+    /// A blend equation: the factors of source and stored channel, and the operation.
+    pub(crate) fn equation(&mut self) -> Option<Equation> {
+        let (source, stored) = (self.factor()?, self.factor()?);
+        let operation = self.operation()?;
+        Some(Equation {
+            source,
+            stored,
+            operation,
+        })
+    }
+
+    pub(crate) fn colour_or_alpha(&mut self) -> Option<Channel> {
+        match self.word()? {
+            "colour" => Some(Channel::Colour),
+            "alpha" => Some(Channel::Alpha),
+            _ => None,
+        }
+    }
+
+    /// What an equation reads: source, source alpha, stored channel, stored alpha, constant.
+    pub(crate) fn operands(&mut self) -> Option<Operands> {
+        let (source, source_alpha) = (self.byte()?, self.byte()?);
+        let (stored, stored_alpha) = (self.byte()?, self.byte()?);
+        let constant = self.byte()?;
+        Some(Operands {
+            source,
+            source_alpha,
+            stored,
+            stored_alpha,
+            constant,
+        })
     }
 }

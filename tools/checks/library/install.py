@@ -16,7 +16,8 @@ INSTALLED = (
     "bin/trirast", "bin/trirast_why", "include/trirast.h", "include/trirast.hpp", "include/trirast_clip.h", "include/trirast_clip.hpp",
     "lib/cmake/trirast/trirast-config-version.cmake", "lib/cmake/trirast/trirast-config.cmake", f"lib/glibc-hwcaps/{LEVEL}/libtrirast.so.1", "lib/libtrirast.a",
     "lib/libtrirast.so", "lib/libtrirast.so.1",
-    "lib/pkgconfig/trirast.pc", "share/man/man1/trirast.1", "share/man/man1/trirast_why.1",
+    "lib/pkgconfig/trirast.pc", f"lib/trirast/glibc-hwcaps/{LEVEL}/program.so", "lib/trirast/program.so",
+    "share/man/man1/trirast.1", "share/man/man1/trirast_why.1",
     "share/trirast/draw-list.schema.json", "share/trirast/history.schema.json",
 )
 

@@ -24,7 +24,7 @@ pub enum ErrorKind {
     OutOfMemory,
     /// The buffer has fewer bytes than the call would write.
     BufferTooSmall,
-    /// The first tile row is not before the end, or the picture has fewer than the end.
+    /// The picture or the canvas has no such tile rows.
     BadTileRows,
     /// The tile size is none of 8, 16, 32 and 64. No function of this crate passes another.
     BadTileSize,

@@ -1,11 +1,17 @@
-use Rattle.std.proofs.Common.{rules, inl, inr, refl, length, FitsSigned, w32}
+use Rattle.std.proofs.Common.{rules, inl, inr, refl, subst, length, FitsSigned, w32}
 use Rattle.std.proofs.lemmas.Int.{to_z-of_z}
-use Rattle.batch.specs.Arrays.{HasSizes}
-use Rattle.canvas_c.specs.Statuses.{done, check, FirstIs}
+use Rattle.model.specs.Checking.{Checks, done, check, Pass}
+use Rattle.model.proofs.Checking.{fails_later, only_allocation}
+use Rattle.canvas.specs.Drawing.{HaveEnds}
+use Rattle.scene.specs.Arrays.{HasSizes}
+use Rattle.batch.specs.Ids.{drawn_as}
+use Rattle.batch.specs.Seen.{triangles_seen}
+use Rattle.batch.proofs.Faults.{none_allocate}
+use Rattle.c_abi.specs.declared.status.Status.{Status}
+use Rattle.c_abi.specs.declared.status.Status.TheVariants.{BadList, BadStructSize}
 use Rattle.canvas_c.specs.Pieces.{piece_checks}
-use Rattle.canvas_c.specs.Batches.{Passes}
-use Rattle.canvas_c.proofs.Ended.{fails_later}
-use Rattle.canvas_c.proofs.Faults.{refused}
+use Rattle.canvas_c.specs.Batches.{arrays_checks}
+use Rattle.canvas_c.proofs.Ended.{at_origin}
 use Rattle.canvas_c.proofs.batches.draw_into.Goals as goal
 
 pub returns-in-Ok-clause-drawn : goal.returns-in-Ok-clause-drawn
@@ -13,7 +19,11 @@ returns-in-Ok-clause-drawn c =
     let head = c.args.head.now in
     let x : FitsSigned w32 head.origin_x = search rules in
     let y : FitsSigned w32 head.origin_y = search rules in
-    record { rows = c.in_ok-rows.rows; are = c.in_ok-rows.ensures.judged.1; holds = rw (to_z-of_z w32 head.origin_x x, to_z-of_z w32 head.origin_y y) at c.in-Ok.ensures.drawn }
+    let batch = c.args.batch.now in
+    let rows = c.in_ok-rows.rows in
+    let drawn = rw (to_z-of_z w32 head.origin_x x, to_z-of_z w32 head.origin_y y, c.over-piece.ensures.rows, c.over-piece.ensures.planes) at c.in-Ok.ensures.drawn in
+    let triangles = drawn_as c.args.ids (triangles_seen head.origin_x head.origin_y batch.draws.now batch.vertices.now batch.indices.now) in
+    record { rows = rows; are = c.in_ok-rows.ensures.judged.1; holds = subst (HaveEnds triangles rows.canvas rows.first rows.end c.args.planes.now) (search rules) drawn }
 
 pub returns-in-Err-clause-judged : goal.returns-in-Err-clause-judged
 returns-in-Err-clause-judged c =
@@ -22,6 +32,7 @@ returns-in-Err-clause-judged c =
     let x : FitsSigned w32 head.origin_x = search rules in
     let y : FitsSigned w32 head.origin_y = search rules in
     let sizes : HasSizes batch = search rules in
-    let first = rw (to_z-of_z w32 head.origin_x x, to_z-of_z w32 head.origin_y y) at c.in-Err.ensures.judged in
-    let fails : FirstIs (check (HasSizes batch) 7 (check (Passes head c.args.ids batch) 1 done)) 1 = inr (sizes, inl ((λ pass. refused head.origin_x head.origin_y c.args.ids batch.draws.now batch.vertices.now batch.indices.now _ first pass), refl)) in
-    fails_later (piece_checks head (length c.args.planes.now)) (check (HasSizes batch) 7 (check (Passes head c.args.ids batch) 1 done)) 1 c.in_ok-rows.ensures.judged.0 fails
+    let first = at_origin head.origin_x _ head.origin_y _ (to_z-of_z w32 head.origin_x x) (to_z-of_z w32 head.origin_y y) c.args.ids batch.draws.now batch.vertices.now batch.indices.now c.in-Err.fault c.in-Err.ensures.judged in
+    let refused : Pass (arrays_checks head c.args.ids batch) → ⊥ = λ pass. only_allocation (λ fault. ⊥) (arrays_checks head c.args.ids batch) c.in-Err.fault (none_allocate head.origin_x head.origin_y c.args.ids batch.draws.now batch.vertices.now batch.indices.now) first pass in
+    let later : Checks Status = check (HasSizes batch) BadStructSize (check (Pass (arrays_checks head c.args.ids batch)) BadList done) in
+    rw c.of_list.ensures (record { first = fails_later (piece_checks head (length c.args.planes.now)) later BadList c.in_ok-rows.ensures.judged.0 (inr (sizes, inl (refused, refl))); fault = (refl, first) })

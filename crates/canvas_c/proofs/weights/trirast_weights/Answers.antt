@@ -1,8 +1,5 @@
-use Rattle.std.proofs.Common.{rules, FitsSigned, w32}
+use Rattle.std.proofs.Common.{rules, inr, FitsSigned, w32}
 use Rattle.std.proofs.lemmas.Int.{to_z-of_z}
-use Rattle.canvas_c.specs.Statuses.{number_of}
-use Rattle.canvas_c.specs.Weights.{weights_checks}
-use Rattle.canvas_c.proofs.Ended.{failed_first}
 use Rattle.canvas_c.proofs.weights.trirast_weights.Goals as goal
 
 pub returns-in-Ok-clause-edges : goal.returns-in-Ok-clause-edges
@@ -16,4 +13,4 @@ returns-in-Err-clause-status c =
     let x : FitsSigned w32 c.args.x = search rules in
     let y : FitsSigned w32 c.args.y = search rules in
     let first = rw (to_z-of_z w32 c.args.x x, to_z-of_z w32 c.args.y y) at c.in-Err.ensures.judged in
-    failed_first (weights_checks c.args.corners.now (record { x = c.args.x; y = c.args.y })) c.number.result (number_of c.in-Err.failed) c.number.ensures.value first
+    inr (c.in-Err.failed, first, c.number.ensures.value)

@@ -1,12 +1,9 @@
-use Rattle.std.proofs.Common.{get_or, sym, subst}
-use Rattle.shade.specs.Blend.{IsOver}
-use Rattle.lanes.proofs.LaneNumbers.{over_lane}
-use Rattle.lanes.proofs.Blending.{over_each}
+use Rattle.std.proofs.Common.{◌-◌, get_or}
+use Rattle.shade.proofs.Blended.{sum_small}
 use Rattle.lanes.proofs.blend.over_lanes.Goals as goal
 
-pub returns-clause-whole : goal.returns-clause-whole
-returns-clause-whole c = (over_each c.args.s c.args.a c.args.d c.fits-s.0 c.fits-a.0 c.fits-d.0).long
-
-pub returns-clause-over : goal.returns-clause-over
-returns-clause-over c i l p q r =
-    subst (IsOver (get_or c.args.s i 0) (get_or c.args.a i 0) (get_or c.args.d i 0)) (sym ((over_each c.args.s c.args.a c.args.d c.fits-s.0 c.fits-a.0 c.fits-d.0).each i l)) (over_lane _ _ _ p q r)
+pub nearest_small_sum-requires : goal.nearest_small_sum-requires
+nearest_small_sum-requires c i l =
+    let o = c.args.o.now in
+    rw (c.product-source.ensures.value.each i l, c.product-stored.ensures.value.each i l, c.inverse.ensures.each i l)
+    (sum_small (get_or o.source i 0) (get_or o.source_alpha i 0) (get_or o.stored i 0) (c.requires.source.small i l) (c.requires.source_alpha.small i l) (c.requires.stored.small i l))

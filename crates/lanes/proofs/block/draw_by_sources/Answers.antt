@@ -11,13 +11,13 @@ same : (t : Placed) (merge merge' : Merge) (depth depth' : DepthSource) (colour 
 same t merge merge' depth depth' colour colour' e f g sources = rw (e, ← f, ← g) sources
 
 pub returns-in-Plane-clause-drawn : goal.returns-in-Plane-clause-drawn
-returns-in-Plane-clause-drawn g c t sources covers = c.draw_planes-in-Plane.ensures.drawn t (same t _ _ _ _ _ _ c.known.ensures c.in-Plane.is c.in-Flat.is sources) covers
+returns-in-Plane-clause-drawn g c t sources covers = c.draw_planes-in-Plane.ensures.drawn t (same t _ _ _ _ _ _ c.whole.ensures c.in-Plane.is c.in-Flat.is sources) covers
 
 pub returns-in-Unused-depth-clause-drawn : goal.returns-in-Unused-depth-clause-drawn
-returns-in-Unused-depth-clause-drawn g c t sources covers = c.draw_planes-in-Unused-depth.ensures.drawn t (same t _ _ _ _ _ _ c.known.ensures c.in-Unused-depth.is c.in-Planes.is sources) covers
+returns-in-Unused-depth-clause-drawn g c t sources covers = c.draw_planes-in-Unused-depth.ensures.drawn t (same t _ _ _ _ _ _ c.whole.ensures c.in-Unused-depth.is c.in-Planes.is sources) covers
 
 pub returns-in-Flat-depth-2-clause-drawn : goal.returns-in-Flat-depth-2-clause-drawn
-returns-in-Flat-depth-2-clause-drawn g c t sources covers = c.draw_planes-in-Flat-depth-2.ensures.drawn t (same t _ _ _ _ _ _ c.known.ensures c.in-Flat-depth-2.is c.in-Planes.is sources) covers
+returns-in-Flat-depth-2-clause-drawn g c t sources covers = c.draw_planes-in-Flat-depth-2.ensures.drawn t (same t _ _ _ _ _ _ c.whole.ensures c.in-Flat-depth-2.is c.in-Planes.is sources) covers
 
 pub returns-in-Plane-depth-clause-drawn : goal.returns-in-Plane-depth-clause-drawn
-returns-in-Plane-depth-clause-drawn g c t sources covers = c.draw_planes-in-Plane-depth.ensures.drawn t (same t _ _ _ _ _ _ c.known.ensures c.in-Plane-depth.is c.in-Planes.is sources) covers
+returns-in-Plane-depth-clause-drawn g c t sources covers = c.draw_planes-in-Plane-depth.ensures.drawn t (same t _ _ _ _ _ _ c.whole.ensures c.in-Plane-depth.is c.in-Planes.is sources) covers

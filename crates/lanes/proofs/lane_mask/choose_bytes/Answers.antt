@@ -5,7 +5,7 @@ use Rattle.std.specs.Simd.Lanes.{sel_l, zip2, Each1, top}
 use Rattle.planes.specs.Lanes.{HasLanes}
 use Rattle.planes.proofs.Lanes.{itself, zipped, chosen, splat, of_each}
 use Rattle.lanes.proofs.Lanes.{high_chosen}
-use Rattle.lanes.proofs.Blending.{shifted}
+use Rattle.lanes.proofs.Lanewise.{shifted}
 use Rattle.lanes.proofs.lane_mask.choose_bytes.Goals as goal
 
 abbrev high : List ℕ → List ℕ

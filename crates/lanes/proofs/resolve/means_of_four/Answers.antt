@@ -2,7 +2,7 @@ use Rattle.std.proofs.Common.{ℕ, ◌+◌, ◌/◌, ◌<◌, ◌≤◌, List, g
 use Rattle.std.specs.Simd.Lanes.{zip2}
 use Rattle.std.proofs.lemmas.Simd.{Each1-from_get_or}
 use Rattle.shade.specs.Quotient.{IsQuotient}
-use Rattle.lanes.proofs.Blending.{plus, shifted}
+use Rattle.lanes.proofs.Lanewise.{plus, shifted}
 use Rattle.lanes.proofs.LaneNumbers.{lane_mean, mean-bound, mean_is}
 use Rattle.lanes.proofs.Rows.{IsRow, zipped, splat, loaded, byte}
 use Rattle.lanes.proofs.resolve.means_of_four.Goals as goal

@@ -1,7 +1,7 @@
 use Rattle.std.proofs.Common.{ℕ, ◌+◌, ◌/◌, ◌^◌, ◌<◌, ◌≤◌, ◌∙◌, List, get_or, replicate, ap}
 use Rattle.std.specs.Simd.Lanes.{zip2}
 use Rattle.std.proofs.lemmas.Simd.{Each1-from_get_or}
-use Rattle.lanes.proofs.Blending.{plus, shifted}
+use Rattle.lanes.proofs.Lanewise.{plus, shifted}
 use Rattle.lanes.proofs.Rows.{IsRow, zipped, splat, itself, rounded_mean, mean_most}
 use Rattle.lanes.proofs.resolve.means_of_sums.Goals as goal
 

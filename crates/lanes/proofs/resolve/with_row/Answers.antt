@@ -1,5 +1,5 @@
 use Rattle.std.proofs.Common.{◌+◌, ◌∙◌, arith}
-use Rattle.lanes.proofs.Blending.{plus}
+use Rattle.lanes.proofs.Lanewise.{plus}
 use Rattle.lanes.proofs.Rows.{zipped, loaded, itself, byte, small_sum}
 use Rattle.lanes.proofs.resolve.with_row.Goals as goal
 

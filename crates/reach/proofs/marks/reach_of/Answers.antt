@@ -15,7 +15,7 @@ loop-k-preserved c = λ k t low found count i j s m.
       | inr more ↦
           let same : k ≡ c.loop-k.k = omega arith in
           let item : c.index-chunk-k.result ≡ t = found_item c.args.chunk.now k c.index-chunk-k.result t (rw same c.index-chunk-k.is) found in
-          let met = c.tiles_met.ensures.all count i j s (rw item m) in
+          let met = c.tiles_of.ensures.all count i j s (rw item m) in
           (rw same (c.mark.ensures.set (i / 64) met.0), rw same (c.mark-in-loop-k.ensures.set (j / 64) met.1))
     ]
 

@@ -1,10 +1,7 @@
-use Rattle.std.proofs.Common.{◌≡◌, Ok, MatchResult, rules}
-use Rattle.std.specs.Result.{IsErrAnd}
-use Rattle.model.specs.declared.fault.ReadFault.{ReadFault}
-use Rattle.scene.proofs.Numbered.{found_again}
+use Rattle.model.specs.Checks.{in_draw}
+use Rattle.model.proofs.Checking.{fails_as}
+use Rattle.scene.specs.Checks.{draw_checks}
 use Rattle.scene.proofs.builder.numbered_draw.Goals as goal
 
-pub returns-clause-reported : goal.returns-clause-reported
-returns-clause-reported c =
-    let cases : MatchResult c.draw.result (λ found. c.map_err.result ≡ Ok found) (λ kind. IsErrAnd c.map_err.result (λ fault. fault.kind ≡ kind)) = search rules in
-    found_again (λ (fault : ReadFault). fault.kind) _ _ c.draw.result c.map_err.result c.draw.ensures.reported cases
+pub returns-in-Err : goal.returns-in-Err
+returns-in-Err c = rw c.in_draw.ensures (fails_as (in_draw c.args.number) (draw_checks c.args.earlier c.args.draw.now c.args.vertices.now c.args.indices.now) c.in-Err.kind c.in-Err.ensures)

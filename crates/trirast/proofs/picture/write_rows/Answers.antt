@@ -1,6 +1,6 @@
 use Rattle.std.proofs.Common.{rules, ◌≡◌, ◌∙◌, ◌-◌, ◌<◌, ◌≤◌, ℕ, ap, refl, arith}
 use Rattle.std.proofs.lemmas.Result.{err_from_is_err_and}
-use Rattle.bins.specs.Grid.{TileGrid, rows_of, tiles_over}
+use Rattle.tiling.specs.Grid.{TileGrid, rows_of, tiles_over}
 use Rattle.trirast.specs.Picture.{EndsRows}
 use Rattle.trirast.proofs.Written.{header_cut, header_written}
 use Rattle.trirast.proofs.Writing.{by_names, file_ended}

@@ -1,8 +1,8 @@
 use Rattle.std.proofs.Common.{rules, ◌≡◌, ◌∙◌, ◌+◌, min, ap, refl, sym, subst, arith}
 use Rattle.std.proofs.lemmas.Result.{err_from_is_err_and}
-use Rattle.tile_row.specs.TileRow.{AreTileRows}
+use Rattle.tiling.specs.TileRow.{AreTileRows}
 use Rattle.trirast.specs.Picture.{WritesRows}
-use Rattle.tile_row.proofs.Tiled.{no_tiles_between, tiles_of}
+use Rattle.tiling.proofs.Tiled.{no_tiles_between, tiles_of}
 use Rattle.trirast.proofs.Writing.{bins_of, by_names, explains_behind, explains_of, few_bytes, more_cut, more_written, then_written}
 use Rattle.trirast.proofs.picture.write_together.Goals as goal
 use Rattle.trirast.proofs.picture.write_together.Goals.{in-Ok-drawn, in_default-drawn+in_ok-written-2}

@@ -1,7 +1,7 @@
 use Rattle.std.proofs.Common.{◌≡◌, ◌+◌, ◌-◌, ◌≤◌, min, IfSome}
 use Rattle.bins.specs.Bin.{AreBins}
 use Rattle.trirast.specs.Picture.{WritesRows}
-use Rattle.tile_row.specs.Tiles.{AreTiles}
+use Rattle.tiling.specs.Tiles.{AreTiles}
 use Rattle.trirast.proofs.picture.write_together.Given as goal
 
 -- the tile rows before `above` are written, those from there to before `first` are drawn, and what is there of bins are those of the

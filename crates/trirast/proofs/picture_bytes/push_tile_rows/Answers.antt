@@ -1,6 +1,6 @@
 use Rattle.std.proofs.Common.{◌≡◌, ◌∙◌, ◌<◌, ap, rules}
-use Rattle.bins.specs.Grid.{TileGrid, rows_of}
-use Rattle.tile_row.proofs.JoinedRows.{added_behind, added_by_names}
+use Rattle.tiling.specs.Grid.{TileGrid, rows_of}
+use Rattle.tiling.proofs.JoinedRows.{added_behind, added_by_names}
 use Rattle.trirast.proofs.picture_bytes.push_tile_rows.Goals as goal
 
 pub loop-row-preserved : goal.loop-row-preserved

@@ -1,5 +1,5 @@
 use Rattle.std.proofs.Common.{◌≡◌}
-use Rattle.tile_row.specs.TileRow.{AddsTileRows}
+use Rattle.tiling.specs.TileRow.{AddsTileRows}
 use Rattle.trirast.proofs.picture_bytes.push_tile_rows.Given as goal
 
 -- the tile rows so far

@@ -1,6 +1,6 @@
 use Rattle.std.proofs.Common.{◌*◌, ◌<◌, refl, arith}
-use Rattle.bins.specs.Grid.{tiles_over}
-use Rattle.tile_row.proofs.Intervals.{begin_fits}
+use Rattle.tiling.specs.Grid.{tiles_over}
+use Rattle.tiling.proofs.Intervals.{begin_fits}
 use Rattle.trirast_c.proofs.picture_rows.bytes_of_rows.Goals as goal
 
 pub overflow_mul-top : goal.overflow_mul-top

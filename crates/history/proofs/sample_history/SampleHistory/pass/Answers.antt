@@ -1,4 +1,4 @@
-use Rattle.std.proofs.Common.{◌≡◌, drop, refl, slice_get, Some}
+use Rattle.std.proofs.Common.{refl}
 use Rattle.history.proofs.Chained.{first_left, one_past}
 use Rattle.history.proofs.sample_history.SampleHistory.pass.Goals as goal
 

@@ -27,4 +27,4 @@ pub returns-in-Groups-clause-drawn : goal.returns-in-Groups-clause-drawn
 returns-in-Groups-clause-drawn c =
     let t = c.args.self.now in
     let i = c.self.inside in
-    c.draw_by_merge.ensures.drawn t (sources t i.placed i.mode i.depth i.colour c.in-Groups.depth c.in-Groups.colour c.source-depth.result c.source-colour.result c.self.view_is c.self.invariant c.in-Groups.is c.source-depth.ensures c.source-colour.ensures) c.requires.covered
+    c.draw_by_merge.ensures.drawn t (sources t i.placed i.mode i.depth i.colour c.in-Groups.depth c.in-Groups.colour c.source-depth.result c.source-colour.result c.self.view_is c.self.invariant.0 c.in-Groups.is c.source-depth.ensures c.source-colour.ensures) c.requires.covered

@@ -2,12 +2,15 @@ use Rattle.lanes.proofs.interpolants.Interpolants.of.Goals as goal
 
 pub invariant_of-result-2 : goal.invariant_of-result-2
 invariant_of-result-2 c = (
-  record {
-    is_mode = c.of-depth.ensures;
-    is_plane = λ by. c.of_used.ensures c.args.placed.now (c.is_by_plane-by_plane.ensures by) c.reciprocal-reciprocal.ensures (c.of_used-depth_slope.ensures.slope (c.is_by_plane-by_plane.ensures by)) c.of_used-depth_slope.ensures.small;
-  },
-  record {
-    is_mode = c.of-colour.ensures;
-    are_planes = λ by. c.of_used-2.ensures c.args.placed.now (c.is_by_planes-by_planes.ensures by) c.reciprocal-reciprocal.ensures (c.of_used-slopes.ensures.slopes (c.is_by_planes-by_planes.ensures by));
-  },
+  (
+    record {
+      is_mode = c.of-depth.ensures;
+      is_plane = λ by. c.of_used.ensures c.args.placed.now (c.is_by_plane-by_plane.ensures by) c.reciprocal-reciprocal.ensures (c.of_used-depth_slope.ensures.slope (c.is_by_plane-by_plane.ensures by)) c.of_used-depth_slope.ensures.small;
+    },
+    record {
+      is_mode = c.of-colour.ensures;
+      are_planes = λ by. c.of_used-2.ensures c.args.placed.now (c.is_by_planes-by_planes.ensures by) c.reciprocal-reciprocal.ensures (c.of_used-slopes.ensures.slopes (c.is_by_planes-by_planes.ensures by));
+    },
+  ),
+  c.of-equation.ensures,
 )

@@ -1,5 +1,6 @@
 use Rattle.std.proofs.Common.{◌∙◌, ap, false, slice_index_or, sym, subst, w32}
 use Rattle.std.proofs.lemmas.Int.{to_z-of_z}
+use Rattle.shade.specs.Merging.{ReadsAlpha}
 use Rattle.shade.specs.Placed.{channel, IsInterpolated}
 use Rattle.planes.specs.Group.{position_in}
 use Rattle.lanes.specs.Sources.{IsColourOf}
@@ -29,7 +30,7 @@ pub returns-in-Flat-clause-alpha : goal.returns-in-Flat-clause-alpha
 returns-in-Flat-clause-alpha c t i same read source l covered =
     let p = position_in (record { x = c.args.x; y = c.args.y }) i in
     let flat = subst (λ s. IsColourOf t s) c.in-Flat.is source in
-    subst (IsInterpolated t p (channel t 3)) (sym (c.flat_colours.ensures.alpha i l)) (flat_value t p (channel t 3) _ (flat.alpha (ap (λ (m : Merge). m.over) same ∙ read)) covered)
+    subst (IsInterpolated t p (channel t 3)) (sym (c.flat_colours.ensures.alpha i l)) (flat_value t p (channel t 3) _ (flat.alpha (subst ReadsAlpha (sym same) read)) covered)
 
 pub returns-in-Planes-clause-red : goal.returns-in-Planes-clause-red
 returns-in-Planes-clause-red c t i same read source l covered =

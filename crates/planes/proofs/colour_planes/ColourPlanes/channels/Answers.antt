@@ -12,4 +12,4 @@ pub returns-clause-blue : goal.returns-clause-blue
 returns-clause-blue c i writes planes less covered = (rw (to_z-of_z w32 c.args.x c.ranges.x, to_z-of_z w32 c.args.y c.ranges.y) at c.channel_at-3.ensures.each) writes (planes.of_blue writes) i less covered
 
 pub returns-clause-alpha : goal.returns-clause-alpha
-returns-clause-alpha c i over planes less covered = (rw (to_z-of_z w32 c.args.x c.ranges.x, to_z-of_z w32 c.args.y c.ranges.y) at c.channel_at-4.ensures.each) over (planes.of_alpha over) i less covered
+returns-clause-alpha c i reads planes less covered = (rw (to_z-of_z w32 c.args.x c.ranges.x, to_z-of_z w32 c.args.y c.ranges.y) at c.channel_at-4.ensures.each) (c.reads_alpha.ensures.1 reads) (planes.of_alpha reads) i less covered

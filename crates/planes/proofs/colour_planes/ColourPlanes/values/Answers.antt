@@ -1,6 +1,7 @@
-use Rattle.std.proofs.Common.{◌∙◌, ap, false, slice_index_or, w32}
+use Rattle.std.proofs.Common.{◌∙◌, ap, sym, subst, false, slice_index_or, w32}
 use Rattle.std.proofs.lemmas.Int.{to_z-of_z}
 use Rattle.grid.specs.Position.{Position}
+use Rattle.shade.specs.Merging.{ReadsAlpha}
 use Rattle.shade.specs.Placed.{channel}
 use Rattle.shade.specs.declared.sample.Merge.{Merge}
 use Rattle.planes.proofs.AttributePlanes.{wholes_sure}
@@ -40,12 +41,12 @@ returns-clause-blue c i same read planes less covered =
     wholes_sure 24 t.tri.a t.tri.b t.tri.c p (channel t 2) c.candidates_if-blue.result c.wholes-3.result plane.narrow are c.wholes-3.ensures.each (c.are_all_sure.ensures.blue c.if-not-are_all_sure.false) i less covered
 
 pub returns-then-not-are_all_sure-clause-alpha : goal.returns-then-not-are_all_sure-clause-alpha
-returns-then-not-are_all_sure-clause-alpha c i same read = (rw (to_z-of_z w32 c.args.x c.ranges.x, to_z-of_z w32 c.args.y c.ranges.y) at c.channels.ensures.alpha) i (ap (λ (m : Merge). m.over) same ∙ read)
+returns-then-not-are_all_sure-clause-alpha c i same read = (rw (to_z-of_z w32 c.args.x c.ranges.x, to_z-of_z w32 c.args.y c.ranges.y) at c.channels.ensures.alpha) i (subst ReadsAlpha (sym same) read)
 
 pub returns-clause-alpha : goal.returns-clause-alpha
 returns-clause-alpha c i same read planes less covered =
     let t = c.args.placed.now in
     let p : Position = record { x = c.args.x; y = c.args.y } in
-    let plane = planes.of_alpha (ap (λ (m : Merge). m.over) same ∙ read) in
-    let are = (rw (to_z-of_z w32 c.args.x c.ranges.x, to_z-of_z w32 c.args.y c.ranges.y) at c.candidates_if-alpha.ensures.each) 24 t.tri.a t.tri.b t.tri.c (channel t 3) read plane in
+    let plane = planes.of_alpha (subst ReadsAlpha (sym same) read) in
+    let are = (rw (to_z-of_z w32 c.args.x c.ranges.x, to_z-of_z w32 c.args.y c.ranges.y) at c.candidates_if-alpha.ensures.each) 24 t.tri.a t.tri.b t.tri.c (channel t 3) (c.reads_alpha.ensures.1 read) plane in
     wholes_sure 24 t.tri.a t.tri.b t.tri.c p (channel t 3) c.candidates_if-alpha.result c.wholes-4.result plane.narrow are c.wholes-4.ensures.each (c.are_all_sure.ensures.alpha c.if-not-are_all_sure.false) i less covered

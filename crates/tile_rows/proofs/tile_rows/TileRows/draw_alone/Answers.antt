@@ -1,5 +1,5 @@
 use Rattle.std.proofs.Common.{rules}
-use Rattle.tile_row.proofs.Tiled.{tile_pushed}
+use Rattle.tiling.proofs.Tiled.{tile_pushed}
 use Rattle.tile_rows.proofs.tile_rows.TileRows.draw_alone.Goals as goal
 
 pub loop-n-preserved : goal.loop-n-preserved

@@ -1,5 +1,5 @@
 use Rattle.std.proofs.Common.{◌≡◌, ◌≤◌, vec_len, vec_capacity}
-use Rattle.tile_row.proofs.Tiled.{AreFirst}
+use Rattle.tiling.proofs.Tiled.{AreFirst}
 use Rattle.tile_rows.proofs.tile_rows.TileRows.draw_alone.Given as goal
 
 -- the tiles so far, capacity for all, and the store unchanged

@@ -1,7 +1,7 @@
 use Rattle.std.proofs.Common.{rules, ◌≡◌, ◌+◌, ◌-◌, ◌*◌, ◌<◌, ◌≤◌, ap, ap₂, length, take, drop, arith}
-use Rattle.bins.specs.Grid.{columns_of, tiles_over}
-use Rattle.tile_row.proofs.JoinedRows.{adds_of, added_next}
-use Rattle.tile_row.proofs.Tiled.{row_fits, row_of_tiles}
+use Rattle.tiling.specs.Grid.{columns_of, tiles_over}
+use Rattle.tiling.proofs.JoinedRows.{adds_of, added_next}
+use Rattle.tiling.proofs.Tiled.{row_fits, row_of_tiles}
 use Rattle.tile_rows.proofs.tile_rows.TileRows.join.Goals as goal
 
 pub slice_bounds-join-end : goal.slice_bounds-join-end

@@ -1,4 +1,4 @@
-use Rattle.tile_row.specs.TileRow.{AddsTileRows}
+use Rattle.tiling.specs.TileRow.{AddsTileRows}
 use Rattle.tile_rows.proofs.tile_rows.TileRows.join.Given as goal
 
 -- the tile rows so far

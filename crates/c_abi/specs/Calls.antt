@@ -1,0 +1,57 @@
+-- The checks of calls, and what the caller gets of the first that fails.
+use Rattle.std.specs.Prelude.{◌≡◌, ◌≢◌, ◌≤◌, ◌⊎◌, ℕ, List, length, ⊤, Option, Some, None, Result, Ok, Err, MatchResult}
+use Rattle.model.specs.Checking.{Checks, check, allocate, Pass, FirstIs}
+use Rattle.model.specs.Checks.{all_checks}
+use Rattle.model.specs.Denotes.{Denotes}
+use Rattle.model.specs.FirstFault.{IsFirstFault}
+use Rattle.model.specs.Json.{json_of}
+use Rattle.model.specs.Scene.{Scene}
+use Rattle.model.specs.declared.fault.ReadFault.{ReadFault}
+use Rattle.c_abi.specs.declared.call_error.CallError.{CallError}
+use Rattle.c_abi.specs.declared.error.Error.{Error}
+use Rattle.c_abi.specs.declared.status.Status.{Status}
+use Rattle.c_abi.specs.declared.status.Status.TheVariants.{BadList, InputTooLong, OutOfMemory}
+use Rattle.c_abi.specs.Errors.{alone, error_of}
+use Rattle.c_abi.specs.Statuses.{number_of}
+
+-- The error names an error of the list if the status is that of a list, and then the list's first one.
+abbrev pub IsFaultOf : (ReadFault → Type 0) → Status → Option ReadFault → Type 0
+IsFaultOf IsFirst status None = status ≢ BadList
+IsFaultOf IsFirst status (Some fault) = (status ≡ BadList) × IsFirst fault
+
+-- The error is that of the first check that fails. `IsFirst` says which is the first error of the list that the caller gave.
+pub record IsFirstError (checks : Checks Status) (IsFirst : ReadFault → Type 0) (e : CallError) : Type 0 where
+  pub first : FirstIs checks e.status
+  pub fault : IsFaultOf IsFirst e.status e.fault
+
+-- The result is right: each check holds, and so does P of what was found, or the error is that of the first check that fails.
+abbrev pub IsCall : {X : Type 0} → Checks Status → (ReadFault → Type 0) → (X → Type 0) → Result X CallError → Type 0
+IsCall checks IsFirst P result = MatchResult result (λ x. Pass checks × P x) (IsFirstError checks IsFirst)
+
+-- The status and the error that the caller gets of a call that ended so.
+abbrev pub IsReported : Result ⊤ CallError → ℕ → Error → Type 0
+IsReported (Ok done) status error = (status ≡ 0) × (error ≡ alone 0)
+IsReported (Err e) status error = (status ≡ number_of e.status) × (error ≡ error_of e)
+
+-- The status and the error are those of the first check that fails, and all zeros if each holds. So the checks say exactly when each
+-- status comes.
+abbrev pub IsReport : Checks Status → (ReadFault → Type 0) → ℕ → Error → Type 0
+IsReport checks IsFirst status error =
+    (Pass checks × (status ≡ 0) × (error ≡ alone 0))
+    ⊎ ((e : CallError) × IsFirstError checks IsFirst e × (status ≡ number_of e.status) × (error ≡ error_of e))
+
+-- The same of a call that has no error beside its status.
+abbrev pub IsStatus : Checks Status → ℕ → Type 0
+IsStatus checks status = (Pass checks × (status ≡ 0)) ⊎ ((failed : Status) × FirstIs checks failed × (status ≡ number_of failed))
+
+-- The checks of a list that the caller gives: that there is one, for which memory is allocated, and then those of the list.
+abbrev pub list_checks : (Scene → Type 0) → Checks Status → Checks Status
+list_checks Means later = allocate OutOfMemory (check ((list : Scene) × Means list) BadList later)
+
+-- The checks of a list that the caller gives as bytes: their number, and then the list.
+abbrev pub text_checks : List ℕ → Checks Status → Checks Status
+text_checks bytes later = check (length bytes ≤ 67_108_864) InputTooLong (list_checks (Denotes bytes) later)
+
+-- What the first error is of a list that the caller gives as bytes.
+abbrev pub IsFirstOfText : List ℕ → ReadFault → Type 0
+IsFirstOfText bytes = IsFirstFault (all_checks (json_of bytes))

@@ -1,0 +1,99 @@
+-- From the sums of a strip's cells to masks.
+use Rattle.std.proofs.Common.{◌≡◌, ◌≢◌, ◌↔◌, inl, inr, refl, sym, subst, ap, ◌∙◌, arith, ℕ, zero, suc, ◌+◌, ◌*◌, ◌/◌, ◌%◌, ◌^◌, ◌<◌, ◌≤◌, List, [], ◌∷◌, length, slice_index, ℤ, pos, ◌+ℤ◌, ◌-ℤ◌, ◌*ℤ◌, ◌<ℤ◌, neg_ℤ}
+use Rattle.std.proofs.lemmas.Int.{ints}
+use Rattle.std.proofs.lemmas.Nat.Bits.{bit_at-lt, bit_at-zero}
+use Rattle.std.specs.Int.{bit_at}
+use Rattle.grid.specs.Position.{Position}
+use Rattle.polygons.specs.declared.edge.Edge.{Edge}
+use Rattle.polygons.specs.declared.rule.Rule.{Rule}
+use Rattle.polygons.specs.declared.rule.Rule.TheVariants.{EvenOdd, NonZero}
+use Rattle.polygons.specs.declared.strip.Strip.{Strip}
+use Rattle.polygons.specs.Blocks.{down, in_block, IsMaskOf}
+use Rattle.polygons.specs.Columns.{along}
+use Rattle.polygons.specs.Crossing.{downs, ups, crossings, winding, IsInside}
+use Rattle.polygons.specs.Polygon.{ring_edges, polygon_edges, corner_count}
+use Rattle.polygons.specs.Rows.{parity, sum_to}
+use Rattle.polygons.specs.ManyRows.{row_of}
+use Rattle.polygons.specs.Strip.{start_of, sample_of}
+use Rattle.polygons.specs.Cells.{word_of, place_of, flag_of, count_of, cell, total, modulus, IsAlike, AreMarked, AreZeros}
+use Rattle.polygons.proofs.Counters.{sum-none}
+use Rattle.polygons.proofs.Counts.{downs-ring, ups-ring, downs-ring-le, ups-ring-le, corners-ring}
+
+-- ---- places
+sample_in : (strip : Strip) (s row column r c : ℕ) → in_block (sample_of strip s (8 * row) (8 * column)) r c ≡ sample_of strip s (8 * row + r) (8 * column + c)
+sample_in strip s row column r c =
+    let p = start_of strip s in
+    let x : (p.x +ℤ pos 256 *ℤ pos (8 * column)) +ℤ pos 256 *ℤ pos c ≡ p.x +ℤ pos 256 *ℤ pos (8 * column + c) = omega (arith, ints) in
+    let y : (p.y +ℤ pos (256 * (8 * row))) +ℤ pos (256 * r) ≡ p.y +ℤ pos (256 * (8 * row + r)) = omega (arith, ints) in
+    λ i. record { x = x i; y = y i }
+
+flag_in_block : (flags : List (List ℕ)) (s row column r c : ℕ) → r < 8 → c < 8 → flag_of flags s (8 * row + r) (8 * column + c) ≡ bit_at (slice_index (row_of flags column) (4 * row + s)) (8 * r + c)
+flag_in_block flags s row column r c h l =
+    let a : (8 * column + c) / 8 ≡ column = omega arith in
+    let b : (8 * column + c) % 8 ≡ c = omega arith in
+    let d : (8 * row + r) / 8 ≡ row = omega arith in
+    let e : (8 * row + r) % 8 ≡ r = omega arith in
+    λ i. bit_at (slice_index (row_of flags (a i)) (4 * d i + s)) (8 * e i + b i)
+
+-- if each flag says whether its sample is inside, each word is a mask
+pub mask_of_flags : (rule : Rule) (edges : List Edge) (strip : Strip) (flags : List (List ℕ)) (s row column n : ℕ) → row < 8 → column < n
+    → ((j k : ℕ) → j < 64 → k < 8 * n → ((flag_of flags s j k ≡ 1) ↔ IsInside rule edges (sample_of strip s j k)))
+    → IsMaskOf rule edges (sample_of strip s (8 * row) (8 * column)) (slice_index (row_of flags column) (4 * row + s))
+mask_of_flags rule edges strip flags s row column n h l each r c lr lc =
+    let e = each (8 * row + r) (8 * column + c) (omega arith) (omega arith) in
+    let f = flag_in_block flags s row column r c lr lc in
+    let p = sample_in strip s row column r c in
+    (λ x. subst (IsInside rule edges) (sym p) (e.0 (f ∙ x)), λ x. sym f ∙ e.1 (subst (IsInside rule edges) p x))
+
+-- ---- the even-odd rule
+parity_sum : (f : ℕ → ℕ) (n : ℕ) → IsAlike 2 (pos (parity f n)) (sum_to (λ k. pos (f k)) n)
+parity_sum f zero = record { times = pos 0; is = omega (arith, ints) }
+parity_sum f (suc n) =
+    let i = parity_sum f n in
+    let e = i.is in
+    record { times = i.times -ℤ pos ((parity f n + f n) / 2); is = omega (arith, ints) }
+
+odd_or_not : (b d u : ℕ) (x t w : ℤ) → b < 2 → pos b ≡ x +ℤ pos 2 *ℤ t → x ≡ (pos d -ℤ pos u) +ℤ pos 2 *ℤ w → (b ≡ 1) ↔ ((d + u) % 2 ≡ 1)
+odd_or_not b d u x t w h e f = (λ l. omega (arith, ints), λ l. omega (arith, ints))
+
+pub even_odd_inside : (edges : List Edge) (p : Position) (f : ℕ → ℕ) (n b : ℕ) (x : ℤ) → b ≡ parity f n → b < 2 → sum_to (λ k. pos (f k)) n ≡ x → IsAlike 2 x (winding edges p) → (b ≡ 1) ↔ IsInside EvenOdd edges p
+even_odd_inside edges p f n b x is small sum h =
+    let s = parity_sum f n in
+    odd_or_not b (downs edges p) (ups edges p) x s.times h.times small (ap pos is ∙ s.is ∙ ap (λ (z : ℤ). z +ℤ pos 2 *ℤ s.times) sum) h.is
+
+-- ---- the nonzero rule
+downs_few : (rings : List (List Position)) (p : Position) → downs (polygon_edges rings) p ≤ corner_count rings
+downs_few [] p = omega arith
+downs_few (ring ∷ rings) p =
+    let a = downs-ring ring rings p in let b = downs-ring-le ring p in let c = corners-ring ring rings in let i = downs_few rings p in omega arith
+
+ups_few : (rings : List (List Position)) (p : Position) → ups (polygon_edges rings) p ≤ corner_count rings
+ups_few [] p = omega arith
+ups_few (ring ∷ rings) p =
+    let a = ups-ring ring rings p in let b = ups-ring-le ring p in let c = corners-ring ring rings in let i = ups_few rings p in omega arith
+
+zero_or_not : (d u n : ℕ) (x w : ℤ) → d ≤ n → u ≤ n → n < 2 ^ 32 → x ≡ (pos d -ℤ pos u) +ℤ pos (2 ^ 32) *ℤ w → (IsAlike (2 ^ 32) x (pos 0) → ⊥) ↔ ((pos d -ℤ pos u) ≢ pos 0)
+zero_or_not d u n x w h k l e = (
+  λ apart same. apart (record { times = w; is = omega (arith, ints) }),
+  λ apart alike. apart (let a = alike.is in only_zero (pos d -ℤ pos u) alike.times w (omega (arith, ints)) (omega (arith, ints)) (omega (arith, ints))),
+)
+  where
+    only_zero : (z t w : ℤ) → z ≡ pos (2 ^ 32) *ℤ t -ℤ pos (2 ^ 32) *ℤ w → z <ℤ pos (2 ^ 32) → neg_ℤ (pos (2 ^ 32)) <ℤ z → z ≡ pos 0
+    only_zero z t w e h k = omega (arith, ints)
+
+pub nonzero_inside : (rings : List (List Position)) (p : Position) (b : ℕ) (x : ℤ) → corner_count rings < 2 ^ 32 → ((b ≡ 1) ↔ (IsAlike (2 ^ 32) x (pos 0) → ⊥)) → IsAlike (2 ^ 32) x (winding (polygon_edges rings) p) → (b ≡ 1) ↔ IsInside NonZero (polygon_edges rings) p
+nonzero_inside rings p b x few is h =
+    let z = zero_or_not (downs (polygon_edges rings) p) (ups (polygon_edges rings) p) (corner_count rings) x h.times (downs_few rings p) (ups_few rings p) few h.is in
+    (λ l. z.0 (is.0 l), λ l. is.1 (z.1 l))
+
+-- ---- strips of zeros
+pub total-zeros : (rule : Rule) (flags counters : List (List ℕ)) (s row k : ℕ) → AreZeros flags → AreZeros counters → total rule flags counters s row k ≡ pos 0
+total-zeros EvenOdd flags counters s row k h l = sum-none (cell EvenOdd flags counters s row) (k + 1) (λ j m. ap pos (ap (λ w. bit_at w (place_of row j)) (h (j / 8) (word_of s row)) ∙ bit_at-zero (place_of row j)))
+total-zeros NonZero flags counters s row k h l = sum-none (cell NonZero flags counters s row) (k + 1) (λ j m. ap pos (l (j / 8) (64 * word_of s row + place_of row j)))
+
+pub marked_zeros : (rule : Rule) (flags counters : List (List ℕ)) → AreZeros counters → AreMarked rule flags counters
+marked_zeros EvenOdd flags counters h = tt
+marked_zeros NonZero flags counters h = λ s row k x y z. h (k / 8) (64 * word_of s row + place_of row k)
+
+pub from_zeros : (m : ℕ) (x y z : ℤ) → y ≡ pos 0 → IsAlike m x (y +ℤ z) → IsAlike m x z
+from_zeros m x y z e h = record { times = h.times; is = let i = h.is in omega (arith, ints) }

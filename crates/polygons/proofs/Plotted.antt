@@ -1,0 +1,180 @@
+-- What is added to the rows of a strip, one edge after another.
+use Rattle.std.proofs.Common.{◌≡◌, ◌⊎◌, inl, inr, refl, sym, subst, ap, ◌∙◌, arith, ℕ, zero, suc, ◌+◌, ◌-◌, ◌*◌, ◌<◌, ◌≤◌, Bool, true, false, List, [], ◌∷◌, ◌++◌, length, length-drop, take, drop, get_or, drop-cons, add-one, ℤ, pos, neg_ℤ, w32, w64, to_z, of_z, FitsSigned, ◌+ℤ◌, ◌-ℤ◌, ◌*ℤ◌, ◌<ℤ◌, ◌≤ℤ◌}
+use Rattle.std.proofs.lemmas.Int.{ints}
+use Rattle.std.proofs.lemmas.Bool.{cases_lt}
+use Rattle.grid.specs.Position.{Position, IsInBand}
+use Rattle.grid.proofs.Ring.{var, plus, times, ring}
+use Rattle.grid.specs.Samples.{part_size}
+use Rattle.grid.specs.declared.sample_count.SampleCount.{SampleCount}
+use Rattle.grid.specs.declared.sample_count.SampleCount.TheVariants.{One, Two, Four, Eight, Sixteen}
+use Rattle.polygons.specs.declared.edge.Edge.{Edge}
+use Rattle.polygons.specs.declared.rule.Rule.{Rule}
+use Rattle.polygons.specs.declared.rule.Rule.TheVariants.{EvenOdd, NonZero}
+use Rattle.polygons.specs.declared.strip.Strip.{Strip}
+use Rattle.polygons.specs.Blocks.{down}
+use Rattle.polygons.specs.Columns.{Walk, along, below, HasHeight, IsFirstColumn}
+use Rattle.polygons.specs.Crossing.{winding}
+use Rattle.polygons.specs.Polygon.{path_edges, path_end, ring_edges, polygon_edges}
+use Rattle.polygons.specs.Rows.{direction, from_column}
+use Rattle.polygons.specs.Strip.{sample_of}
+use Rattle.polygons.specs.Cells.{total, modulus, signed, IsAlike, HasCounters, IsPlotted}
+use Rattle.polygons.proofs.Exact.{exact64}
+use Rattle.polygons.proofs.Counters.{direction-from, direction-none}
+use Rattle.polygons.proofs.Cancel.{one_down, one_up}
+use Rattle.polygons.proofs.Counts.{downs-ring, ups-ring}
+
+pub has_counters : (rule : Rule) (f c f' c' : List (List ℕ)) → length f' ≡ length f → length c' ≡ length c → HasCounters rule f c → HasCounters rule f' c'
+has_counters EvenOdd f c f' c' e g h = tt
+has_counters NonZero f c f' c' e g h = g ∙ h ∙ sym e
+
+-- the height of a row
+pub row_height : (y s : ℤ) (n : ℕ) → y ≡ s → n < 65 → IsInBand s → IsInBand (s +ℤ pos (256 * n))
+    → to_z w32 (of_z w32 (to_z w32 (of_z w32 y) +ℤ to_z w32 (of_z w32 (pos 256 *ℤ to_z w32 n)))) ≡ s +ℤ pos (256 * n)
+row_height y s n e h k l = omega (arith, ints)
+
+pub row_after : (p : Position) (n : ℕ) → below (down p n) ≡ down p (n + 1)
+row_after p n = let y : (p.y +ℤ pos (256 * n)) +ℤ pos 256 ≡ p.y +ℤ pos (256 * (n + 1)) = omega (arith, ints) in λ i. record { x = p.x; y = y i }
+
+-- what a walk's column says of the direction
+pub walk_direction : (e : Edge) (s : Position) (w : Walk) (column : ℤ) → FitsSigned w64 column → w ≡ record { edge = e; row = s } → IsFirstColumn w.edge w.row column → HasHeight e s.y
+    → (k : ℕ) → from_column (to_z w64 (of_z w64 column)) (pos 1) k ≡ direction e (along s (pos k))
+walk_direction e s w column fits is first height k =
+    let there : IsFirstColumn e s column = subst (λ (v : Walk). IsFirstColumn v.edge v.row column) is first in
+    ap (λ z. from_column z (pos 1) k) (exact64 column fits) ∙ sym (direction-from e s column k height there)
+
+-- ---- sums that are alike
+pub alike_from : (m : ℕ) (x x' y y' z z' : ℤ) → x ≡ x' → y ≡ y' → z ≡ z' → IsAlike m x (y +ℤ z) → IsAlike m x' (y' +ℤ z')
+alike_from m x x' y y' z z' e f g h = record { times = h.times; is = let i = h.is in omega (arith, ints) }
+
+pub alike_moved : (m : ℕ) (x x' y : ℤ) → x ≡ x' → IsAlike m x y → IsAlike m x' y
+alike_moved m x x' y e h = subst (λ (z : ℤ). IsAlike m z y) e h
+
+-- an edge that is not crossed adds nothing
+pub alike_none : (m : ℕ) (x y d : ℤ) (forward : Bool) → x ≡ y → d ≡ pos 0 → IsAlike m x (y +ℤ signed forward d)
+alike_none m x y d true e f = record { times = pos 0; is = omega (arith, ints) }
+alike_none m x y d false e f = record { times = pos 0; is = omega (arith, ints) }
+
+pub direction_above : (e : Edge) (p : Position) (k : ℤ) → e.a.y ≤ℤ e.b.y → p.y <ℤ e.a.y → direction e (along p k) ≡ pos 0
+direction_above e p k h l = direction-none e p k (λ x. let t = x.0 in omega (arith, ints)) (λ x. let t = x.0 in omega (arith, ints))
+
+pub direction_below : (e : Edge) (p : Position) (k : ℤ) → e.a.y ≤ℤ e.b.y → e.b.y ≤ℤ p.y → direction e (along p k) ≡ pos 0
+direction_below e p k h l = direction-none e p k (λ x. let t = x.1 in omega (arith, ints)) (λ x. let t = x.1 in omega (arith, ints))
+
+pub part_small : (count : SampleCount) → part_size count ≤ 4
+part_small One = omega arith
+part_small Two = omega arith
+part_small Four = omega arith
+part_small Eight = omega arith
+part_small Sixteen = omega arith
+
+pub before_of : (r i : ℕ) → r < i + 1 → (r ≡ i → ⊥) → r < i
+before_of r i h e = elim (cases_lt r i) [ inl m ↦ m | inr m ↦ absurd (e (omega arith)) ]
+
+-- ---- what is added to a strip
+pub plotted_as : (rule : Rule) (strip : Strip) (f g : Position → ℤ) (a b c d : List (List ℕ)) → ((p : Position) → f p ≡ g p) → IsPlotted rule strip f a b c d → IsPlotted rule strip g a b c d
+plotted_as rule strip f g a b c d e h = record {
+  flags_len = h.flags_len;
+  counters_len = h.counters_len;
+  totals = λ s row k x y z. alike_from (modulus rule) _ _ _ _ _ _ refl refl (e (sample_of strip s row k)) (h.totals s row k x y z);
+  marked = h.marked;
+  kept = h.kept;
+}
+
+pub plotted_none : (rule : Rule) (strip : Strip) (f : Position → ℤ) (a b : List (List ℕ)) → ((p : Position) → f p ≡ pos 0) → IsPlotted rule strip f a b a b
+plotted_none rule strip f a b e = record {
+  flags_len = refl;
+  counters_len = refl;
+  totals = λ s row k x y z. alike_none (modulus rule) _ _ (f (sample_of strip s row k)) true refl (e (sample_of strip s row k));
+  marked = λ h. h;
+  kept = λ e. refl;
+}
+
+pub times_sum : (n a b : ℤ) → n *ℤ (a +ℤ b) ≡ n *ℤ a +ℤ n *ℤ b
+times_sum n a b = ring (n ∷ a ∷ b ∷ []) (times (var 0) (plus (var 1) (var 2))) (plus (times (var 0) (var 1)) (times (var 0) (var 2))) refl
+
+alike_both : (m : ℕ) (x y z u v w : ℤ) → IsAlike m x (y +ℤ u) → IsAlike m y (z +ℤ v) → w ≡ v +ℤ u → IsAlike m x (z +ℤ w)
+alike_both m x y z u v w h k e = record { times = h.times +ℤ k.times; is = let i = h.is in let j = k.is in let d = times_sum (pos m) h.times k.times in omega (arith, ints) }
+
+pub plotted_both : (rule : Rule) (strip : Strip) (f g both : Position → ℤ) (a b c d e i : List (List ℕ)) → ((p : Position) → both p ≡ f p +ℤ g p)
+    → IsPlotted rule strip f a b c d → IsPlotted rule strip g c d e i → IsPlotted rule strip both a b e i
+plotted_both rule strip f g both a b c d e i sum h k = record {
+  flags_len = k.flags_len ∙ h.flags_len;
+  counters_len = k.counters_len ∙ h.counters_len;
+  totals = λ s row j x y z. let p = sample_of strip s row j in alike_both (modulus rule) _ _ _ _ _ (both p) (k.totals s row j x y (let l = h.flags_len in omega arith)) (h.totals s row j x y z) (sum p);
+  marked = λ l. k.marked (h.marked l);
+  kept = λ l. k.kept l ∙ h.kept l;
+}
+
+-- ---- the edges of paths and rings
+winding-cons : (e : Edge) (es : List Edge) (p : Position) → winding (e ∷ es) p ≡ direction e p +ℤ winding es p
+winding-cons e es p = let d = one_down e es p in let u = one_up e es p in omega (arith, ints)
+
+pub rest_of : {X : Type 0} (xs : List X) (i : ℕ) (x : X) → i < length xs → x ≡ get_or xs i x → drop i xs ≡ x ∷ drop (i + 1) xs
+rest_of {X} xs i x h e =
+    let k : drop i xs ≡ get_or xs i x ∷ drop (i + 1) xs = rw add-one (drop-cons xs i x h) in
+    k ∙ ap (λ (y : X). y ∷ drop (i + 1) xs) (sym e)
+
+pub path_step : (from to : Position) (cs : List Position) (i : ℕ) (p : Position) → i < length cs → to ≡ get_or cs i to
+    → winding (path_edges from (drop i cs)) p ≡ direction (record { a = from; b = to }) p +ℤ winding (path_edges to (drop (i + 1) cs)) p
+path_step from to cs i p h e =
+    let k : drop i cs ≡ to ∷ drop (i + 1) cs = rest_of cs i to h e in
+    rw k (winding-cons (record { a = from; b = to }) (path_edges to (drop (i + 1) cs)) p)
+
+pub none_left : {X : Type 0} (xs : List X) (i : ℕ) → length xs ≤ i → drop i xs ≡ []
+none_left {X} [] zero h = refl
+none_left {X} [] (suc i) h = refl
+none_left {X} (x ∷ xs) zero h = absurd (omega arith)
+none_left {X} (x ∷ xs) (suc i) h = none_left xs i (omega arith)
+
+pub end_step : (from to : Position) (cs : List Position) (i : ℕ) → i < length cs → to ≡ get_or cs i to → path_end from (drop i cs) ≡ path_end to (drop (i + 1) cs)
+end_step from to cs i h e = ap (path_end from) (rest_of cs i to h e)
+
+pub path_closed : (a b : Position) (cs : List Position) (p : Position) → winding (path_edges a (cs ++ b ∷ [])) p ≡ winding (path_edges a cs) p +ℤ direction (record { a = path_end a cs; b = b }) p
+path_closed a b [] p = let w = winding-cons (record { a = a; b = b }) [] p in omega (arith, ints)
+path_closed a b (c ∷ cs) p =
+    let i = path_closed c b cs p in
+    let w = winding-cons (record { a = a; b = c }) (path_edges c (cs ++ b ∷ [])) p in
+    let v = winding-cons (record { a = a; b = c }) (path_edges c cs) p in
+    omega (arith, ints)
+
+pub winding-ring : (ring : List Position) (rest : List (List Position)) (p : Position) → winding (polygon_edges (ring ∷ rest)) p ≡ winding (ring_edges ring) p +ℤ winding (polygon_edges rest) p
+winding-ring ring rest p = let d = downs-ring ring rest p in let u = ups-ring ring rest p in omega (arith, ints)
+
+pub nothing_yet : (z : ℤ) → z -ℤ z ≡ pos 0
+nothing_yet z = omega (arith, ints)
+
+pub one_more : (whole before after d : ℤ) → before ≡ d +ℤ after → whole -ℤ after ≡ (whole -ℤ before) +ℤ d
+one_more whole before after d e = omega (arith, ints)
+
+pub nothing_left : (whole rest : ℤ) → rest ≡ pos 0 → whole -ℤ rest ≡ whole
+nothing_left whole rest e = omega (arith, ints)
+
+pub ring_closed : (ring : List Position) (first last : Position) (rest : List Position) → ring ≡ first ∷ rest → last ≡ path_end first rest
+    → (p : Position) → winding (ring_edges ring) p ≡ winding (path_edges first rest) p +ℤ direction (record { a = last; b = first }) p
+ring_closed ring first last rest is end p =
+    ap (λ (r : List Position). winding (ring_edges r) p) is ∙ path_closed first first rest p ∙ ap (λ (q : Position). winding (path_edges first rest) p +ℤ direction (record { a = q; b = first }) p) (sym end)
+
+pub no_ring : (ring : List Position) → length ring < 1 → (p : Position) → winding (ring_edges ring) p ≡ pos 0
+no_ring [] h p = refl
+no_ring (c ∷ cs) h p = absurd (omega arith)
+
+all_taken : {X : Type 0} (xs : List X) (n : ℕ) → length xs ≤ n → take n xs ≡ xs
+all_taken {X} [] zero h = refl
+all_taken {X} [] (suc n) h = refl
+all_taken {X} (x ∷ xs) zero h = absurd (omega arith)
+all_taken {X} (x ∷ xs) (suc n) h = ap (λ (ys : List X). x ∷ ys) (all_taken xs n (omega arith))
+
+pub first_and_rest : (ring : List Position) (first : Position) → 1 ≤ length ring → first ≡ get_or ring 0 first → ring ≡ first ∷ take (length ring - 1) (drop 1 ring)
+first_and_rest ring first h e =
+    let l = length-drop 1 ring in
+    rest_of ring 0 first h e ∙ ap (λ (ys : List Position). first ∷ ys) (sym (all_taken (drop 1 ring) (length ring - 1) (omega arith)))
+
+-- an edge that is crossed at no sample of the strip
+pub plotted_apart : (rule : Rule) (strip : Strip) (f : Position → ℤ) (a b : List (List ℕ)) → ((s row k : ℕ) → s < part_size strip.count → row < 64 → k < 8 * length a → f (sample_of strip s row k) ≡ pos 0) → IsPlotted rule strip f a b a b
+plotted_apart rule strip f a b e = record {
+  flags_len = refl;
+  counters_len = refl;
+  totals = λ s row k x y z. alike_none (modulus rule) _ _ (f (sample_of strip s row k)) true refl (e s row k x y z);
+  marked = λ h. h;
+  kept = λ e. refl;
+}

@@ -1,0 +1,7 @@
+use Rattle.std.proofs.Common.{◌≡◌, map, take, count_by}
+use Rattle.polygons.specs.Crossing.{is_inside}
+use Rattle.polygons.specs.Partition.{covering}
+use Rattle.polygons.proofs.partition.count_covering.Given as goal
+
+abbrev pub invariant-loop-edges : goal.invariant-loop-edges
+invariant-loop-edges l = l.count ≡ count_by (λ es. is_inside l.rule es.now l.p) (take l.edges-index l.cells)

@@ -1,0 +1,60 @@
+use Rattle.std.proofs.Common.{◌≡◌, inl, inr, refl, sym, subst, ap, ◌∙◌, arith, ℕ, ◌+◌, ◌*◌, ◌<◌, ◌≤◌, pos, ◌+ℤ◌}
+use Rattle.std.proofs.lemmas.Bool.{cases_eq}
+use Rattle.grid.specs.Position.{Position}
+use Rattle.grid.specs.Samples.{part_size}
+use Rattle.polygons.specs.Blocks.{down}
+use Rattle.polygons.specs.Columns.{along}
+use Rattle.polygons.specs.Rows.{direction}
+use Rattle.polygons.specs.Strip.{sample_of}
+use Rattle.polygons.specs.Cells.{total, modulus, signed, IsAlike}
+use Rattle.polygons.proofs.Plotted.{has_counters, alike_from, alike_moved, part_small, before_of}
+use Rattle.polygons.proofs.plot.plot_samples.Goals as goal
+
+few : (s n m : ℕ) → s < n → n ≡ m → m ≤ 4 → s < 4
+few s n m h e k = omega arith
+
+pub plot_sample-requires : goal.plot_sample-requires
+plot_sample-requires c = record {
+  runs_down = c.requires.runs_down;
+  sample = few _ _ _ c.loop-s-test.true c.part_size-s-end.ensures (part_small c.args.strip.now.count);
+  counters = has_counters c.args.rule c.args.flags.now c.args.counters.now c.loop-s.flags c.loop-s.counters c.loop-s.invariant.flags_len c.loop-s.invariant.counters_len c.requires.counters;
+}
+
+pub loop-s-preserved : goal.loop-s-preserved
+loop-s-preserved c =
+    let v = c.loop-s.invariant in
+    let n = c.loop-s.s in
+    let p = c.plot_sample.ensures in
+    let e = c.args.edge.now in
+    let m = modulus c.args.rule in
+    let n_small = few _ _ _ c.loop-s-test.true c.part_size-s-end.ensures (part_small c.args.strip.now.count) in
+    record {
+      flags_len = p.flags ∙ v.flags_len;
+      counters_len = p.counters ∙ v.counters_len;
+      done = λ s row k f g h i. elim (cases_eq s n) [
+        | inl q ↦
+            let a = p.here row k h (let l = v.flags_len in omega arith) in
+            let d = ap (λ (z : Position). signed c.args.forward (direction e (along (down z row) (pos k)))) c.start.ensures in
+            let at_n = alike_from m _ _ _ _ _ _ refl (v.rest n row k (omega arith) n_small h) d a in
+            subst (λ (j : ℕ). IsAlike m (total c.args.rule c.plot_sample.new.flags c.plot_sample.new.counters j row k) (total c.args.rule c.args.flags.now c.args.counters.now j row k +ℤ signed c.args.forward (direction e (sample_of c.args.strip.now j row k)))) (sym q) at_n
+        | inr q ↦ alike_moved m _ _ _ (sym (p.others s row k g h q)) (v.done s row k (before_of s n f q) g h i)
+      ];
+      rest = λ s row k f g h. p.others s row k g h (λ x. omega arith) ∙ v.rest s row k (omega arith) g h;
+      marked = λ h. p.marked (v.marked h);
+      kept = λ e. p.kept e ∙ v.kept e;
+    }
+
+pub returns : goal.returns
+returns c =
+    let v = c.loop-s.invariant in
+    let all : c.loop-s.s ≡ c.part_size-s-end.result = let f = c.loop-s-test.false in let a = c.loop-s.auto.s-end in omega arith in
+    record {
+      flags_len = v.flags_len;
+      counters_len = v.counters_len;
+      totals = λ s row k f g h. v.done s row k (within s _ _ _ f all c.part_size-s-end.ensures) (few s _ _ f refl (part_small c.args.strip.now.count)) g h;
+      marked = v.marked;
+      kept = v.kept;
+    }
+  where
+    within : (s n m t : ℕ) → s < m → t ≡ n → n ≡ m → s < t
+    within s n m t h e k = omega arith

@@ -1,0 +1,57 @@
+use Rattle.std.proofs.Common.{◌≡◌, ◌↔◌, refl, sym, subst, ap, ◌∙◌, arith, ℕ, ◌+◌, ◌*◌, ◌^◌, ◌<◌, ◌≤◌, List, map, length, slice_index, pos}
+use Rattle.std.proofs.lemmas.Nat.Bits.{bit_at-lt}
+use Rattle.polygons.specs.declared.rule.Rule.{Rule}
+use Rattle.polygons.specs.declared.rule.Rule.TheVariants.{EvenOdd, NonZero}
+use Rattle.polygons.specs.Polygon.{polygon_edges}
+use Rattle.polygons.specs.ManyRows.{row_of}
+use Rattle.polygons.specs.Strip.{sample_of}
+use Rattle.polygons.specs.Cells.{HasCounters, AreZeros, AreMarked, flag_of, total}
+use Rattle.polygons.proofs.Plotted.{part_small, has_counters}
+use Rattle.polygons.proofs.Masks.{mask_of_flags, even_odd_inside, nonzero_inside, marked_zeros, total-zeros, from_zeros}
+use Rattle.polygons.proofs.strip_masks.cover_strip.Goals as goal
+
+few : (s n : ℕ) → s < n → n ≤ 4 → s < 4
+few s n h k = omega arith
+
+pub returns-in-EvenOdd : goal.returns-in-EvenOdd
+returns-in-EvenOdd c =
+    let p = c.plot.ensures in
+    let edges = polygon_edges (map (λ r. r.now) c.args.rings.now) in
+    let strip = c.args.strip.now in
+    record {
+      len = c.fill.ensures.len ∙ p.flags_len;
+      masks = λ s row column h l m.
+          rw c.in-EvenOdd.is
+          (mask_of_flags EvenOdd edges strip c.fill.new.flags s row column (length c.args.flags.now) l m (λ j k j_small k_small.
+          let t = rw c.in-EvenOdd.is at (p.totals s j k h j_small k_small) in
+          let sum = from_zeros 2 _ _ _ (total-zeros EvenOdd c.args.flags.now c.args.counters.now s j k c.requires.flags c.requires.counters) t in
+          even_odd_inside edges (sample_of strip s j k) (flag_of c.plot.new.flags s j) (k + 1) (flag_of c.fill.new.flags s j k) _
+          (c.fill.ensures.bits s j k (few s _ h (part_small strip.count)) j_small (let e = p.flags_len in omega arith)) (bit_at-lt _ _) refl sum));
+      counters = λ column i. ap (λ (cs : List (List ℕ)). slice_index (row_of cs column) i) (p.kept c.in-EvenOdd.is) ∙ c.requires.counters column i;
+    }
+
+pub returns-in-NonZero : goal.returns-in-NonZero
+returns-in-NonZero c =
+    let p = c.plot.ensures in
+    let rings = map (λ r. r.now) c.args.rings.now in
+    let strip = c.args.strip.now in
+    record {
+      len = c.sum.ensures.len ∙ p.flags_len;
+      masks = λ s row column h l m.
+          rw c.in-NonZero.is
+          (mask_of_flags NonZero (polygon_edges rings) strip c.sum.new.flags s row column (length c.args.flags.now) l m (λ j k j_small k_small.
+          let t = rw c.in-NonZero.is at (p.totals s j k h j_small k_small) in
+          let sum = from_zeros (2 ^ 32) _ _ _ (total-zeros NonZero c.args.flags.now c.args.counters.now s j k c.requires.flags c.requires.counters) t in
+          nonzero_inside rings (sample_of strip s j k) (flag_of c.sum.new.flags s j k) _ c.requires.corners
+          (c.sum.ensures.bits s j k (few s _ h (part_small strip.count)) j_small (let e = p.flags_len in omega arith)) sum));
+      counters = c.sum.ensures.counters;
+    }
+
+pub sum-requires : goal.sum-requires
+sum-requires c =
+    let p = c.plot.ensures in
+    let columns = has_counters c.args.rule c.args.flags.now c.args.counters.now c.plot.new.flags c.plot.new.counters p.flags_len p.counters_len c.requires.columns in
+    record {
+      columns = rw c.in-NonZero.is at columns;
+      marked = rw c.in-NonZero.is at (p.marked (marked_zeros c.args.rule c.args.flags.now c.args.counters.now c.requires.counters));
+    }

@@ -1,0 +1,33 @@
+-- Blocks of 8 by 8 samples as bits of one word.
+use Rattle.std.specs.Prelude.{◌≡◌, ◌↔◌, ℕ, ◌+◌, ◌*◌, ◌<◌, pos, ◌+ℤ◌, List, IsBitSet}
+use Rattle.std.specs.Int.{bit_at}
+use Rattle.grid.specs.Position.{Position}
+use Rattle.grid.specs.Samples.{sample_position}
+use Rattle.grid.specs.declared.sample_count.SampleCount.{SampleCount}
+use Rattle.polygons.specs.declared.edge.Edge.{Edge}
+use Rattle.polygons.specs.declared.rule.Rule.{Rule}
+use Rattle.polygons.specs.Crossing.{IsInside}
+use Rattle.polygons.specs.Columns.{along}
+
+-- The position this many pixels below p.
+abbrev pub down : Position → ℕ → Position
+down p rows = record { x = p.x; y = p.y +ℤ pos (256 * rows) }
+
+-- The sample in a row and a column of a block, whose first sample is p.
+abbrev pub in_block : Position → ℕ → ℕ → Position
+in_block p row column = along (down p row) (pos column)
+
+-- Bit 8 row + column of the mask says whether the sample there is inside of the edges by the rule.
+abbrev pub IsMaskOf : Rule → List Edge → Position → ℕ → Type 0
+IsMaskOf rule edges p mask =
+    (row column : ℕ) → row < 8 → column < 8 → ((bit_at mask (8 * row + column) ≡ 1) ↔ IsInside rule edges (in_block p row column))
+
+-- The first eight bits say it of a row.
+abbrev pub IsBlockRow : Rule → List Edge → Position → ℕ → Type 0
+IsBlockRow rule edges p bits = (column : ℕ) → column < 8 → ((bit_at bits column ≡ 1) ↔ IsInside rule edges (along p (pos column)))
+
+-- Bit 8 row + column of the mask says whether sample s of the pixel there is inside of the edges by the rule. The first pixel of
+-- block (bx, by) is (8 bx, 8 by).
+abbrev pub IsSampleMask : Rule → List Edge → ℕ → ℕ → ℕ → SampleCount → ℕ → Type 0
+IsSampleMask rule edges bx by s count mask =
+    (row column : ℕ) → row < 8 → column < 8 → (IsBitSet mask (8 * row + column) ↔ IsInside rule edges (sample_position (8 * bx + column) (8 * by + row) s count))

@@ -1,0 +1,74 @@
+-- Flags and counters of the samples of a strip, which stand where edges are first crossed.
+use Rattle.std.specs.Prelude.{◌≡◌, ℕ, ◌+◌, ◌*◌, ◌/◌, ◌%◌, ◌^◌, ◌<◌, ℤ, pos, ◌+ℤ◌, ◌*ℤ◌, neg_ℤ, Bool, true, false, List, length, slice_index}
+use Rattle.std.specs.Int.{bit_at}
+use Rattle.grid.specs.Position.{Position}
+use Rattle.grid.specs.Samples.{part_size}
+use Rattle.polygons.specs.declared.edge.Edge.{Edge}
+use Rattle.polygons.specs.declared.rule.Rule.{Rule}
+use Rattle.polygons.specs.declared.rule.Rule.TheVariants.{EvenOdd, NonZero}
+use Rattle.polygons.specs.declared.strip.Strip.{Strip}
+use Rattle.polygons.specs.Rows.{sum_to}
+use Rattle.polygons.specs.ManyRows.{row_of}
+use Rattle.polygons.specs.Strip.{sample_of}
+
+-- The word of a sample's row in a column of blocks: of each row of blocks there are four.
+abbrev pub word_of : ℕ → ℕ → ℕ
+word_of s row = 4 * (row / 8) + s
+
+-- The bit of a pixel in its block.
+abbrev pub place_of : ℕ → ℕ → ℕ
+place_of row k = 8 * (row % 8) + k % 8
+
+-- The flag of sample s of the pixel in a row and a column.
+abbrev pub flag_of : List (List ℕ) → ℕ → ℕ → ℕ → ℕ
+flag_of flags s row k = bit_at (slice_index (row_of flags (k / 8)) (word_of s row)) (place_of row k)
+
+-- Its counter.
+abbrev pub count_of : List (List ℕ) → ℕ → ℕ → ℕ → ℕ
+count_of counters s row k = slice_index (row_of counters (k / 8)) (64 * word_of s row + place_of row k)
+
+-- What stands there for the rule: a flag, or a counter.
+abbrev pub cell : Rule → List (List ℕ) → List (List ℕ) → ℕ → ℕ → ℕ → ℤ
+cell EvenOdd flags counters s row k = pos (flag_of flags s row k)
+cell NonZero flags counters s row k = pos (count_of counters s row k)
+
+-- The sum of the flags or counters of a row up to column k.
+abbrev pub total : Rule → List (List ℕ) → List (List ℕ) → ℕ → ℕ → ℕ → ℤ
+total rule flags counters s row k = sum_to (cell rule flags counters s row) (k + 1)
+
+-- Flags are sums modulo 2, and counters modulo 2 ^ 32.
+abbrev pub modulus : Rule → ℕ
+modulus EvenOdd = 2
+modulus NonZero = 2 ^ 32
+
+-- The numbers differ by a multiple of m.
+pub record IsAlike (m : ℕ) (x y : ℤ) : Type 0 where
+  pub times : ℤ
+  pub is : x ≡ y +ℤ pos m *ℤ times
+
+-- The nonzero rule has as many columns of counters as of flags.
+abbrev pub HasCounters : Rule → List (List ℕ) → List (List ℕ) → Type 0
+HasCounters EvenOdd flags counters = Unit {0}
+HasCounters NonZero flags counters = length counters ≡ length flags
+
+-- A counter other than 0 has its flag set.
+abbrev pub AreMarked : Rule → List (List ℕ) → List (List ℕ) → Type 0
+AreMarked EvenOdd flags counters = Unit {0}
+AreMarked NonZero flags counters = (s row k : ℕ) → s < 4 → row < 64 → flag_of flags s row k ≡ 0 → count_of counters s row k ≡ 0
+
+-- The number, or its opposite.
+abbrev pub signed : Bool → ℤ → ℤ
+signed true z = z
+signed false z = neg_ℤ z
+
+-- To the sums at each sample of a strip a number was added, which depends on where the sample lies.
+pub record IsPlotted (rule : Rule) (strip : Strip) (change : Position → ℤ) (flags counters flags' counters' : List (List ℕ)) : Type 0 where
+  pub flags_len : length flags' ≡ length flags
+  pub counters_len : length counters' ≡ length counters
+  pub totals : (s row k : ℕ) → s < part_size strip.count → row < 64 → k < 8 * length flags → IsAlike (modulus rule) (total rule flags' counters' s row k) (total rule flags counters s row k +ℤ change (sample_of strip s row k))
+  pub marked : AreMarked rule flags counters → AreMarked rule flags' counters'
+  pub kept : rule ≡ EvenOdd → counters' ≡ counters
+
+-- All flags or counters are 0.
+abbrev pub AreZeros : List (List ℕ) → Type 0
+AreZeros cells = (column i : ℕ) → slice_index (row_of cells column) i ≡ 0

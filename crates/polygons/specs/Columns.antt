@@ -1,0 +1,59 @@
+-- The first sample of a row at which an edge is crossed.
+use Rattle.std.specs.Prelude.{◌≡◌, ◌↔◌, ℤ, pos, ◌+ℤ◌, ◌-ℤ◌, ◌*ℤ◌, neg_ℤ, ◌≤ℤ◌, ◌<ℤ◌, ◌^◌}
+use Rattle.grid.specs.Bounds.{IsWithin}
+use Rattle.grid.specs.Position.{Position, IsInBand}
+use Rattle.grid.specs.Edge.{side}
+use Rattle.polygons.specs.declared.edge.Edge.{Edge}
+use Rattle.polygons.specs.Crossing.{CrossesDown}
+
+-- The position k pixels to the right of p, or to the left if k is negative.
+abbrev pub along : Position → ℤ → Position
+along p k = record { x = p.x +ℤ pos 256 *ℤ k; y = p.y }
+
+-- The position one pixel below.
+abbrev pub below : Position → Position
+below p = record { x = p.x; y = p.y +ℤ pos 256 }
+
+-- The half-open range of heights of an edge that runs downwards holds this height.
+pub record HasHeight (e : Edge) (y : ℤ) : Type 0 where
+  pub top : e.a.y ≤ℤ y
+  pub bottom : y <ℤ e.b.y
+
+-- Of the samples that lie a whole number of pixels from p, those from column c on are crossed, and no other.
+abbrev pub IsFirstColumn : Edge → Position → ℤ → Type 0
+IsFirstColumn e p c = (k : ℤ) → (CrossesDown e (along p k) ↔ (c ≤ℤ k))
+
+-- An edge that runs downwards, and the sample of column 0 in one of the rows that it runs through.
+pub record Walk : Type 0 where
+  pub edge : Edge
+  pub row : Position
+
+-- The edge function at the first column, by its absolute value in 256 times 1/65536 square pixel, rounded down.
+pub record IsAtColumn (e : Edge) (p : Position) (column rest : ℤ) : Type 0 where
+  pub low : (pos 256 *ℤ rest) ≤ℤ neg_ℤ (side e.a e.b (along p column))
+  pub high : neg_ℤ (side e.a e.b (along p column)) <ℤ (pos 256 *ℤ rest +ℤ pos 256)
+  pub rest_low : pos 0 ≤ℤ rest
+  pub rest_high : rest <ℤ (e.b.y -ℤ e.a.y)
+
+-- The edge's width as a quotient and a remainder by its height.
+pub record IsStep (e : Edge) (columns part : ℤ) : Type 0 where
+  pub sum : e.b.x -ℤ e.a.x ≡ columns *ℤ (e.b.y -ℤ e.a.y) +ℤ part
+  pub part_low : pos 0 ≤ℤ part
+  pub part_high : part <ℤ (e.b.y -ℤ e.a.y)
+
+-- All coordinates are inside of the guard band.
+pub record AreInBand (e : Edge) (x : ℤ) : Type 0 where
+  pub ax : IsInBand e.a.x
+  pub ay : IsInBand e.a.y
+  pub bx : IsInBand e.b.x
+  pub by : IsInBand e.b.y
+  pub start : IsInBand x
+
+-- What is kept of an edge at a row: the numbers of the step, and the first column with what is left there.
+pub record IsWalking (e : Edge) (p : Position) (height columns part column rest : ℤ) : Type 0 where
+  pub band : AreInBand e p.x
+  pub range : HasHeight e p.y
+  pub tall : height ≡ e.b.y -ℤ e.a.y
+  pub step : IsStep e columns part
+  pub size : IsWithin (2 ^ 25) columns
+  pub place : IsAtColumn e p column rest

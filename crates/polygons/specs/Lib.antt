@@ -1,0 +1,128 @@
+-- The definitions of this crate, each file behind those that it uses; `python3 -m tools.definitions` writes these lines.
+--
+-- Crossing.antt
+--   CrossesDown: The edge is crossed downwards at p.
+--   IsLineAtOrLeft: The line of an edge that runs downwards is, at the height of p, at p or left of it.
+--   CrossesUp: The edge is crossed upwards at p: it runs upwards, with the same range of heights and the same side of the line.
+--   is_crossed_down: Whether the edge is crossed downwards at p.
+--   is_crossed_up: Whether the edge is crossed upwards at p.
+--   downs: How many edges are crossed downwards at p.
+--   ups: How many edges are crossed upwards at p.
+--   crossings: How many edges are crossed at p.
+--   winding: The sum of the directions of the crossed edges: 1 for each that is crossed downwards, -1 for each that is crossed upwards.
+--   IsInsideBy: This number of crossings and this winding number mean inside, by the rule.
+--   is_inside: Whether p is inside of what the edges bound, by the rule: `IsInside` as a truth value.
+--   IsInside: p is inside of what the edges bound, by the rule.
+--
+-- Polygon.antt
+--   path_edges: The edges of the path from a corner through others.
+--   path_end: The last corner of the path.
+--   ring_edges: The edges of a ring: from each corner to the next, and from the last to the first.
+--   polygon_edges: The edges of a polygon: those of its rings.
+--   PolygonCovers: The polygon covers p by the rule.
+--   corner_count: How many corners the rings have, which is how many edges.
+--
+-- Laws.antt
+--   reversed: The edge in the other direction.
+--   CrossingsAdd: The crossings of two lists of edges together are the sum, and so is the winding number.
+--   AreOpposite: An edge is crossed downwards where its reverse is crossed upwards.
+--   SharedEdgesCancel: Edges that one polygon has in one direction and its neighbour in the other cancel.
+--   moved: A position moved by a distance in each coordinate.
+--   moved_edge: An edge moved by a distance in each coordinate.
+--   MovesAlong: What is inside moves with the edges.
+--
+-- Partition.antt
+--   all_edges: The edges of all cells together.
+--   covering: How many of the cells p is inside of, by the rule.
+--   AreSameEdges: The lists have the same edges, each in either direction.
+--   IsOutline: The cells have the edges of the outline once, and besides only edges that occur twice, in any directions.
+--   IsFitted: The same, and of the edges that occur twice one cell has one direction and its neighbour the other.
+--   HasParityOf: By the even-odd rule p is inside of an odd number of cells if and only if it is inside of their outline.
+--   WindForwards: No cell winds backwards around p, as none does whose rings run clockwise around its inside.
+--   IsPartition: If the outline winds around p once, p is inside of exactly one cell, and of none if the outline does not wind around p.
+--
+-- Columns.antt
+--   along: The position k pixels to the right of p, or to the left if k is negative.
+--   below: The position one pixel below.
+--   HasHeight: The half-open range of heights of an edge that runs downwards holds this height.
+--   IsFirstColumn: Of the samples that lie a whole number of pixels from p, those from column c on are crossed, and no other.
+--   Walk: An edge that runs downwards, and the sample of column 0 in one of the rows that it runs through.
+--   IsAtColumn: The edge function at the first column, by its absolute value in 256 times 1/65536 square pixel, rounded down.
+--   IsStep: The edge's width as a quotient and a remainder by its height.
+--   AreInBand: All coordinates are inside of the guard band.
+--   IsWalking: What is kept of an edge at a row: the numbers of the step, and the first column with what is left there.
+--
+-- Rows.antt
+--   bit_of: Bit k of a row: bit k % 64 of word k / 64.
+--   parity: Whether an odd number of the first n flags are set: 1 or 0.
+--   crossing: How often one edge is crossed at p: once or not at all.
+--   IsRowOf: The bits of a row, whose sample of column 0 is `start`, say what is inside of the edges by the rule.
+--   direction: The direction in which one edge is crossed at p: 1 downwards, -1 upwards, 0 if it is not crossed.
+--   sum_to: The sum of the first n counters.
+--   counter_of: Counter k of a row.
+--   from_column: This number if the column is at k or left of it, else 0.
+--   AreWithin: The absolute value of each counter is at most n.
+--
+-- Blocks.antt
+--   down: The position this many pixels below p.
+--   in_block: The sample in a row and a column of a block, whose first sample is p.
+--   IsMaskOf: Bit 8 row + column of the mask says whether the sample there is inside of the edges by the rule.
+--   IsBlockRow: The first eight bits say it of a row.
+--   IsSampleMask: Bit 8 row + column of the mask says whether sample s of the pixel there is inside of the edges by the rule.
+--
+-- ManyRows.antt
+--   row_of: Row r, by its words.
+--
+-- Screen.antt
+--   IsPixelInBand: The pixels of a column or a row of the screen lie inside of the guard band.
+--   screen_sample: The position of sample s of pixel (i, j) of the screen, whose upper left corner is at (256 i, 256 j).
+--
+-- Strip.antt
+--   start_of: Where the first pixel of a strip has sample s of the part.
+--   sample_of: Where the pixel in a row and a column of a strip has sample s of the part.
+--
+-- Apart.antt
+--   IsAbove: Both ends are at the upper border of the strip, or above it.
+--   IsBelow: Both ends are at the lower border of the strip, or below it.
+--   IsRight: Both ends are right of each pixel of these columns of blocks.
+--   IsApart: One of these.
+--
+-- Cells.antt
+--   word_of: The word of a sample's row in a column of blocks: of each row of blocks there are four.
+--   place_of: The bit of a pixel in its block.
+--   flag_of: The flag of sample s of the pixel in a row and a column.
+--   count_of: Its counter.
+--   cell: What stands there for the rule: a flag, or a counter.
+--   total: The sum of the flags or counters of a row up to column k.
+--   modulus: Flags are sums modulo 2, and counters modulo 2 ^ 32.
+--   IsAlike: The numbers differ by a multiple of m.
+--   HasCounters: The nonzero rule has as many columns of counters as of flags.
+--   AreMarked: A counter other than 0 has its flag set.
+--   signed: The number, or its opposite.
+--   IsPlotted: To the sums at each sample of a strip a number was added, which depends on where the sample lies.
+--   AreZeros: All flags or counters are 0.
+--
+-- Spreading.antt
+--   IsCarry: Of the rows of a word of 8 by 8 bits no more than the first bit of each is set.
+--   IsFilled: Each bit is the parity of the carry into its row and of the flags of the row up to it.
+--   IsNextCarry: The carry into the next word is the parity of the carry and of all flags of a row.
+--
+-- Summing.antt
+--   run: The sum of a number and of the first n counters from `from` on, modulo 2 ^ 32.
+--   nonzero_bit: 1 if the number is other than 0.
+--   IsSummed: Each bit says whether the sum up to it of row q of a column's counters, eight of each row, is other than 0.
+
+pub mod Crossing
+pub mod Polygon
+pub mod Laws
+pub mod Partition
+pub mod Columns
+pub mod Rows
+pub mod Blocks
+pub mod ManyRows
+pub mod Screen
+pub mod Strip
+pub mod Apart
+pub mod Cells
+pub mod Spreading
+pub mod Summing

@@ -1,0 +1,15 @@
+-- Strips of the screen: 64 rows of pixels, and a part of their samples.
+use Rattle.std.specs.Prelude.{ℕ, ◌+◌, pos}
+use Rattle.grid.specs.Position.{Position}
+use Rattle.polygons.specs.declared.strip.Strip.{Strip}
+use Rattle.polygons.specs.Blocks.{down}
+use Rattle.polygons.specs.Columns.{along}
+use Rattle.polygons.specs.Screen.{screen_sample}
+
+-- Where the first pixel of a strip has sample s of the part.
+abbrev pub start_of : Strip → ℕ → Position
+start_of strip s = screen_sample strip.column strip.row (strip.from + s) strip.count
+
+-- Where the pixel in a row and a column of a strip has sample s of the part.
+abbrev pub sample_of : Strip → ℕ → ℕ → ℕ → Position
+sample_of strip s row column = along (down (start_of strip s) row) (pos column)

@@ -1,0 +1,108 @@
+//! The flags and counters of a strip's samples, by columns of blocks. A column has 32 words of flags: of each of its eight blocks one
+//! for each of four samples, whose bit 8 * row + column is that of a pixel. It has 64 counters for each word, one for each bit.
+ghost use Rattle.std.specs.Prelude.{◌≡◌, ℕ, ◌+◌, ◌*◌, ◌%◌, ◌^◌, ◌<◌, pos, negsuc, ◌+ℤ◌, cond, length};
+ghost use Rattle.polygons.specs.Rows.{from_column};
+ghost use Rattle.polygons.specs.Cells.{flag_of, count_of, total, modulus, signed, IsAlike, HasCounters, AreMarked};
+ghost use Rattle.polygons.specs.declared.rule.Rule.TheVariants.{EvenOdd};
+
+use crate::rule::Rule;
+
+/// The flags of a column of blocks.
+pub type Flags = [u64; 32];
+
+/// The counters of a column of blocks.
+pub type Counters = [u32; 2048];
+
+/// The word of a sample's row.
+#[inline(always)]
+fn word(s: usize, row: usize) -> usize
+    requires sample { s < 4 }
+    requires row { row < 64 }
+    ensures value { result ≡ Rattle.polygons.specs.Cells.word_of s row }
+    ensures small { result < 32 }
+{
+    4 * (row / 8) + s
+}
+
+/// The bit of a pixel.
+#[inline(always)]
+fn bit(row: usize, column: usize) -> usize
+    ensures value { result ≡ Rattle.polygons.specs.Cells.place_of row column }
+    ensures small { result < 64 }
+{
+    8 * (row % 8) + column % 8
+}
+
+/// Flips the flag of a sample.
+#[inline(always)]
+fn flip(flags: &mut [Flags], s: usize, row: usize, column: usize)
+    requires sample { s < 4 }
+    requires row { row < 64 }
+    requires column { column < 8 * length flags.old }
+    ensures len { length flags.new ≡ length flags.old }
+    ensures here { flag_of flags.new s row column ≡ (flag_of flags.old s row column + 1) % 2 }
+    ensures others { (r j k : ℕ) → r < 4 → j < 64 → (r ≡ s → j ≡ row → k ≡ column → ⊥) → flag_of flags.new r j k ≡ flag_of flags.old r j k }
+{
+    flags[column / 8][word(s, row)] ^= 1 << bit(row, column);
+}
+
+/// Sets the flag of a sample.
+#[inline(always)]
+fn mark(flags: &mut [Flags], s: usize, row: usize, column: usize)
+    requires sample { s < 4 }
+    requires row { row < 64 }
+    requires column { column < 8 * length flags.old }
+    ensures len { length flags.new ≡ length flags.old }
+    ensures here { flag_of flags.new s row column ≡ 1 }
+    ensures others { (r j k : ℕ) → r < 4 → j < 64 → (r ≡ s → j ≡ row → k ≡ column → ⊥) → flag_of flags.new r j k ≡ flag_of flags.old r j k }
+{
+    flags[column / 8][word(s, row)] |= 1 << bit(row, column);
+}
+
+/// Adds 1 to the counter of a sample, or takes 1 away, modulo 2^32.
+#[inline(always)]
+fn count(counters: &mut [Counters], s: usize, row: usize, column: usize, down: bool)
+    requires sample { s < 4 }
+    requires row { row < 64 }
+    requires column { column < 8 * length counters.old }
+    ensures len { length counters.new ≡ length counters.old }
+    ensures here { count_of counters.new s row column ≡ (count_of counters.old s row column + cond down 1 4294967295) % 2 ^ 32 }
+    ensures others { (r j k : ℕ) → r < 4 → j < 64 → (r ≡ s → j ≡ row → k ≡ column → ⊥) → count_of counters.new r j k ≡ count_of counters.old r j k }
+{
+    let counter = &mut counters[column / 8][64 * word(s, row) + bit(row, column)];
+    *counter = counter.wrapping_add(if down { 1 } else { u32::MAX });
+}
+
+/// Counts an edge that is crossed at a sample's row from a column on, downwards or upwards. A column left of the strip counts as the
+/// first, and one right of it is left out.
+#[inline(always)]
+pub(crate) fn cross(
+    flags: &mut [Flags],
+    counters: &mut [Counters],
+    rule: Rule,
+    s: usize,
+    row: usize,
+    column: i64,
+    down: bool,
+)
+    requires sample { s < 4 }
+    requires row { row < 64 }
+    requires counters { HasCounters rule flags.old counters.old }
+    ensures flags { length flags.new ≡ length flags.old }
+    ensures counters { length counters.new ≡ length counters.old }
+    ensures here { (k : ℕ) → k < 8 * length flags.old → IsAlike (modulus rule) (total rule flags.new counters.new s row k) (total rule flags.old counters.old s row k +ℤ signed down (from_column column (pos 1) k)) }
+    ensures others { (r j k : ℕ) → r < 4 → j < 64 → (r ≡ s → j ≡ row → ⊥) → total rule flags.new counters.new r j k ≡ total rule flags.old counters.old r j k }
+    ensures marked { AreMarked rule flags.old counters.old → AreMarked rule flags.new counters.new }
+    ensures kept { rule ≡ EvenOdd → counters.new ≡ counters.old }
+{
+    let column = column.max(0) as usize;
+    if column / 8 < flags.len() {
+        match rule {
+            Rule::EvenOdd => flip(flags, s, row, column),
+            Rule::NonZero => {
+                mark(flags, s, row, column);
+                count(counters, s, row, column, down);
+            }
+        }
+    }
+}

@@ -1,0 +1,36 @@
+//! Which points a polygon covers, by the even-odd rule or the nonzero rule.
+#![tactic(auto)]
+
+mod apart;
+mod block;
+mod byte_rows;
+mod cells;
+mod crossings;
+mod divide;
+mod edge;
+mod fill;
+mod laws;
+mod partition;
+mod plot;
+mod polygon;
+mod rows;
+mod rule;
+mod spread;
+mod strip;
+mod strip_masks;
+mod sum;
+mod walk;
+mod windings;
+
+pub use block::{block_mask, sample_mask};
+pub use cells::{Counters, Flags};
+pub use crossings::{Crossings, count_edges};
+pub use edge::Edge;
+pub use laws::{count_both, edges_cover, quad_covers, triangle_covers};
+pub use partition::count_covering;
+pub use polygon::polygon_covers;
+pub use rows::even_odd_row;
+pub use rule::Rule;
+pub use strip::Strip;
+pub use strip_masks::cover_strip;
+pub use windings::nonzero_row;

@@ -1,0 +1,194 @@
+//! Where the edges of a polygon are first crossed in the rows of a strip: each edge is walked down once for each sample of the part,
+//! and adds to one cell of each row that it runs through.
+ghost use Rattle.std.specs.Prelude.{◌≡◌, ℕ, ◌+◌, ◌*◌, ◌^◌, ◌<◌, ◌≤◌, pos, ◌+ℤ◌, ◌<ℤ◌, ◌≤ℤ◌, length, map};
+ghost use Rattle.grid.specs.Position.{Position, IsInBand};
+ghost use Rattle.grid.specs.Samples.{part_size};
+ghost use Rattle.polygons.specs.Blocks.{down};
+ghost use Rattle.polygons.specs.Columns.{along, HasHeight};
+ghost use Rattle.polygons.specs.Crossing.{winding};
+ghost use Rattle.polygons.specs.Polygon.{path_edges, path_end, ring_edges, polygon_edges};
+ghost use Rattle.polygons.specs.Rows.{direction};
+ghost use Rattle.polygons.specs.Cells.{total, modulus, signed, IsAlike, HasCounters, AreMarked, IsPlotted};
+ghost use Rattle.polygons.specs.declared.rule.Rule.TheVariants.{EvenOdd};
+
+use crate::apart::is_apart;
+use crate::cells::{Counters, Flags, cross};
+use crate::divide::divide;
+use crate::edge::Edge;
+use crate::rule::Rule;
+use crate::strip::{Strip, point_at};
+use crate::walk::EdgeWalk;
+use grid::Point;
+
+/// The first of 64 rows that is not above the height `y`, or 64. The first row lies at the height `start`.
+fn first_row(start: i32, y: i32) -> usize
+    requires start { IsInBand start }
+    requires y { IsInBand y }
+    ensures most { result ≤ 64 }
+    ensures above { (r : ℕ) → r < result → (start +ℤ pos (256 * r)) <ℤ y }
+    ensures below { (r : ℕ) → result ≤ r → r < 64 → y ≤ℤ (start +ℤ pos (256 * r)) }
+{
+    let (rows, _) = divide(i64::from(y - start) + 255, 256);
+    rows.clamp(0, 64) as usize
+}
+
+/// Counts an edge that runs downwards in the rows of sample `s`, whose first pixel has this sample at `start`. The edge counts as one
+/// in its own direction if `forward`, else in the opposite one.
+fn plot_sample(
+    flags: &mut [Flags],
+    counters: &mut [Counters],
+    rule: Rule,
+    edge: &Edge,
+    forward: bool,
+    s: usize,
+    start: Point,
+)
+    requires runs_down { edge.now.a.y ≤ℤ edge.now.b.y }
+    requires sample { s < 4 }
+    requires counters { HasCounters rule flags.old counters.old }
+    ensures flags { length flags.new ≡ length flags.old }
+    ensures counters { length counters.new ≡ length counters.old }
+    ensures here { (row k : ℕ) → row < 64 → k < 8 * length flags.old → IsAlike (modulus rule) (total rule flags.new counters.new s row k) (total rule flags.old counters.old s row k +ℤ signed forward (direction edge.now (along (down start row) (pos k)))) }
+    ensures others { (r row k : ℕ) → r < 4 → row < 64 → (r ≡ s → ⊥) → total rule flags.new counters.new r row k ≡ total rule flags.old counters.old r row k }
+    ensures marked { AreMarked rule flags.old counters.old → AreMarked rule flags.new counters.new }
+    ensures kept { rule ≡ EvenOdd → counters.new ≡ counters.old }
+{
+    let first = first_row(start.y(), edge.a.y());
+    let end = first_row(start.y(), edge.b.y());
+    if first < end {
+        plot_rows(flags, counters, rule, edge, forward, s, start, first, end);
+    }
+}
+
+/// The same in the rows `first` to before `end`, which are those that the edge runs through.
+fn plot_rows(
+    flags: &mut [Flags],
+    counters: &mut [Counters],
+    rule: Rule,
+    edge: &Edge,
+    forward: bool,
+    s: usize,
+    start: Point,
+    first: usize,
+    end: usize,
+)
+    requires rows { first < end }
+    requires most { end ≤ 64 }
+    requires in_band { IsInBand (start.y +ℤ pos (256 * first)) }
+    requires through { (r : ℕ) → first ≤ r → r < end → HasHeight edge.now (down start r).y }
+    requires sample { s < 4 }
+    requires counters { HasCounters rule flags.old counters.old }
+    ensures flags { length flags.new ≡ length flags.old }
+    ensures counters { length counters.new ≡ length counters.old }
+    ensures here { (row k : ℕ) → first ≤ row → row < end → k < 8 * length flags.old → IsAlike (modulus rule) (total rule flags.new counters.new s row k) (total rule flags.old counters.old s row k +ℤ signed forward (direction edge.now (along (down start row) (pos k)))) }
+    ensures others { (r row k : ℕ) → r < 4 → row < 64 → (r ≡ s → first ≤ row → row < end → ⊥) → total rule flags.new counters.new r row k ≡ total rule flags.old counters.old r row k }
+    ensures marked { AreMarked rule flags.old counters.old → AreMarked rule flags.new counters.new }
+    ensures kept { rule ≡ EvenOdd → counters.new ≡ counters.old }
+{
+    let mut walk = EdgeWalk::new(*edge, point_at(start.x(), start.y() + 256 * first as i32));
+    for row in first..end {
+        cross(flags, counters, rule, s, row, walk.column(), forward);
+        if row + 1 < end {
+            walk.step();
+        }
+    }
+}
+
+/// The same of all samples of the part.
+fn plot_samples(
+    flags: &mut [Flags],
+    counters: &mut [Counters],
+    rule: Rule,
+    edge: &Edge,
+    forward: bool,
+    strip: &Strip,
+)
+    requires runs_down { edge.now.a.y ≤ℤ edge.now.b.y }
+    requires counters { HasCounters rule flags.old counters.old }
+    ensures { IsPlotted rule strip.now (λ p. signed forward (direction edge.now p)) flags.old counters.old flags.new counters.new }
+{
+    for s in 0..strip.count.part_size() {
+        plot_sample(
+            flags,
+            counters,
+            rule,
+            edge,
+            forward,
+            s as usize,
+            strip.start(s),
+        );
+    }
+}
+
+/// Counts an edge in the rows of a strip.
+fn plot_edge(flags: &mut [Flags], counters: &mut [Counters], rule: Rule, edge: Edge, strip: &Strip)
+    requires { HasCounters rule flags.old counters.old }
+    ensures { IsPlotted rule strip.now (λ p. direction edge p) flags.old counters.old flags.new counters.new }
+{
+    if is_apart(&edge, strip, flags.len()) {
+        return;
+    }
+    if edge.a.y() <= edge.b.y() {
+        plot_samples(flags, counters, rule, &edge, true, strip);
+    } else {
+        let downwards = edge.reversed();
+        plot_samples(flags, counters, rule, &downwards, false, strip);
+    }
+}
+
+/// Counts the edges of a path from a corner through others. Returns the last corner.
+fn plot_path(
+    flags: &mut [Flags],
+    counters: &mut [Counters],
+    rule: Rule,
+    from: Point,
+    corners: &[Point],
+    strip: &Strip,
+) -> Point
+    requires { HasCounters rule flags.old counters.old }
+    ensures plotted { IsPlotted rule strip.now (λ p. winding (path_edges from corners.now) p) flags.old counters.old flags.new counters.new }
+    ensures end { result ≡ path_end from corners.now }
+{
+    let mut from = from;
+    for to in corners {
+        plot_edge(flags, counters, rule, Edge { a: from, b: *to }, strip);
+        from = *to;
+    }
+    from
+}
+
+/// Counts the edges of a ring.
+fn plot_ring(
+    flags: &mut [Flags],
+    counters: &mut [Counters],
+    rule: Rule,
+    ring: &[Point],
+    strip: &Strip,
+)
+    requires { HasCounters rule flags.old counters.old }
+    ensures { IsPlotted rule strip.now (λ p. winding (ring_edges ring.now) p) flags.old counters.old flags.new counters.new }
+{
+    match ring {
+        [] => {}
+        [first, rest @ ..] => {
+            let last = plot_path(flags, counters, rule, *first, rest, strip);
+            plot_edge(flags, counters, rule, Edge { a: last, b: *first }, strip);
+        }
+    }
+}
+
+/// Counts the edges of a polygon.
+pub fn plot(
+    flags: &mut [Flags],
+    counters: &mut [Counters],
+    rule: Rule,
+    rings: &[&[Point]],
+    strip: &Strip,
+)
+    requires { HasCounters rule flags.old counters.old }
+    ensures { IsPlotted rule strip.now (λ p. winding (polygon_edges (map (λ r. r.now) rings.now)) p) flags.old counters.old flags.new counters.new }
+{
+    for ring in rings {
+        plot_ring(flags, counters, rule, ring, strip);
+    }
+}

@@ -1,0 +1,80 @@
+//! The first crossed sample of an edge in each row that it runs through.
+ghost use Rattle.std.specs.Prelude.{◌≡◌, pos, ◌+ℤ◌, ◌<ℤ◌};
+
+use crate::divide::divide;
+use crate::edge::Edge;
+use grid::{Point, side};
+use std::marker::Model;
+
+/// An edge that runs downwards, at one row of samples. It goes from row to row by a quotient and a remainder, with no division.
+#[derive(Drop)]
+pub(crate) struct EdgeWalk {
+    edge: Edge,
+    x: i32,
+    y: i32,
+    height: i64,
+    columns: i64,
+    part: i64,
+    column: i64,
+    rest: i64,
+}
+
+impl Model for EdgeWalk {
+    ghost use Rattle.polygons.specs.Columns.{Walk, IsWalking};
+
+    ghost Value = { Walk };
+
+    ghost view = { λ w. record { edge = w.edge; row = record { x = w.x; y = w.y } } };
+
+    ghost invariant = { λ w. IsWalking w.edge (record { x = w.x; y = w.y }) w.height w.columns w.part w.column w.rest };
+}
+
+impl EdgeWalk {
+    ghost use Rattle.polygons.specs.Columns.{HasHeight, IsFirstColumn, below};
+
+    /// The edge at the row of `start`, which lies in column 0. The edge runs downwards through this row.
+    pub(crate) fn new(edge: Edge, start: Point) -> EdgeWalk
+        requires { HasHeight edge start.y }
+        ensures { result ≡ record { edge = edge; row = start } }
+    {
+        let height = i64::from(edge.b.y() - edge.a.y());
+        let width = i64::from(edge.b.x() - edge.a.x());
+        let (columns, part) = divide(width, height);
+        let (left, above) = divide(-side(edge.a, edge.b, start), 256 * height);
+        let (rest, _) = divide(above, 256);
+        EdgeWalk {
+            edge,
+            x: start.x(),
+            y: start.y(),
+            height,
+            columns,
+            part,
+            column: -left,
+            rest,
+        }
+    }
+
+    /// The first column whose sample is crossed in this row.
+    pub(crate) fn column(&self) -> i64
+        ensures { IsFirstColumn self.now.edge self.now.row result }
+    {
+        self.column
+    }
+
+    /// Goes to the next row, through which the edge has to run.
+    pub(crate) fn step(&mut self)
+        requires { (self.old.row.y +ℤ pos 256) <ℤ self.old.edge.b.y }
+        ensures { self.new ≡ record { edge = self.old.edge; row = below self.old.row } }
+    {
+        let column = self.column + self.columns;
+        let rest = self.rest - self.part;
+        self.y += 256;
+        if rest < 0 {
+            self.column = column + 1;
+            self.rest = rest + self.height;
+        } else {
+            self.column = column;
+            self.rest = rest;
+        }
+    }
+}

@@ -1,0 +1,23 @@
+use Rattle.std.proofs.Common.{◌-◌, ◌≤◌, max}
+use Rattle.reach.specs.Reach.{HaveReached}
+use Rattle.reach.proofs.tiles.columns_met.Given as goal
+
+abbrev pub invariant-loop-first : goal.invariant-loop-first
+invariant-loop-first l = record {
+  first : l.first ≤ max l.fn.columns.first l.fn.columns.end;
+  end : l.end ≤ l.fn.columns.end;
+  all : HaveReached l.setup l.count l.side l.row l.fn.columns (record { first = l.first; end = l.end });
+}
+
+abbrev pub decreases-loop-first : goal.decreases-loop-first
+decreases-loop-first l = l.end - l.first
+
+abbrev pub invariant-loop-end : goal.invariant-loop-end
+invariant-loop-end l = record {
+  first : l.first ≤ max l.fn.columns.first l.fn.columns.end;
+  end : l.end ≤ l.fn.columns.end;
+  all : HaveReached l.setup l.count l.side l.row l.fn.columns (record { first = l.first; end = l.end });
+}
+
+abbrev pub decreases-loop-end : goal.decreases-loop-end
+decreases-loop-end l = l.end - l.first

@@ -1,4 +1,0 @@
-pub mod Columns
-pub mod Intervals
-pub mod JoinedRows
-pub mod Tiled

@@ -1,0 +1,5 @@
+pub mod Tiles
+pub mod Columns
+pub mod Intervals
+pub mod JoinedRows
+pub mod Tiled
