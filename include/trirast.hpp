@@ -319,11 +319,11 @@ public:
     /* Draws triangles of one state, by this number of threads. */
     void draw(Span<const trirast_vertex> vertices, Indices indices = {}, const State &state = {}, std::uint32_t threads = 1) {
         const trirast_draw draw = draw_of(named(vertices, indices), indices.size(), state);
-        this->draw(batch_of(draw, vertices, indices), threads);
+        draw_batch(batch_of(draw, vertices, indices), threads);
     }
 
     /* Draws a batch of C, whose arrays are as it says. */
-    void draw(const trirast_batch &batch, std::uint32_t threads = 1) {
+    void draw_batch(const trirast_batch &batch, std::uint32_t threads = 1) {
         each(threads, [&batch](TileRows &part) {
             detail::check_call([&](trirast_error *error) { return trirast_canvas_draw(&part.rows_, &batch, error); });
         });
@@ -332,10 +332,10 @@ public:
     void draw_ids(Span<const trirast_vertex> vertices, Indices indices, std::uint32_t first_id, const State &state = {},
                   std::uint32_t threads = 1) {
         const trirast_draw draw = draw_of(named(vertices, indices), indices.size(), state);
-        draw_ids(batch_of(draw, vertices, indices), first_id, threads);
+        draw_batch_ids(batch_of(draw, vertices, indices), first_id, threads);
     }
 
-    void draw_ids(const trirast_batch &batch, std::uint32_t first_id, std::uint32_t threads = 1) {
+    void draw_batch_ids(const trirast_batch &batch, std::uint32_t first_id, std::uint32_t threads = 1) {
         each(threads, [&batch, first_id](TileRows &part) {
             detail::check_call([&](trirast_error *error) { return trirast_canvas_draw_ids(&part.rows_, &batch, first_id, error); });
         });
