@@ -79,7 +79,7 @@ export class EdgeFunctions {
   at(x, y) {
     integer('x', x, INT32);
     integer('y', y, INT32);
-    const status = this.core.calls.trirast_weights(BigInt(this.corners), x, y, BigInt(this.edges));
+    const status = this.core.calls.trirast_edges_at_point(BigInt(this.corners), x, y, BigInt(this.edges));
     if (status !== 0) throw new RangeError(`no edge functions at (${x}, ${y}): status ${status}`);
     const [a, b, c, area, covers] = this.core.view(BigInt64Array, this.edges, 5);
     return { values: [a, b, c].map(Number), area: Number(area), covers: covers === 1n };
