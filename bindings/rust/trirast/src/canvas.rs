@@ -294,7 +294,7 @@ impl TileRows<'_> {
     /// triangles or quads; `BadIndex` if an index is not less than the number of its draw's vertices; `BadPosition` if a vertex
     /// that an index names is too far away, also as seen from the origin; or `NotConvex`.
     pub fn draw<'a>(&mut self, vertices: &'a [Vertex], indices: impl Into<Indices<'a>>, state: State) -> Result<(), Error> {
-        self.draw_all(&[Draw::new(vertices, indices).state(state)])
+        self.draw_batch(&[Draw::new(vertices, indices).state(state)])
     }
 
     /// Draws several draws, one after another. The arrays of more than one are copied.
@@ -302,7 +302,7 @@ impl TileRows<'_> {
     /// # Errors
     ///
     /// Those of [`draw`](TileRows::draw).
-    pub fn draw_all(&mut self, draws: &[Draw<'_>]) -> Result<(), Error> {
+    pub fn draw_batch(&mut self, draws: &[Draw<'_>]) -> Result<(), Error> {
         let batch = Batch::of_draws(draws)?;
         by_threads(self.shared(), |mut part| {
             let batch = batch.raw();
@@ -323,7 +323,7 @@ impl TileRows<'_> {
         let batch = Batch::of_draws(draws)?;
         by_threads(self.shared(), |mut part| {
             let batch = batch.raw();
-            // SAFETY: as for draw_all.
+            // SAFETY: as for draw_batch.
             checked(|error| unsafe { sys::trirast_canvas_draw_ids(&mut part.raw, &batch, first_id, error) })
         })
     }

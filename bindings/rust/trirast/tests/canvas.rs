@@ -35,7 +35,7 @@ fn shown(canvas: &Canvas, is_depth: bool) -> Vec<u8> {
 /// The pixels of a scene that is drawn as a whole on the calling thread.
 fn pixels_of(scene: &Scene) -> Vec<u8> {
     let mut canvas = canvas_of(scene);
-    canvas.draw_all(&scene.draws()).unwrap();
+    canvas.draw_batch(&scene.draws()).unwrap();
     shown(&canvas, scene.is_depth)
 }
 
@@ -46,14 +46,14 @@ fn compare(scene: &Scene, wanted: &[u8], number: usize, name: &str) {
     let (before, behind) = draws.split_at(number % (draws.len() + 1));
     let mut canvas = canvas_of(scene);
     canvas.set_threads(THREADS[number % 4]);
-    canvas.draw_all(before).unwrap();
-    canvas.draw_all(behind).unwrap();
+    canvas.draw_batch(before).unwrap();
+    canvas.draw_batch(behind).unwrap();
     assert_eq!(shown(&canvas, scene.is_depth), wanted, "{name}: in two batches");
     let mut canvas = canvas_of(scene);
     thread::scope(|scope| {
         for mut part in canvas.split(THREADS[number / 4 % 4]) {
             let draws = &draws;
-            scope.spawn(move || part.draw_all(draws).unwrap());
+            scope.spawn(move || part.draw_batch(draws).unwrap());
         }
     });
     assert_eq!(shown(&canvas, scene.is_depth), wanted, "{name}: by parts");
@@ -66,7 +66,7 @@ fn compare_window(scene: &Scene, wanted: &[u8], name: &str) {
     let builder = Canvas::builder(width, height).samples(scene.samples);
     let mut window = builder.origin(left as i32, top as i32).build().unwrap();
     window.clear(scene.clear).unwrap();
-    let drawn = window.draw_all(&scene.draws());
+    let drawn = window.draw_batch(&scene.draws());
     let is_far = |place: i32, first: u32| place - 256 * (first as i32) < -8_388_608;
     if scene.vertices().any(|vertex| is_far(vertex.x, left) || is_far(vertex.y, top)) {
         assert_eq!(refused(drawn).0, ErrorKind::BadBatch(BatchCause::BadPosition), "{name}: a window");
@@ -128,12 +128,12 @@ fn takes_indices_of_each_size_and_none() {
     }
     let mut canvas = Canvas::builder(50, 50).build().unwrap();
     canvas.draw(&[], Indices::InOrder, State::new()).unwrap();
-    canvas.draw_all(&[]).unwrap();
-    canvas.draw_all(&[Draw::new(&vertices, &[0u16; 0]), Draw::new(&vertices, &[0u32; 0])]).unwrap();
+    canvas.draw_batch(&[]).unwrap();
+    canvas.draw_batch(&[Draw::new(&vertices, &[0u16; 0]), Draw::new(&vertices, &[0u32; 0])]).unwrap();
     assert!(canvas.ids(0).unwrap().iter().all(|&id| id == 0));
     // Draws of both sizes are one batch.
     let other = triangle(9, 0, 10);
-    canvas.draw_all(&[Draw::new(&vertices, &short), Draw::new(&other, Indices::InOrder), Draw::new(&vertices, &[0u32; 0])]).unwrap();
+    canvas.draw_batch(&[Draw::new(&vertices, &short), Draw::new(&other, Indices::InOrder), Draw::new(&vertices, &[0u32; 0])]).unwrap();
     assert_eq!((canvas.ids(0).unwrap()[0], canvas.ids(0).unwrap()[20]), (9, 5));
 }
 
@@ -200,7 +200,7 @@ fn draws_ids() {
         canvas
     });
     ids.draw_ids(&draws, FIRST).unwrap();
-    colours.draw_all(&draws).unwrap();
+    colours.draw_batch(&draws).unwrap();
     for sample in 0..4 {
         let found = ids.ids(sample).unwrap();
         assert_eq!(found, colours.ids(sample).unwrap());
@@ -253,7 +253,7 @@ fn resolves_and_loads_each_format_with_a_stride() {
     let scene = Pick::new(7).scene();
     let (width, height) = (scene.width as usize, scene.height as usize);
     let mut canvas = canvas_of(&scene);
-    canvas.draw_all(&scene.draws()).unwrap();
+    canvas.draw_batch(&scene.draws()).unwrap();
     let wanted = shown(&canvas, false);
     for (format, threads) in FORMATS.into_iter().zip(THREADS) {
         let (pixel, stride) = (format.pixel_bytes(), width * format.pixel_bytes() + 5);
@@ -429,13 +429,13 @@ fn refuses_batches_and_draws_nothing_of_them() {
     for threads in THREADS {
         canvas.set_threads(threads);
         for (second, wanted, element) in cases {
-            let error = canvas.draw_all(&[first, second]).unwrap_err();
+            let error = canvas.draw_batch(&[first, second]).unwrap_err();
             assert_eq!((error.kind(), error.draw(), error.element()), (ErrorKind::BadBatch(wanted), Some(1), element));
             assert!(error.to_string().starts_with("draw 1: "), "{error}");
             assert_eq!(refused(canvas.draw_ids(&[second], 0)), (ErrorKind::BadBatch(wanted), Some(0)));
         }
     }
-    let error = canvas.draw_all(&[first, cases[0].0]).unwrap_err();
+    let error = canvas.draw_batch(&[first, cases[0].0]).unwrap_err();
     assert_eq!(error.to_string(), "draw 1: index 2 is not less than the number of vertices");
     assert_eq!(canvas.pixels(Format::Rgb8).unwrap(), [1, 2, 3].repeat(20_000));
 }
