@@ -147,17 +147,22 @@ lib/trirast.o: $(ARCHIVE) | lib
 lib/canvas.o: $(CANVAS_ARCHIVE) | lib
 $(filter-out lib/trirast.o,$(OBJECTS)): %/trirast.o: %/trirast_c.a
 $(filter-out lib/canvas.o,$(CANVAS_OBJECTS)): %/canvas.o: %/canvas_c.a
-$(OBJECTS): %/trirast.o: %/canvas.o
+$(OBJECTS): %/trirast.o: %/canvas.o %/calls.o
 lib/aarch64/trirast.o: lib/aarch64/heap.o
 
 $(OBJECTS):
-	$(LD) -r -o $@ --whole-archive $< --no-whole-archive $(@D)/canvas.o $(HEAP) "$$($(CC) -print-libgcc-file-name)"
+	$(LD) -r -o $@ --whole-archive $< --no-whole-archive $(@D)/canvas.o $(@D)/calls.o $(HEAP) "$$($(CC) -print-libgcc-file-name)"
 	$(ONLY_CALLS) $@
 
 # The calls of a canvas, without a heap. Both archives have the crates on which both stand, so one hides its own before they meet.
 $(CANVAS_OBJECTS):
 	$(LD) -r -o $@ --whole-archive $<
 	$(ONLY_CALLS) $@
+
+# The inline functions of the header.
+$(OBJECTS:%/trirast.o=%/calls.o): packaging/calls.c include/trirast.h
+	@mkdir -p $(@D)
+	$(CC) -std=c99 -O2 -fPIC -Wall -Wextra -Wpedantic -Werror -Iinclude -c -o $@ $<
 
 $(ARCHIVE) $(CANVAS_ARCHIVE): crates/%: $(SOURCES)
 	cd $(@D:%/out=%) && $(RT) lib
