@@ -273,7 +273,7 @@ def test_takes_a_batch_of_nothing() -> None:
 
 
 def test_refuses_structs_of_other_releases_and_strides() -> None:
-    sizes = {"struct_size": ctypes.sizeof(struct("trirast_batch"))}
+    sizes: dict[str, Any] = {"struct_size": ctypes.sizeof(struct("trirast_batch"))}
     assert drawn_batch([draw_of()], **sizes, vertex_stride=16, index_size=4) == (DONE, WHITE_CORNER)
     for size in (1, 8, sizes["struct_size"] - 8, sizes["struct_size"] + 8, 2**32 - 1):
         assert drawn_batch([draw_of()], struct_size=size, vertex_stride=15) == (alone(7), bytes(27))
@@ -362,7 +362,7 @@ def test_keeps_channels_and_skips_samples() -> None:
 
 
 def test_cuts_at_the_scissor_if_it_is_enabled() -> None:
-    edges = {"scissor_left": -5, "scissor_top": -(2**31), "scissor_right": 1, "scissor_bottom": 2**31 - 1}
+    edges: dict[str, Any] = {"scissor_left": -5, "scissor_top": -(2**31), "scissor_right": 1, "scissor_bottom": 2**31 - 1}
     assert drawn_batch([draw_of(**edges)]) == (DONE, WHITE_CORNER)
     assert drawn_batch([draw_of(scissor_enable=1, **edges)])[1] == b"\xff\xff\xff" + bytes(6) + b"\xff\xff\xff" + bytes(15)
 

@@ -73,8 +73,7 @@ impl Blend {
     /// The same of colours that were multiplied by their alpha.
     pub const PREMULTIPLIED: Blend = Blend::both(Equation::add(Factor::One, Factor::InverseSourceAlpha));
     /// The new colour times its alpha is added.
-    pub const ADD: Blend =
-        Blend::new(Equation::add(Factor::SourceAlpha, Factor::One), Equation::add(Factor::One, Factor::One));
+    pub const ADD: Blend = Blend::new(Equation::add(Factor::SourceAlpha, Factor::One), Equation::add(Factor::One, Factor::One));
     /// Both are multiplied.
     pub const MULTIPLY: Blend = Blend::both(Equation::add(Factor::StoredColor, Factor::Zero));
     /// The stored colour stays.

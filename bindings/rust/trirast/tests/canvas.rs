@@ -133,7 +133,9 @@ fn takes_indices_of_each_size_and_none() {
     assert!(canvas.ids(0).unwrap().iter().all(|&id| id == 0));
     // Draws of both sizes are one batch.
     let other = triangle(9, 0, 10);
-    canvas.draw_batch(&[Draw::new(&vertices, &short), Draw::new(&other, Indices::InOrder), Draw::new(&vertices, &[0u32; 0])]).unwrap();
+    canvas
+        .draw_batch(&[Draw::new(&vertices, &short), Draw::new(&other, Indices::InOrder), Draw::new(&vertices, &[0u32; 0])])
+        .unwrap();
     assert_eq!((canvas.ids(0).unwrap()[0], canvas.ids(0).unwrap()[20]), (9, 5));
 }
 
@@ -316,7 +318,8 @@ fn stands_anywhere_on_the_screen() {
             window.set_threads(threads);
             window.clear([255; 3]).unwrap();
             window.draw_ids(&[Draw::new(&vertices, Indices::InOrder)], 5).unwrap();
-            let wanted = |limit: u32| (0..40 * 130).map(move |at| if at % 40 + at / 40 < 10 && at % 40 < limit { 5 } else { WHITE });
+            let wanted =
+                |limit: u32| (0..40 * 130).map(move |at| if at % 40 + at / 40 < 10 && at % 40 < limit { 5 } else { WHITE });
             assert!(window.ids(0).unwrap().into_iter().eq(wanted(40)), "{x}, {y}");
             // A scissor is of the screen too, also left of it and above.
             window.clear([255; 3]).unwrap();
@@ -383,7 +386,9 @@ fn refused(result: Result<(), Error>) -> (ErrorKind, Option<usize>) {
 
 #[test]
 fn refuses_canvases_that_there_are_not() {
-    for (width, height, samples) in [(0, 1, 1), (1, 0, 1), (4097, 1, 1), (1, 4097, 1), (u32::MAX, u32::MAX, 1), (1, 1, 3), (1, 1, 0), (1, 1, 32)] {
+    for (width, height, samples) in
+        [(0, 1, 1), (1, 0, 1), (4097, 1, 1), (1, 4097, 1), (u32::MAX, u32::MAX, 1), (1, 1, 3), (1, 1, 0), (1, 1, 32)]
+    {
         let error = Canvas::builder(width, height).samples(samples).build().unwrap_err();
         assert_eq!((error.kind(), error.to_string().as_str()), (ErrorKind::BadCanvas, "no such canvas"));
         assert_eq!((error.draw(), error.element()), (None, None));
