@@ -16,7 +16,6 @@
 #include <optional>
 #include <stdexcept>
 #include <string>
-#include <system_error>
 #include <thread>
 #include <type_traits>
 #include <utility>
@@ -272,10 +271,11 @@ public:
     template <class Work>
     void share(std::uint32_t threads, const Work &work) {
         std::vector<std::thread> started;
-        const auto start = [&started](std::function<void()> task) {
+        started.reserve(threads < end() - first() ? threads : end() - first());
+        const auto start = [&started](const std::function<void()> &task) {
             try {
                 started.emplace_back(task);
-            } catch (const std::system_error &) {
+            } catch (...) {
                 task();
             }
         };
@@ -285,8 +285,8 @@ public:
         share(threads, work, start, wait);
     }
 
-    /* The same by an executor: start(task) runs a std::function<void()> now or later on any thread, and wait() waits for all of them.
-     * Neither may throw. */
+    /* The same by an executor: start(task) runs a copy of a std::function<void()> now or later on any thread, and wait() waits until all
+     * of them have ended. Neither may throw. */
     template <class Work, class Start, class Wait>
     void share(std::uint32_t threads, const Work &work, const Start &start, const Wait &wait) {
         std::vector<TileRows> parts = split(threads);
@@ -298,7 +298,10 @@ public:
                 failed[k] = std::current_exception();
             }
         };
-        for (std::size_t k = 1; k < parts.size(); k++) start(std::function<void()>([&run, k] { run(k); }));
+        /* All of them are there before the first is started, so that memory does not run out between. */
+        std::vector<std::function<void()>> tasks;
+        for (std::size_t k = 1; k < parts.size(); k++) tasks.emplace_back([&run, k] { run(k); });
+        for (const std::function<void()> &task : tasks) start(task);
         if (!parts.empty()) run(0);
         wait();
         for (const std::exception_ptr &error : failed)
