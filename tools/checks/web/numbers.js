@@ -3,7 +3,7 @@
 (async () => {
   const { Batch, Canvas } = await import('./canvas.js');
   const { Core, EdgeFunctions } = await import('./core.js');
-  const core = await Core.load('canvas.wasm'), other = await Core.load('canvas.wasm');
+  const core = await Core.load('canvas.wasm.gz'), other = await Core.load('canvas.wasm.gz');
   const canvas = new Canvas(core, 4, 3, 4), edges = new EdgeFunctions(core);
   const state = { depth_test: 2, skip_samples: 9, scissor: [-5, 0, 4096, 4096], blend: [5, 6, 1, 2, 6, 1, 0, 0, 0, 0] };
   const row = [0, 0, 0, 9, 9, 9, 9];
