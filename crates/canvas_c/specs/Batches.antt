@@ -8,7 +8,7 @@ use Rattle.c_abi.specs.Sizes.{IsOwnSize}
 use Rattle.c_abi.specs.declared.fault.Fault.{Fault}
 use Rattle.c_abi.specs.declared.status.Status.{Status}
 use Rattle.c_abi.specs.declared.status.Status.TheVariants.{BadBatch, BadStride, BadStructSize}
-use Rattle.canvas_c.specs.declared.batch.Batch.{Batch}
+use Rattle.canvas_c.specs.declared.arrays.Batch.{Batch}
 use Rattle.canvas_c.specs.declared.piece.CanvasHead.{CanvasHead}
 use Rattle.canvas_c.specs.Arrays.{HasStrides}
 use Rattle.canvas_c.specs.Pieces.{piece_checks}

@@ -8,7 +8,7 @@ ghost use Rattle.c_abi.specs.Calls.{IsCall, IsReport};
 ghost use Rattle.canvas_c.specs.Pieces.{OnRows};
 ghost use Rattle.canvas_c.specs.Batches.{draw_checks, batch_fault, IsFirstOfBatch};
 
-use crate::batch::Batch;
+use crate::arrays::Batch;
 use crate::piece::{CanvasHead, CanvasPiece, rows_of};
 use batch::{BatchFault, draw_batch};
 use c_abi::{CallError, Error, Fault, Status, report};

@@ -41,7 +41,7 @@ fn entries_into<E: Entry>(
     ensures kept { OnErr result (entries.new ≡ entries.old) }
 {
     let rows = rows_of(head, planes)?;
-    if sample >= rows.canvas.count.count() {
+    if sample >= head.samples.max(1) {
         return Err(Status::BadSample);
     }
     if stride % entry_bytes != 0 {
@@ -64,7 +64,7 @@ pub extern "C" fn trirast_canvas_depths(
     ensures written { result ≡ 0 → OnRows canvas.now.head (λ c first end. AreDepths c first end canvas.now.planes.now sample (row_entries canvas.now.head.width 2 stride) depths.old depths.new) }
     ensures kept { result ≢ 0 → depths.new ≡ depths.old }
 {
-    let planes = canvas.planes;
+    let planes = &*canvas.planes;
     status_of(entries_into(&canvas.head, planes, sample, depths, DEPTH_BYTES, stride))
 }
 
@@ -81,6 +81,6 @@ pub extern "C" fn trirast_canvas_ids(
     ensures written { result ≡ 0 → OnRows canvas.now.head (λ c first end. AreIds c first end canvas.now.planes.now sample (row_entries canvas.now.head.width 4 stride) ids.old ids.new) }
     ensures kept { result ≢ 0 → ids.new ≡ ids.old }
 {
-    let planes = canvas.planes;
+    let planes = &*canvas.planes;
     status_of(entries_into(&canvas.head, planes, sample, ids, ID_BYTES, stride))
 }

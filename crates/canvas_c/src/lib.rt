@@ -1,7 +1,7 @@
 //! A canvas for programs in C, and for languages that call C: samples that stay in the caller's memory. No call allocates.
 #![tactic(auto)]
 
-mod batch;
+mod arrays;
 mod batches;
 mod cleared;
 mod entries;
@@ -9,7 +9,7 @@ mod images;
 mod piece;
 mod weights;
 
-pub use batch::Batch;
+pub use arrays::Batch;
 pub use batches::{trirast_proved_canvas_draw, trirast_proved_canvas_draw_ids};
 pub use cleared::{Clear, trirast_proved_canvas_clear};
 pub use entries::{trirast_canvas_depths, trirast_canvas_ids};
