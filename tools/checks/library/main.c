@@ -145,14 +145,10 @@ static trirast_status call_refused(int call, const blob *list, marked *buffer, t
     return status;
 }
 
-// What trirast_error_message says where the program writes this line: "trirast: TEXT in draw N\n" is "draw N: TEXT".
+// What trirast_error_message says where the program writes this line: the same without "trirast: " and the line feed.
 static void message_of(const blob *line, char *message, size_t size) {
-    char text[256], *in_draw;
-    snprintf(text, sizeof text, "%.*s", (int)(line->length - strlen("trirast: ") - 1), line->bytes + strlen("trirast: "));
-    in_draw = strstr(text, " in draw ");
-    if (in_draw) *in_draw = '\0';
-    if (in_draw) snprintf(message, size, "draw %s: %s", in_draw + strlen(" in draw "), text);
-    else snprintf(message, size, "%s", text);
+    const size_t before = strlen("trirast: ");
+    snprintf(message, size, "%.*s", (int)(line->length - before - 1), line->bytes + before);
 }
 
 static void compare_refused(void) {

@@ -286,7 +286,7 @@ impl TileRows<'_> {
     }
 
     /// Draws over what is stored, by the indices of vertices: slices or arrays of `u16` or `u32`, or [`Indices::InOrder`]. A
-    /// picture does not depend on the calls among which its triangles are split. The arrays are not copied.
+    /// picture does not depend on the calls among which its triangles are split. Vertices and indices of `u32` are not copied.
     ///
     /// # Errors
     ///
