@@ -96,7 +96,7 @@ class Canvas:
         size: int = library().trirast_canvas_size(CCanvas(0, *numbers)) if numbers[2] else 0
         if not size:
             wanted = "a canvas has 1 to 4096 pixels a side and 1, 2, 4, 8 or 16 samples a pixel"
-            raise CanvasError(8, f"trirast: {wanted}, and not {width} by {height} and {samples}; larger: trirast.poster")
+            raise CanvasError(8, f"{wanted}, and not {width} by {height} and {samples}; larger: trirast.poster")
         return size
 
     def clear(
@@ -222,7 +222,7 @@ class Canvas:
 
     def __setstate__(self, state: Dict[str, Any]) -> None:
         interface, sides, count, origin, samples = state.pop("_canvas")
-        if interface != INTERFACE or len(samples) != Canvas.size(*sides, count):
+        if interface != INTERFACE or len(samples) != Canvas.size(sides[0], sides[1], count):
             raise ValueError(f"a canvas of interface {interface}, whose samples may lie in another way than those of {INTERFACE}")
         memory, first = aligned(len(samples))
         ctypes.memmove(ctypes.addressof(memory) + first, samples, len(samples))

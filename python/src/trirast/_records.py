@@ -77,7 +77,7 @@ class Table:
                     numpy.frombuffer(made, column.code)[whole] = part
                     continue
                 try:
-                    memoryview(made).cast(column.code)[whole] = array(column.code, map(operator.index, part))  # type: ignore[call-overload]
+                    memoryview(made).cast(column.code)[whole] = array(column.code, map(operator.index, part))
                 except (TypeError, OverflowError):
                     return self._error(column, part, first)
         return None
@@ -85,7 +85,7 @@ class Table:
     def _error(self, column: Column, values: Iterable[Any], first: int) -> Exception:
         """The error of the first of a column's values that is refused. The row of the first one is `first`."""
         errors = (column.refused(self._name, row, value) for row, value in enumerate(values, first))
-        return next(filter(None, errors), None) or TypeError(f"{self._name}: integers, which no other thread changes")
+        return next((error for error in errors if error), TypeError(f"{self._name}: integers, which no other thread changes"))
 
 
 def fits(numpy: Any, column: Column, part: Any) -> bool:
@@ -117,7 +117,7 @@ def table_of(name: str, values: Any, *choices: Columns) -> Table:
     if numpy is not None:
         return Table(name, columns, list(numpy.asarray(view).reshape(-1, len(columns)).T))
     try:
-        rows = view.tolist()
+        rows: List[Any] = view.tolist()
     except NotImplementedError:
         raise TypeError(f"{name}: integers in the machine's order, and not {kind_of(view)}") from None
     if view.ndim == 1:

@@ -34,10 +34,8 @@ def vertices_of(vertices: Any, colors: Optional[Any] = None, depth: Optional[Any
     count = len(records) // VERTEX_BYTES
     if colors is not None:
         put_colors(records, count, colors)
-    if hasattr(depth, "__index__") and not hasattr(depth, "__len__"):
-        memoryview(records).cast("H")[4::8] = array("H", [between("depth", depth, 0, 65535)]) * count  # type: ignore[call-overload]
-    elif depth is not None:
-        put(records, count, "depth", depth, (DEPTH,))
+    if depth is not None:
+        put_depths(records, count, depth)
     return records
 
 
@@ -73,8 +71,8 @@ def is_own_layout(np: Any, vertices: Any) -> bool:
     """Whether an array has the records that C reads."""
     fields, whole = vertices.dtype.fields, np.dtype(VERTEX).fields
     has_all = all(name in fields and fields[name][:2] == whole[name][:2] for name in (column.name for column in WHOLE))
-    flags = vertices.flags
-    return bool(has_all and vertices.itemsize == VERTEX_BYTES and flags.c_contiguous and flags.aligned and len(vertices))
+    # numpy takes records at any address for aligned.
+    return bool(has_all and vertices.itemsize == VERTEX_BYTES and vertices.flags.c_contiguous and vertices.ctypes.data % 4 == 0 and len(vertices))
 
 
 def put_colors(records: bytearray, count: int, colors: Any) -> None:
@@ -85,6 +83,14 @@ def put_colors(records: bytearray, count: int, colors: Any) -> None:
         return put(records, count, "colors", colors, COLOR[:3], COLOR)
     for column, channel in zip(COLOR, (*color_of("colors", colors, 3, 4), OPAQUE)):
         records[column.begin :: VERTEX_BYTES] = bytes([channel]) * count
+
+
+def put_depths(records: bytearray, count: int, depth: Any) -> None:
+    """Writes a depth to all records, or one to each."""
+    if hasattr(depth, "__index__") and not hasattr(depth, "__len__"):
+        memoryview(records).cast("H")[4::8] = array("H", [between("depth", depth, 0, 65535)]) * count
+        return
+    put(records, count, "depth", depth, (DEPTH,))
 
 
 def put(records: bytearray, count: int, name: str, values: Any, *choices: Any) -> None:
