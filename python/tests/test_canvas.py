@@ -195,7 +195,8 @@ class Edges(unittest.TestCase):
             canvas.draw(order, [[0, 1, 2]], first_id=0)
             ids = array("I", bytes_of(canvas.ids()))
             self.assertEqual(set(ids), {0, WHITE_ID})
-            for number, (a, b, c, doubled_area, covered) in zip(ids, memoryview(trirast.edges(*order, points)).tolist()):
+            rows: Any = memoryview(trirast.edges(*order, points)).tolist()
+            for number, (a, b, c, doubled_area, covered) in zip(ids, rows):
                 self.assertEqual((covered, a + b + c), (int(number == 0), doubled_area))
 
 

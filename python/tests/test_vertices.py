@@ -26,7 +26,9 @@ class Forms(unittest.TestCase):
     def test_of_vertices(self) -> None:
         two = array("i", [number for row in XY for number in row])
         whole = array("q", [number for row in VERTICES for number in row])
-        of_ctypes = (ctypes.c_int32 * 2 * 3)(*(tuple(row) for row in XY))
+        of_ctypes: Any = (ctypes.c_int32 * 2 * 3)()
+        for place, (x, y) in zip(of_ctypes, XY):
+            place[:] = x, y
         forms: List[Any] = [
             VERTICES, tuple(map(tuple, VERTICES)), XY, RECORDS, bytearray(RECORDS), memoryview(two).cast("B").cast("i", shape=[3, 2]),
             memoryview(whole).cast("B").cast("q", shape=[3, 7]).toreadonly(), of_ctypes, iter(XY),
@@ -41,7 +43,8 @@ class Forms(unittest.TestCase):
         ]
         for triangles in forms:
             self.assertEqual(drawn(VERTICES, triangles), PIXELS, triangles)
-        for more in ({"strip": [0, 1, 2]}, {"strip": array("H", [0, 1, 2])}, {"quads": [[0, 1, 2, 3]]}):
+        others: List[Any] = [{"strip": [0, 1, 2]}, {"strip": array("H", [0, 1, 2])}, {"quads": [[0, 1, 2, 3]]}]
+        for more in others:
             self.assertEqual(drawn([*XY, (100, 300)], **more), PIXELS)
 
     def test_of_numpy(self) -> None:
