@@ -85,8 +85,8 @@ def windings(edges: Edges, top: int, height: int, width: int, sample: Tuple[int,
 def counting_scene(scene: poster.Scene, triangles: Array, sample: int) -> poster.Scene:
     """The map's triangles of each level, such that each adds one to the pixels whose sample it covers."""
     vertices = np.array(scene.vertices)
-    for channel, value in (("red", 255), ("green", 255), ("blue", 255), ("alpha", ALPHA)):
-        vertices[channel] = value
+    for name, number in (("red", 255), ("green", 255), ("blue", 255), ("alpha", ALPHA)):
+        vertices[name] = number
     draws = [
         {"triangles": int(count), "blend": "over", "sample_mask": 1 << sample, "write": [channel == k for k in range(3)]}
         for count, channel in zip(triangles, CHANNELS)

@@ -183,8 +183,8 @@ def planes_of(vertices: Any, triangles: Any, ids: Any) -> Any:
     each id that is seen four rows of three exact integers. The rows of other ids are not specified."""
     found = np.ones((len(triangles), 4, 3), np.int64)
     for number in np.unique(ids):
-        corners = vertices[["x", "y"]][triangles[number]].tolist()
-        edges = trirast.edges(*corners, [(0, 0), (1, 0), (0, 1)])
+        a, b, c = vertices[["x", "y"]][triangles[number]].tolist()
+        edges = trirast.edges(a, b, c, [(0, 0), (1, 0), (0, 1)])
         origin, right, down = edges[:, :3]
         found[number] = (origin, right - origin, down - origin, edges[:, 3])
     return found
