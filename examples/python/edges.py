@@ -34,8 +34,9 @@ def bars() -> List[Bar]:
     return level + upright
 
 
-def draw_bar(canvas: trirast.Canvas, start: Tuple[float, float], end: Tuple[float, float], color: Tuple[int, int, int], thickness: float) -> None:
+def draw_bar(canvas: trirast.Canvas, bar: Bar, thickness: float) -> None:
     """Draws a bar, which is as thick as this downwards or, if it is upright, to the right."""
+    start, end, color = bar
     is_level = end[0] - start[0] > end[1] - start[1]
     right, down = (0.0, thickness) if is_level else (thickness, 0.0)
     corners = [start, end, (end[0] + right, end[1] + down), (start[0] + right, start[1] + down)]
@@ -46,8 +47,8 @@ def picture(samples: int) -> "memoryview":
     """The pixels of all bars with this number of samples a pixel."""
     canvas = trirast.Canvas(SIDE, SIDE, samples=samples)
     canvas.clear(DARK)
-    for start, end, color in bars():
-        draw_bar(canvas, start, end, color, 2.0)
+    for bar in bars():
+        draw_bar(canvas, bar, 2.0)
     return memoryview(memoryview(canvas.rgb()).tobytes())
 
 
@@ -61,7 +62,7 @@ def label(text: str) -> "memoryview":
         for y, row in enumerate(rows):
             for x in (x for x, square in enumerate(row) if square == "#"):
                 start = left + DOT * x, DOT * (y + 2)
-                draw_bar(canvas, start, (start[0] + DOT, start[1]), DARK, DOT)
+                draw_bar(canvas, (start, (start[0] + DOT, start[1]), DARK), DOT)
         left += DOT * (len(rows[0]) + 1)
     return memoryview(memoryview(canvas.rgb()).tobytes())
 

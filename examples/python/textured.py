@@ -3,16 +3,17 @@
 
     PYTHONPATH=python/src python3 examples/python/textured.py textured.ppm [--size 280 240] [--threads 4]
 
-Model and textures are made here. The picture shows, from left to right, the triangles by their ids, the texture coordinates, and the samples
-shaded. This is deferred shading: a canvas knows no textures and no perspective, and need not.
+Model and textures are made here. The picture shows, from left to right, the triangles by their ids, the texture
+coordinates, and the samples shaded. This is deferred shading: a canvas knows no textures and no perspective, and need
+not.
 
-1. The triangles are drawn by ids, so that each sample keeps the id of the triangle that is nearest there.
-2. trirast.edges gives the exact edge functions of a triangle at points. They are planes on the screen, so three points of a triangle
-   give them at all samples. Each, over the doubled area, is the weight of a corner.
-3. Weighted by 1 / distance these are the weights in space, by which texture coordinates, normals and positions are interpolated.
+1. The triangles are drawn by ids, so that each sample keeps the id of the triangle that is nearest there. 2.
+trirast.edges gives the exact edge functions of a triangle at points. They are planes on the screen, so three points of
+a triangle give them at all samples. Each, over the doubled area, is the weight of a corner. 3. Weighted by 1 / distance
+these are the weights in space, by which texture coordinates, normals and positions are interpolated.
 
-The program projects the positions back. It prints how far they lie from their samples, and how far they would lie without step 3. It needs
-numpy (python3-numpy in Debian). After `pip install ./python` no PYTHONPATH is needed.
+The program projects the positions back. It prints how far they lie from their samples, and how far they would lie
+without step 3. It needs numpy (python3-numpy in Debian). After `pip install ./python` no PYTHONPATH is needed.
 """
 
 import argparse

@@ -1,4 +1,5 @@
-"""The structs of ctypes have the layout of those in trirast.h, and the numbers of names are those of its enumerators, as a C compiler finds."""
+"""The structs of ctypes have the layout of those in trirast.h, and the numbers of names are those of its enumerators,
+as a C compiler finds."""
 
 import ctypes
 import os

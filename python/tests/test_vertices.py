@@ -115,7 +115,8 @@ class Values(unittest.TestCase):
     def test_of_depths(self) -> None:
         self.assertEqual([row[2] for row in records(XY)], [0] * 3)
         self.assertEqual([row[2] for row in records(VERTICES, depth=65535)], [65535] * 3)
-        forms: List[Any] = [[1, 2, 3], (1, 2, 3), array("q", [1, 2, 3])] + ([] if NUMPY is None else [NUMPY.array([1, 2, 3]), NUMPY.array([1, 2, 3], "u1")])
+        forms: List[Any] = [[1, 2, 3], (1, 2, 3), array("q", [1, 2, 3])]
+        forms += [] if NUMPY is None else [NUMPY.array([1, 2, 3]), NUMPY.array([1, 2, 3], "u1")]
         for depth in forms:
             self.assertEqual([row[2] for row in records(XY, depth=depth)], [1, 2, 3])
         if NUMPY is not None:

@@ -1,7 +1,8 @@
 """Blending on canvases by the words of its rule, in whole numbers, one channel at a time.
 
-Channels are 0 to 255. s is the new channel and a the new alpha, d the stored channel and e the stored alpha, which is 255 on a canvas without
-alpha, and k the constant's channel. A factor is a number of 255ths. f is s by its factor, and g is d by its factor.
+Channels are 0 to 255. s is the new channel and a the new alpha, d the stored channel and e the stored alpha, which is
+255 on a canvas without alpha, and k the constant's channel. A factor is a number of 255ths. f is s by its factor, and g
+is d by its factor.
 """
 
 from __future__ import annotations

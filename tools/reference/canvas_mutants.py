@@ -2,9 +2,10 @@
 
     python3 -m tools.reference.canvas_mutants [--lists 200] [--seed 1]
 
-The wrong rules are planted in tools/reference/renderer.py and blending.py one at a time. For each some list of tools/reference/generated_lists.py must have another
-pixel, or a sample another colour or depth, than on a canvas of the library. Each list is drawn once with each number of samples a
-pixel. Exit status 1 if no list finds a mutant, or if the reference as it stands differs.
+The wrong rules are planted in tools/reference/renderer.py and blending.py one at a time. For each some list of
+tools/reference/generated_lists.py must have another pixel, or a sample another colour or depth, than on a canvas of the
+library. Each list is drawn once with each number of samples a pixel. Exit status 1 if no list finds a mutant, or if the
+reference as it stands differs.
 """
 
 from __future__ import annotations
@@ -63,8 +64,8 @@ MUTANTS: list[tuple[str, Sequence[int], str, str]] = [
 # Those of tools/reference/blending.py.
 BLENDING: list[tuple[str, str, str]] = [
     ("two factors in each other's place", "s * FACTORS[equation.color_source]", "s * FACTORS[equation.color_stored]"),
-    ("an inverse taken from 256", '"inverse_source_alpha": lambda s, a, d, e, k: 255 - a', '"inverse_source_alpha": lambda s, a, d, e, k: 256 - a'),
-    ("the inverse of a colour taken from 256", '"inverse_stored_color": lambda s, a, d, e, k: 255 - d', '"inverse_stored_color": lambda s, a, d, e, k: 256 - d'),
+    ("an inverse taken from 256", "k: 255 - a,", "k: 256 - a,"),
+    ("the inverse of a colour taken from 256", "k: 255 - d,", "k: 256 - d,"),
     ("the rounding dropped", "(x + 127) // 255", "x // 255"),
     ("halves rounded up", "(x + 127) // 255", "(x + 128) // 255"),
     ("rounding towards zero", "q = (x + 127) // 255", "q = int((x + 127) / 255) if x >= -127 else 1"),
@@ -73,7 +74,7 @@ BLENDING: list[tuple[str, str, str]] = [
     ("stored alpha taken as 0", "e: int = 255) -> int", "e: int = 0) -> int"),
     ("the alpha of the constant for its channels", "equation.constant[channel]", "equation.constant[3]"),
     ("red and blue of the constant in each other's place", "equation.constant[channel]", "equation.constant[2 - channel]"),
-    ("the inverse of the constant forgotten", '"inverse_constant": lambda s, a, d, e, k: 255 - k', '"inverse_constant": lambda s, a, d, e, k: k'),
+    ("the inverse of the constant forgotten", "k: 255 - k,", "k: k,"),
     ("the new colour subtracted from the stored one", '"subtract": lambda f, g: f - g', '"subtract": lambda f, g: g - f'),
     ("the difference without a sign", '"reverse_subtract": lambda f, g: g - f', '"reverse_subtract": lambda f, g: abs(g - f)'),
     ("the lesser for the greater", '"max": max', '"max": min'),
@@ -84,7 +85,7 @@ BLENDING: list[tuple[str, str, str]] = [
     ("premultiplied as over", '"premultiplied": Equation("one"', '"premultiplied": Equation("source_alpha"'),
     ("keep as none", '"keep": Equation("zero", "one"', '"keep": Equation("one", "zero"'),
     ("alpha's equation for colours", "FACTORS[equation.color_stored]", "FACTORS[equation.alpha_stored]"),
-    ("alpha's operation for colours", "OPERATIONS[equation.color_operation]", "OPERATIONS.get(equation.alpha_operation, OPERATIONS[equation.color_operation])"),
+    ("alpha's operation for colours", "x = OPERATIONS[equation.color_operation]", "x = OPERATIONS.get(equation.alpha_operation, max)"),
 ]
 
 

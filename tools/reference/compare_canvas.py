@@ -2,11 +2,12 @@
 
     python3 -m tools.reference.compare_canvas [--lists 1000] [--seed 1] [--samples 1 2 4 8 16]
 
-Each list of tools/reference/generated_lists.py has one of these numbers of samples a pixel, masks of 16 bits and any blend equations
-(tools/reference/blending.py). It is split at random into batches, one triangle a batch among them, and drawn on a canvas by some threads,
-with and without a window. Every pixel, and of every sample the colour, the depth and the id of the last triangle that passes there, is
-compared with the reference's; with one or four samples, and no other blending than a list has, every pixel and depth also with the
-program's. Exit status 1 on any difference; the list is then left in out/compare/.
+Each list of tools/reference/generated_lists.py has one of these numbers of samples a pixel, masks of 16 bits and any
+blend equations (tools/reference/blending.py). It is split at random into batches, one triangle a batch among them, and
+drawn on a canvas by some threads, with and without a window. Every pixel, and of every sample the colour, the depth and
+the id of the last triangle that passes there, is compared with the reference's; with one or four samples, and no other
+blending than a list has, every pixel and depth also with the program's. Exit status 1 on any difference; the list is
+then left in out/compare/.
 """
 
 from __future__ import annotations

@@ -96,8 +96,8 @@ class InputTooLong(Exception):
 
 @dataclass(frozen=True)
 class Limits:
-    """The numbers of samples that a pixel may have, the greatest sample mask, the least and the greatest edge of a scissor, and whether
-    there is blending by any equation."""
+    """The numbers of samples that a pixel may have, the greatest sample mask, the least and the greatest edge of a
+    scissor, and whether there is blending by any equation."""
 
     counts: tuple[int, ...]
     mask: int

@@ -84,7 +84,8 @@ def of_length(name: str, values: Any, length: int) -> Sequence[Any]:
 
 
 def color_of(name: str, values: Any, *lengths: int) -> Tuple[int, ...]:
-    """As many channels as one of the lengths, the first of which counts in a message: 0 to 255 each. Raises ValueError at any other."""
+    """As many channels as one of the lengths, the first of which counts in a message: 0 to 255 each. Raises ValueError
+    at any other."""
     found = next((each for each in lengths if hasattr(values, "__len__") and len(values) == each), lengths[0])
     return tuple(between(name, channel, 0, 255) for channel in of_length(name, values, found))
 

@@ -23,11 +23,11 @@ OPERATIONS: Dict[str, int] = {"add": 1, "subtract": 2, "reverse_subtract": 3, "m
 class Blend(NamedTuple):
     """How a draw blends: an equation for red, green and blue, one for alpha, and a constant colour.
 
-    `color_source` is the factor of the new colour, `color_stored` that of the stored one, and `color_operation` what is made of the two
-    products; the same for alpha. A factor is a number of 255ths, and the result is rounded to the nearest integer and clamped to 0 to 255:
-    docs/canvas.md has the rule. "min" and "max" take no factors. `constant` is red, green, blue and alpha of "constant" and
-    "inverse_constant", 0 to 255 each. A canvas without alpha has 255 there. As it is made without values, the new colour replaces the
-    stored one. `BLENDS` has those with names.
+    `color_source` is the factor of the new colour, `color_stored` that of the stored one, and `color_operation` what is
+    made of the two products; the same for alpha. A factor is a number of 255ths, and the result is rounded to the
+    nearest integer and clamped to 0 to 255: docs/canvas.md has the rule. "min" and "max" take no factors. `constant` is
+    red, green, blue and alpha of "constant" and "inverse_constant", 0 to 255 each. A canvas without alpha has 255
+    there. As it is made without values, the new colour replaces the stored one. `BLENDS` has those with names.
     """
 
     color_source: Factor = "one"

@@ -29,13 +29,14 @@ Format = Literal["rgb", "rgba", "bgra"]
 class Canvas:
     """The samples of `width` by `height` pixels, 1 to 4096 each, with 1, 2, 4, 8 or 16 `samples` a pixel.
 
-    What they begin with is not specified: call `clear`, or `load` and `clear`, first. `origin` is the pixel of the screen at which
-    the upper left pixel of the canvas lies; positions and scissors are those of the screen. `memory` is a buffer of at least
-    Canvas.size(..) bytes that can be written, in which the samples lie; without it the canvas has memory of its own. A stored `alpha` there
-    is not yet: True raises NotImplementedError.
+    What they begin with is not specified: call `clear`, or `load` and `clear`, first. `origin` is the pixel of the
+    screen at which the upper left pixel of the canvas lies; positions and scissors are those of the screen. `memory` is
+    a buffer of at least Canvas.size(..) bytes that can be written, in which the samples lie; without it the canvas has
+    memory of its own. A stored `alpha` there is not yet: True raises NotImplementedError.
 
-    Calls of several threads on one canvas wait for each other. `threads` is the number of threads among which a call shares its tile
-    rows. An interrupt, as by Ctrl-C, is raised when the call is done. A copy, by copy or pickle, has memory of its own.
+    Calls of several threads on one canvas wait for each other. `threads` is the number of threads among which a call
+    shares its tile rows. An interrupt, as by Ctrl-C, is raised when the call is done. A copy, by copy or pickle, has
+    memory of its own.
 
     Each call raises TypeError or ValueError, which names the parameter, at what it does not take.
     """
@@ -102,8 +103,8 @@ class Canvas:
     def clear(
         self, color: Sequence[SupportsIndex] = (0, 0, 0), depth: SupportsIndex = 65535, *, threads: SupportsIndex = 1
     ) -> None:
-        """Makes each sample one of this colour, red, green and blue of 0 to 255, and of this depth, 0 to 65535. Raises ValueError at any
-        other."""
+        """Makes each sample one of this colour, red, green and blue of 0 to 255, and of this depth, 0 to 65535. Raises
+        ValueError at any other."""
         clear = CClear(*color_of("color", color, 3), 0, between("depth", depth, 0, 65535))
         self._each(threads, lambda piece, _top: library().trirast_canvas_clear(piece, clear))
 
@@ -140,26 +141,29 @@ class Canvas:
     ) -> None:
         """Draws triangles over what is stored, one after another.
 
-        `vertices` are rows of x and y in 1/256 pixel of the screen, x to the right and y downwards: `trirast.snap` makes them of floats in
-        pixels. They may be whole rows too, of x, y, depth, red, green, blue and alpha, or records of VERTEX. `colors` is one colour of 3 or
-        4 channels, red, green, blue and alpha of 0 to 255, or a row of them for each vertex; white, if there are none. `depth` is one depth,
-        0 to 65535, or one for each vertex; 0, if there are none.
+        `vertices` are rows of x and y in 1/256 pixel of the screen, x to the right and y downwards: `trirast.snap`
+        makes them of floats in pixels. They may be whole rows too, of x, y, depth, red, green, blue and alpha, or
+        records of VERTEX. `colors` is one colour of 3 or 4 channels, red, green, blue and alpha of 0 to 255, or a row
+        of them for each vertex; white, if there are none. `depth` is one depth, 0 to 65535, or one for each vertex; 0,
+        if there are none.
 
-        One of `triangles`, `strip` and `quads` has rows of 3, 1 and 4 indices of vertices; without any, each three vertices are a triangle.
-        Rows are sequences, or buffers of integers of any type and layout, as arrays of numpy. They are copied, and nothing of them is
-        rounded or wrapped. An array of VERTEX that is contiguous is not copied: nobody may change it meanwhile. bytes and a bytearray have
-        records of 16 bytes, and indices of 32 bits. Without rows nothing is drawn.
+        One of `triangles`, `strip` and `quads` has rows of 3, 1 and 4 indices of vertices; without any, each three
+        vertices are a triangle. Rows are sequences, or buffers of integers of any type and layout, as arrays of numpy.
+        They are copied, and nothing of them is rounded or wrapped. An array of VERTEX that is contiguous is not copied:
+        nobody may change it meanwhile. bytes and a bytearray have records of 16 bytes, and indices of 32 bits. Without
+        rows nothing is drawn.
 
-        `blend` is one of BLENDS, by its name, or a Blend. `cull` drops front-facing triangles, which run clockwise on the screen, or
-        back-facing ones. A sample is drawn if its new depth passes `depth_test` against the stored one; with `depth_write` the new one is
-        stored. `keep` has the letters of the channels that are not written, of "rgba". Bit s of `sample_mask`, 0 to 65535, says
-        whether sample s of each pixel is drawn. `scissor` is left, top, right and bottom, in pixels of the screen, of which right and bottom
-        are outside. With `first_id` each triangle is drawn in the colour of its id, whatever `blend` and `keep` are: `first_id` and its
-        place, at most 16,777,215, as `ids` reads them.
+        `blend` is one of BLENDS, by its name, or a Blend. `cull` drops front-facing triangles, which run clockwise on
+        the screen, or back-facing ones. A sample is drawn if its new depth passes `depth_test` against the stored one;
+        with `depth_write` the new one is stored. `keep` has the letters of the channels that are not written, of
+        "rgba". Bit s of `sample_mask`, 0 to 65535, says whether sample s of each pixel is drawn. `scissor` is left,
+        top, right and bottom, in pixels of the screen, of which right and bottom are outside. With `first_id` each
+        triangle is drawn in the colour of its id, whatever `blend` and `keep` are: `first_id` and its place, at most
+        16,777,215, as `ids` reads them.
 
-        Raises BatchError, and then nothing was drawn, if an index names no vertex, a vertex that an index names lies outside of -8388608 to
-        8388607 on the screen or as seen from the canvas, or a quad is not strictly convex; TypeError or ValueError, which name the parameter,
-        row and column, at what is no such value.
+        Raises BatchError, and then nothing was drawn, if an index names no vertex, a vertex that an index names lies
+        outside of -8388608 to 8388607 on the screen or as seen from the canvas, or a quad is not strictly convex;
+        TypeError or ValueError, which name the parameter, row and column, at what is no such value.
         """
         draw = Draw(
             vertices, triangles, strip=strip, quads=quads, colors=colors, depth=depth, blend=blend, cull=cull, depth_test=depth_test,
@@ -261,7 +265,8 @@ class Canvas:
             raise ValueError(f"{name}: memory apart from that of the canvas")
 
     def _rows(self, name: str, buffer: Buffer, call: Any, chosen: int, unit: int, threads: SupportsIndex) -> None:
-        """Makes a call on the rows of pixels of a buffer: `chosen` is their format, or a sample, and `unit` the bytes that are counted."""
+        """Makes a call on the rows of pixels of a buffer: `chosen` is their format, or a sample, and `unit` the bytes
+        that are counted."""
         self._check_apart(name, buffer)
         start, size = buffer.address, buffer.size
         stride = size // self.height
@@ -285,12 +290,13 @@ OWN = frozenset(("_memory", "_bytes", "_first", "_whole", "_lock"))
 def edges(
     a: Sequence[SupportsIndex], b: Sequence[SupportsIndex], c: Sequence[SupportsIndex], points: Any
 ) -> Any:
-    """The edge functions of the triangle abc at points, exactly: rows of the edge across from a, from b and from c, in 1/65536 square pixel;
-    the doubled area; and 1 if the triangle covers the point by the top-left rule, else 0. Corners are x and y in 1/256 pixel; `points`
-    rows of these, as `Canvas.draw` takes them. Returns 64-bit integers of the shape (n, 5): a numpy array, or without numpy a memoryview.
+    """The edge functions of the triangle abc at points, exactly: rows of the edge across from a, from b and from c, in
+    1/65536 square pixel; the doubled area; and 1 if the triangle covers the point by the top-left rule, else 0. Corners
+    are x and y in 1/256 pixel; `points` rows of these, as `Canvas.draw` takes them. Returns 64-bit integers of the
+    shape (n, 5): a numpy array, or without numpy a memoryview.
 
-    For a point inside the edge functions have the sign of the doubled area, and each over that area is the weight of its corner. Raises
-    PositionError outside of -8388608 to 8388607."""
+    For a point inside the edge functions have the sign of the doubled area, and each over that area is the weight of
+    its corner. Raises PositionError outside of -8388608 to 8388607."""
     corners = (signed(name, each) for name, position in (("a", a), ("b", b), ("c", c)) for each in of_length(name, position, 2))
     table = table_of("points", points, PLACE)
     places = filled(table, bytearray(8 * table.count), 8)

@@ -36,7 +36,8 @@ class State(TypedDict, total=False):
 class Draw:
     """A draw of a batch, for `Canvas.draw_batch`. Its parameters are those of `Canvas.draw`.
 
-    The draw has copies of what it is made of, so what becomes of arrays later is not drawn; but an array of VERTEX is not copied.
+    The draw has copies of what it is made of, so what becomes of arrays later is not drawn; but an array of VERTEX is
+    not copied.
     """
 
     def __init__(

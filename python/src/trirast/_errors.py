@@ -19,8 +19,9 @@ class Error(Exception):
 
 
 class PlacedError(Error, ValueError):
-    """An error that says where it is. `number` and `name` say what it is, as 6 and BadIndex. `draw` is the index of the draw, or `None` if it is
-    in none; `element` that of an index, a vertex or a quad in the draw's own array, or `None`."""
+    """An error that says where it is. `number` and `name` say what it is, as 6 and BadIndex. `draw` is the index of the
+    draw, or `None` if it is in none; `element` that of an index, a vertex or a quad in the draw's own array, or
+    `None`."""
 
     causes: Dict[int, str] = {}
 

@@ -1,6 +1,7 @@
 """Rows of integers as records of C, in memory that nobody else has.
 
-Nothing is rounded, wrapped or guessed. A message has the parameter's name, row and column, what is wanted and what was passed.
+Nothing is rounded, wrapped or guessed. A message has the parameter's name, row and column, what is wanted and what was
+passed.
 """
 
 import operator
@@ -63,7 +64,8 @@ class Table:
         self.count = len(values[0])
 
     def put(self, made: bytearray, size: int) -> Optional[Exception]:
-        """Writes each column to its place in records of this size. Returns the error of the first value that does not fit."""
+        """Writes each column to its place in records of this size. Returns the error of the first value that does not
+        fit."""
         numpy = sys.modules.get("numpy")
         for first in range(0, self.count, CHUNK):
             for column, values in zip(self._columns, self._values):
@@ -98,7 +100,8 @@ def fits(numpy: Any, column: Column, part: Any) -> bool:
 
 
 def table_of(name: str, values: Any, *choices: Columns) -> Table:
-    """Rows of integers with as many columns as one of the choices. A flat buffer is cut into rows if there is one choice alone.
+    """Rows of integers with as many columns as one of the choices. A flat buffer is cut into rows if there is one
+    choice alone.
 
     Raises TypeError at what has no integers, and ValueError at rows of another length.
     """

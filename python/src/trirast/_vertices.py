@@ -25,8 +25,8 @@ Vertices = Any
 
 
 def vertices_of(vertices: Any, colors: Optional[Any] = None, depth: Optional[Any] = None) -> Vertices:
-    """Vertices, with these colours and depths in place of their own. They are copied, unless they are an array of numpy of VERTEX, which is
-    contiguous, and whose colours and depths stay."""
+    """Vertices, with these colours and depths in place of their own. They are copied, unless they are an array of numpy
+    of VERTEX, which is contiguous, and whose colours and depths stay."""
     made = records_of(vertices)
     if colors is None and depth is None:
         return made
@@ -72,7 +72,8 @@ def is_own_layout(np: Any, vertices: Any) -> bool:
     fields, whole = vertices.dtype.fields, np.dtype(VERTEX).fields
     has_all = all(name in fields and fields[name][:2] == whole[name][:2] for name in (column.name for column in WHOLE))
     # numpy takes records at any address for aligned.
-    return bool(has_all and vertices.itemsize == VERTEX_BYTES and vertices.flags.c_contiguous and vertices.ctypes.data % 4 == 0 and len(vertices))
+    is_packed = vertices.itemsize == VERTEX_BYTES and vertices.flags.c_contiguous and vertices.ctypes.data % 4 == 0
+    return bool(has_all and is_packed and len(vertices))
 
 
 def put_colors(records: bytearray, count: int, colors: Any) -> None:

@@ -1,9 +1,10 @@
 """Scenes in files of numpy, .npz: arrays without the limits of a draw list.
 
-A file has `vertices`, records of trirast.VERTEX or (n, 7) integers; `triangles`, (m, 3) integers; and `draws`, a text: a draw list as
-JSON, in whose draws `triangles` is a number, and `vertices` is absent. Records and integers that are stored and not deflated, as numpy.savez
-leaves them, are copied to files without a name, which are mapped, so that scenes larger than memory can be drawn. The file itself is not mapped: to read what
-somebody cuts off from it would end the process.
+A file has `vertices`, records of trirast.VERTEX or (n, 7) integers; `triangles`, (m, 3) integers; and `draws`, a text:
+a draw list as JSON, in whose draws `triangles` is a number, and `vertices` is absent. Records and integers that are
+stored and not deflated, as numpy.savez leaves them, are copied to files without a name, which are mapped, so that
+scenes larger than memory can be drawn. The file itself is not mapped: to read what somebody cuts off from it would end
+the process.
 """
 
 from __future__ import annotations
@@ -133,8 +134,8 @@ def data_offset(file: IO[bytes], info: zipfile.ZipInfo) -> int:
 
 
 def save_arrays(path: Path, vertices: NDArray[Any], triangles: NDArray[Any], value: Any) -> None:
-    """Writes a .npz file for `scene_of`: members stored, and aligned, vertices as records. It gets its name when it is whole, so the arrays may be those of a
-    file of that name."""
+    """Writes a .npz file for `scene_of`: members stored, and aligned, vertices as records. It gets its name when it is
+    whole, so the arrays may be those of a file of that name."""
     arrays = {"vertices": own_vertices(vertices, copy=False), "triangles": triangles, "draws": np.array(json.dumps(value))}
     name = os.fsdecode(path)
     check_file(name)

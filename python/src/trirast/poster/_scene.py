@@ -131,11 +131,12 @@ class PosterDraw:
 class Scene:
     """Triangles over vertices, draw after draw.
 
-    `vertices` are records of trirast.VERTEX, or rows of x, y, depth, red, green, blue and alpha, of which the scene makes records;
-    `triangles` are rows of three indices of vertices. The first draw has the first triangles, and so on. The scene keeps copies of both,
-    which cannot be written to, unless `copy` is false. Then it may keep the arrays themselves. If somebody changes them as long as the scene is used, another picture is drawn, or an error is raised:
-    each window draws copies of what it reads. `source` is the file that it was read from, which no poster replaces. Raises ArraysError if
-    something does not fit, and trirast.Error if a state is wrong.
+    `vertices` are records of trirast.VERTEX, or rows of x, y, depth, red, green, blue and alpha, of which the scene
+    makes records; `triangles` are rows of three indices of vertices. The first draw has the first triangles, and so on.
+    The scene keeps copies of both, which cannot be written to, unless `copy` is false. Then it may keep the arrays
+    themselves. If somebody changes them as long as the scene is used, another picture is drawn, or an error is raised:
+    each window draws copies of what it reads. `source` is the file that it was read from, which no poster replaces.
+    Raises ArraysError if something does not fit, and trirast.Error if a state is wrong.
     """
 
     sheet: Sheet
@@ -205,8 +206,8 @@ def digest_of(array: NDArray[Any]) -> bytes:
 
 
 def own_vertices(array: Any, copy: bool) -> Vertices:
-    """Records one after another, which cannot be written to. They are the array itself only if it has such records and `copy` is false.
-    Raises ArraysError if it has neither records nor rows of seven integers that fit."""
+    """Records one after another, which cannot be written to. They are the array itself only if it has such records and
+    `copy` is false. Raises ArraysError if it has neither records nor rows of seven integers that fit."""
     check_array("vertices", array)
     if array.dtype.names and is_own_layout(np, array):
         found: Vertices = np.array(array, order="C") if copy else array.view()
@@ -222,7 +223,8 @@ def own_vertices(array: Any, copy: bool) -> Vertices:
 
 
 def own_triangles(array: Any, copy: bool) -> Triangles:
-    """Rows of the machine's 32-bit integers, in the same way. Raises ArraysError if it has no such integers in rows of three."""
+    """Rows of the machine's 32-bit integers, in the same way. Raises ArraysError if it has no such integers in rows of
+    three."""
     check_array("triangles", array)
     if array.ndim != 2 or array.shape[1] != 3 or array.dtype.kind not in "iu":
         raise ArraysError(f"triangles: rows of 3 integers, and not {array.dtype} of the shape {array.shape}")

@@ -99,7 +99,8 @@ class ThreadCanvas:
         calls.trirast_canvas_clear(self._canvas, self._clear)
 
     def draw(self, first: int, triangles: int, state: Mapping[str, Any]) -> None:
-        """Draws as many triangles from the triangle `first` of the arrays on. Raises BatchError, and then nothing was drawn."""
+        """Draws as many triangles from the triangle `first` of the arrays on. Raises BatchError, and then nothing was
+        drawn."""
         _, draw, address = self._states.get(id(state)) or self._keep(state)
         batch, arrays = self._batch, self._arrays
         draw.vertex_count, draw.index_count = arrays.vertex_count, 3 * triangles
