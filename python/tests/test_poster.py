@@ -396,7 +396,7 @@ class Command(Files):
 
     def test_names_errors(self) -> None:
         name = self.write("a.json", list_of(width=0))
-        self.assertEqual(self.run_command(name, "-o", self.path("a.ppm")), (1, "poster: DrawListError: trirast: list fault 5 OutOfRange\n"))
+        self.assertEqual(self.run_command(name, "-o", self.path("a.ppm")), (1, "poster: DrawListError: list fault 5 OutOfRange\n"))
         status, line = self.run_command(self.path("none.json"), "-o", self.path("a.ppm"))
         self.assertTrue(status == 1 and line.startswith("poster: FileNotFoundError: "), line)
         with self.assertRaises(SystemExit), redirect_stderr(io.StringIO()):

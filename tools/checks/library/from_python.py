@@ -12,6 +12,7 @@ from typing import Any, Callable, Iterator
 
 import trirast
 
+from tools import answers
 from tools.checks.cases import Case, CheckError, MissingError, case, must
 from tools.draw_list import Draw, DrawList
 from tools.checks.library.commands import OUT
@@ -106,8 +107,7 @@ def check_refused(text: bytes, line: str, threads: int) -> None:
     error = raised(trirast.draw, text, threads=threads)
     if not isinstance(error, trirast.DrawListError):
         raise CheckError(f"{line}: {error!r}")
-    place = "" if error.draw is None else f" in draw {error.draw}"
-    must(line == f"trirast: list fault {error.number} {error.name}{place}\n", f"{line}: {vars(error)}")
+    must(line == answers.line_of(error), f"{line}: {vars(error)}")
 
 
 def check_errors(lists: Lists) -> str:
