@@ -206,6 +206,24 @@ class Errors(unittest.TestCase):
                     kept += [error] if is_kept else []
                 short.append(1)
 
+    def test_leave_rows_to_their_owner(self) -> None:
+        canvas, kept = trirast.Canvas(2, 2), []
+        given = [array("h", [0, 1, -1]), array("d", [0.0]), array("I", [0, 1]), array("q", [1 << 40] * 3)]
+        for indices in given:
+            try:
+                canvas.draw([(0, 0)] * 2, indices)
+            except (TypeError, ValueError) as error:
+                kept.append(error)
+            indices.append(1)
+        depths = array("q", [1, 70000])
+        for more in ({"depth": depths}, {"depth": array("q", [1])}):
+            try:
+                canvas.draw([(0, 0)] * 2, **more)
+            except ValueError as error:
+                kept.append(error)
+            more["depth"].append(1)
+        self.assertEqual(len(kept), 6)
+
     def test_of_a_list_leave_the_buffer_to_its_owner(self) -> None:
         high = {**DRAW_LIST, "height": 200}
         for threads in (1, 3):

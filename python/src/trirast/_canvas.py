@@ -13,7 +13,7 @@ from ._draw import EVERY_SAMPLE, Cull, DepthTest, Draw
 from ._errors import BatchError, CanvasError
 from ._ffi import CCanvas, CClear, CCorners, CError, library
 from ._picture import Path, Picture
-from ._records import filled, table_of
+from ._records import table_of
 from ._threads import share
 from ._version import INTERFACE
 from ._vertices import PLACE
@@ -299,7 +299,7 @@ def edges(
     its corner. Raises PositionError outside of -8388608 to 8388607."""
     corners = (signed(name, each) for name, position in (("a", a), ("b", b), ("c", c)) for each in of_length(name, position, 2))
     table = table_of("points", points, PLACE)
-    places = filled(table, bytearray(8 * table.count), 8)
+    places = table.fill(bytearray(8 * table.count), 8)
     found = new_array(Form(("int64",), (table.count, 5)))
     with Buffer(memoryview(places)) as given_points, Buffer(check_writable("points", found, Form(("int64",), (table.count, 5)))) as written:
         library().trirast_edges_at(CCorners(*corners), given_points.address, 0, table.count, written.address)

@@ -57,13 +57,29 @@ def index_columns(count: int) -> Columns:
 
 
 class Table:
-    """Integers by columns, as they came: arrays of numpy, or sequences."""
+    """Integers by columns, as they came: arrays of numpy, or sequences.
+
+    It lets them go before an error is raised, since who keeps the error keeps the frames that have it.
+    """
 
     def __init__(self, name: str, columns: Columns, values: Sequence[Any]) -> None:
         self._name, self._columns, self._values = name, columns, values
         self.count = len(values[0])
 
-    def put(self, made: bytearray, size: int) -> Optional[Exception]:
+    def fill(self, made: bytearray, size: int) -> bytearray:
+        """Writes the columns to records of this size, and returns these. Raises the error of the first value that does
+        not fit, and ValueError if there are more or fewer records than rows."""
+        error: Optional[Exception] = None
+        if self.count * size == len(made):
+            error = self._put(made, size)
+        else:
+            error = ValueError(f"{self._name}: {len(made) // size} rows, one for each vertex, and not {self.count}")
+        self._values = ()
+        if error is not None:
+            raise error
+        return made
+
+    def _put(self, made: bytearray, size: int) -> Optional[Exception]:
         """Writes each column to its place in records of this size. Returns the error of the first value that does not
         fit."""
         numpy = sys.modules.get("numpy")
@@ -109,33 +125,43 @@ def table_of(name: str, values: Any, *choices: Columns) -> Table:
     view = buffer_of(values)
     if view is None:
         return of_sequence(name, values, choices)
-    columns = shape_of(name, view, choices)
-    family = family_of(view)
-    if 0 in (view.shape or ()):
-        return Table(name, columns, [()] * len(columns))
-    if family not in ("int", "uint"):
-        unit, how = (" in 1/256 pixel", f"; {SNAP}" * (family == "float")) if columns[0].is_position else ("", "")
-        raise TypeError(f"{name}: integers{unit}, and not {kind_of(view)}{how}")
+    columns, family, kind, shape = choice_of(view, choices), family_of(view), kind_of(view), view.shape or ()
+    if columns is None or 0 in shape or family not in ("int", "uint"):
+        view.release()
+        return nothing_of(name, columns, family, kind, shape, choices)
     numpy = sys.modules.get("numpy")
     if numpy is not None:
         return Table(name, columns, list(numpy.asarray(view).reshape(-1, len(columns)).T))
     try:
         rows: List[Any] = view.tolist()
     except NotImplementedError:
-        raise TypeError(f"{name}: integers in the machine's order, and not {kind_of(view)}") from None
+        view.release()
+        raise TypeError(f"{name}: integers in the machine's order, and not {kind}") from None
     if view.ndim == 1:
         return Table(name, columns, [rows[k :: len(columns)] for k in range(len(columns))])
     return Table(name, columns, list(zip(*rows)))
 
 
-def shape_of(name: str, view: memoryview, choices: Sequence[Columns]) -> Columns:
-    """The choice that a buffer has the columns of. Raises ValueError if there is none."""
+def choice_of(view: memoryview, choices: Sequence[Columns]) -> Optional[Columns]:
+    """The choice that a buffer has the columns of, or `None`."""
     shape = view.shape or ()
     for columns in choices:
         is_flat = len(shape) == 1 and len(choices) == 1 and shape[0] % len(columns) == 0
         if is_flat or (len(shape) == 2 and shape[1] == len(columns)) or shape == (0,):
             return columns
-    raise ValueError(f"{name}: {rows_of(choices)}, and not the shape {shape}")
+    return None
+
+
+def nothing_of(
+    name: str, columns: Optional[Columns], family: str, kind: str, shape: Tuple[int, ...], choices: Sequence[Columns]
+) -> Table:
+    """The table of a buffer without rows. Raises the error of one that has no rows of integers."""
+    if columns is None:
+        raise ValueError(f"{name}: {rows_of(choices)}, and not the shape {shape}")
+    if 0 in shape:
+        return Table(name, columns, [()] * len(columns))
+    unit, how = (" in 1/256 pixel", f"; {SNAP}" * (family == "float")) if columns[0].is_position else ("", "")
+    raise TypeError(f"{name}: integers{unit}, and not {kind}{how}")
 
 
 def rows_of(choices: Sequence[Columns]) -> str:
@@ -161,14 +187,6 @@ def of_sequence(name: str, values: Any, choices: Sequence[Columns]) -> Table:
     return Table(name, columns, list(zip(*listed)) or [()] * len(columns))
 
 
-def filled(table: Table, made: bytearray, size: int) -> bytearray:
-    """Records with the columns of a table. Raises the error of the first value that does not fit."""
-    error = table.put(made, size)
-    if error is not None:
-        raise error
-    return made
-
-
 def indices_of(name: str, values: Any, columns: Columns) -> Copy:
     """Rows of indices, 32 bits each."""
     size = 4 * len(columns)
@@ -177,4 +195,4 @@ def indices_of(name: str, values: Any, columns: Columns) -> Copy:
             raise ValueError(f"{name}: {rows_of([columns])} of 4 bytes, and not {len(values)} bytes")
         return bytes(values)
     table = table_of(name, values, columns)
-    return filled(table, bytearray(size * table.count), size)
+    return table.fill(bytearray(size * table.count), size)

@@ -5,7 +5,7 @@ from typing import Any, Optional
 
 from ._arguments import between, color_of
 from ._buffers import refuse_masked
-from ._records import Column, filled, table_of
+from ._records import Column, table_of
 
 # The fields of a vertex, as numpy takes them: numpy.zeros(3, trirast.VERTEX) are three. x and y are in 1/256 pixel. The last is not read.
 VERTEX = [
@@ -48,7 +48,7 @@ def records_of(vertices: Any) -> Vertices:
             raise ValueError(f"vertices: records of {VERTEX_BYTES} bytes, and not {len(vertices)} bytes")
         return bytes(vertices)
     table = table_of("vertices", vertices, PLACE, WHOLE)
-    return filled(table, bytearray(BLANK * table.count), VERTEX_BYTES)
+    return table.fill(bytearray(BLANK * table.count), VERTEX_BYTES)
 
 
 def of_fields(vertices: Any, names: Any) -> Vertices:
@@ -63,7 +63,7 @@ def of_fields(vertices: Any, names: Any) -> Vertices:
     made = bytearray(BLANK * len(vertices))
     for column in WHOLE:
         if column.name in names:
-            put(made, len(vertices), "vertices", vertices[column.name], (column,))
+            table_of("vertices", vertices[column.name], (column,)).fill(made, VERTEX_BYTES)
     return made
 
 
@@ -81,7 +81,8 @@ def put_colors(records: bytearray, count: int, colors: Any) -> None:
     first = colors[0] if getattr(colors, "ndim", 1) == 1 and hasattr(colors, "__len__") and len(colors) in (3, 4) else ()
     if hasattr(first, "__len__"):
         records[13::VERTEX_BYTES] = bytes([OPAQUE]) * count
-        return put(records, count, "colors", colors, COLOR[:3], COLOR)
+        table_of("colors", colors, COLOR[:3], COLOR).fill(records, VERTEX_BYTES)
+        return
     for column, channel in zip(COLOR, (*color_of("colors", colors, 3, 4), OPAQUE)):
         records[column.begin :: VERTEX_BYTES] = bytes([channel]) * count
 
@@ -91,12 +92,4 @@ def put_depths(records: bytearray, count: int, depth: Any) -> None:
     if hasattr(depth, "__index__") and not hasattr(depth, "__len__"):
         memoryview(records).cast("H")[4::8] = array("H", [between("depth", depth, 0, 65535)]) * count
         return
-    put(records, count, "depth", depth, (DEPTH,))
-
-
-def put(records: bytearray, count: int, name: str, values: Any, *choices: Any) -> None:
-    """Writes columns to records."""
-    table = table_of(name, values, *choices)
-    if table.count != count:
-        raise ValueError(f"{name}: {count} rows, one for each vertex, and not {table.count}")
-    filled(table, records, VERTEX_BYTES)
+    table_of("depth", depth, (DEPTH,)).fill(records, VERTEX_BYTES)
