@@ -207,21 +207,20 @@ class Errors(unittest.TestCase):
                 short.append(1)
 
     def test_leave_rows_to_their_owner(self) -> None:
-        canvas, kept = trirast.Canvas(2, 2), []
-        given = [array("h", [0, 1, -1]), array("d", [0.0]), array("I", [0, 1]), array("q", [1 << 40] * 3)]
-        for indices in given:
+        kept: List[Exception] = []
+        wrong: List[Any] = [array("h", [0, 1, -1]), array("d", [0.0]), array("I", [0, 1]), array("q", [1 << 40] * 3)]
+        for indices in wrong:
             try:
-                canvas.draw([(0, 0)] * 2, indices)
+                trirast.Draw([(0, 0)] * 2, indices)
             except (TypeError, ValueError) as error:
                 kept.append(error)
             indices.append(1)
-        depths = array("q", [1, 70000])
-        for more in ({"depth": depths}, {"depth": array("q", [1])}):
+        for depths in (array("q", [1, 70000]), array("q", [1])):
             try:
-                canvas.draw([(0, 0)] * 2, **more)
+                trirast.Draw([(0, 0)] * 2, depth=depths)
             except ValueError as error:
                 kept.append(error)
-            more["depth"].append(1)
+            depths.append(1)
         self.assertEqual(len(kept), 6)
 
     def test_of_a_list_leave_the_buffer_to_its_owner(self) -> None:

@@ -17,7 +17,7 @@ SNAP = "use trirast.snap(xy)"
 # The least and the greatest integer of each type, by the letter that array, numpy and memoryview have for it.
 LIMITS = {"i": (-(1 << 31), (1 << 31) - 1), "I": (0, (1 << 32) - 1), "H": (0, 65535), "B": (0, 255)}
 # Rows that are looked at and then copied, so that what is copied is still in a processor's cache.
-CHUNK = 1 << 12
+CHUNK = 1 << 13
 # Memory that nobody else has.
 Copy = Union[bytes, bytearray]
 
@@ -111,8 +111,10 @@ def fits(numpy: Any, column: Column, part: Any) -> bool:
     if numpy.can_cast(part.dtype, column.code):
         return True
     least, greatest = LIMITS[column.code]
-    found: bool = least <= part.min() and part.max() <= greatest
-    return found
+    if least:
+        return bool(least <= part.min() and part.max() <= greatest)
+    # A number with a sign has bits beyond the limit if it is negative.
+    return 0 <= int(numpy.bitwise_or.reduce(part)) <= greatest
 
 
 def table_of(name: str, values: Any, *choices: Columns) -> Table:

@@ -30,7 +30,7 @@ def vertices_of(vertices: Any, colors: Optional[Any] = None, depth: Optional[Any
     made = records_of(vertices)
     if colors is None and depth is None:
         return made
-    records = bytearray(made)
+    records = made if isinstance(made, bytearray) else bytearray(made)
     count = len(records) // VERTEX_BYTES
     if colors is not None:
         put_colors(records, count, colors)
