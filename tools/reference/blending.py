@@ -49,7 +49,7 @@ PRESETS = {
     "over": Equation("source_alpha", "inverse_source_alpha", "add", "one", "inverse_source_alpha"),
     "premultiplied": Equation("one", "inverse_source_alpha", "add", "one", "inverse_source_alpha"),
     "add": Equation("source_alpha", "one", "add", "one", "one"),
-    "multiply": Equation("stored_color", "zero", "add", "stored_alpha", "zero"),
+    "multiply": Equation("stored_color", "zero", "add", "stored_color", "zero"),
     "keep": Equation("zero", "one", "add", "zero", "one"),
 }
 
