@@ -7,10 +7,11 @@ Model and textures are made here. The picture shows, from left to right, the tri
 coordinates, and the samples shaded. This is deferred shading: a canvas knows no textures and no perspective, and need
 not.
 
-1. The triangles are drawn by ids, so that each sample keeps the id of the triangle that is nearest there. 2.
-trirast.edges gives the exact edge functions of a triangle at points. They are planes on the screen, so three points of
-a triangle give them at all samples. Each, over the doubled area, is the weight of a corner. 3. Weighted by 1 / distance
-these are the weights in space, by which texture coordinates, normals and positions are interpolated.
+1. The triangles are drawn by ids, so that each sample keeps the id of the triangle that is nearest there.
+2. trirast.edges_at gives the exact edge functions of a triangle at points. They are planes on the screen, so three
+   points of a triangle give them at all samples. Each, over the doubled area, is the weight of a corner.
+3. Weighted by 1 / distance these are the weights in space, by which texture coordinates, normals and positions are
+   interpolated.
 
 The program projects the positions back. It prints how far they lie from their samples, and how far they would lie
 without step 3. It needs numpy (python3-numpy in Debian). After `pip install ./python` no PYTHONPATH is needed.
@@ -185,7 +186,7 @@ def planes_of(vertices: Any, triangles: Any, ids: Any) -> Any:
     found = np.ones((len(triangles), 4, 3), np.int64)
     for number in np.unique(ids):
         a, b, c = vertices[["x", "y"]][triangles[number]].tolist()
-        edges = trirast.edges(a, b, c, [(0, 0), (1, 0), (0, 1)])
+        edges = trirast.edges_at(a, b, c, [(0, 0), (1, 0), (0, 1)])
         origin, right, down = edges[:, :3]
         found[number] = (origin, right - origin, down - origin, edges[:, 3])
     return found

@@ -93,17 +93,17 @@ class Numbers(Refusals):
 
     def test_of_lists_and_edges(self) -> None:
         draw: Any = trirast.draw
-        edges: Any = trirast.edges
+        edges_at: Any = trirast.edges_at
         why: Any = trirast.why
         self.must_say(
             (lambda: draw(DRAW_LIST, 32.0), TypeError, "tile_size: an integer, and not 32.0"),
             (lambda: draw(DRAW_LIST, threads="4"), TypeError, "threads: an integer, and not '4'"),
             (lambda: why(DRAW_LIST, 1.5, 0), TypeError, "x: an integer, and not 1.5"),
             (lambda: why(DRAW_LIST, 1, 0, all_triangles="yes"), TypeError, "all_triangles: True or False, and not 'yes'"),
-            (lambda: edges((0, 0), (1, 0), (0, 1.5), []), TypeError, "c: an integer, and not 1.5"),
-            (lambda: edges((0, 0), (1, 0), (0, 1), [(0, 1 << 31)]), ValueError, "points: row 0, y: -8388608 to 8388607, and not 2147483648"),
-            (lambda: edges((0, 0), (1, 0), (0, 1), (0, 0)), TypeError, "points: row 0: 2 values, and not 0"),
-            (lambda: edges((0, 0), (1, 0, 0), (0, 1), []), ValueError, "b: 2 values, and not 3"),
+            (lambda: edges_at((0, 0), (1, 0), (0, 1.5), []), TypeError, "c: an integer, and not 1.5"),
+            (lambda: edges_at((0, 0), (1, 0), (0, 1), [(0, 1 << 31)]), ValueError, "points: row 0, y: -8388608 to 8388607, and not 2147483648"),
+            (lambda: edges_at((0, 0), (1, 0), (0, 1), (0, 0)), TypeError, "points: row 0: 2 values, and not 0"),
+            (lambda: edges_at((0, 0), (1, 0, 0), (0, 1), []), ValueError, "b: 2 values, and not 3"),
             (lambda: draw(DRAW_LIST).pixel(0.0, 1), TypeError, "column: an integer, and not 0.0"),
         )
 

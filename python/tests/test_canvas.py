@@ -179,12 +179,12 @@ class Refused(unittest.TestCase):
 
 class Edges(unittest.TestCase):
     def test_edge_functions(self) -> None:
-        found = memoryview(trirast.edges((0, 0), (2560, 0), (0, 2560), [(256, 512), (2560, 2560)])).tolist()
+        found = memoryview(trirast.edges_at((0, 0), (2560, 0), (0, 2560), [(256, 512), (2560, 2560)])).tolist()
         area = 2560 * 2560
         self.assertEqual(found, [[2560 * 1792, 256 * 2560, 512 * 2560, area, 1], [-area, area, area, area, 0]])
         for corners in (((0, 0), (1, 0), (0, 8388608), [(0, 0)]), ((0, 0), (1, 0), (0, 1), [(0, 0), (8388608, 0)])):
             with self.assertRaises(trirast.PositionError):
-                trirast.edges(*corners)
+                trirast.edges_at(*corners)
 
     def test_a_point_is_covered_where_a_canvas_is_drawn(self) -> None:
         corners = ((300, -400), (2300, 700), (-500, 1900))
@@ -195,7 +195,7 @@ class Edges(unittest.TestCase):
             canvas.draw(order, [[0, 1, 2]], first_id=0)
             ids = array("I", bytes_of(canvas.ids()))
             self.assertEqual(set(ids), {0, WHITE_ID})
-            rows: Any = memoryview(trirast.edges(*order, points)).tolist()
+            rows: Any = memoryview(trirast.edges_at(*order, points)).tolist()
             for number, (a, b, c, doubled_area, covered) in zip(ids, rows):
                 self.assertEqual((covered, a + b + c), (int(number == 0), doubled_area))
 

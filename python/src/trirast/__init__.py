@@ -25,7 +25,7 @@ given if numpy is there.
 """
 
 from ._blend import BLENDS, Blend
-from ._canvas import Canvas, edges
+from ._canvas import Canvas, edges_at
 from ._clip import Clipped, clip
 from ._draw import Draw, State
 from ._draw_list import DrawList, draw, draw_file, image_info
@@ -58,6 +58,6 @@ __all__ = [
     "BLENDS", "BatchError", "Blend", "BufferTooSmallError", "Canvas", "CanvasError", "Clipped", "Draw", "DrawList", "DrawListError", "Error",
     "Event", "FormatError", "Fragment", "ImageInfo", "LimitError", "MemorySizeError", "OutOfMemoryError", "Picture", "PixelError",
     "PixelHistory", "PositionError", "SampleError", "SampleHistory", "State", "Stored", "StrideError", "StructSizeError", "TileRowsError",
-    "TileSizeError", "TriangleError", "TriangleSamples", "VERTEX", "__version__", "clip", "draw", "draw_file", "edges", "image_info", "snap",
+    "TileSizeError", "TriangleError", "TriangleSamples", "VERTEX", "__version__", "clip", "draw", "draw_file", "edges_at", "image_info", "snap",
     "triangle_samples", "why",
 ]

@@ -287,7 +287,7 @@ class Canvas:
 OWN = frozenset(("_memory", "_bytes", "_first", "_whole", "_lock"))
 
 
-def edges(
+def edges_at(
     a: Sequence[SupportsIndex], b: Sequence[SupportsIndex], c: Sequence[SupportsIndex], points: Any
 ) -> Any:
     """The edge functions of the triangle abc at points, exactly: rows of the edge across from a, from b and from c, in
