@@ -6,9 +6,9 @@ use Rattle.canvas.specs.declared.misfit.Misfit.{Misfit}
 use Rattle.canvas.specs.declared.tile_rows.TileRows.{TileRows as Rows}
 use Rattle.canvas.specs.Pixels.{IsLargeEnough}
 use Rattle.model.specs.Checking.{FirstIs}
-use Rattle.model.specs.declared.fault.ReadFault.{ReadFault}
-use Rattle.scene.specs.declared.draw.SceneDraw.{SceneDraw}
-use Rattle.scene.specs.declared.vertex.SceneVertex.{SceneVertex}
+use Rattle.batch.specs.declared.draw.BatchDraw.{BatchDraw}
+use Rattle.batch.specs.declared.fault.BatchFault.{BatchFault}
+use Rattle.batch.specs.declared.vertex.BatchVertex.{BatchVertex}
 use Rattle.batch.specs.Checks.{batch_checks}
 use Rattle.c_abi.specs.declared.status.Status.{Status}
 use Rattle.canvas_c.specs.declared.piece.CanvasHead.{CanvasHead}
@@ -40,7 +40,7 @@ on_done P Q (Ok x) (Ok y) same more on = more on
 on_done P Q (Err e) (Ok y) same more on = absurd (false≢true (same.0 refl))
 
 -- ---- a batch on a canvas whose origin is the same
-pub at_origin : (x x' y y' : ℤ) → x' ≡ x → y' ≡ y → (ids : Option ℕ) (ds : List SceneDraw) (vs : List SceneVertex) (is : List ℕ) (fault : ReadFault)
+pub at_origin : (x x' y y' : ℤ) → x' ≡ x → y' ≡ y → (ids : Option ℕ) (ds : List BatchDraw) (vs : List BatchVertex) (is : List ℕ) (fault : BatchFault)
     → FirstIs (batch_checks x' y' ids ds vs is) fault → FirstIs (batch_checks x y ids ds vs is) fault
 at_origin x x' y y' same_x same_y ids ds vs is fault first =
     subst (λ b. FirstIs (batch_checks x b ids ds vs is) fault) same_y (subst (λ a. FirstIs (batch_checks a y' ids ds vs is) fault) same_x first)

@@ -1,0 +1,21 @@
+use Rattle.std.proofs.Common.{rules, ◌≡◌, ℕ, length, inl, inr, refl}
+use Rattle.c_abi.specs.Sizes.{IsOwnSize}
+use Rattle.canvas_c.specs.Pieces.{IsCanvas, HasRows, planes_of}
+use Rattle.canvas_c.proofs.piece.rows_of.Goals as goal
+
+pub returns-in_default-rows-clause-judged : goal.returns-in_default-rows-clause-judged
+returns-in_default-rows-clause-judged c =
+    let head = c.args.head.now in
+    let size : IsOwnSize head.struct_size 56 = search rules in
+    let canvas : IsCanvas head = search rules in
+    let lacks : ¬ HasRows head.height head.first head.end = search rules in
+    inr (size, inr (canvas, inl (lacks, refl)))
+
+pub returns-then-not-fits-clause-judged : goal.returns-then-not-fits-clause-judged
+returns-then-not-fits-clause-judged c =
+    let head = c.args.head.now in
+    let size : IsOwnSize head.struct_size 56 = search rules in
+    let canvas : IsCanvas head = search rules in
+    let rows : HasRows head.height head.first head.end = search rules in
+    let misfit : ¬ ((length c.args.planes.now) ≡ planes_of head.width head.samples head.first head.end) = search rules in
+    inr (size, inr (canvas, inr (rows, inl (misfit, refl))))
