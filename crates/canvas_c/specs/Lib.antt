@@ -27,6 +27,7 @@
 --   AreEdges: The same, of the corners as the caller gives them.
 
 pub mod Pieces
+pub mod Samples
 pub mod Arrays
 pub mod Batches
 pub mod Weights
