@@ -1,5 +1,5 @@
 -- Tile rows of a canvas, as the caller names them, and the checks of the calls.
-use Rattle.std.specs.Prelude.{◌≡◌, ◌⊎◌, ℕ, ◌==◌, ◌+◌, ◌-◌, ◌*◌, ◌/◌, ◌%◌, ◌<◌, ◌≤◌, min, if◌then◌else◌}
+use Rattle.std.specs.Prelude.{◌≡◌, ◌⊎◌, ℕ, ◌==◌, ◌+◌, ◌-◌, ◌*◌, ◌/◌, ◌%◌, ◌<◌, ◌≤◌, min, max, if◌then◌else◌}
 use Rattle.model.specs.Checking.{Checks, done, check, followed_by}
 use Rattle.grid.specs.declared.sample_count.SampleCount.{SampleCount}
 use Rattle.grid.specs.declared.sample_count.SampleCount.TheVariants as samples
@@ -7,7 +7,6 @@ use Rattle.canvas.specs.declared.canvas.Canvas.{Canvas}
 use Rattle.canvas.specs.declared.format.Format.{Format}
 use Rattle.canvas.specs.declared.format.Format.TheVariants.{Rgb8, Rgba8, Bgra8}
 use Rattle.canvas.specs.declared.tile_rows.TileRows.{TileRows}
-use Rattle.grid.specs.Samples.{count_of}
 use Rattle.canvas.specs.Layout.{IsCanvasSize}
 use Rattle.canvas.specs.Pixels.{pixel_bytes}
 use Rattle.c_abi.specs.Sizes.{IsOwnSize}
@@ -49,9 +48,9 @@ pub record HasRows (height first end : ℕ) : Type 0 where
   pub within : end ≤ tile_rows_of height
 
 -- How many planes these tile rows have. Of each tile one says whether it is unchanged since it was cleared; the others are those of the
--- samples to which it was cleared, and of its own 64 blocks.
+-- samples to which it was cleared, and of its own 64 blocks. 0 samples are one.
 abbrev pub planes_of : ℕ → ℕ → ℕ → ℕ → ℕ
-planes_of width samples first end = (end - first) * ((width + 63) / 64 * (1 + 65 * count_of (samples_listed samples)))
+planes_of width samples first end = (end - first) * ((width + 63) / 64 * (1 + 65 * max 1 samples))
 
 -- The tile rows are those that the caller names.
 pub record AreRowsOf (head : CanvasHead) (rows : TileRows) : Type 0 where
@@ -108,7 +107,7 @@ entries_of row entry_bytes stride = if stride == 0 then row else stride / entry_
 abbrev pub entries_checks : CanvasHead → ℕ → ℕ → ℕ → ℕ → ℕ → Checks Status
 entries_checks head planes sample entry_bytes stride size =
     followed_by (piece_checks head planes) (
-    check (sample < count_of (samples_listed head.samples)) BadSample (
+    check (sample < max 1 head.samples) BadSample (
     check (stride % entry_bytes ≡ 0) BadStride (
     check (HasRoom head 1 (entries_of head.width entry_bytes stride) size) BufferTooSmall
     done)))

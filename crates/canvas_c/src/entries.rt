@@ -41,7 +41,7 @@ fn entries_into<E: Entry>(
     ensures kept { OnErr result (entries.new ≡ entries.old) }
 {
     let rows = rows_of(head, planes)?;
-    if sample >= rows.canvas.count.count() {
+    if sample >= head.samples.max(1) {
         return Err(Status::BadSample);
     }
     if stride % entry_bytes != 0 {
