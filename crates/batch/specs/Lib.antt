@@ -25,6 +25,10 @@
 --   triangles_in: The triangles of the part in draw order, each by the indices of its vertices.
 --   seen_in: The triangle of these vertices, as it is seen from the origin.
 
+pub mod Equations
+pub mod Ranges
+pub mod Listed
+pub mod Causes
 pub mod Seen
 pub mod Ids
 pub mod Checks

@@ -26,3 +26,4 @@
 pub mod Statuses
 pub mod Errors
 pub mod Calls
+pub mod Sizes

@@ -27,5 +27,6 @@
 --   AreEdges: The same, of the corners as the caller gives them.
 
 pub mod Pieces
+pub mod Arrays
 pub mod Batches
 pub mod Weights
