@@ -327,6 +327,11 @@ public:
         detail::check(trirast_canvas_load(&rows_, format, pixels.data(), pixels.size(), stride));
     }
 
+    /* The same of one sample of each pixel. */
+    void store(std::uint32_t sample, trirast_format format, Span<const std::uint8_t> pixels, std::size_t stride = 0) {
+        detail::check(trirast_canvas_store(&rows_, sample, format, pixels.data(), pixels.size(), stride));
+    }
+
     /* Draws triangles of one state, by this number of threads. */
     void draw(Span<const trirast_vertex> vertices, Indices indices = {}, const State &state = {}, std::uint32_t threads = 1) {
         std::vector<std::uint32_t> copy;
@@ -364,6 +369,17 @@ public:
     std::vector<std::uint8_t> pixels(trirast_format format = TRIRAST_FORMAT_RGB8) const {
         std::vector<std::uint8_t> found(bytes_of(format));
         resolve(format, found);
+        return found;
+    }
+
+    /* The colour of one sample of each pixel. */
+    void colors(std::uint32_t sample, trirast_format format, Span<std::uint8_t> pixels, std::size_t stride = 0) const {
+        detail::check(trirast_canvas_colors(&rows_, sample, format, pixels.data(), pixels.size(), stride));
+    }
+
+    std::vector<std::uint8_t> colors(std::uint32_t sample, trirast_format format = TRIRAST_FORMAT_RGBA8) const {
+        std::vector<std::uint8_t> found(bytes_of(format));
+        colors(sample, format, found);
         return found;
     }
 

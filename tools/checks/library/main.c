@@ -192,7 +192,7 @@ static void compare_messages(void) {
         int is_placed = number == TRIRAST_STATUS_BAD_LIST || number == TRIRAST_STATUS_BAD_BATCH;
         length = trirast_error_message(&error, whole, sizeof whole);
         expect(length == strlen(whole) && length < TRIRAST_ERROR_MESSAGE_SIZE && (is_placed || !strcmp(whole, name)), "status %u: %s", number, whole);
-        int is_known = number <= TRIRAST_STATUS_BAD_STRIDE;
+        int is_known = number <= TRIRAST_STATUS_BAD_TILE;
         for (uint32_t other = 0; other < number && is_known; other++)
             expect(strcmp(name, trirast_status_string((trirast_status)other)), "%u and %u: %s", other, number, name);
         expect(is_known == !!strcmp(name, "unknown status"), "%u: %s", number, name);
