@@ -87,6 +87,7 @@
 --   IsWritten: So many ids are written of a tile: one if it is unchanged since it was cleared, else one for each sample.
 --   with_colour: The sample in the colour of this number, red its lowest byte.
 --   AreTileColours: The samples of a tile have the colours that the entries say, and the depths that they had.
+--   HasBytes: The channels of the sample are bytes.
 --
 -- Ids.antt
 --   colour_of_id: An id as red, green, blue and alpha: red is its lowest byte, and alpha is opaque.
