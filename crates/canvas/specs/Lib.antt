@@ -91,6 +91,7 @@
 --
 -- Ids.antt
 --   colour_of_id: An id as red, green, blue and alpha: red is its lowest byte, and alpha is opaque.
+--   replacing: The state in which a colour replaces what is stored.
 --   with_id: The triangle in the colour of its id, which replaces what is stored.
 --   with_ids: The triangles in the colours of their ids, which are counted from n on.
 --   PassesAt: The triangle passes at sample s of pixel (i, j), at which `stored` is stored.

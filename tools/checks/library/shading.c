@@ -3,9 +3,7 @@
 #include <stdlib.h>
 #include <string.h>
 
-#include "cases.h"
-
-void compare_shading(void);
+#include "canvases.h"
 
 enum { WIDE = 150, TALL = 135, COLUMNS = 3, ROWS = 3, PADDING = 5, BLACK_DEPTH = 65535 };
 
