@@ -18,7 +18,7 @@ class Errors(unittest.TestCase):
             with self.assertRaises(trirast.DrawListError) as raised:
                 call(refused)
             error = raised.exception
-            self.assertEqual(str(error), "draw 1: list fault 6 BadIndex")
+            self.assertEqual(str(error), "list fault 6 BadIndex in draw 1")
             self.assertEqual((error.status, error.number, error.name, error.draw, error.element), (1, 6, "BadIndex", 1, None))
         with self.assertRaises(trirast.DrawListError) as raised:
             trirast.draw("{}")
