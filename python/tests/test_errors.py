@@ -55,7 +55,7 @@ class Errors(unittest.TestCase):
         names = [name for name in dir(trirast) if name.endswith("Error") and name != "Error"]
         kinds = {*_errors.BY_STATUS.values(), *_errors.PLACED.values()}
         self.assertEqual(sorted(kind.__name__ for kind in kinds), sorted(names))
-        self.assertEqual(sorted({**_errors.BY_STATUS, **_errors.PLACED}), list(range(1, 17)))
+        self.assertEqual(sorted({**_errors.BY_STATUS, **_errors.PLACED}), list(range(1, 18)))
 
     def test_structs_of_other_sizes_are_refused(self) -> None:
         canvas = trirast.Canvas(3, 3)
