@@ -224,7 +224,7 @@ class Rows(Refusals):
              f"vertices: row 2: {band}, also as seen from the origin (-5, 0), and not 8388608, 640"),
             (lambda: window.draw(VERTICES, triangle), "BadPosition", 0, 0,
              f"vertices: row 0: {band}, also as seen from the origin (40000, 0), and not 128, 128"),
-            (lambda: canvas.draw(VERTICES + [[0] * 7], quads=[[0, 1, 2, 0]]), "NotConvex", 0, 0, ""),
+            (lambda: canvas.draw(VERTICES + [[0, 640] + [0] * 5], quads=[[2, 3, 0, 1], [0, 1, 2, 0]]), "NotConvex", 0, 1, ""),
             (lambda: canvas.draw(VERTICES[:2]), "NotWhole", 0, None, ""),
         ]
         for call, name, draw, element, reason in cases:

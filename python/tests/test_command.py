@@ -47,7 +47,7 @@ class Facts(unittest.TestCase):
             self.skipTest("the levels are those of x86-64")
         found = 0
         for folder, level in (("", "x86-64-v2"), ("x86-64-v3", "x86-64-v3")):
-            path = os.path.join(LIBRARIES, folder, "libtrirast.so.1")
+            path = os.path.join(LIBRARIES, folder, "libtrirast.so.2")
             if os.path.exists(path):
                 facts = facts_in(run_command(TRIRAST_LIBRARY=path).stdout)
                 self.assertEqual((facts["library"], facts["processor"]), (path, level))
@@ -56,8 +56,8 @@ class Facts(unittest.TestCase):
             self.skipTest("there is no library in the repository")
 
     def test_name_another_machine(self) -> None:
-        self.assertEqual(__main__.level_of("/usr/lib/libtrirast.so.1", "aarch64"), "aarch64")
-        self.assertEqual(__main__.level_of("/usr/lib/glibc-hwcaps/x86-64-v3/libtrirast.so.1", "x86_64"), "x86-64-v3")
+        self.assertEqual(__main__.level_of("/usr/lib/libtrirast.so.2", "aarch64"), "aarch64")
+        self.assertEqual(__main__.level_of("/usr/lib/glibc-hwcaps/x86-64-v3/libtrirast.so.2", "x86_64"), "x86-64-v3")
 
 
 class FirstPicture(unittest.TestCase):

@@ -18,7 +18,7 @@ class Errors(unittest.TestCase):
             with self.assertRaises(trirast.DrawListError) as raised:
                 call(refused)
             error = raised.exception
-            self.assertEqual(str(error), "draw 1: list fault 6 BadIndex")
+            self.assertEqual(str(error), "list fault 6 BadIndex in draw 1")
             self.assertEqual((error.status, error.number, error.name, error.draw, error.element), (1, 6, "BadIndex", 1, None))
         with self.assertRaises(trirast.DrawListError) as raised:
             trirast.draw("{}")
@@ -55,7 +55,7 @@ class Errors(unittest.TestCase):
         names = [name for name in dir(trirast) if name.endswith("Error") and name != "Error"]
         kinds = {*_errors.BY_STATUS.values(), *_errors.PLACED.values()}
         self.assertEqual(sorted(kind.__name__ for kind in kinds), sorted(names))
-        self.assertEqual(sorted({**_errors.BY_STATUS, **_errors.PLACED}), list(range(1, 17)))
+        self.assertEqual(sorted({**_errors.BY_STATUS, **_errors.PLACED}), list(range(1, 18)))
 
     def test_structs_of_other_sizes_are_refused(self) -> None:
         canvas = trirast.Canvas(3, 3)

@@ -1,5 +1,7 @@
 """Draws: vertices, primitives over them, and the state in which these are drawn."""
 
+import sys
+from array import array
 from typing import Any, Literal, Optional, Sequence, SupportsIndex, TypedDict, Union
 
 from ._arguments import between, flag, named, of_length, shown, signed
@@ -63,8 +65,9 @@ class Draw:
         self._topology, indices = given[0] if given else (0, None)
         name, length = TOPOLOGIES[self._topology]
         self._vertices = vertices_of(vertices, colors, depth)
-        self._indices: Optional[Copy] = indices_of(name, indices, index_columns(length)) if given else None
-        if self._indices is not None and not self._indices:
+        self._indices = indices_of(name, indices, index_columns(length)) if given else in_order(self._count)
+        if not self._indices:
+            # A batch without indices is not one of vertices in their order.
             self._vertices = b""
         self._state = (
             named("cull", CULLS, cull), named("depth_test", DEPTH_TESTS, depth_test), flag("depth_write", depth_write), kept_of(keep),
@@ -75,13 +78,19 @@ class Draw:
 
     def _in_c(self) -> CDraw:
         """The draw as C has it."""
-        indices = self._count if self._indices is None else len(self._indices) // INDEX_BYTES
-        return CDraw(self._count, indices, self._topology, *self._state, self._blend)
+        return CDraw(self._count, len(self._indices) // INDEX_BYTES, self._topology, *self._state, self._blend)
 
     @property
     def _count(self) -> int:
         """How many vertices it has."""
         return len(self._vertices) // VERTEX_BYTES
+
+
+def in_order(count: int) -> Copy:
+    """The indices of vertices in their order."""
+    numpy = sys.modules.get("numpy")
+    found: Copy = array("I", range(count)).tobytes() if numpy is None else numpy.arange(count, dtype="I").tobytes()
+    return found
 
 
 def kept_of(keep: Any) -> int:
