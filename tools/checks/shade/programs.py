@@ -1,0 +1,93 @@
+"""Programs over the headers for shading."""
+
+from __future__ import annotations
+
+import os
+import re
+import shutil
+import subprocess
+
+from tools import places
+from tools.checks.cases import MAX_SECONDS, must
+from tools.checks.library.commands import WARNINGS, need, run
+from tools.ci.edit import pairs_in
+from tools.places import EXAMPLES, INCLUDE, STATIC_LIBRARY, TOP, text_of
+
+OUT = os.path.join(places.OUT, "check-shade")
+SOURCES = os.path.join(TOP, "tools", "checks", "shade")
+PROGRAMS = os.path.join(EXAMPLES, "cpp")
+# Headers that edits change, each in its folder.
+FOLDERS = {"trirast_shade.hpp": INCLUDE, "trirast_lanes.hpp": INCLUDE, "texture.hpp": PROGRAMS}
+STRICT = ("-std=c++17", *WARNINGS, "-Wconversion")
+# The tests have products of 128 bits.
+LENIENT = tuple(flag for flag in STRICT if flag != "-Wpedantic")
+# The C++ library of this machine serves for the headers of another processor, and is not linked there.
+LIBRARY_HEADERS = ("/usr/include/c++/12", "/usr/include/x86_64-linux-gnu/c++/12", "/usr/aarch64-linux-gnu/include")
+
+
+def compiled(compiler: str, source: str, name: str, *flags: str, before: str = "") -> str:
+    """Compiles a source of this folder with warnings, which are errors, to an object. Returns its path. Headers in `before` come first."""
+    path = os.path.join(OUT, f"{name}.o")
+    folders = [f"-I{folder}" for folder in (before, INCLUDE, PROGRAMS, SOURCES) if folder]
+    warnings = STRICT if source == "under_test.cpp" else LENIENT
+    run([need(compiler), *warnings, *flags, *folders, "-c", os.path.join(SOURCES, source), "-o", path])
+    return path
+
+
+def linked(compiler: str, name: str, *words: str) -> str:
+    """Links objects into a program. Returns its path."""
+    path = os.path.join(OUT, name)
+    run([need(compiler), *words, "-o", path, "-pthread"])
+    return path
+
+
+def tests_of(name: str, *flags: str, compiler: str = "g++", before: str = "") -> str:
+    """Builds the tests: the references once, and over the headers by a compiler and its flags. Returns the program."""
+    main = os.path.join(OUT, "main.o")
+    if not os.path.exists(main):
+        compiled("g++", "main.cpp", "main", "-O2")
+    return linked(compiler, name, main, compiled(compiler, "under_test.cpp", f"{name}-parts", *flags, before=before), *flags, STATIC_LIBRARY)
+
+
+def outcome(program: str, seeds: int) -> tuple[int, str]:
+    """Runs the tests. Returns their status and what they print."""
+    done = subprocess.run([program, "--seeds", str(seeds)], stdout=subprocess.PIPE, text=True, timeout=MAX_SECONDS)
+    return done.returncode, done.stdout
+
+
+def failures(text: str) -> list[str]:
+    return re.findall(r"^FAILED (.*)$", text, re.MULTILINE)
+
+
+def filter_by(compiler: str, *flags: str) -> str:
+    """Builds the filter. Returns its path."""
+    name = "-".join(["filter", compiler, *(re.sub(r"[^\w]", "_", flag.strip("-")) for flag in flags)])
+    return linked(compiler, name, compiled(compiler, "filter.cpp", name, *flags), *flags)
+
+
+def filter_for_arm64(linker: str, *flags: str) -> str:
+    """Builds the filter for ARM64 by clang++ and another processor's linker, without a C++ library. Returns its path."""
+    target = ("--target=aarch64-linux-gnu", "-nostdinc++", *(word for folder in LIBRARY_HEADERS for word in ("-isystem", folder)))
+    objects = [compiled("clang++", f"{name}.cpp", f"{name}-arm64", *target, *flags) for name in ("filter", "without_library")]
+    # Of what is not there nothing is called: exceptions.
+    return linked(linker, "filter-arm64", "-static", *objects, "-lm", "-Wl,--unresolved-symbols=ignore-all")
+
+
+def edits() -> list[str]:
+    """The names of the wrong edits."""
+    return [os.path.basename(path)[: -len(".edit")] for path in places.files("tools", "checks", "shade", "edits", "*.edit")]
+
+
+def edited(name: str) -> str:
+    """A folder with the headers, made wrong by an edit. Each old text stands once in what the pairs before it made."""
+    folder = os.path.join(OUT, name)
+    os.makedirs(folder)
+    for header, source in FOLDERS.items():
+        shutil.copy(os.path.join(source, header), folder)
+    for file, old, new in pairs_in(text_of("tools", "checks", "shade", "edits", f"{name}.edit")):
+        path = os.path.join(folder, file)
+        text = text_of(path)
+        must(text.count(old) == 1, f"{text.count(old)} times in {file}, and not once: {old}")
+        with open(path, "w", encoding="ascii") as header_file:
+            header_file.write(text.replace(old, new))
+    return folder
