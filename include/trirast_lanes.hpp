@@ -346,6 +346,12 @@ TRIRAST_INLINE Integers choose(const Integers &mask, const Integers &first, cons
 TRIRAST_INLINE Floats choose(const Integers &mask, const Floats &first, const Floats &other) noexcept {
     return floats_of_bits(choose(mask, bits_of(first), bits_of(other)));
 }
+TRIRAST_INLINE Floats choose(const Integers &mask, float first, float other) noexcept {
+    return choose(mask, Floats(first), Floats(other));
+}
+TRIRAST_INLINE Integers choose(const Integers &mask, std::int32_t first, std::int32_t other) noexcept {
+    return choose(mask, Integers(first), Integers(other));
+}
 
 /* Bit k is 1 where lane k of the mask is -1. */
 TRIRAST_INLINE unsigned bits(const Integers &mask) noexcept {

@@ -62,7 +62,8 @@ struct Seen {
         if (!is_whole) parts = Values(mesh, source.indices, model.values);
     }
 
-    Textured shader(const Model &model) const { return {model.texels, is_whole ? model.whole : parts, model.scene}; }
+    const Values &values(const Model &model) const { return is_whole ? model.whole : parts; }
+    Textured shader(const Model &model) const { return {model.texels, values(model), model.scene}; }
 
 private:
     void project_glass(const Model &model, const Matrix &matrix, const trirast::Clip &clip) {

@@ -9,6 +9,7 @@
 #include <cstdint>
 #include <stdexcept>
 #include <string>
+#include <utility>
 #include <vector>
 
 #include "trirast_clip.hpp"
@@ -159,8 +160,28 @@ struct Texture {
     std::vector<std::vector<std::uint8_t>> levels;
 };
 
-inline Texture texture(Numbers &numbers, std::uint32_t side) {
+// The levels of a texture, each of half the size of the one before: means of four texels.
+inline Texture levels_of(std::vector<std::uint8_t> texels, std::uint32_t side) {
     Texture found{side, {}};
+    for (;; side /= 2) {
+        found.levels.push_back(texels);
+        if (side == 1) return found;
+        std::vector<std::uint8_t> half(texels.size() / 4);
+        for (std::uint32_t y = 0; y < side / 2; y++)
+            for (std::uint32_t x = 0; x < side / 2; x++)
+                for (std::size_t c = 0; c < 4; c++) {
+                    const auto at = [&](std::uint32_t i, std::uint32_t j) {
+                        return int{texels[4 * (std::size_t{2 * y + j} * side + 2 * x + i) + c]};
+                    };
+                    half[4 * (std::size_t{y} * (side / 2) + x) + c] =
+                        static_cast<std::uint8_t>((at(0, 0) + at(1, 0) + at(0, 1) + at(1, 1) + 2) / 4);
+                }
+        texels.swap(half);
+    }
+}
+
+// Bricks of several colours.
+inline Texture texture(Numbers &numbers, std::uint32_t side) {
     std::vector<std::uint8_t> texels(4 * std::size_t{side} * side);
     std::uint8_t colors[8][3];
     for (auto &color : colors)
@@ -177,21 +198,7 @@ inline Texture texture(Numbers &numbers, std::uint32_t side) {
             }
             texels[4 * (std::size_t{y} * side + x) + 3] = 255;
         }
-    for (;; side /= 2) {
-        found.levels.push_back(texels);
-        if (side == 1) return found;
-        std::vector<std::uint8_t> half(texels.size() / 4);
-        for (std::uint32_t y = 0; y < side / 2; y++)
-            for (std::uint32_t x = 0; x < side / 2; x++)
-                for (std::size_t c = 0; c < 4; c++) {
-                    const auto at = [&](std::uint32_t i, std::uint32_t j) {
-                        return int{texels[4 * (std::size_t{2 * y + j} * side + 2 * x + i) + c]};
-                    };
-                    half[4 * (std::size_t{y} * (side / 2) + x) + c] =
-                        static_cast<std::uint8_t>((at(0, 0) + at(1, 0) + at(0, 1) + at(1, 1) + 2) / 4);
-                }
-        texels.swap(half);
-    }
+    return levels_of(std::move(texels), side);
 }
 
 // All of a picture but its size.
@@ -215,7 +222,8 @@ inline Matrix turned(const Scene &scene, double turn) {
     return looking(round(scene.eye), round(scene.target), 1.7, scene.aspect, scene.near_distance, 20);
 }
 
-// ring, back (the same from the farthest triangle to the nearest), front (near and large) or dust.
+// ring, back (the same from the farthest triangle to the nearest), front (near and large), coarse
+// (the same of few triangles) or dust.
 inline Scene made(const std::string &name, std::uint64_t seed, double aspect) {
     Numbers numbers(seed);
     Scene found;
@@ -225,8 +233,8 @@ inline Scene made(const std::string &name, std::uint64_t seed, double aspect) {
     found.aspect = aspect;
     if (name == "ring" || name == "back") {
         found.mesh = knot(2, 3, 256, 48, 1.2, 0.33); // 24,576 triangles
-    } else if (name == "front") {
-        found.mesh = knot(1, 0, 220, 48, 1.2, 0.5);                                // 21,120 triangles
+    } else if (name == "front" || name == "coarse") {
+        found.mesh = name == "front" ? knot(1, 0, 220, 48, 1.2, 0.5) : knot(1, 0, 40, 14, 1.2, 0.5); // 21,120 and 1,120 triangles
         eye = {1.75, 0.28, 0.62}, target = {1.0, -0.05, 0.1}; // where the near plane cuts into the tube
     } else if (name == "dust") {
         found.mesh = dust(numbers, 200000, 1.8, 0.006);

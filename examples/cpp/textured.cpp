@@ -1,10 +1,12 @@
 // A textured model under a light, with panes of glass, in perspective: in a window of SDL2 in which the eye goes round it, or as a picture.
 //
 //     textured [--scene ring] [--size 960 540] [--samples 4] [--rate pixel] [--threads N] [--turn 0] [--speed 20]
-//              [--pick X Y] [--output FILE.ppm]
+//              [--show shaded] [--pick X Y] [--output FILE.ppm]
 //
-// Scenes: ring, a knot; front, within a ring, where the near plane cuts; dust, small triangles. --rate is pixel, centre or sample. The
-// title has the frames a second. A click, and --pick, asks which triangle is seen there. Escape ends.
+// Scenes: ring, a knot; front, within a ring, where the near plane cuts; coarse, the same of fewer triangles;
+// dust, small triangles. --rate is pixel, centre or sample.
+// --show is ids, weights, places (texture coordinates) or shaded. The title has the frames a second. A click, and --pick, asks which
+// triangle is seen there. Escape ends.
 //
 //     c++ -std=c++17 -O3 -march=native textured.cpp $(pkg-config --cflags --libs trirast sdl2) -pthread
 //
@@ -22,7 +24,7 @@
 namespace {
 
 struct Options {
-    std::string scene = "ring", output;
+    std::string scene = "ring", show = "shaded", output;
     std::uint32_t width = 960, height = 540, samples = 4;
     trirast::Rate rate = trirast::Rate::pixel;
     unsigned threads = std::max(1u, std::thread::hardware_concurrency());
@@ -40,7 +42,7 @@ trirast::Canvas canvas_of(std::uint32_t width, std::uint32_t height, std::uint32
 class Renderer {
 public:
     Renderer(const scene::Scene &scene, const Options &options)
-        : model_(scene), rate_(options.rate), canvas_(canvas_of(options.width, options.height, options.samples)), pool_(options.threads) {}
+        : model_(scene), rate_(options.rate), show_(options.show), canvas_(canvas_of(options.width, options.height, options.samples)), pool_(options.threads) {}
 
     // What is seen when the eye has gone round by an angle.
     void look(double turn) {
@@ -54,7 +56,7 @@ public:
         std::vector<trirast::TileRows> parts = canvas_.split(pool_.threads());
         pool_.each(parts.size(), [&](std::size_t k) { scene::draw_ids(parts[k], seen_); });
         shade();
-        pool_.each(parts.size(), [&](std::size_t k) { scene::draw_glass(parts[k], seen_); });
+        if (show_ == "shaded") pool_.each(parts.size(), [&](std::size_t k) { scene::draw_glass(parts[k], seen_); });
     }
 
     const trirast::Canvas &canvas() const { return canvas_; }
@@ -70,8 +72,31 @@ public:
 
 private:
     void shade() {
+        if (show_ == "shaded") return shade_by(seen_.shader(model_));
+        if (show_ == "ids") return shade_by(color_of_id);
+        if (show_ == "weights") return shade_by(color_of_weights);
+        if (show_ != "places") throw std::invalid_argument("no picture of " + show_);
+        const scene::Values &values = seen_.values(model_);
+        shade_by([&values](const trirast::Fragments &at, trirast::Colors &out) {
+            const scene::Values::Corners corner = values.of(at.id);
+            const trirast::Floats u = at.value(corner[0]), v = at.value(corner[1]);
+            out.red = 255.0f * (u - to_floats(floor_to_integers(u))), out.green = 255.0f * (v - to_floats(floor_to_integers(v)));
+            out.blue = 90.0f;
+        });
+    }
+
+    static void color_of_id(const trirast::Fragments &at, trirast::Colors &out) {
+        const auto byte = [&](std::int32_t factor) { return 60.0f + to_floats((at.id * factor) & 127); };
+        out.red = byte(37), out.green = byte(73), out.blue = byte(101);
+    }
+
+    static void color_of_weights(const trirast::Fragments &at, trirast::Colors &out) {
+        out.red = 255.0f * at.weight[0], out.green = 255.0f * at.weight[1], out.blue = 255.0f * at.weight[2];
+    }
+
+    template <class Shader>
+    void shade_by(const Shader &shader) {
         const std::uint32_t columns = trirast::tile_columns(canvas_);
-        const scene::Textured shader = seen_.shader(model_);
         const trirast::Color background = scene::background(model_.scene);
         pool_.each(std::size_t{columns} * canvas_.end(), [&](std::size_t k) {
             thread_local trirast::TileEntries entries;
@@ -82,6 +107,7 @@ private:
 
     scene::Model model_;
     trirast::Rate rate_;
+    std::string show_;
     trirast::Canvas canvas_;
     scene::Seen seen_;
     Pool pool_;
@@ -121,6 +147,7 @@ Options read_options(const std::vector<std::string> &words) {
         else if (key == "--size") found.width = number(), found.height = number();
         else if (key == "--samples") found.samples = number();
         else if (key == "--rate") found.rate = rate_of(next());
+        else if (key == "--show") found.show = next();
         else if (key == "--threads") found.threads = std::max(1u, number());
         else if (key == "--turn") found.turn = std::stod(next());
         else if (key == "--speed") found.speed = std::stod(next());

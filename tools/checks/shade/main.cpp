@@ -208,8 +208,10 @@ void pairs(At rate, std::uint32_t samples) {
     const std::vector<reference::Place> offsets = reference::places(samples);
     std::vector<std::vector<std::uint32_t>> ids;
     for (std::uint32_t s = 0; s < samples; s++) ids.push_back(canvas.ids(s));
-    // The last triangles are not known: their samples get the background.
-    const std::size_t known = frame.mesh().sources.size() - frame.mesh().sources.size() / 8;
+    // The last triangles are not known: their samples get the background. The first one of these is seen.
+    std::size_t known = 0;
+    for (const std::uint32_t id : ids[0])
+        if (id < frame.mesh().sources.size() / 8 * 7) known = std::max<std::size_t>(known, id);
     using Point = std::tuple<std::int64_t, std::int64_t, std::uint32_t>;
     std::multiset<Point> wanted, asked;
     std::size_t shown = 0;

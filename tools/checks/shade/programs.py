@@ -2,10 +2,12 @@
 
 from __future__ import annotations
 
+import glob
 import os
 import re
 import shutil
 import subprocess
+from typing import Sequence
 
 from tools import places
 from tools.checks.cases import MAX_SECONDS, must
@@ -16,8 +18,6 @@ from tools.places import EXAMPLES, INCLUDE, STATIC_LIBRARY, TOP, text_of
 OUT = os.path.join(places.OUT, "check-shade")
 SOURCES = os.path.join(TOP, "tools", "checks", "shade")
 PROGRAMS = os.path.join(EXAMPLES, "cpp")
-# Headers that edits change, each in its folder.
-FOLDERS = {"trirast_shade.hpp": INCLUDE, "trirast_lanes.hpp": INCLUDE, "texture.hpp": PROGRAMS}
 STRICT = ("-std=c++17", *WARNINGS, "-Wconversion")
 # The tests have products of 128 bits.
 LENIENT = tuple(flag for flag in STRICT if flag != "-Wpedantic")
@@ -45,7 +45,7 @@ def tests_of(name: str, *flags: str, compiler: str = "g++", before: str = "") ->
     """Builds the tests: the references once, and over the headers by a compiler and its flags. Returns the program."""
     main = os.path.join(OUT, "main.o")
     if not os.path.exists(main):
-        compiled("g++", "main.cpp", "main", "-O2")
+        compiled("g++", "main.cpp", "main", "-O1")
     return linked(compiler, name, main, compiled(compiler, "under_test.cpp", f"{name}-parts", *flags, before=before), *flags, STATIC_LIBRARY)
 
 
@@ -73,6 +73,13 @@ def filter_for_arm64(linker: str, *flags: str) -> str:
     return linked(linker, "filter-arm64", "-static", *objects, "-lm", "-Wl,--unresolved-symbols=ignore-all")
 
 
+def program_of(source: str, *flags: str, more: Sequence[str] = (), name: str = "") -> str:
+    """Builds a program of examples/cpp, without a window unless `more` has the words for SDL. Returns its path."""
+    path = os.path.join(OUT, name or source)
+    run([need("g++"), *STRICT, *flags, "-I", INCLUDE, os.path.join(PROGRAMS, f"{source}.cpp"), STATIC_LIBRARY, *more, "-o", path, "-pthread"])
+    return path
+
+
 def edits() -> list[str]:
     """The names of the wrong edits."""
     return [os.path.basename(path)[: -len(".edit")] for path in places.files("tools", "checks", "shade", "edits", "*.edit")]
@@ -82,8 +89,10 @@ def edited(name: str) -> str:
     """A folder with the headers, made wrong by an edit. Each old text stands once in what the pairs before it made."""
     folder = os.path.join(OUT, name)
     os.makedirs(folder)
-    for header, source in FOLDERS.items():
-        shutil.copy(os.path.join(source, header), folder)
+    # All of them: a header that stands beside another one is taken before any folder.
+    for source in (INCLUDE, PROGRAMS):
+        for header in glob.glob(os.path.join(source, "*.h*")):
+            shutil.copy(header, folder)
     for file, old, new in pairs_in(text_of("tools", "checks", "shade", "edits", f"{name}.edit")):
         path = os.path.join(folder, file)
         text = text_of(path)
