@@ -41,12 +41,28 @@ def linked(compiler: str, name: str, *words: str) -> str:
     return path
 
 
-def tests_of(name: str, *flags: str, compiler: str = "g++", before: str = "") -> str:
-    """Builds the tests: the references once, and over the headers by a compiler and its flags. Returns the program."""
+def library() -> str:
+    """The library, or where it lacks the calls for tiles a stand-in. Returns its path."""
+    if os.path.exists(STATIC_LIBRARY) and b"trirast_canvas_tile_store" in run([need("nm"), "-g", STATIC_LIBRARY]):
+        return STATIC_LIBRARY
+    return stand_in()
+
+
+def stand_in(*flags: str) -> str:
+    """The calls on a canvas by plain rules, so that sanitizers look into them. Returns the path of the object."""
+    name = "-".join(["stand_in", *(re.sub(r"[^\w]", "_", flag.strip("-")) for flag in flags)])
+    path = os.path.join(OUT, f"{name}.o")
+    return path if os.path.exists(path) else compiled("g++", "stand_in.cpp", name, "-O2", *flags)
+
+
+def tests_of(name: str, *flags: str, compiler: str = "g++", before: str = "", canvas: str = "") -> str:
+    """Builds the tests: the references once, and over the headers by a compiler and its flags. Returns the program. `canvas` is in place of
+    the library."""
     main = os.path.join(OUT, "main.o")
     if not os.path.exists(main):
         compiled("g++", "main.cpp", "main", "-O1")
-    return linked(compiler, name, main, compiled(compiler, "under_test.cpp", f"{name}-parts", *flags, before=before), *flags, STATIC_LIBRARY)
+    parts = compiled(compiler, "under_test.cpp", f"{name}-parts", *flags, before=before)
+    return linked(compiler, name, main, parts, *flags, canvas or library())
 
 
 def outcome(program: str, seeds: int) -> tuple[int, str]:
@@ -76,7 +92,7 @@ def filter_for_arm64(linker: str, *flags: str) -> str:
 def program_of(source: str, *flags: str, more: Sequence[str] = (), name: str = "") -> str:
     """Builds a program of examples/cpp, without a window unless `more` has the words for SDL. Returns its path."""
     path = os.path.join(OUT, name or source)
-    run([need("g++"), *STRICT, *flags, "-I", INCLUDE, os.path.join(PROGRAMS, f"{source}.cpp"), STATIC_LIBRARY, *more, "-o", path, "-pthread"])
+    run([need("g++"), *STRICT, *flags, "-I", INCLUDE, os.path.join(PROGRAMS, f"{source}.cpp"), library(), *more, "-o", path, "-pthread"])
     return path
 
 

@@ -22,6 +22,7 @@ from tools.checks.library.commands import need, run
 from tools.checks.library.sanitized import SANITIZERS
 from tools.checks.shade import examples, programs
 from tools.checks.shade.programs import OUT, compiled, edited, edits, failures, filter_by, filter_for_arm64, outcome, tests_of
+from tools.places import INCLUDE
 
 SEEDS, LONG_SEEDS = 1, 20
 V2, V3 = "-march=x86-64-v2", "-march=x86-64-v3"
@@ -35,7 +36,7 @@ FILTERS = (
 )
 SHORT_FILTERS = 2
 # Edits that the short form tries: every so many.
-SHORT_EDITS = 12
+SHORT_EDITS = 16
 
 
 def on_this_processor(*flags: str) -> None:
@@ -54,6 +55,13 @@ def check_tests(seeds: int, *flags: str, compiler: str = "g++") -> str:
     must(status == 0 and not failures(text), text[-1500:])
     counts = [sum(map(int, re.findall(rf"(\d+) {word}", text))) for word in ("asked", "of the model", "equal", "off by 1", "further")]
     return "{} pairs, {} samples of the model: {} equal, {} off by 1, {} further".format(*counts)
+
+
+def check_sanitized() -> None:
+    """AddressSanitizer and UndefinedBehaviorSanitizer find nothing in the headers, over a canvas that they look into."""
+    canvas = programs.stand_in(*SANITIZERS)
+    status, text = outcome(tests_of("sanitized", "-O1", V2, OFF, *SANITIZERS, canvas=canvas), SEEDS)
+    must(status == 0, text[-1500:])
 
 
 def wanted() -> bytes:
@@ -93,7 +101,7 @@ def check_standards() -> None:
 def check_fast_math() -> None:
     """The header refuses to be compiled where sums may be computed in any order."""
     with pytest.raises(cases.CheckError, match="no bound of an error holds"):
-        compiled("g++", "under_test.cpp", "fast-math", "-ffast-math", "-fsyntax-only")
+        run([need("g++"), "-std=c++17", "-ffast-math", "-fsyntax-only", os.path.join(INCLUDE, "trirast_shade.hpp")])
 
 
 def check_edit(name: str) -> str:
@@ -110,7 +118,7 @@ CASES = [
     case("weights, points and pictures, with fused products", check_tests, 2, "-O3", V3, FAST, is_long=True),
     case("weights, points and pictures, by clang and half vectors", check_tests, 2, "-O2", V2, compiler="clang++", is_long=True),
     case("weights, points and pictures, as eight plain numbers", check_tests, 2, "-O2", SCALAR, OFF, is_long=True),
-    case("sanitizers find nothing", check_tests, SEEDS, "-O1", V2, OFF, *SANITIZERS, is_long=True),
+    case("sanitizers find nothing", check_sanitized, is_long=True),
     *(case(" ".join(("the same bytes:", *each)), check_filter, *each, is_long=k >= SHORT_FILTERS) for k, each in enumerate(FILTERS) if k > 0),
     case("the same bytes: ARM64", check_arm64, is_long=True),
     case("the program of the page", examples.check_page),
