@@ -1,12 +1,13 @@
-// Times frames of a scene by a canvas with deferred shading, and by llvmpipe with the same triangles, texels and shader. Frames alternate
-// in one run. bench/shading.py builds and runs it.
+// Times frames of a scene by a canvas with deferred shading, and by llvmpipe with the same triangles, texels and
+// shader. Frames alternate in one run. bench/shading.py builds and runs it.
 //
 //     shading [--scene ring] [--threads 1] [--frames 9] [--width 1280] [--height 720] [--seed 1] [--picture FILE.ppm]
 //
-// A frame goes from the vertices of the model to resolved pixels in memory: four samples a pixel, textured triangles with a depth test, and
-// panes of glass blended over them. For each rate a line of names and numbers goes to standard output: the least wall and processor times of
-// a frame by both, in milliseconds, and the least processor times of the parts of ours. `plain` is shading by one colour: reading ids,
-// finding pairs, storing colours. `calls` are trirast_canvas_tile_ids and trirast_canvas_tile_store alone.
+// A frame goes from the vertices of the model to resolved pixels in memory: four samples a pixel, textured triangles
+// with a depth test, and panes of glass blended over them. For each rate a line of names and numbers goes to standard
+// output: the least wall and processor times of a frame by both, in milliseconds, and the least processor times of the
+// parts of ours. `plain` is shading by one colour: reading ids, finding pairs, storing colours. `calls` are
+// trirast_canvas_tile_ids and trirast_canvas_tile_store alone.
 #include <algorithm>
 #include <chrono>
 #include <cstdio>
@@ -32,7 +33,9 @@ double processor() {
     return 1e3 * static_cast<double>(now.tv_sec) + 1e-6 * static_cast<double>(now.tv_nsec);
 }
 
-double milliseconds(Clock::time_point begin) { return std::chrono::duration<double, std::milli>(Clock::now() - begin).count(); }
+double milliseconds(Clock::time_point begin) {
+    return std::chrono::duration<double, std::milli>(Clock::now() - begin).count();
+}
 
 struct Times {
     double setup = 0, ids = 0, shading = 0, glass = 0, resolve = 0, whole = 0, processor = 0;
@@ -40,8 +43,9 @@ struct Times {
 
 void keep_least(Times &least, const Times &times, bool first) {
     const auto keep = [&](double &a, double b) { a = first ? b : std::min(a, b); };
-    keep(least.setup, times.setup), keep(least.ids, times.ids), keep(least.shading, times.shading), keep(least.glass, times.glass),
-        keep(least.resolve, times.resolve), keep(least.whole, times.whole), keep(least.processor, times.processor);
+    keep(least.setup, times.setup), keep(least.ids, times.ids), keep(least.shading, times.shading),
+        keep(least.glass, times.glass), keep(least.resolve, times.resolve), keep(least.whole, times.whole),
+        keep(least.processor, times.processor);
 }
 
 trirast::Canvas canvas_of(std::uint32_t width, std::uint32_t height) {
@@ -65,7 +69,8 @@ public:
             part = processor() - last;
             last += part;
         };
-        const std::int32_t width = static_cast<std::int32_t>(canvas_.width()), height = static_cast<std::int32_t>(canvas_.height());
+        const std::int32_t width = static_cast<std::int32_t>(canvas_.width()),
+                           height = static_cast<std::int32_t>(canvas_.height());
         seen_.project(model_, model_.scene.matrix, scene::clip_of(width, height));
         seen_.prepare(model_);
         share_rows();
@@ -73,7 +78,8 @@ public:
         pool_.each(parts_.size(), [&](std::size_t k) { scene::draw_ids(parts_[k], seen_); });
         next(found.ids);
         if (is_plain)
-            shade(rate, [](const trirast::Fragments &, trirast::Colors &out) { out.red = out.green = out.blue = 99.0f; });
+            shade(rate,
+                  [](const trirast::Fragments &, trirast::Colors &out) { out.red = out.green = out.blue = 99.0f; });
         else
             shade(rate, seen_.shader(model_));
         next(found.shading);
@@ -125,8 +131,8 @@ private:
         rows.resolve(TRIRAST_FORMAT_RGBA8, {&pixels_[stride * rows.top()], stride * rows.height()}, stride);
     }
 
-    // A part of the tile rows for each thread, each with about as many vertices as the others. A call looks at all triangles of its batch,
-    // so more parts than threads cost time.
+    // A part of the tile rows for each thread, each with about as many vertices as the others. A call looks at all
+    // triangles of its batch, so more parts than threads cost time.
     void share_rows() {
         const std::uint32_t rows = canvas_.end();
         std::vector<std::size_t> counts(rows, 1);
@@ -219,7 +225,8 @@ void main() { color = pane; }
         for (std::size_t k = 0; k < model.glass_points.size(); k++) {
             const scene::Vector &p = model.glass_points[k];
             const auto &c = model.glass_colors[k];
-            corners.push_back({static_cast<float>(p.x), static_cast<float>(p.y), static_cast<float>(p.z), {c[0], c[1], c[2], c[3]}});
+            corners.push_back(
+                {static_cast<float>(p.x), static_cast<float>(p.y), static_cast<float>(p.z), {c[0], c[1], c[2], c[3]}});
         }
         gl::buffer(GL_ARRAY_BUFFER, corners);
         gl::buffer(GL_ELEMENT_ARRAY_BUFFER, model.glass_indices);
@@ -231,16 +238,19 @@ void main() { color = pane; }
         glBindTexture(GL_TEXTURE_2D, texture);
         std::uint32_t side = model.scene.texture.side;
         for (std::size_t level = 0; level < model.scene.texture.levels.size(); level++, side /= 2)
-            glTexImage2D(GL_TEXTURE_2D, static_cast<GLint>(level), GL_RGBA8, static_cast<GLsizei>(side), static_cast<GLsizei>(side), 0,
-                         GL_RGBA, GL_UNSIGNED_BYTE, model.scene.texture.levels[level].data());
+            glTexImage2D(GL_TEXTURE_2D, static_cast<GLint>(level), GL_RGBA8, static_cast<GLsizei>(side),
+                         static_cast<GLsizei>(side), 0, GL_RGBA, GL_UNSIGNED_BYTE,
+                         model.scene.texture.levels[level].data());
         glTexParameteri(GL_TEXTURE_2D, GL_TEXTURE_MIN_FILTER, GL_LINEAR_MIPMAP_LINEAR);
         glTexParameteri(GL_TEXTURE_2D, GL_TEXTURE_MAG_FILTER, GL_LINEAR);
 
         glGenFramebuffers(2, frames_);
         glBindFramebuffer(GL_FRAMEBUFFER, frames_[1]);
-        glFramebufferRenderbuffer(GL_FRAMEBUFFER, GL_COLOR_ATTACHMENT0, GL_RENDERBUFFER, gl::renderbuffer(GL_RGBA8, 0, width, height));
+        glFramebufferRenderbuffer(GL_FRAMEBUFFER, GL_COLOR_ATTACHMENT0, GL_RENDERBUFFER,
+                                  gl::renderbuffer(GL_RGBA8, 0, width, height));
         glBindFramebuffer(GL_FRAMEBUFFER, frames_[0]);
-        glFramebufferRenderbuffer(GL_FRAMEBUFFER, GL_COLOR_ATTACHMENT0, GL_RENDERBUFFER, gl::renderbuffer(GL_RGBA8, 4, width, height));
+        glFramebufferRenderbuffer(GL_FRAMEBUFFER, GL_COLOR_ATTACHMENT0, GL_RENDERBUFFER,
+                                  gl::renderbuffer(GL_RGBA8, 4, width, height));
         glFramebufferRenderbuffer(GL_FRAMEBUFFER, GL_DEPTH_ATTACHMENT, GL_RENDERBUFFER,
                                   gl::renderbuffer(GL_DEPTH_COMPONENT16, 4, width, height));
         gl::require(glCheckFramebufferStatus(GL_FRAMEBUFFER) == GL_FRAMEBUFFER_COMPLETE, "no frame with four samples");
@@ -324,14 +334,22 @@ Options read_options(int count, char **words) {
     Options found;
     for (int k = 1; k + 1 < count; k += 2) {
         const std::string key = words[k], value = words[k + 1];
-        if (key == "--scene") found.scene = value;
-        else if (key == "--threads") found.threads = static_cast<unsigned>(std::stoul(value));
-        else if (key == "--frames") found.frames = std::stoi(value);
-        else if (key == "--width") found.width = std::stoi(value);
-        else if (key == "--height") found.height = std::stoi(value);
-        else if (key == "--seed") found.seed = std::stoull(value);
-        else if (key == "--picture") found.picture = value;
-        else throw std::invalid_argument("no option " + key);
+        if (key == "--scene")
+            found.scene = value;
+        else if (key == "--threads")
+            found.threads = static_cast<unsigned>(std::stoul(value));
+        else if (key == "--frames")
+            found.frames = std::stoi(value);
+        else if (key == "--width")
+            found.width = std::stoi(value);
+        else if (key == "--height")
+            found.height = std::stoi(value);
+        else if (key == "--seed")
+            found.seed = std::stoull(value);
+        else if (key == "--picture")
+            found.picture = value;
+        else
+            throw std::invalid_argument("no option " + key);
     }
     return found;
 }
@@ -349,11 +367,13 @@ void time_rate(Ours &ours, Theirs &theirs, trirast::Rate rate, const Options &op
         const auto [wall, spent] = theirs.frame(each_sample);
         keep(their_wall, wall), keep(their_processor, spent);
     }
-    std::printf("rate %s wall %.3f processor %.3f their_wall %.3f their_processor %.3f setup %.3f ids %.3f shading %.3f plain %.3f calls %.3f "
+    std::printf("rate %s wall %.3f processor %.3f their_wall %.3f their_processor %.3f setup %.3f ids %.3f shading "
+                "%.3f plain %.3f calls %.3f "
                 "glass %.3f resolve %.3f far %.3f triangles %zu cuts %zu\n",
-                each_sample ? "sample" : "pixel", least.whole, least.processor, their_wall, their_processor, least.setup, least.ids,
-                least.shading, plain.shading, calls, least.glass, least.resolve, far_pixels(ours.pixels(), theirs.pixels()),
-                ours.seen().mesh.sources.size(), ours.seen().mesh.cuts.size());
+                each_sample ? "sample" : "pixel", least.whole, least.processor, their_wall, their_processor,
+                least.setup, least.ids, least.shading, plain.shading, calls, least.glass, least.resolve,
+                far_pixels(ours.pixels(), theirs.pixels()), ours.seen().mesh.sources.size(),
+                ours.seen().mesh.cuts.size());
     if (options.picture.empty() || each_sample) return;
     write_picture(options.picture, ours.pixels(), options.width, options.height);
     write_picture(options.picture + ".llvmpipe.ppm", theirs.pixels(), options.width, options.height);
@@ -365,13 +385,17 @@ int main(int count, char **words) {
     try {
         const Options options = read_options(count, words);
         gl::open(options.threads);
-        const scene::Scene given = scene::made(options.scene, options.seed, static_cast<double>(options.width) / options.height);
+        const scene::Scene given =
+            scene::made(options.scene, options.seed, static_cast<double>(options.width) / options.height);
         const scene::Model model(given);
-        Ours ours(model, static_cast<std::uint32_t>(options.width), static_cast<std::uint32_t>(options.height), options.threads);
+        Ours ours(model, static_cast<std::uint32_t>(options.width), static_cast<std::uint32_t>(options.height),
+                  options.threads);
         Theirs theirs(model, options.width, options.height);
         std::printf("renderer %s\n", gl::renderer().c_str());
-        ours.frame(trirast::Rate::pixel, false), theirs.frame(false), theirs.frame(true); // compiles shaders, touches memory
-        for (const trirast::Rate rate : {trirast::Rate::pixel, trirast::Rate::sample}) time_rate(ours, theirs, rate, options);
+        ours.frame(trirast::Rate::pixel, false), theirs.frame(false),
+            theirs.frame(true); // compiles shaders, touches memory
+        for (const trirast::Rate rate : {trirast::Rate::pixel, trirast::Rate::sample})
+            time_rate(ours, theirs, rate, options);
         return 0;
     } catch (const std::exception &error) {
         std::fprintf(stderr, "shading: %s\n", error.what());

@@ -2,13 +2,14 @@
 
     python3 -m bench.shading [--scenes ring back front dust] [--threads 1 4] [--frames 9] [--level x86-64-v3] [--probe]
 
-A frame of 1280 by 720 pixels with four samples goes from the model's vertices to pixels in memory: textured triangles under a light, and
-five panes of glass. The frames of both take turns in one process; the least of each counts. The parts of ours are shares of its processor
-time: setup is clipping, projection and look-up tables; ids with the clear; shading, of which `plain` is that by one colour, and `calls` are
-the two calls of the library for tiles; glass; resolve. The last column is the share of pixels of which a channel is more than 4 away.
+A frame of 1280 by 720 pixels with four samples goes from the model's vertices to pixels in memory: textured triangles
+under a light, and five panes of glass. The frames of both take turns in one process; the least of each counts. The
+parts of ours are shares of its processor time: setup is clipping, projection and look-up tables; ids with the clear;
+shading, of which `plain` is that by one colour, and `calls` are the two calls of the library for tiles; glass; resolve.
+The last column is the share of pixels of which a channel is more than 4 away.
 
---probe asks llvmpipe where it takes w when it shades each sample. It needs `make library`, g++, libegl-dev and libgl-dev.
-Exit status 2 if a program cannot be built or ends with an error.
+--probe asks llvmpipe where it takes w when it shades each sample. It needs `make library`, g++, libegl-dev and
+libgl-dev. Exit status 2 if a program cannot be built or ends with an error.
 """
 
 from __future__ import annotations
@@ -25,12 +26,14 @@ SCENES = ("ring", "back", "front", "dust")
 SOURCES = os.path.join(TOP, "bench")
 PARTS = ("setup", "ids", "shading", "plain", "calls", "glass", "resolve")
 COLUMNS = (
-    "scene", "triangles", "rate", "threads", "frame, ms", "by llvmpipe's", "processor, ms", "by llvmpipe's", *PARTS, "pixels more than 4 away",
+    "scene", "triangles", "rate", "threads", "frame, ms", "by llvmpipe's", "processor, ms", "by llvmpipe's", *PARTS,
+    "pixels more than 4 away",
 )
 
 
 def built(name: str, level: str) -> str:
-    """Compiles a program of this folder over the shared library, which the loader takes for the processor's level. Returns its path."""
+    """Compiles a program of this folder over the shared library, which the loader takes for the processor's level.
+    Returns its path."""
     os.makedirs(BENCH_OUT, exist_ok=True)
     path = os.path.join(BENCH_OUT, name)
     flags = ["-std=c++17", "-O3", f"-march={level}", "-I", INCLUDE, "-I", os.path.join(EXAMPLES, "cpp")]
@@ -64,10 +67,10 @@ def cells(scene: str, threads: int, row: dict[str, str]) -> list[str]:
 
 def parsed() -> argparse.Namespace:
     parser = argparse.ArgumentParser(description="Times shading on a canvas and by llvmpipe.")
-    parser.add_argument("--scenes", nargs="+", choices=SCENES, default=SCENES, metavar="NAME", help=", ".join(SCENES))
+    parser.add_argument("--scenes", nargs="+", choices=SCENES, default=SCENES, metavar="NAME", help=" ".join(SCENES))
     parser.add_argument("--threads", type=int, nargs="+", default=(1, 4), help="default 1 4")
     parser.add_argument("--frames", type=int, default=9, help="frames of which the least counts (default 9)")
-    parser.add_argument("--level", default=LEVEL, help=f"the level of x86-64 for which headers are compiled (default {LEVEL})")
+    parser.add_argument("--level", default=LEVEL, help=f"the level for which headers are compiled (default {LEVEL})")
     parser.add_argument("--probe", action="store_true", help="ask llvmpipe for w, and time nothing")
     return parser.parse_args()
 

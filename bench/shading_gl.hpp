@@ -20,12 +20,14 @@ inline void require(bool holds, const std::string &what) {
     if (!holds) throw std::runtime_error("OpenGL: " + what);
 }
 
-// Makes a context current on this thread. `threads` are llvmpipe's own; with 1 it has none, and draws on the caller's thread.
+// Makes a context current on this thread. `threads` are llvmpipe's own; with 1 it has none, and draws on the caller's
+// thread.
 inline void open(unsigned threads) {
     setenv("LIBGL_ALWAYS_SOFTWARE", "1", 1);
     setenv("GALLIUM_DRIVER", "llvmpipe", 1);
     setenv("LP_NUM_THREADS", threads == 1 ? "0" : std::to_string(threads).c_str(), 1);
-    const auto display_of = reinterpret_cast<PFNEGLGETPLATFORMDISPLAYEXTPROC>(eglGetProcAddress("eglGetPlatformDisplayEXT"));
+    const auto display_of =
+        reinterpret_cast<PFNEGLGETPLATFORMDISPLAYEXTPROC>(eglGetProcAddress("eglGetPlatformDisplayEXT"));
     require(display_of, "no platforms");
     const EGLDisplay display = display_of(EGL_PLATFORM_SURFACELESS_MESA, EGL_DEFAULT_DISPLAY, nullptr);
     require(eglInitialize(display, nullptr, nullptr) && eglBindAPI(EGL_OPENGL_API), "no display without a surface");
@@ -33,10 +35,12 @@ inline void open(unsigned threads) {
     EGLConfig config;
     EGLint count = 0;
     require(eglChooseConfig(display, wanted, &config, 1, &count) && count, "no configuration");
-    const EGLint version[] = {EGL_CONTEXT_MAJOR_VERSION,           4,       EGL_CONTEXT_MINOR_VERSION, 5, EGL_CONTEXT_OPENGL_PROFILE_MASK,
-                              EGL_CONTEXT_OPENGL_CORE_PROFILE_BIT, EGL_NONE};
+    const EGLint version[] = {
+        EGL_CONTEXT_MAJOR_VERSION,           4,       EGL_CONTEXT_MINOR_VERSION, 5, EGL_CONTEXT_OPENGL_PROFILE_MASK,
+        EGL_CONTEXT_OPENGL_CORE_PROFILE_BIT, EGL_NONE};
     const EGLContext context = eglCreateContext(display, config, EGL_NO_CONTEXT, version);
-    require(context != EGL_NO_CONTEXT && eglMakeCurrent(display, EGL_NO_SURFACE, EGL_NO_SURFACE, context), "no context of OpenGL 4.5");
+    require(context != EGL_NO_CONTEXT && eglMakeCurrent(display, EGL_NO_SURFACE, EGL_NO_SURFACE, context),
+            "no context of OpenGL 4.5");
 }
 
 inline std::string renderer() { return reinterpret_cast<const char *>(glGetString(GL_RENDERER)); }

@@ -1,10 +1,10 @@
-// At which point does llvmpipe take w when it shades each sample? A triangle in steep perspective whose corners have the weights (1, 0, 0),
-// (0, 1, 0) and (0, 0, 1), drawn with a shader at each sample that stores the weights as floats.
+// At which point does llvmpipe take w when it shades each sample? A triangle in steep perspective whose corners have
+// the weights (1, 0, 0), (0, 1, 0) and (0, 0, 1), drawn with a shader at each sample that stores the weights as floats.
 //
 //     bench/out/shading_probe [--size 256]
 //
-// Each sample is compared with two rules: numerator and denominator at the sample, and the numerator at the sample with the denominator
-// (the sum, that is 1 / w) at the pixel's centre. By the first the weights add up to 1.
+// Each sample is compared with two rules: numerator and denominator at the sample, and the numerator at the sample with
+// the denominator (the sum, that is 1 / w) at the pixel's centre. By the first the weights add up to 1.
 #include <cmath>
 #include <cstdlib>
 #include <cstring>
@@ -60,7 +60,8 @@ int main(int count, char **arguments) {
         glTexImage2DMultisample(GL_TEXTURE_2D_MULTISAMPLE, 4, GL_RGBA32F, size, size, GL_TRUE);
         glBindFramebuffer(GL_FRAMEBUFFER, frames[0]);
         glFramebufferTexture2D(GL_FRAMEBUFFER, GL_COLOR_ATTACHMENT0, GL_TEXTURE_2D_MULTISAMPLE, textures[0], 0);
-        gl::require(glCheckFramebufferStatus(GL_FRAMEBUFFER) == GL_FRAMEBUFFER_COMPLETE, "no frame of floats with four samples");
+        gl::require(glCheckFramebufferStatus(GL_FRAMEBUFFER) == GL_FRAMEBUFFER_COMPLETE,
+                    "no frame of floats with four samples");
         glViewport(0, 0, size, size);
         glClearColor(0, 0, 0, 0), glClear(GL_COLOR_BUFFER_BIT);
         glEnable(GL_MULTISAMPLE), glEnable(GL_SAMPLE_SHADING), glMinSampleShading(1);
@@ -91,8 +92,8 @@ int main(int count, char **arguments) {
             gl::check();
             for (int j = 0; j < size; j++)
                 for (int i = 0; i < size; i++) {
-                    const float *got =
-                        &pixels[4 * (static_cast<std::size_t>(j) * static_cast<std::size_t>(size) + static_cast<std::size_t>(i))];
+                    const float *got = &pixels[4 * (static_cast<std::size_t>(j) * static_cast<std::size_t>(size) +
+                                                    static_cast<std::size_t>(i))];
                     if (got[3] == 0) continue;
                     shown++;
                     const auto numerators = [&](double x, double y, double *n) {
@@ -124,10 +125,11 @@ int main(int count, char **arguments) {
                         other++;
                 }
         }
-        std::printf(
-            "%zu samples, of which %zu have rules more than 1e-4 apart: %zu take w at the sample, %zu at the pixel's centre, %zu neither\n",
-            shown, told_apart, by_sample, by_centre, other);
-        std::printf("weights are off by at most %.2e of the first rule, %.2e of the second; their sum is off 1 by at most %.2e\n",
+        std::printf("%zu samples, of which %zu have rules more than 1e-4 apart: %zu take w at the sample, %zu at the "
+                    "pixel's centre, %zu neither\n",
+                    shown, told_apart, by_sample, by_centre, other);
+        std::printf("weights are off by at most %.2e of the first rule, %.2e of the second; their sum is off 1 by at "
+                    "most %.2e\n",
                     worst_sample, worst_centre, worst_sum);
         return 0;
     } catch (const std::exception &error) {

@@ -92,13 +92,15 @@ template <class To>
 TRIRAST_INLINE To parts_from(const void *eight) noexcept {
     To found;
     const unsigned char *bytes = static_cast<const unsigned char *>(eight);
-    for (std::size_t k = 0; k < To::count; k++) std::memcpy(&found.part[k], bytes + k * sizeof found.part[k], sizeof found.part[k]);
+    for (std::size_t k = 0; k < To::count; k++)
+        std::memcpy(&found.part[k], bytes + k * sizeof found.part[k], sizeof found.part[k]);
     return found;
 }
 template <class From>
 TRIRAST_INLINE void parts_to(const From &from, void *eight) noexcept {
     unsigned char *bytes = static_cast<unsigned char *>(eight);
-    for (std::size_t k = 0; k < From::count; k++) std::memcpy(bytes + k * sizeof from.part[k], &from.part[k], sizeof from.part[k]);
+    for (std::size_t k = 0; k < From::count; k++)
+        std::memcpy(bytes + k * sizeof from.part[k], &from.part[k], sizeof from.part[k]);
 }
 
 /* Part k of what an operation makes of parts k. */
@@ -181,16 +183,16 @@ struct Doubles : Parts<DoublePart, double_part_lanes> {};
 
 } // namespace detail
 
-#define TRIRAST_OPERATOR(type, symbol)                                                                             \
-    TRIRAST_INLINE type operator symbol(const type &a, const type &b) noexcept {                                   \
-        return detail::made<type>([](auto x, auto y) { return x symbol y; }, a, b);                                \
+#define TRIRAST_OPERATOR(type, symbol)                                                                                 \
+    TRIRAST_INLINE type operator symbol(const type &a, const type &b) noexcept {                                       \
+        return detail::made<type>([](auto x, auto y) { return x symbol y; }, a, b);                                    \
     }
-#define TRIRAST_ASSIGNMENT(type, symbol)                                                                           \
-    TRIRAST_OPERATOR(type, symbol)                                                                                 \
+#define TRIRAST_ASSIGNMENT(type, symbol)                                                                               \
+    TRIRAST_OPERATOR(type, symbol)                                                                                     \
     TRIRAST_INLINE type &operator symbol##=(type &a, const type &b) noexcept { return a = a symbol b; }
-#define TRIRAST_COMPARISON(type, symbol)                                                                           \
-    TRIRAST_INLINE Integers operator symbol(const type &a, const type &b) noexcept {                               \
-        return detail::made<Integers>([](auto x, auto y) { return detail::mask_of(x symbol y); }, a, b);           \
+#define TRIRAST_COMPARISON(type, symbol)                                                                               \
+    TRIRAST_INLINE Integers operator symbol(const type &a, const type &b) noexcept {                                   \
+        return detail::made<Integers>([](auto x, auto y) { return detail::mask_of(x symbol y); }, a, b);               \
     }
 
 TRIRAST_ASSIGNMENT(Floats, +)
@@ -300,9 +302,7 @@ TRIRAST_INLINE Floats to_floats(const Doubles &v) noexcept {
 }
 #elif TRIRAST_VECTORS
 #if defined(__SSE2__)
-TRIRAST_INLINE DoublePart low_doubles(IntegerPart x) noexcept {
-    return DoublePart(_mm_cvtepi32_pd(__m128i(x)));
-}
+TRIRAST_INLINE DoublePart low_doubles(IntegerPart x) noexcept { return DoublePart(_mm_cvtepi32_pd(__m128i(x))); }
 TRIRAST_INLINE DoublePart high_doubles(IntegerPart x) noexcept {
     return DoublePart(_mm_cvtepi32_pd(_mm_shuffle_epi32(__m128i(x), 0xEE)));
 }
@@ -398,11 +398,14 @@ TRIRAST_INLINE Floats sqrt(const Floats &v) noexcept {
 
 /* Of each lane the number of this index. Indices are not negative. */
 TRIRAST_INLINE Integers gather(const std::uint32_t *from, const Integers &index) noexcept {
-    const auto at = [&](std::size_t lane) { return static_cast<std::int32_t>(from[static_cast<std::uint32_t>(index[lane])]); };
+    const auto at = [&](std::size_t lane) {
+        return static_cast<std::int32_t>(from[static_cast<std::uint32_t>(index[lane])]);
+    };
     const std::int32_t found[lane_count] = {at(0), at(1), at(2), at(3), at(4), at(5), at(6), at(7)};
 #if TRIRAST_VECTORS && defined(__AVX__)
     Integers joined;
-    joined.part[0] = detail::IntegerPart{found[0], found[1], found[2], found[3], found[4], found[5], found[6], found[7]};
+    joined.part[0] =
+        detail::IntegerPart{found[0], found[1], found[2], found[3], found[4], found[5], found[6], found[7]};
     return joined;
 #elif TRIRAST_VECTORS
     Integers joined;
@@ -434,7 +437,8 @@ TRIRAST_INLINE void turn(FloatPart &a, FloatPart &b, FloatPart &c, FloatPart &d)
     const FloatPart ab = __builtin_shufflevector(a, b, 0, 4, 1, 5), ab_high = __builtin_shufflevector(a, b, 2, 6, 3, 7),
                     cd = __builtin_shufflevector(c, d, 0, 4, 1, 5), cd_high = __builtin_shufflevector(c, d, 2, 6, 3, 7);
     a = __builtin_shufflevector(ab, cd, 0, 1, 4, 5), b = __builtin_shufflevector(ab, cd, 2, 3, 6, 7);
-    c = __builtin_shufflevector(ab_high, cd_high, 0, 1, 4, 5), d = __builtin_shufflevector(ab_high, cd_high, 2, 3, 6, 7);
+    c = __builtin_shufflevector(ab_high, cd_high, 0, 1, 4, 5),
+    d = __builtin_shufflevector(ab_high, cd_high, 2, 3, 6, 7);
 #endif
 }
 
@@ -448,7 +452,8 @@ TRIRAST_INLINE void take_four(const float *rows, std::size_t stride, const Integ
     const auto from = [&](std::size_t lane) { return rows + first + stride * static_cast<std::uint32_t>(row[lane]); };
 #if TRIRAST_VECTORS && defined(__AVX__)
     const auto pair = [&](std::size_t lane) {
-        const detail::Four low = detail::loaded<detail::Four>(from(lane)), high = detail::loaded<detail::Four>(from(lane + 4));
+        const detail::Four low = detail::loaded<detail::Four>(from(lane)),
+                           high = detail::loaded<detail::Four>(from(lane + 4));
         return __builtin_shufflevector(low, high, 0, 1, 2, 3, 4, 5, 6, 7);
     };
     for (std::size_t k = 0; k < 4; k++) found[k].part[0] = pair(k);

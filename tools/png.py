@@ -20,8 +20,8 @@ def differences(row: bytes, pixel_bytes: int) -> bytes:
 
 
 def encode(width: int, height: int, pixel_bytes: int, pixels: bytes, is_smooth: bool = False) -> bytes:
-    """The PNG file of pixels that stand row by row, as they do in a PPM file or in a PGM file of 16 bits. A smooth picture has fewer
-    bytes by differences."""
+    """The PNG file of pixels that stand row by row, as they do in a PPM file or in a PGM file of 16 bits. A smooth
+    picture has fewer bytes by differences."""
     bits, colour_type = KINDS[pixel_bytes]
     header = struct.pack(">IIBBBBB", width, height, bits, colour_type, 0, 0, 0)
     row = width * pixel_bytes

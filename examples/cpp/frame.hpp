@@ -72,7 +72,8 @@ private:
             panes.push_back(seen(matrix, static_cast<float>(p.x), static_cast<float>(p.y), static_cast<float>(p.z)));
         trirast::clip_triangles(clip, panes, model.glass_indices, glass);
         for (std::size_t k = 0; k < glass.vertices.size(); k++) {
-            const std::size_t source = k < glass.first_cut ? k : model.glass_indices[3 * glass.cuts[k - glass.first_cut].triangle];
+            const std::size_t source =
+                k < glass.first_cut ? k : model.glass_indices[3 * glass.cuts[k - glass.first_cut].triangle];
             const std::array<std::uint8_t, 4> &color = model.glass_colors[source];
             trirast_vertex &v = glass.vertices[k];
             v.red = color[0], v.green = color[1], v.blue = color[2], v.alpha = color[3];
@@ -98,7 +99,9 @@ inline trirast::State over() {
     return state;
 }
 
-inline trirast::Color background(const Scene &given) { return {given.background[0], given.background[1], given.background[2]}; }
+inline trirast::Color background(const Scene &given) {
+    return {given.background[0], given.background[1], given.background[2]};
+}
 
 // The parts of a frame on some tile rows.
 inline void draw_ids(trirast::TileRows &rows, const Seen &seen) {
@@ -106,7 +109,9 @@ inline void draw_ids(trirast::TileRows &rows, const Seen &seen) {
     rows.draw_ids(seen.mesh.vertices, seen.mesh.indices, 0, solid());
 }
 
-inline void draw_glass(trirast::TileRows &rows, const Seen &seen) { rows.draw(seen.glass.vertices, seen.glass.indices, over()); }
+inline void draw_glass(trirast::TileRows &rows, const Seen &seen) {
+    rows.draw(seen.glass.vertices, seen.glass.indices, over());
+}
 
 } // namespace scene
 

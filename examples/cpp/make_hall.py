@@ -70,7 +70,8 @@ def add_hall(found: Obj) -> None:
     ends = [(-X, -Z), (X, -Z), (X, Z), (-X, Z)]
     for (ax, az), (bx, bz) in zip(ends, ends[1:] + ends[:1]):
         length = math.hypot(bx - ax, bz - az) / 2
-        found.face([(ax, 0, az), (bx, 0, bz), (bx, HEIGHT, bz), (ax, HEIGHT, az)], [(0, 0), (length, 0), (length, HEIGHT / 2), (0, HEIGHT / 2)])
+        places = [(0.0, 0.0), (length, 0.0), (length, HEIGHT / 2), (0.0, HEIGHT / 2)]
+        found.face([(ax, 0, az), (bx, 0, bz), (bx, HEIGHT, bz), (ax, HEIGHT, az)], places)
 
 
 def add_pillar(found: Obj, x: float, z: float) -> None:
@@ -78,7 +79,8 @@ def add_pillar(found: Obj, x: float, z: float) -> None:
         a, b = (2 * math.pi * n / ROUND for n in (k, k + 1))
         left, right = ((x + RADIUS * math.sin(t), z + RADIUS * math.cos(t)) for t in (a, b))
         low, high = (left[0], 0.0, left[1]), (right[0], HEIGHT, right[1])
-        found.face([low, (right[0], 0.0, right[1]), high, (left[0], HEIGHT, left[1])], [(k / 8, 0), ((k + 1) / 8, 0), ((k + 1) / 8, 2), (k / 8, 2)])
+        places = [(k / 8, 0.0), ((k + 1) / 8, 0.0), ((k + 1) / 8, 2.0), (k / 8, 2.0)]
+        found.face([low, (right[0], 0.0, right[1]), high, (left[0], HEIGHT, left[1])], places)
 
 
 def main() -> None:

@@ -1,11 +1,12 @@
 // A walk through a model: a Wavefront OBJ file with materials and textures, in a window of SDL2, or as a picture.
 //
-//     obj [--size 960 540] [--samples 4] [--threads N] [--eye 0 1.6 0] [--heading 0] [--speed 3] [--near 0.05] [--far 200]
+//     obj [--size 960 540] [--samples 4] [--threads N] [--eye 0 1.6 0] [--heading 0] [--speed 3] [--near 0.05] [--far
+//     200]
 //         [--output FILE.ppm] [--path FRAMES] MODEL.obj
 //
-// W, A, S and D walk, the arrows turn, and Escape ends. Walls go past the eye and through the near plane, so each frame is cut in clip
-// space. --heading is in degrees from the direction of -z, to the right. --path walks along a closed path, and counts the samples that
-// show no triangle: of a closed model none.
+// W, A, S and D walk, the arrows turn, and Escape ends. Walls go past the eye and through the near plane, so each frame
+// is cut in clip space. --heading is in degrees from the direction of -z, to the right. --path walks along a closed
+// path, and counts the samples that show no triangle: of a closed model none.
 //
 //     python3 make_hall.py hall && ./obj hall/hall.obj         # a hall to walk through
 //     c++ -std=c++17 -O3 -march=native obj.cpp $(pkg-config --cflags --libs trirast sdl2) -pthread
@@ -53,7 +54,8 @@ public:
             texels_.push_back(material.texture ? std::optional<scene::Texels>(*material.texture) : std::nullopt);
     }
 
-    void colors(const trirast::Fragments &at, const scene::Values::Corners &corner, const Integers &material, trirast::Colors &out) const {
+    void colors(const trirast::Fragments &at, const scene::Values::Corners &corner, const Integers &material,
+                trirast::Colors &out) const {
         out.red = out.green = out.blue = 0.0f;
         for (unsigned left = 255; left != 0;) {
             std::size_t lane = 0;
@@ -69,7 +71,8 @@ public:
     }
 
 private:
-    void color(std::size_t number, const trirast::Fragments &at, const scene::Values::Corners &corner, trirast::Colors &out) const {
+    void color(std::size_t number, const trirast::Fragments &at, const scene::Values::Corners &corner,
+               trirast::Colors &out) const {
         const std::array<float, 3> &plain = materials_[number].color;
         if (!texels_[number]) {
             out.red = plain[0], out.green = plain[1], out.blue = plain[2];
@@ -89,8 +92,8 @@ private:
 class Renderer {
 public:
     Renderer(const obj::Model &model, const Options &options)
-        : model_(model), options_(options), materials_(model), values_(scene::values_of(model.mesh)), canvas_(canvas_of(options)),
-          pool_(options.threads) {}
+        : model_(model), options_(options), materials_(model), values_(scene::values_of(model.mesh)),
+          canvas_(canvas_of(options)), pool_(options.threads) {}
 
     void draw(const Eye &eye) {
         look(eye);
@@ -128,7 +131,8 @@ private:
         positions_.clear();
         for (const scene::Vertex &v : mesh.vertices) positions_.push_back(scene::seen(matrix, v.x, v.y, v.z));
         trirast::Clip clip{};
-        clip.width = static_cast<std::int32_t>(options_.width), clip.height = static_cast<std::int32_t>(options_.height);
+        clip.width = static_cast<std::int32_t>(options_.width),
+        clip.height = static_cast<std::int32_t>(options_.height);
         trirast::clip_triangles(clip, positions_, mesh.indices, seen_);
         triangles_ = trirast::ShadeTriangles(seen_);
         parts_ = scene::Values(seen_, mesh.indices, values_);
@@ -151,7 +155,8 @@ private:
             const Floats x = at.value(corner[2]), y = at.value(corner[3]), z = at.value(corner[4]);
             const Floats length = sqrt(x * x + y * y + z * z);
             const auto facing = [&](const scene::Vector &to) {
-                return (x * static_cast<float>(to.x) + y * static_cast<float>(to.y) + z * static_cast<float>(to.z)) / length;
+                return (x * static_cast<float>(to.x) + y * static_cast<float>(to.y) + z * static_cast<float>(to.z)) /
+                       length;
             };
             // A light from above, and a lamp that goes ahead.
             const Floats bright = 0.45f + 0.35f * max(facing(light), 0.0f) + 0.2f * max(-facing(ahead), 0.0f);
@@ -161,7 +166,8 @@ private:
         pool_.each(std::size_t{columns} * canvas_.end(), [&](std::size_t k) {
             thread_local trirast::TileEntries entries;
             const std::uint32_t tile = static_cast<std::uint32_t>(k);
-            trirast::shade_tile(canvas_, tile % columns, tile / columns, triangles_, trirast::Rate::pixel, {150, 180, 210}, shader, entries);
+            trirast::shade_tile(canvas_, tile % columns, tile / columns, triangles_, trirast::Rate::pixel,
+                                {150, 180, 210}, shader, entries);
         });
     }
 
@@ -212,22 +218,37 @@ Options read_options(const std::vector<std::string> &words) {
     Options found;
     for (std::size_t k = 0; k < words.size(); k++) {
         const std::string &key = words[k];
-        const auto next = [&] { return k + 1 < words.size() ? words[++k] : throw std::invalid_argument(key + " without a value"); };
+        const auto next = [&] {
+            return k + 1 < words.size() ? words[++k] : throw std::invalid_argument(key + " without a value");
+        };
         const auto number = [&] { return std::stod(next()); };
         const auto count = [&] { return static_cast<std::uint32_t>(std::stoul(next())); };
-        if (key == "--size") found.width = count(), found.height = count();
-        else if (key == "--samples") found.samples = count();
-        else if (key == "--threads") found.threads = std::max(1u, count());
-        else if (key == "--eye") found.eye.at.x = number(), found.eye.at.y = number(), found.eye.at.z = number();
-        else if (key == "--heading") found.eye.heading = number();
-        else if (key == "--tilt") found.eye.tilt = number();
-        else if (key == "--speed") found.speed = number();
-        else if (key == "--near") found.near_distance = number();
-        else if (key == "--far") found.far_distance = number();
-        else if (key == "--output") found.output = next();
-        else if (key == "--path") found.path = count();
-        else if (key.compare(0, 2, "--") == 0) throw std::invalid_argument("no option " + key);
-        else found.model = key;
+        if (key == "--size")
+            found.width = count(), found.height = count();
+        else if (key == "--samples")
+            found.samples = count();
+        else if (key == "--threads")
+            found.threads = std::max(1u, count());
+        else if (key == "--eye")
+            found.eye.at.x = number(), found.eye.at.y = number(), found.eye.at.z = number();
+        else if (key == "--heading")
+            found.eye.heading = number();
+        else if (key == "--tilt")
+            found.eye.tilt = number();
+        else if (key == "--speed")
+            found.speed = number();
+        else if (key == "--near")
+            found.near_distance = number();
+        else if (key == "--far")
+            found.far_distance = number();
+        else if (key == "--output")
+            found.output = next();
+        else if (key == "--path")
+            found.path = count();
+        else if (key.compare(0, 2, "--") == 0)
+            throw std::invalid_argument("no option " + key);
+        else
+            found.model = key;
     }
     if (found.model.empty()) throw std::invalid_argument("no model; python3 make_hall.py hall makes one");
     return found;

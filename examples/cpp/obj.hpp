@@ -43,7 +43,8 @@ inline scene::Texture read_texture(const std::string &path) {
     if (kind != "P6" || most != 255 || width != height || width == 0 || width > 4096 || (width & (width - 1)) != 0)
         throw std::runtime_error(path + ": no square PPM file whose side is a power of two");
     std::vector<char> rgb(3 * std::size_t{width} * width);
-    if (!file.read(rgb.data(), static_cast<std::streamsize>(rgb.size()))) throw std::runtime_error(path + ": too short");
+    if (!file.read(rgb.data(), static_cast<std::streamsize>(rgb.size())))
+        throw std::runtime_error(path + ": too short");
     std::vector<std::uint8_t> texels;
     for (std::size_t k = 0; k < rgb.size(); k += 3) {
         for (std::size_t c = 0; c < 3; c++) texels.push_back(static_cast<std::uint8_t>(rgb[k + c]));
@@ -67,12 +68,18 @@ public:
             std::istringstream words(line);
             std::string key, name;
             words >> key;
-            if (key == "v") positions_.push_back(numbers<3>(words));
-            else if (key == "vt") places_.push_back(numbers<2>(words));
-            else if (key == "vn") normals_.push_back(numbers<3>(words));
-            else if (key == "f") add_face(words);
-            else if (key == "mtllib" && words >> name) read_materials(folder_ + name);
-            else if (key == "usemtl" && words >> name) use(name);
+            if (key == "v")
+                positions_.push_back(numbers<3>(words));
+            else if (key == "vt")
+                places_.push_back(numbers<2>(words));
+            else if (key == "vn")
+                normals_.push_back(numbers<3>(words));
+            else if (key == "f")
+                add_face(words);
+            else if (key == "mtllib" && words >> name)
+                read_materials(folder_ + name);
+            else if (key == "usemtl" && words >> name)
+                use(name);
         }
         return std::move(found_);
     }
@@ -92,8 +99,10 @@ private:
             std::istringstream words(line);
             std::string key, name;
             words >> key;
-            if (key == "newmtl" && words >> name) names_[name] = found_.materials.size(), found_.materials.push_back({});
-            else if (key == "map_Kd" && words >> name) found_.materials.back().texture = read_texture(folder_ + name);
+            if (key == "newmtl" && words >> name)
+                names_[name] = found_.materials.size(), found_.materials.push_back({});
+            else if (key == "map_Kd" && words >> name)
+                found_.materials.back().texture = read_texture(folder_ + name);
             else if (key == "Kd") {
                 const std::array<float, 3> color = numbers<3>(words);
                 for (std::size_t c = 0; c < 3; c++) found_.materials.back().color[c] = 255 * color[c];
@@ -110,7 +119,8 @@ private:
     template <class T>
     static const T *named(const std::vector<T> &all, const std::string &word) {
         if (word.empty()) return nullptr;
-        const long number = std::stol(word), count = static_cast<long>(all.size()), index = number < 0 ? count + number : number - 1;
+        const long number = std::stol(word), count = static_cast<long>(all.size()),
+                   index = number < 0 ? count + number : number - 1;
         if (index < 0 || index >= count) throw std::runtime_error("a face names what there is not: " + word);
         return &all[static_cast<std::size_t>(index)];
     }
@@ -154,7 +164,8 @@ private:
         const scene::Vector n = cross(at(triangle[1]) - at(triangle[0]), at(triangle[2]) - at(triangle[0]));
         const double length = std::max(std::sqrt(dot(n, n)), 1e-12);
         for (scene::Vertex &v : triangle)
-            v.nx = static_cast<float>(n.x / length), v.ny = static_cast<float>(n.y / length), v.nz = static_cast<float>(n.z / length);
+            v.nx = static_cast<float>(n.x / length), v.ny = static_cast<float>(n.y / length),
+            v.nz = static_cast<float>(n.z / length);
     }
 
     Model found_;

@@ -1,5 +1,5 @@
-// Scenes to shade: models, a texture, a light and panes of glass, all made by a seed. The program textured.cpp draws them, tests compare
-// them with a reference, and bench/shading times them.
+// Scenes to shade: models, a texture, a light and panes of glass, all made by a seed. The program textured.cpp draws
+// them, tests compare them with a reference, and bench/shading times them.
 #ifndef SCENE_HPP
 #define SCENE_HPP
 
@@ -41,7 +41,9 @@ inline Vector operator+(Vector a, Vector b) { return {a.x + b.x, a.y + b.y, a.z 
 inline Vector operator-(Vector a, Vector b) { return {a.x - b.x, a.y - b.y, a.z - b.z}; }
 inline Vector operator*(double s, Vector a) { return {s * a.x, s * a.y, s * a.z}; }
 inline double dot(Vector a, Vector b) { return a.x * b.x + a.y * b.y + a.z * b.z; }
-inline Vector cross(Vector a, Vector b) { return {a.y * b.z - a.z * b.y, a.z * b.x - a.x * b.z, a.x * b.y - a.y * b.x}; }
+inline Vector cross(Vector a, Vector b) {
+    return {a.y * b.z - a.z * b.y, a.z * b.x - a.x * b.z, a.x * b.y - a.y * b.x};
+}
 inline Vector unit(Vector a) { return 1 / std::sqrt(dot(a, a)) * a; }
 
 // A vertex of a model.
@@ -60,7 +62,8 @@ inline Mesh knot(int turns, int waves, std::uint32_t along, std::uint32_t around
     const double pi = std::acos(-1.0);
     const auto centre = [&](double t) {
         const double r = radius * (1 + 0.35 * std::cos(waves * t) * (waves ? 1 : 0));
-        return Vector{r * std::cos(turns * t), (waves ? 0.5 * radius * std::sin(waves * t) : 0), r * std::sin(turns * t)};
+        return Vector{r * std::cos(turns * t), (waves ? 0.5 * radius * std::sin(waves * t) : 0),
+                      r * std::sin(turns * t)};
     };
     Mesh mesh;
     for (std::uint32_t i = 0; i <= along; i++) {
@@ -71,8 +74,9 @@ inline Mesh knot(int turns, int waves, std::uint32_t along, std::uint32_t around
             const double a = 2 * pi * j / around;
             const Vector n = std::cos(a) * out + std::sin(a) * side, p = here + tube * n;
             mesh.vertices.push_back({static_cast<float>(p.x), static_cast<float>(p.y), static_cast<float>(p.z),
-                                     static_cast<float>(8.0 * std::max(1, turns) * i / along), static_cast<float>(3.0 * j / around),
-                                     static_cast<float>(n.x), static_cast<float>(n.y), static_cast<float>(n.z)});
+                                     static_cast<float>(8.0 * std::max(1, turns) * i / along),
+                                     static_cast<float>(3.0 * j / around), static_cast<float>(n.x),
+                                     static_cast<float>(n.y), static_cast<float>(n.z)});
         }
     }
     for (std::uint32_t i = 0; i < along; i++)
@@ -93,17 +97,20 @@ inline Mesh dust(Numbers &numbers, std::uint32_t count, double radius, double si
         const Vector n = unit({numbers.within(-1, 1), numbers.within(-1, 1), numbers.within(-1, 1) + 1e-3});
         const float u = static_cast<float>(numbers.within(0, 4)), v = static_cast<float>(numbers.within(0, 4));
         for (int c = 0; c < 3; c++) {
-            const Vector corner = radius * p + size * Vector{numbers.within(-1, 1), numbers.within(-1, 1), numbers.within(-1, 1)};
-            mesh.vertices.push_back({static_cast<float>(corner.x), static_cast<float>(corner.y), static_cast<float>(corner.z),
-                                     u + static_cast<float>(numbers.within(0, 0.02)), v + static_cast<float>(numbers.within(0, 0.02)),
-                                     static_cast<float>(n.x), static_cast<float>(n.y), static_cast<float>(n.z)});
+            const Vector corner =
+                radius * p + size * Vector{numbers.within(-1, 1), numbers.within(-1, 1), numbers.within(-1, 1)};
+            mesh.vertices.push_back({static_cast<float>(corner.x), static_cast<float>(corner.y),
+                                     static_cast<float>(corner.z), u + static_cast<float>(numbers.within(0, 0.02)),
+                                     v + static_cast<float>(numbers.within(0, 0.02)), static_cast<float>(n.x),
+                                     static_cast<float>(n.y), static_cast<float>(n.z)});
             mesh.indices.push_back(3 * k + static_cast<std::uint32_t>(c));
         }
     }
     return mesh;
 }
 
-// The triangles from the one that is farthest from the eye to the nearest: a renderer that shades when it draws shades all of them.
+// The triangles from the one that is farthest from the eye to the nearest: a renderer that shades when it draws shades
+// all of them.
 inline void sort_from_back(Mesh &mesh, Vector eye) {
     struct Far {
         double distance;
@@ -128,15 +135,17 @@ struct Matrix {
     std::array<float, 16> rows;
 };
 
-inline Matrix looking(Vector eye, Vector target, double zoom, double aspect, double near_distance, double far_distance) {
+inline Matrix looking(Vector eye, Vector target, double zoom, double aspect, double near_distance,
+                      double far_distance) {
     const Vector ahead = unit(target - eye), right = unit(cross(ahead, {0, 1, 0})), up = cross(right, ahead);
     const double scale = far_distance / (far_distance - near_distance);
     const auto row = [&](Vector axis, double factor, double more) {
         return std::array<float, 4>{static_cast<float>(factor * axis.x), static_cast<float>(factor * axis.y),
-                                    static_cast<float>(factor * axis.z), static_cast<float>(-factor * dot(axis, eye) + more)};
+                                    static_cast<float>(factor * axis.z),
+                                    static_cast<float>(-factor * dot(axis, eye) + more)};
     };
-    const std::array<float, 4> rows[4] = {row(right, zoom / aspect, 0), row(up, zoom, 0), row(ahead, scale, -scale * near_distance),
-                                          row(ahead, 1, 0)};
+    const std::array<float, 4> rows[4] = {row(right, zoom / aspect, 0), row(up, zoom, 0),
+                                          row(ahead, scale, -scale * near_distance), row(ahead, 1, 0)};
     Matrix found;
     for (std::size_t k = 0; k < 16; k++) found.rows[k] = rows[k / 4][k % 4];
     return found;
@@ -144,8 +153,8 @@ inline Matrix looking(Vector eye, Vector target, double zoom, double aspect, dou
 
 inline trirast::ClipPosition seen(const Matrix &m, float x, float y, float z) {
     const std::array<float, 16> &r = m.rows;
-    return {r[0] * x + r[1] * y + r[2] * z + r[3], r[4] * x + r[5] * y + r[6] * z + r[7], r[8] * x + r[9] * y + r[10] * z + r[11],
-            r[12] * x + r[13] * y + r[14] * z + r[15]};
+    return {r[0] * x + r[1] * y + r[2] * z + r[3], r[4] * x + r[5] * y + r[6] * z + r[7],
+            r[8] * x + r[9] * y + r[10] * z + r[11], r[12] * x + r[13] * y + r[14] * z + r[15]};
 }
 
 // A pane of glass: a colour of its own for each, and four corners.
@@ -234,8 +243,9 @@ inline Scene made(const std::string &name, std::uint64_t seed, double aspect) {
     if (name == "ring" || name == "back") {
         found.mesh = knot(2, 3, 256, 48, 1.2, 0.33); // 24,576 triangles
     } else if (name == "front" || name == "coarse") {
-        found.mesh = name == "front" ? knot(1, 0, 220, 48, 1.2, 0.5) : knot(1, 0, 40, 14, 1.2, 0.5); // 21,120 and 1,120 triangles
-        eye = {1.75, 0.28, 0.62}, target = {1.0, -0.05, 0.1}; // where the near plane cuts into the tube
+        found.mesh = name == "front" ? knot(1, 0, 220, 48, 1.2, 0.5)
+                                     : knot(1, 0, 40, 14, 1.2, 0.5); // 21,120 and 1,120 triangles
+        eye = {1.75, 0.28, 0.62}, target = {1.0, -0.05, 0.1};        // where the near plane cuts into the tube
     } else if (name == "dust") {
         found.mesh = dust(numbers, 200000, 1.8, 0.006);
     } else {
@@ -254,8 +264,9 @@ inline Scene made(const std::string &name, std::uint64_t seed, double aspect) {
         const Vector a = across * (std::cos(tilt) * right + std::sin(tilt) * up),
                      b = across * (std::cos(tilt) * up - std::sin(tilt) * right) + 0.3 * across * ahead;
         pane.corners = {middle - a - b, middle + a - b, middle + a + b, middle - a + b};
-        pane.color = {static_cast<std::uint8_t>(numbers.within(90, 255)), static_cast<std::uint8_t>(numbers.within(90, 255)),
-                      static_cast<std::uint8_t>(numbers.within(90, 255)), static_cast<std::uint8_t>(numbers.within(50, 130))};
+        pane.color = {
+            static_cast<std::uint8_t>(numbers.within(90, 255)), static_cast<std::uint8_t>(numbers.within(90, 255)),
+            static_cast<std::uint8_t>(numbers.within(90, 255)), static_cast<std::uint8_t>(numbers.within(50, 130))};
         found.glass.push_back(pane);
     }
     return found;

@@ -1,4 +1,5 @@
-// A texture for eight points at a time: levels of half the size each (mip maps), filtered in a level and between two of them.
+// A texture for eight points at a time: levels of half the size each (mip maps), filtered in a level and between two of
+// them.
 #ifndef TEXTURE_HPP
 #define TEXTURE_HPP
 
@@ -14,7 +15,8 @@ namespace scene {
 using trirast::Floats;
 using trirast::Integers;
 
-// The logarithm to the base 2 of positive numbers, within 3e-6 of what it is: the exponent, and a polynomial of the rest.
+// The logarithm to the base 2 of positive numbers, within 3e-6 of what it is: the exponent, and a polynomial of the
+// rest.
 TRIRAST_INLINE Floats logarithm(const Floats &v) {
     const Integers bits = bits_of(v);
     const Floats exponent = to_floats((bits >> 23) - 127);
@@ -25,8 +27,8 @@ TRIRAST_INLINE Floats logarithm(const Floats &v) {
     return exponent + sum * t;
 }
 
-// The texels of all levels. Each level has its first column once more behind the last and its first row once more below, so that the
-// texture repeats: the four texels round a point are always beside each other.
+// The texels of all levels. Each level has its first column once more behind the last and its first row once more
+// below, so that the texture repeats: the four texels round a point are always beside each other.
 class Texels {
 public:
     explicit Texels(const Texture &texture) : top_(static_cast<std::int32_t>(texture.levels.size()) - 1) {
@@ -41,8 +43,8 @@ public:
         }
     }
 
-    // The colours at u, v, of which each whole number is a texture. `step` is the square of the distance to the next pixel, in textures: a
-    // level is taken whose texels are about as far from each other.
+    // The colours at u, v, of which each whole number is a texture. `step` is the square of the distance to the next
+    // pixel, in textures: a level is taken whose texels are about as far from each other.
     TRIRAST_INLINE void colors(const Floats &u, const Floats &v, const Floats &step, trirast::Colors &out) const {
         const float side = static_cast<float>(std::uint32_t{1} << top_), most = static_cast<float>(top_);
         // Half of the logarithm of a square. A step of nothing, or of no number, takes the largest level.
@@ -56,7 +58,9 @@ public:
     }
 
 private:
-    static TRIRAST_INLINE Floats between(const Floats &a, const Floats &b, const Floats &share) { return a + share * (b - a); }
+    static TRIRAST_INLINE Floats between(const Floats &a, const Floats &b, const Floats &share) {
+        return a + share * (b - a);
+    }
 
     // The texels round a point, and where it lies between them.
     struct Four {
@@ -65,7 +69,8 @@ private:
 
         TRIRAST_INLINE Floats channel(int shift) const {
             const auto of = [shift](const Integers &texel) { return to_floats((texel >> shift) & 255); };
-            const Floats left = between(of(upper_left), of(lower_left), y), right = between(of(upper_right), of(lower_right), y);
+            const Floats left = between(of(upper_left), of(lower_left), y),
+                         right = between(of(upper_right), of(lower_right), y);
             return between(left, right, x);
         }
     };
@@ -74,13 +79,19 @@ private:
         // The side of a level is a power of two, whose exponent is top - level.
         const Floats side = trirast::floats_of_bits((top_ - level + 127) << 23);
         const Integers whole = to_integers(side), row = whole + 1;
-        const Floats x = (u - to_floats(floor_to_integers(u))) * side - 0.5f, y = (v - to_floats(floor_to_integers(v))) * side - 0.5f;
+        const Floats x = (u - to_floats(floor_to_integers(u))) * side - 0.5f,
+                     y = (v - to_floats(floor_to_integers(v))) * side - 0.5f;
         const Integers i = floor_to_integers(x), j = floor_to_integers(y);
         // Masked, so that no number leads out of the level.
-        const Integers first = trirast::gather(first_, level) + (j & (whole - 1)) * row + (i & (whole - 1)), below = first + row;
+        const Integers first = trirast::gather(first_, level) + (j & (whole - 1)) * row + (i & (whole - 1)),
+                       below = first + row;
         const std::uint32_t *texels = texels_.data();
-        return {trirast::gather(texels, first), trirast::gather(texels, first + 1), trirast::gather(texels, below),
-                trirast::gather(texels, below + 1), x - to_floats(i), y - to_floats(j)};
+        return {trirast::gather(texels, first),
+                trirast::gather(texels, first + 1),
+                trirast::gather(texels, below),
+                trirast::gather(texels, below + 1),
+                x - to_floats(i),
+                y - to_floats(j)};
     }
 
     std::int32_t top_;
@@ -101,8 +112,9 @@ inline std::vector<Values::Values> values_of(const Mesh &mesh) {
 class Textured {
 public:
     Textured(const Texels &texels, const Values &values, const Scene &scene)
-        : texels_(texels), values_(values), x_(static_cast<float>(scene.light.x)), y_(static_cast<float>(scene.light.y)),
-          z_(static_cast<float>(scene.light.z)), ambient_(static_cast<float>(scene.ambient)) {}
+        : texels_(texels), values_(values), x_(static_cast<float>(scene.light.x)),
+          y_(static_cast<float>(scene.light.y)), z_(static_cast<float>(scene.light.z)),
+          ambient_(static_cast<float>(scene.ambient)) {}
 
     TRIRAST_INLINE void operator()(const trirast::Fragments &at, trirast::Colors &out) const {
         const Values::Corners corner = values_.of(at.id);

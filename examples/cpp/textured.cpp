@@ -1,12 +1,13 @@
-// A textured model under a light, with panes of glass, in perspective: in a window of SDL2 in which the eye goes round it, or as a picture.
+// A textured model under a light, with panes of glass, in perspective: in a window of SDL2 in which the eye goes round
+// it, or as a picture.
 //
 //     textured [--scene ring] [--size 960 540] [--samples 4] [--rate pixel] [--threads N] [--turn 0] [--speed 20]
 //              [--show shaded] [--pick X Y] [--output FILE.ppm]
 //
 // Scenes: ring, a knot; front, within a ring, where the near plane cuts; coarse, the same of fewer triangles;
 // dust, small triangles. --rate is pixel, centre or sample.
-// --show is ids, weights, places (texture coordinates) or shaded. The title has the frames a second. A click, and --pick, asks which
-// triangle is seen there. Escape ends.
+// --show is ids, weights, places (texture coordinates) or shaded. The title has the frames a second. A click, and
+// --pick, asks which triangle is seen there. Escape ends.
 //
 //     c++ -std=c++17 -O3 -march=native textured.cpp $(pkg-config --cflags --libs trirast sdl2) -pthread
 //
@@ -32,7 +33,8 @@ struct Options {
     std::optional<Input::Place> pick;
 };
 
-trirast::Canvas canvas_of(std::uint32_t width, std::uint32_t height, std::uint32_t samples, trirast::Origin origin = {}) {
+trirast::Canvas canvas_of(std::uint32_t width, std::uint32_t height, std::uint32_t samples,
+                          trirast::Origin origin = {}) {
     trirast::CanvasOptions options;
     options.width = width, options.height = height, options.samples = samples, options.origin = origin;
     return trirast::Canvas(options);
@@ -42,11 +44,13 @@ trirast::Canvas canvas_of(std::uint32_t width, std::uint32_t height, std::uint32
 class Renderer {
 public:
     Renderer(const scene::Scene &scene, const Options &options)
-        : model_(scene), rate_(options.rate), show_(options.show), canvas_(canvas_of(options.width, options.height, options.samples)), pool_(options.threads) {}
+        : model_(scene), rate_(options.rate), show_(options.show),
+          canvas_(canvas_of(options.width, options.height, options.samples)), pool_(options.threads) {}
 
     // What is seen when the eye has gone round by an angle.
     void look(double turn) {
-        const trirast::Clip clip = scene::clip_of(static_cast<std::int32_t>(canvas_.width()), static_cast<std::int32_t>(canvas_.height()));
+        const trirast::Clip clip =
+            scene::clip_of(static_cast<std::int32_t>(canvas_.width()), static_cast<std::int32_t>(canvas_.height()));
         seen_.project(model_, scene::turned(model_.scene, turn), clip);
         seen_.prepare(model_);
     }
@@ -80,7 +84,8 @@ private:
         shade_by([&values](const trirast::Fragments &at, trirast::Colors &out) {
             const scene::Values::Corners corner = values.of(at.id);
             const trirast::Floats u = at.value(corner[0]), v = at.value(corner[1]);
-            out.red = 255.0f * (u - to_floats(floor_to_integers(u))), out.green = 255.0f * (v - to_floats(floor_to_integers(v)));
+            out.red = 255.0f * (u - to_floats(floor_to_integers(u))),
+            out.green = 255.0f * (v - to_floats(floor_to_integers(v)));
             out.blue = 90.0f;
         });
     }
@@ -101,7 +106,8 @@ private:
         pool_.each(std::size_t{columns} * canvas_.end(), [&](std::size_t k) {
             thread_local trirast::TileEntries entries;
             const std::uint32_t tile = static_cast<std::uint32_t>(k);
-            trirast::shade_tile(canvas_, tile % columns, tile / columns, seen_.triangles, rate_, background, shader, entries);
+            trirast::shade_tile(canvas_, tile % columns, tile / columns, seen_.triangles, rate_, background, shader,
+                                entries);
         });
     }
 
@@ -141,21 +147,33 @@ Options read_options(const std::vector<std::string> &words) {
     Options found;
     for (std::size_t k = 0; k < words.size(); k++) {
         const std::string &key = words[k];
-        const auto next = [&] { return k + 1 < words.size() ? words[++k] : throw std::invalid_argument(key + " without a value"); };
+        const auto next = [&] {
+            return k + 1 < words.size() ? words[++k] : throw std::invalid_argument(key + " without a value");
+        };
         const auto number = [&] { return static_cast<std::uint32_t>(std::stoul(next())); };
-        if (key == "--scene") found.scene = next();
-        else if (key == "--size") found.width = number(), found.height = number();
-        else if (key == "--samples") found.samples = number();
-        else if (key == "--rate") found.rate = rate_of(next());
-        else if (key == "--show") found.show = next();
-        else if (key == "--threads") found.threads = std::max(1u, number());
-        else if (key == "--turn") found.turn = std::stod(next());
-        else if (key == "--speed") found.speed = std::stod(next());
-        else if (key == "--output") found.output = next();
+        if (key == "--scene")
+            found.scene = next();
+        else if (key == "--size")
+            found.width = number(), found.height = number();
+        else if (key == "--samples")
+            found.samples = number();
+        else if (key == "--rate")
+            found.rate = rate_of(next());
+        else if (key == "--show")
+            found.show = next();
+        else if (key == "--threads")
+            found.threads = std::max(1u, number());
+        else if (key == "--turn")
+            found.turn = std::stod(next());
+        else if (key == "--speed")
+            found.speed = std::stod(next());
+        else if (key == "--output")
+            found.output = next();
         else if (key == "--pick") {
             const std::int32_t x = std::stoi(next()), y = std::stoi(next());
             found.pick = Input::Place{x, y};
-        } else throw std::invalid_argument("no option " + key);
+        } else
+            throw std::invalid_argument("no option " + key);
     }
     return found;
 }
@@ -174,7 +192,8 @@ int main(int count, char **words) {
         renderer.look(options.turn * std::acos(-1.0) / 180);
         renderer.draw();
         if (options.pick) std::cerr << "textured" << said(renderer.picked(*options.pick)) << '\n';
-        if (!options.output.empty()) write_picture(options.output, options.width, options.height, renderer.canvas().pixels(TRIRAST_FORMAT_RGB8));
+        if (!options.output.empty())
+            write_picture(options.output, options.width, options.height, renderer.canvas().pixels(TRIRAST_FORMAT_RGB8));
         return 0;
     } catch (const std::exception &error) {
         std::cerr << "textured: " << error.what() << '\n';

@@ -29,7 +29,7 @@ struct Input {
     struct Place {
         std::int32_t x, y;
     };
-    double seconds = 0; // since the last frame
+    double seconds = 0;                              // since the last frame
     double ahead = 0, aside = 0, turn = 0, tilt = 0; // keys that are held: -1 to 1
     std::optional<Place> click;
 };
@@ -37,7 +37,8 @@ struct Input {
 // Draws a frame, and returns what the title says beside the frames a second.
 using DrawFrame = std::function<std::string(const Target &, const Input &)>;
 
-inline void write_picture(const std::string &path, std::uint32_t width, std::uint32_t height, const std::vector<std::uint8_t> &rgb) {
+inline void write_picture(const std::string &path, std::uint32_t width, std::uint32_t height,
+                          const std::vector<std::uint8_t> &rgb) {
     std::FILE *file = path == "-" ? stdout : std::fopen(path.c_str(), "wb");
     if (!file) throw std::runtime_error("cannot write " + path);
     std::fprintf(file, "P6\n%u %u\n255\n", width, height);
@@ -68,9 +69,12 @@ inline bool take_events(Input &input) {
         if (event.type == SDL_MOUSEBUTTONDOWN) input.click = Input::Place{event.button.x, event.button.y};
     }
     const Uint8 *held = SDL_GetKeyboardState(nullptr);
-    const auto between = [held](SDL_Scancode less, SDL_Scancode more) { return static_cast<double>(held[more]) - held[less]; };
+    const auto between = [held](SDL_Scancode less, SDL_Scancode more) {
+        return static_cast<double>(held[more]) - held[less];
+    };
     input.ahead = between(SDL_SCANCODE_S, SDL_SCANCODE_W), input.aside = between(SDL_SCANCODE_A, SDL_SCANCODE_D);
-    input.turn = between(SDL_SCANCODE_LEFT, SDL_SCANCODE_RIGHT), input.tilt = between(SDL_SCANCODE_DOWN, SDL_SCANCODE_UP);
+    input.turn = between(SDL_SCANCODE_LEFT, SDL_SCANCODE_RIGHT),
+    input.tilt = between(SDL_SCANCODE_DOWN, SDL_SCANCODE_UP);
     return true;
 }
 
@@ -78,8 +82,8 @@ inline bool take_events(Input &input) {
 inline void run_window(const std::string &name, std::uint32_t width, std::uint32_t height, const DrawFrame &draw) {
     using Clock = std::chrono::steady_clock;
     sdl(SDL_Init(SDL_INIT_VIDEO) == 0);
-    SDL_Window *window = SDL_CreateWindow(name.c_str(), SDL_WINDOWPOS_CENTERED, SDL_WINDOWPOS_CENTERED, static_cast<int>(width),
-                                          static_cast<int>(height), 0);
+    SDL_Window *window = SDL_CreateWindow(name.c_str(), SDL_WINDOWPOS_CENTERED, SDL_WINDOWPOS_CENTERED,
+                                          static_cast<int>(width), static_cast<int>(height), 0);
     sdl(window != nullptr);
     Input input;
     int frames = 0;
@@ -89,7 +93,8 @@ inline void run_window(const std::string &name, std::uint32_t width, std::uint32
         SDL_Surface *surface = SDL_GetWindowSurface(window);
         sdl(surface != nullptr);
         const std::size_t stride = static_cast<std::size_t>(surface->pitch);
-        const std::string says = draw({static_cast<std::uint8_t *>(surface->pixels), stride, stride * height, format_of(surface)}, input);
+        const std::string says =
+            draw({static_cast<std::uint8_t *>(surface->pixels), stride, stride * height, format_of(surface)}, input);
         sdl(SDL_UpdateWindowSurface(window) == 0);
         const double seconds = std::chrono::duration<double>(now - since).count();
         if (seconds < 0.5) continue;

@@ -1,4 +1,5 @@
-"""The programs over the headers for shading: examples/cpp/textured.cpp and obj.cpp, also in a window, and that of docs/shading.md."""
+"""The programs over the headers for shading: examples/cpp/textured.cpp and obj.cpp, also in a window, and that of
+docs/shading.md."""
 
 from __future__ import annotations
 
@@ -47,20 +48,22 @@ def check_picture() -> None:
 
 
 def check_walk(frames: int) -> str:
-    """In a walk through a closed hall no frame is refused, and each sample shows a triangle. Returns the program's line."""
+    """In a walk through a closed hall no frame is refused, and each sample shows a triangle. Returns the line."""
     hall = os.path.join(OUT, "hall")
     run([sys.executable, os.path.join(PROGRAMS, "make_hall.py"), hall])
     program = program_of("obj", *FLAGS)
-    line = run([program, "--path", str(frames), "--size", "320", "180", os.path.join(hall, "hall.obj")]).decode().strip()
+    model = os.path.join(hall, "hall.obj")
+    line = run([program, "--path", str(frames), "--size", "320", "180", model]).decode().strip()
     found = re.fullmatch(rf"{frames} frames, (\d+) cuts, 0 samples without a triangle", line)
     must(found is not None and int(found[1]) > 10 * frames, line)
-    shown = picture_file.decode(run([program, "--size", *SIZE, "--output", "-", os.path.join(hall, "hall.obj")])).pixel_data
+    shown = picture_file.decode(run([program, "--size", *SIZE, "--output", "-", model])).pixel_data
     must(len({shown[k : k + 3] for k in range(0, len(shown), 3)}) > 500, "few colours")
     return line
 
 
 def check_page() -> str:
-    """The program of the page draws the cube: other pictures from other sides, each with three faces' checks. Returns how many pixels."""
+    """The program of the page draws the cube: other pictures from other sides, each with the checks of its faces. Returns
+    how many pixels."""
     (text,) = re.findall(r"```cpp\n(.*?)```", places.text_of(PAGE), re.DOTALL)
     program, source = os.path.join(OUT, "page"), os.path.join(OUT, "page.cpp")
     with open(source, "w", encoding="ascii") as file:

@@ -1,5 +1,6 @@
-// Shades scenes that are made here and writes the colours of all samples, so that compilers and processors can be compared. The scenes are
-// made without sines, and drawn by reference.hpp; so the library is not linked: its calls for tiles are here, over plain arrays.
+// Shades scenes that are made here and writes the colours of all samples, so that compilers and processors can be
+// compared. The scenes are made without sines, and drawn by reference.hpp; so the library is not linked: its calls for
+// tiles are here, over plain arrays.
 //
 //     filter > bytes
 #include <cstdio>
@@ -28,15 +29,17 @@ scene::Scene scene_of(std::uint64_t seed) {
     given.texture = scene::texture(numbers, 64);
     given.light = scene::unit({0.4, 0.8, 0.4});
     given.mesh = scene::dust(numbers, 4000, 1.8, 0.3);
-    given.matrix = scene::looking({0.4, 0.5, 1.2}, {0, 0, 0}, 1.7, 1.5, 0.3, 20); // into the dust, so that planes cut it
+    given.matrix =
+        scene::looking({0.4, 0.5, 1.2}, {0, 0, 0}, 1.7, 1.5, 0.3, 20); // into the dust, so that planes cut it
     return given;
 }
 
 void draw(const trirast::Clipped &mesh, std::uint32_t samples) {
     reference::Picture picture{WIDTH, samples, std::vector<reference::Sample>(std::size_t{WIDTH} * HEIGHT * samples)};
-    reference::draw(picture, mesh, [](reference::Sample &sample, std::uint32_t t, std::uint32_t depth, const trirast_vertex &) {
-        sample.id = t, sample.depth = depth;
-    });
+    reference::draw(picture, mesh,
+                    [](reference::Sample &sample, std::uint32_t t, std::uint32_t depth, const trirast_vertex &) {
+                        sample.id = t, sample.depth = depth;
+                    });
     tiles.assign(COLUMNS * ROWS * entries_of(samples), trirast::no_triangle);
     for (std::size_t y = 0; y < HEIGHT; y++)
         for (std::size_t x = 0; x < WIDTH; x++)
@@ -46,8 +49,7 @@ void draw(const trirast::Clipped &mesh, std::uint32_t samples) {
 void write(std::uint32_t samples) {
     for (std::size_t y = 0; y < HEIGHT; y++)
         for (std::size_t x = 0; x < WIDTH; x++)
-            for (std::size_t s = 0; s < samples; s++)
-                std::fwrite(&tiles[entry_at(samples, x, y, s)], 1, 3, stdout);
+            for (std::size_t s = 0; s < samples; s++) std::fwrite(&tiles[entry_at(samples, x, y, s)], 1, 3, stdout);
 }
 
 } // namespace
@@ -61,14 +63,16 @@ uint32_t trirast_canvas_tile_rows(const trirast_canvas *) { return ROWS; }
 trirast_status trirast_proved_canvas_clear(trirast_canvas *, const trirast_clear *) { return TRIRAST_STATUS_OK; }
 size_t trirast_error_message(const trirast_error *, char *, size_t) { return 0; }
 
-trirast_status trirast_canvas_tile_ids(const trirast_canvas *canvas, uint32_t column, uint32_t row, uint32_t *ids, size_t, uint32_t *uniform) {
+trirast_status trirast_canvas_tile_ids(const trirast_canvas *canvas, uint32_t column, uint32_t row, uint32_t *ids,
+                                       size_t, uint32_t *uniform) {
     const std::size_t count = entries_of(canvas->samples);
     std::memcpy(ids, &tiles[(row * COLUMNS + column) * count], count * sizeof *ids);
     *uniform = 0;
     return TRIRAST_STATUS_OK;
 }
 
-trirast_status trirast_canvas_tile_store(trirast_canvas *canvas, uint32_t column, uint32_t row, const uint32_t *colors, size_t count) {
+trirast_status trirast_canvas_tile_store(trirast_canvas *canvas, uint32_t column, uint32_t row, const uint32_t *colors,
+                                         size_t count) {
     if (count != entries_of(canvas->samples)) return TRIRAST_STATUS_BUFFER_TOO_SMALL;
     std::memcpy(&tiles[(row * COLUMNS + column) * count], colors, count * sizeof *colors);
     return TRIRAST_STATUS_OK;

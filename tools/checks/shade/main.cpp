@@ -27,7 +27,8 @@ void expect(bool holds, const char *what, const std::string &where) {
 
 const char *name_of(At rate) { return rate == At::pixel ? "pixel" : rate == At::centre ? "centre" : "sample"; }
 
-trirast::Canvas canvas_of(std::uint32_t width, std::uint32_t height, std::uint32_t samples, trirast::Origin origin = {}) {
+trirast::Canvas canvas_of(std::uint32_t width, std::uint32_t height, std::uint32_t samples,
+                          trirast::Origin origin = {}) {
     trirast::CanvasOptions options;
     options.width = width, options.height = height, options.samples = samples, options.origin = origin;
     return trirast::Canvas(options);
@@ -45,7 +46,9 @@ Triangles triangles_of(scene::Numbers &numbers) {
     Triangles found;
     const double size = std::pow(2, numbers.within(3, 23));
     for (std::uint32_t k = 0; k < 24; k++) {
-        const auto place = [&] { return static_cast<std::int32_t>(std::clamp(numbers.within(-size, size), -8388608.0, 8388607.0)); };
+        const auto place = [&] {
+            return static_cast<std::int32_t>(std::clamp(numbers.within(-size, size), -8388608.0, 8388607.0));
+        };
         trirast_vertex vertex{};
         vertex.x = place(), vertex.y = place();
         found.vertices.push_back(vertex), found.w.push_back(static_cast<float>(std::pow(10, numbers.within(-2, 2))));
@@ -60,7 +63,8 @@ struct Exact {
 };
 
 Exact exact(const Triangles &given, std::size_t first, std::int64_t x, std::int64_t y) {
-    const reference::Edges e = reference::edges(given.vertices[first], given.vertices[first + 1], given.vertices[first + 2], x, y);
+    const reference::Edges e =
+        reference::edges(given.vertices[first], given.vertices[first + 1], given.vertices[first + 2], x, y);
     Exact found{{static_cast<long double>(e.a) / given.w[first], static_cast<long double>(e.b) / given.w[first + 1],
                  static_cast<long double>(e.c) / given.w[first + 2]},
                 0};
@@ -93,7 +97,8 @@ void add_steps(const Triangles &given, const Eight &at, std::size_t lane, const 
         }
         const double r = static_cast<double>(std::fabs(size / next.sum));
         for (std::size_t c = 0; c < 3; c++) {
-            const double got = (down ? at.down : at.right)[c][lane], wanted = static_cast<double>(sign * (next.weight[c] - here.weight[c]));
+            const double got = (down ? at.down : at.right)[c][lane],
+                         wanted = static_cast<double>(sign * (next.weight[c] - here.weight[c]));
             worst.step = std::max(worst.step, std::fabs(got - wanted) / (r * (1 + r)));
         }
     }
@@ -107,7 +112,8 @@ void add_point(const Triangles &given, const Eight &at, std::size_t lane, Worst 
         const double got = at.weight[c][lane];
         total += got;
         if (here.weight[c] > 0)
-            worst.weight = std::max(worst.weight, static_cast<double>(std::fabs(got - here.weight[c]) / here.weight[c]));
+            worst.weight =
+                std::max(worst.weight, static_cast<double>(std::fabs(got - here.weight[c]) / here.weight[c]));
         else
             expect(got == 0, "a weight of a corner across from an edge through the point", "weights");
         expect(got >= 0, "a negative weight inside of a triangle", "weights");
@@ -124,8 +130,10 @@ Eight points_in(const Triangles &given, scene::Numbers &numbers) {
         double a = numbers.unit(), b = numbers.unit();
         if (a + b > 1) a = 1 - a, b = 1 - b;
         at.id[lane] = static_cast<std::int32_t>(lane);
-        at.x[lane] = static_cast<std::int32_t>(std::floor(a * corner[0].x + b * corner[1].x + (1 - a - b) * corner[2].x));
-        at.y[lane] = static_cast<std::int32_t>(std::floor(a * corner[0].y + b * corner[1].y + (1 - a - b) * corner[2].y));
+        at.x[lane] =
+            static_cast<std::int32_t>(std::floor(a * corner[0].x + b * corner[1].x + (1 - a - b) * corner[2].x));
+        at.y[lane] =
+            static_cast<std::int32_t>(std::floor(a * corner[0].y + b * corner[1].y + (1 - a - b) * corner[2].y));
     }
     return at;
 }
@@ -138,11 +146,14 @@ void weights(int rounds) {
         Eight at = points_in(given, numbers);
         const EdgesOfEight edges = weigh_eight(given.vertices, given.w, given.indices, at);
         for (std::size_t lane = 0; lane < 8; lane++) {
-            const trirast_vertex &a = given.vertices[3 * lane], &b = given.vertices[3 * lane + 1], &c = given.vertices[3 * lane + 2];
+            const trirast_vertex &a = given.vertices[3 * lane], &b = given.vertices[3 * lane + 1],
+                                 &c = given.vertices[3 * lane + 2];
             const trirast_corners corners{a.x, a.y, b.x, b.y, c.x, c.y};
             trirast_edges wanted;
-            expect(trirast_edges_at_point(&corners, at.x[lane], at.y[lane], &wanted) == TRIRAST_STATUS_OK, "a position", "weights");
-            worst.edges_equal += edges.a[lane] == static_cast<float>(wanted.a) && edges.b[lane] == static_cast<float>(wanted.b) &&
+            expect(trirast_edges_at_point(&corners, at.x[lane], at.y[lane], &wanted) == TRIRAST_STATUS_OK, "a position",
+                   "weights");
+            worst.edges_equal += edges.a[lane] == static_cast<float>(wanted.a) &&
+                                 edges.b[lane] == static_cast<float>(wanted.b) &&
                                  edges.c[lane] == static_cast<float>(wanted.c);
             const reference::Edges e = reference::edges(a, b, c, at.x[lane], at.y[lane]);
             if (e.area > 0 && e.a >= 0 && e.b >= 0 && e.c >= 0) add_point(given, at, lane, worst);
@@ -150,9 +161,11 @@ void weights(int rounds) {
     }
     const std::size_t all = 8 * static_cast<std::size_t>(rounds);
     std::printf("edge functions: %zu of %zu points have those of the library\n", worst.edges_equal, all);
-    std::printf("weights at %zu points: relative error at most 2^%.2f (bound 2^-20), sum off by 2^%.2f (bound 2^-21), differences by "
+    std::printf("weights at %zu points: relative error at most 2^%.2f (bound 2^-20), sum off by 2^%.2f (bound 2^-21), "
+                "differences by "
                 "2^%.2f r (1 + r) (bound 2^-19); %zu ahead, %zu back\n",
-                worst.points, std::log2(worst.weight), std::log2(worst.sum), std::log2(worst.step), worst.ahead, worst.back);
+                worst.points, std::log2(worst.weight), std::log2(worst.sum), std::log2(worst.step), worst.ahead,
+                worst.back);
     expect(worst.edges_equal == all, "an edge function", "weights");
     expect(worst.weight < 0x1p-20, "weights beyond their bound", "weights");
     expect(worst.sum < 0x1p-21, "the sum of weights beyond its bound", "weights");
@@ -162,7 +175,8 @@ void weights(int rounds) {
 
 // ---- Which points are shaded
 
-// Each place that Rate::pixel may take lies in the triangle of any three of its samples, and the patterns are those of the rules.
+// Each place that Rate::pixel may take lies in the triangle of any three of its samples, and the patterns are those of
+// the rules.
 void patterns() {
     for (std::uint32_t samples : {1u, 2u, 4u, 8u, 16u}) {
         const std::vector<reference::Place> wanted = reference::places(samples);
@@ -176,15 +190,16 @@ void patterns() {
             std::vector<bool> shown;
             for (std::uint32_t s = 0; s < samples; s++) shown.push_back(mask >> s & 1);
             const reference::Place middle = reference::middle(wanted, shown);
-            // It is outside of the hull if all samples lie on one side of a line through it and a sample, and one does not lie on it.
+            // It is outside of the hull if all samples lie on one side of a line through it and a sample, and one does
+            // not lie on it.
             for (std::uint32_t q = 0; q < samples; q++) {
                 if (!shown[q] || (wanted[q].x == middle.x && wanted[q].y == middle.y)) continue;
                 std::int64_t least = INT64_MAX, most = INT64_MIN;
                 bool beyond = false;
                 for (std::uint32_t s = 0; s < samples; s++) {
                     if (!shown[s]) continue;
-                    const std::int64_t ax = wanted[q].x - middle.x, ay = wanted[q].y - middle.y, bx = wanted[s].x - middle.x,
-                                       by = wanted[s].y - middle.y;
+                    const std::int64_t ax = wanted[q].x - middle.x, ay = wanted[q].y - middle.y,
+                                       bx = wanted[s].x - middle.x, by = wanted[s].y - middle.y;
                     const std::int64_t side = ax * by - ay * bx;
                     least = std::min(least, side), most = std::max(most, side);
                     beyond = beyond || ax * bx + ay * by < 0;
@@ -197,7 +212,8 @@ void patterns() {
     }
 }
 
-// A shader that records what it is asked: each pixel and triangle once, as the ids say, in the place that the rate says.
+// A shader that records what it is asked: each pixel and triangle once, as the ids say, in the place that the rate
+// says.
 void pairs(At rate, std::uint32_t samples) {
     constexpr std::uint32_t side = 100;
     const std::string where = std::string(name_of(rate)) + " of " + std::to_string(samples);
@@ -248,14 +264,17 @@ void pairs(At rate, std::uint32_t samples) {
             background += ids[s][p] >= known && c[0] == 1 && c[1] == 2 && c[2] == 3;
         }
     }
-    std::printf("pairs, %-12s %6zu wanted, %6zu asked in %5zu calls with %5zu lanes to spare, %zu weights below 0; %zu samples shaded, %zu of "
+    std::printf("pairs, %-12s %6zu wanted, %6zu asked in %5zu calls with %5zu lanes to spare, %zu weights below 0; %zu "
+                "samples shaded, %zu of "
                 "the background\n",
                 where.c_str(), wanted.size(), asked.size(), calls, unused, outside, kept, background);
     expect(wanted == asked, "the points that are shaded", where);
     expect(foreign == 0, "a triangle that is not known", where);
-    expect(kept == shown && kept + background == samples * side * side && shown > 1000, "a sample that kept its id", where);
+    expect(kept == shown && kept + background == samples * side * side && shown > 1000, "a sample that kept its id",
+           where);
     expect(unused < calls * 4, "half of the lanes are spare", where);
-    if (samples > 1) expect(rate == At::centre ? outside > 0 : outside == 0, "a point outside of its triangle, or none", where);
+    if (samples > 1)
+        expect(rate == At::centre ? outside > 0 : outside == 0, "a point outside of its triangle, or none", where);
 }
 
 // What a shader gives becomes the nearest byte.
@@ -267,14 +286,17 @@ void bytes() {
         trirast::Canvas canvas = canvas_of(64, 64, 1);
         frame.draw_ids(canvas);
         const std::vector<std::uint32_t> ids = canvas.ids(0);
-        frame.shade_by(canvas, At::pixel, {9, 9, 9}, frame.mesh().sources.size(), [&](const Eight &, float(&colors)[3][8]) {
-            for (std::size_t lane = 0; lane < 8; lane++) colors[0][lane] = 3, colors[1][lane] = row[0], colors[2][lane] = 200.25f;
-        });
+        frame.shade_by(canvas, At::pixel, {9, 9, 9}, frame.mesh().sources.size(),
+                       [&](const Eight &, float(&colors)[3][8]) {
+                           for (std::size_t lane = 0; lane < 8; lane++)
+                               colors[0][lane] = 3, colors[1][lane] = row[0], colors[2][lane] = 200.25f;
+                       });
         const std::vector<std::uint8_t> got = canvas.colors(0, TRIRAST_FORMAT_RGB8);
         std::size_t wrong = 0, shown = 0;
         for (std::size_t p = 0; p < ids.size(); p++) {
             if (ids[p] == NO_TRIANGLE) continue;
-            shown++, wrong += got[3 * p] != 3 || got[3 * p + 1] != static_cast<std::uint8_t>(row[1]) || got[3 * p + 2] != 200;
+            shown++, wrong +=
+                     got[3 * p] != 3 || got[3 * p + 1] != static_cast<std::uint8_t>(row[1]) || got[3 * p + 2] != 200;
         }
         expect(shown > 100 && wrong == 0, "a byte of a float", "bytes");
     }
@@ -293,7 +315,8 @@ Picture drawn(const Frame &frame, trirast::Canvas canvas, std::uint32_t samples,
     frame.draw_ids(canvas);
     for (std::uint32_t s = 0; s < samples; s++) found.depths.push_back(canvas.depths(s));
     frame.shade(canvas, rate);
-    for (std::uint32_t s = 0; s < samples; s++) expect(found.depths[s] == canvas.depths(s), "shading changed a depth", name_of(rate));
+    for (std::uint32_t s = 0; s < samples; s++)
+        expect(found.depths[s] == canvas.depths(s), "shading changed a depth", name_of(rate));
     frame.draw_glass(canvas);
     for (std::uint32_t s = 0; s < samples; s++) found.samples.push_back(canvas.colors(s, TRIRAST_FORMAT_RGB8));
     found.resolved = canvas.pixels(TRIRAST_FORMAT_RGB8);
@@ -305,9 +328,11 @@ std::vector<std::array<scene::Vertex, 3>> corners_of(const scene::Scene &given, 
         if (index < mesh.first_cut) return given.mesh.vertices[index];
         const trirast::Cut &cut = mesh.cuts[index - mesh.first_cut];
         const std::uint32_t *at = &given.mesh.indices[3 * std::size_t{cut.triangle}];
-        const scene::Vertex &a = given.mesh.vertices[at[0]], &b = given.mesh.vertices[at[1]], &c = given.mesh.vertices[at[2]];
+        const scene::Vertex &a = given.mesh.vertices[at[0]], &b = given.mesh.vertices[at[1]],
+                            &c = given.mesh.vertices[at[2]];
         const auto sum = [&](float scene::Vertex::*member) {
-            return static_cast<float>(cut.weights[0] * a.*member + cut.weights[1] * b.*member + cut.weights[2] * c.*member);
+            return static_cast<float>(cut.weights[0] * a.*member + cut.weights[1] * b.*member +
+                                      cut.weights[2] * c.*member);
         };
         using V = scene::Vertex;
         return V{sum(&V::x), sum(&V::y), sum(&V::z), sum(&V::u), sum(&V::v), sum(&V::nx), sum(&V::ny), sum(&V::nz)};
@@ -334,11 +359,13 @@ void compare(const Picture &got, reference::Picture &wanted, const char *name, T
                 off = std::max(off, std::abs(int{got.samples[s][3 * p + c]} - sample.color[c]));
                 sums[c] += got.samples[s][3 * p + c];
             }
-            total.equal += off == 0, total.one += off == 1, total.far += off > 1, total.far_ties += off > 1 && sample.tie;
+            total.equal += off == 0, total.one += off == 1, total.far += off > 1,
+                total.far_ties += off > 1 && sample.tie;
             expect(got.depths[s][p] == sample.depth, "a depth", name);
         }
         for (std::size_t c = 0; c < 3; c++)
-            expect(got.resolved[3 * p + c] == sums[c] / count, "a resolved colour is not the mean of the samples", name);
+            expect(got.resolved[3 * p + c] == sums[c] / count, "a resolved colour is not the mean of the samples",
+                   name);
     }
 }
 
@@ -346,18 +373,20 @@ void scene_by_reference(const char *name, int seeds, std::uint32_t samples, At r
     constexpr std::uint32_t width = 160, height = 120;
     Total total;
     for (int seed = 0; seed < seeds; seed++) {
-        const scene::Scene given = scene::made(name, 100 + static_cast<std::uint64_t>(seed), static_cast<double>(width) / height);
+        const scene::Scene given =
+            scene::made(name, 100 + static_cast<std::uint64_t>(seed), static_cast<double>(width) / height);
         const Frame frame(given, width, height);
         total.cuts += frame.mesh().cuts.size();
         const Picture got = drawn(frame, canvas_of(width, height, samples), samples, rate);
-        reference::Picture wanted =
-            reference::picture(given, frame.mesh(), frame.glass(), corners_of(given, frame.mesh()), width, height, samples, rate);
+        reference::Picture wanted = reference::picture(given, frame.mesh(), frame.glass(),
+                                                       corners_of(given, frame.mesh()), width, height, samples, rate);
         compare(got, wanted, name, total);
     }
-    std::printf("%-6s %2u samples, at each %-7s %8zu, %8zu of the model: %8zu equal, %5zu off by 1, %zu further; ties %zu, of them further %zu; "
+    std::printf("%-6s %2u samples, at each %-7s %8zu, %8zu of the model: %8zu equal, %5zu off by 1, %zu further; ties "
+                "%zu, of them further %zu; "
                 "cuts %zu\n",
-                name, samples, name_of(rate), total.samples, total.shown, total.equal, total.one, total.far, total.ties, total.far_ties,
-                total.cuts);
+                name, samples, name_of(rate), total.samples, total.shown, total.equal, total.one, total.far, total.ties,
+                total.far_ties, total.cuts);
     expect(total.far == total.far_ties, "a sample is off by more than 1", name);
     expect(total.ties * 1000 <= total.samples, "more than a thousandth of the samples are ties", name);
     expect(total.shown * 20 > total.samples, "little of the model is seen", name);
@@ -372,13 +401,16 @@ void windows() {
     const scene::Scene given = scene::made("front", 6, 1.25);
     const Frame frame(given, 250, 200);
     for (const At rate : {At::pixel, At::sample}) {
-        const Picture whole = drawn(frame, canvas_of(250, 200, 4), 4, rate), window = drawn(frame, canvas_of(90, 70, 4, {101, 67}), 4, rate);
+        const Picture whole = drawn(frame, canvas_of(250, 200, 4), 4, rate),
+                      window = drawn(frame, canvas_of(90, 70, 4, {101, 67}), 4, rate);
         std::size_t equal = 0;
         for (std::size_t s = 0; s < 4; s++)
             for (std::size_t y = 0; y < 70; y++)
                 for (std::size_t x = 0; x < 90; x++)
-                    equal += !std::memcmp(&window.samples[s][3 * (90 * y + x)], &whole.samples[s][3 * (250 * (y + 67) + x + 101)], 3);
-        std::printf("window at each %-7s %zu of %d samples equal to those of the whole\n", name_of(rate), equal, 4 * 70 * 90);
+                    equal += !std::memcmp(&window.samples[s][3 * (90 * y + x)],
+                                          &whole.samples[s][3 * (250 * (y + 67) + x + 101)], 3);
+        std::printf("window at each %-7s %zu of %d samples equal to those of the whole\n", name_of(rate), equal,
+                    4 * 70 * 90);
         expect(equal == 4 * 70 * 90, "a sample of a window", name_of(rate));
         for (std::uint32_t threads = 1; threads <= 4; threads++) {
             trirast::Canvas canvas = canvas_of(250, 200, 4);
@@ -406,7 +438,8 @@ void cleared() {
             std::size_t asked = 0;
             frame.shade_by(canvas, At::sample, {5, 6, 7}, 100, [&](const Eight &at, float(&colors)[3][8]) {
                 for (std::size_t lane = 0; lane < 8; lane++)
-                    asked += at.used[lane] && at.id[lane] == 3, colors[0][lane] = colors[1][lane] = colors[2][lane] = 50;
+                    asked += at.used[lane] && at.id[lane] == 3,
+                        colors[0][lane] = colors[1][lane] = colors[2][lane] = 50;
             });
             // Blocks beside the canvas are not shaded: 13 by 9 blocks have a pixel of it.
             expect(asked == (is_white ? 0 : samples * 13 * 9 * 64), "the points of a cleared tile", "cleared");
@@ -414,7 +447,8 @@ void cleared() {
             const std::uint8_t wanted[2][3] = {{50, 50, 50}, {5, 6, 7}};
             for (std::size_t p = 0; p < 100 * 70; p++)
                 expect(!std::memcmp(&got[3 * p], wanted[is_white], 3), "the colour of a cleared tile", "cleared");
-            expect(canvas.depths(samples - 1) == std::vector<std::uint16_t>(100 * 70, 1234), "the depth of a cleared tile", "cleared");
+            expect(canvas.depths(samples - 1) == std::vector<std::uint16_t>(100 * 70, 1234),
+                   "the depth of a cleared tile", "cleared");
         }
 }
 

@@ -1,4 +1,5 @@
-"""Draws the picture of docs/shading.md by examples/cpp/textured.cpp, as a PNG file: ids, weights, texture coordinates and the shaded scene.
+"""Draws the picture of docs/shading.md by examples/cpp/textured.cpp, as a PNG file: ids, weights, texture coordinates
+and the shaded scene.
 
     python3 -m tools.checks.shade.picture
 
@@ -32,8 +33,8 @@ def drawn() -> bytes:
     panels = [panel(program, name).pixel_data for name in PANELS]
     width, height = SIZE
     row = 3 * width
-    pixels = b"".join(panels[k + side][row * y : row * (y + 1)] for k in (0, 2) for y in range(height) for side in (0, 1))
-    return png.encode(2 * width, 2 * height, 3, pixels, is_smooth=True)
+    lines = [panels[k + side][row * y :][:row] for k in (0, 2) for y in range(height) for side in (0, 1)]
+    return png.encode(2 * width, 2 * height, 3, b"".join(lines), is_smooth=True)
 
 
 def main() -> int:

@@ -26,7 +26,8 @@ LIBRARY_HEADERS = ("/usr/include/c++/12", "/usr/include/x86_64-linux-gnu/c++/12"
 
 
 def compiled(compiler: str, source: str, name: str, *flags: str, before: str = "") -> str:
-    """Compiles a source of this folder with warnings, which are errors, to an object. Returns its path. Headers in `before` come first."""
+    """Compiles a source of this folder with warnings, which are errors, to an object. Returns its path. Headers in
+    `before` come first."""
     path = os.path.join(OUT, f"{name}.o")
     folders = [f"-I{folder}" for folder in (before, INCLUDE, PROGRAMS, SOURCES) if folder]
     warnings = STRICT if source == "under_test.cpp" else LENIENT
@@ -56,8 +57,8 @@ def stand_in(*flags: str) -> str:
 
 
 def tests_of(name: str, *flags: str, compiler: str = "g++", before: str = "", canvas: str = "") -> str:
-    """Builds the tests: the references once, and over the headers by a compiler and its flags. Returns the program. `canvas` is in place of
-    the library."""
+    """Builds the tests: the references once, and over the headers by a compiler and its flags. Returns the program.
+    `canvas` is in place of the library."""
     main = os.path.join(OUT, "main.o")
     if not os.path.exists(main):
         compiled("g++", "main.cpp", "main", "-O1")
@@ -82,17 +83,18 @@ def filter_by(compiler: str, *flags: str) -> str:
 
 
 def filter_for_arm64(linker: str, *flags: str) -> str:
-    """Builds the filter for ARM64 by clang++ and another processor's linker, without a C++ library. Returns its path."""
-    target = ("--target=aarch64-linux-gnu", "-nostdinc++", *(word for folder in LIBRARY_HEADERS for word in ("-isystem", folder)))
-    objects = [compiled("clang++", f"{name}.cpp", f"{name}-arm64", *target, *flags) for name in ("filter", "without_library")]
+    """Builds the filter for ARM64 by clang++ and that processor's linker, without a C++ library. Returns its path."""
+    folders = [word for folder in LIBRARY_HEADERS for word in ("-isystem", folder)]
+    words = ("--target=aarch64-linux-gnu", "-nostdinc++", *folders, *flags)
+    objects = [compiled("clang++", f"{name}.cpp", f"{name}-arm64", *words) for name in ("filter", "without_library")]
     # Of what is not there nothing is called: exceptions.
     return linked(linker, "filter-arm64", "-static", *objects, "-lm", "-Wl,--unresolved-symbols=ignore-all")
 
 
 def program_of(source: str, *flags: str, more: Sequence[str] = (), name: str = "") -> str:
     """Builds a program of examples/cpp, without a window unless `more` has the words for SDL. Returns its path."""
-    path = os.path.join(OUT, name or source)
-    run([need("g++"), *STRICT, *flags, "-I", INCLUDE, os.path.join(PROGRAMS, f"{source}.cpp"), library(), *more, "-o", path, "-pthread"])
+    path, text = os.path.join(OUT, name or source), os.path.join(PROGRAMS, f"{source}.cpp")
+    run([need("g++"), *STRICT, *flags, "-I", INCLUDE, text, library(), *more, "-o", path, "-pthread"])
     return path
 
 

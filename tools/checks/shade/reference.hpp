@@ -1,5 +1,5 @@
-// The picture of a scene by its definition: each sample by itself, all triangles one after another, in integers and doubles. Nothing of
-// trirast_shade.hpp, examples/cpp/texture.hpp or the library is used.
+// The picture of a scene by its definition: each sample by itself, all triangles one after another, in integers and
+// doubles. Nothing of trirast_shade.hpp, examples/cpp/texture.hpp or the library is used.
 #ifndef REFERENCE_HPP
 #define REFERENCE_HPP
 
@@ -22,17 +22,31 @@ struct Place {
 };
 
 inline std::vector<Place> places(std::size_t samples) {
-    static constexpr int patterns[5][16][2] = {
-        {{0, 0}},
-        {{4, 4}, {-4, -4}},
-        {{-2, -6}, {6, -2}, {-6, 2}, {2, 6}},
-        {{1, -3}, {-1, 3}, {5, 1}, {-3, -5}, {-5, 5}, {-7, -1}, {3, 7}, {7, -7}},
-        {{1, 1}, {-1, -3}, {-3, 2}, {4, -1}, {-5, -2}, {2, 5}, {5, 3}, {3, -5}, {-2, 6}, {0, -7}, {-4, -6}, {-6, 4}, {-8, 0}, {7, -4},
-         {6, 7}, {-7, -8}}};
+    static constexpr int patterns[5][16][2] = {{{0, 0}},
+                                               {{4, 4}, {-4, -4}},
+                                               {{-2, -6}, {6, -2}, {-6, 2}, {2, 6}},
+                                               {{1, -3}, {-1, 3}, {5, 1}, {-3, -5}, {-5, 5}, {-7, -1}, {3, 7}, {7, -7}},
+                                               {{1, 1},
+                                                {-1, -3},
+                                                {-3, 2},
+                                                {4, -1},
+                                                {-5, -2},
+                                                {2, 5},
+                                                {5, 3},
+                                                {3, -5},
+                                                {-2, 6},
+                                                {0, -7},
+                                                {-4, -6},
+                                                {-6, 4},
+                                                {-8, 0},
+                                                {7, -4},
+                                                {6, 7},
+                                                {-7, -8}}};
     std::size_t row = 0;
     while (std::size_t{1} << row < samples) row++;
     std::vector<Place> found;
-    for (std::size_t s = 0; s < samples; s++) found.push_back({128 + 16 * patterns[row][s][0], 128 + 16 * patterns[row][s][1]});
+    for (std::size_t s = 0; s < samples; s++)
+        found.push_back({128 + 16 * patterns[row][s][0], 128 + 16 * patterns[row][s][1]});
     return found;
 }
 
@@ -45,7 +59,8 @@ inline Place middle(const std::vector<Place> &all, const std::vector<bool> &show
     if (some.size() == all.size()) return {128, 128};
     if (all.size() == 16 && some.size() == 3) return {(some[0].x + some[2].x) / 2, (some[0].y + some[2].y) / 2};
     const double count = static_cast<double>(some.size());
-    return {static_cast<std::int64_t>(std::floor(x / count + 0.5)), static_cast<std::int64_t>(std::floor(y / count + 0.5))};
+    return {static_cast<std::int64_t>(std::floor(x / count + 0.5)),
+            static_cast<std::int64_t>(std::floor(y / count + 0.5))};
 }
 
 inline std::int64_t side(const trirast_vertex &a, const trirast_vertex &b, std::int64_t x, std::int64_t y) {
@@ -57,7 +72,8 @@ struct Edges {
     std::int64_t a, b, c, area;
 };
 
-inline Edges edges(const trirast_vertex &a, const trirast_vertex &b, const trirast_vertex &c, std::int64_t x, std::int64_t y) {
+inline Edges edges(const trirast_vertex &a, const trirast_vertex &b, const trirast_vertex &c, std::int64_t x,
+                   std::int64_t y) {
     Edges found{side(b, c, x, y), side(c, a, x, y), side(a, b, x, y), side(a, b, c.x, c.y)};
     if (found.area < 0) found = {-found.a, -found.b, -found.c, -found.area};
     return found;
@@ -105,9 +121,12 @@ inline Color texel(const scene::Texture &texture, std::size_t level, double u, d
     const std::int64_t side = std::int64_t{texture.side} >> level;
     const double x = u * static_cast<double>(side) - 0.5, y = v * static_cast<double>(side) - 0.5;
     const double i = std::floor(x), j = std::floor(y);
-    const auto wrapped = [&](double k) { return static_cast<std::size_t>(((static_cast<std::int64_t>(k) % side) + side) % side); };
+    const auto wrapped = [&](double k) {
+        return static_cast<std::size_t>(((static_cast<std::int64_t>(k) % side) + side) % side);
+    };
     const auto at = [&](double p, double q, std::size_t c) {
-        return double{static_cast<double>(texture.levels[level][4 * (wrapped(q) * static_cast<std::size_t>(side) + wrapped(p)) + c])};
+        return double{static_cast<double>(
+            texture.levels[level][4 * (wrapped(q) * static_cast<std::size_t>(side) + wrapped(p)) + c])};
     };
     Color found;
     for (std::size_t c = 0; c < 3; c++) {
@@ -119,8 +138,9 @@ inline Color texel(const scene::Texture &texture, std::size_t level, double u, d
 }
 
 // The colour of a triangle at a point.
-inline Shaded shaded(const scene::Scene &given, const trirast::Clipped &mesh, const std::vector<std::array<scene::Vertex, 3>> &corners,
-                     std::uint32_t id, std::int64_t x, std::int64_t y) {
+inline Shaded shaded(const scene::Scene &given, const trirast::Clipped &mesh,
+                     const std::vector<std::array<scene::Vertex, 3>> &corners, std::uint32_t id, std::int64_t x,
+                     std::int64_t y) {
     const Weights here = weights(mesh, id, x, y);
     const std::array<scene::Vertex, 3> &at = corners[id];
     const auto sum = [&](const Weights &w, auto member) {
@@ -140,13 +160,15 @@ inline Shaded shaded(const scene::Scene &given, const trirast::Clipped &mesh, co
     }
     const double top = static_cast<double>(given.texture.levels.size()) - 1;
     const double wanted = longest > 0 ? std::clamp(std::log2(longest), 0.0, top) : 0;
-    const std::size_t level = static_cast<std::size_t>(wanted), far = std::min(level + 1, given.texture.levels.size() - 1);
+    const std::size_t level = static_cast<std::size_t>(wanted),
+                      far = std::min(level + 1, given.texture.levels.size() - 1);
     const double u = sum(here, &scene::Vertex::u), v = sum(here, &scene::Vertex::v);
     const Color one = texel(given.texture, level, u, v), other = texel(given.texture, far, u, v);
     const scene::Vector n{sum(here, &scene::Vertex::nx), sum(here, &scene::Vertex::ny), sum(here, &scene::Vertex::nz)};
     const double facing = std::max(0.0, dot(n, given.light) / std::sqrt(dot(n, n)));
     const double light = given.ambient + (1 - given.ambient) * facing;
-    for (std::size_t c = 0; c < 3; c++) found.color[c] = light * (one[c] + (wanted - static_cast<double>(level)) * (other[c] - one[c]));
+    for (std::size_t c = 0; c < 3; c++)
+        found.color[c] = light * (one[c] + (wanted - static_cast<double>(level)) * (other[c] - one[c]));
     return found;
 }
 
@@ -170,13 +192,16 @@ struct Picture {
 // Gives each sample that a triangle covers and whose depth is nearer to `drawn`, triangle by triangle.
 template <class Drawn>
 void draw(Picture &picture, const trirast::Clipped &mesh, const Drawn &drawn) {
-    const int width = static_cast<int>(picture.width), height = static_cast<int>(picture.all.size() / picture.samples / picture.width);
+    const int width = static_cast<int>(picture.width),
+              height = static_cast<int>(picture.all.size() / picture.samples / picture.width);
     const std::vector<Place> offsets = places(picture.samples);
     for (std::uint32_t t = 0; t < mesh.sources.size(); t++) {
         const trirast_vertex &a = mesh.vertices[mesh.indices[3 * t]], &b = mesh.vertices[mesh.indices[3 * t + 1]],
                              &c = mesh.vertices[mesh.indices[3 * t + 2]];
-        const int left = std::max(0, std::min({a.x, b.x, c.x}) / 256 - 1), right = std::min(width - 1, std::max({a.x, b.x, c.x}) / 256 + 1);
-        const int top = std::max(0, std::min({a.y, b.y, c.y}) / 256 - 1), bottom = std::min(height - 1, std::max({a.y, b.y, c.y}) / 256 + 1);
+        const int left = std::max(0, std::min({a.x, b.x, c.x}) / 256 - 1),
+                  right = std::min(width - 1, std::max({a.x, b.x, c.x}) / 256 + 1);
+        const int top = std::max(0, std::min({a.y, b.y, c.y}) / 256 - 1),
+                  bottom = std::min(height - 1, std::max({a.y, b.y, c.y}) / 256 + 1);
         for (int j = top; j <= bottom; j++)
             for (int i = left; i <= right; i++)
                 for (std::size_t s = 0; s < picture.samples; s++) {
@@ -199,10 +224,12 @@ inline Place shaded_at(const std::vector<Place> &offsets, const Sample *pixel, s
 }
 
 inline Picture picture(const scene::Scene &given, const trirast::Clipped &mesh, const trirast::Clipped &glass,
-                       const std::vector<std::array<scene::Vertex, 3>> &corners, std::size_t width, std::size_t height, std::size_t samples,
-                       At rate) {
+                       const std::vector<std::array<scene::Vertex, 3>> &corners, std::size_t width, std::size_t height,
+                       std::size_t samples, At rate) {
     Picture found{width, samples, std::vector<Sample>(width * height * samples)};
-    draw(found, mesh, [](Sample &sample, std::uint32_t t, std::uint32_t depth, const trirast_vertex &) { sample.id = t, sample.depth = depth; });
+    draw(found, mesh, [](Sample &sample, std::uint32_t t, std::uint32_t depth, const trirast_vertex &) {
+        sample.id = t, sample.depth = depth;
+    });
     const std::vector<Place> offsets = places(samples);
     for (std::size_t p = 0; p < width * height; p++)
         for (std::size_t s = 0; s < samples; s++) {
@@ -210,15 +237,17 @@ inline Picture picture(const scene::Scene &given, const trirast::Clipped &mesh, 
             sample.color = given.background;
             if (sample.id == NO_TRIANGLE) continue;
             const Place at = shaded_at(offsets, &found.all[p * samples], s, rate);
-            const Shaded color = shaded(given, mesh, corners, sample.id, static_cast<std::int64_t>(256 * (p % width)) + at.x,
-                                        static_cast<std::int64_t>(256 * (p / width)) + at.y);
+            const Shaded color =
+                shaded(given, mesh, corners, sample.id, static_cast<std::int64_t>(256 * (p % width)) + at.x,
+                       static_cast<std::int64_t>(256 * (p / width)) + at.y);
             sample.tie = color.tie;
             for (std::size_t c = 0; c < 3; c++) sample.color[c] = byte_of(color.color[c]);
         }
     draw(found, glass, [](Sample &sample, std::uint32_t, std::uint32_t, const trirast_vertex &a) {
         const std::uint32_t s[3] = {a.red, a.green, a.blue};
         for (std::size_t c = 0; c < 3; c++)
-            sample.color[c] = static_cast<std::uint8_t>((s[c] * a.alpha + sample.color[c] * (255u - a.alpha) + 127) / 255);
+            sample.color[c] =
+                static_cast<std::uint8_t>((s[c] * a.alpha + sample.color[c] * (255u - a.alpha) + 127) / 255);
     });
     return found;
 }

@@ -1,5 +1,6 @@
-// The calls on a canvas that shading needs, by the rules of docs/rules.md sample by sample: for tests under sanitizers, which look into it,
-// and where the library is not built. It checks nothing of what it is given, and triangles are drawn without strips, quads and culling.
+// The calls on a canvas that shading needs, by the rules of docs/rules.md sample by sample: for tests under sanitizers,
+// which look into it, and where the library is not built. It checks nothing of what it is given, and triangles are
+// drawn without strips, quads and culling.
 #include <algorithm>
 #include <cstdint>
 #include <cstdio>
@@ -52,7 +53,8 @@ Sample &sample_at(const trirast_canvas &canvas, std::size_t x, std::size_t y, st
 }
 
 std::uint32_t number_of(const Sample &sample) {
-    return std::uint32_t{sample.channels[0]} | std::uint32_t{sample.channels[1]} << 8 | std::uint32_t{sample.channels[2]} << 16;
+    return std::uint32_t{sample.channels[0]} | std::uint32_t{sample.channels[1]} << 8 |
+           std::uint32_t{sample.channels[2]} << 16;
 }
 
 void set_number(Sample &sample, std::uint32_t number) {
@@ -74,21 +76,39 @@ void each_pixel(const trirast_canvas &canvas, const Do &each) {
 
 // ---- Triangles
 
-constexpr signed char PATTERNS[5][16][2] = {
-    {{0, 0}},
-    {{4, 4}, {-4, -4}},
-    {{-2, -6}, {6, -2}, {-6, 2}, {2, 6}},
-    {{1, -3}, {-1, 3}, {5, 1}, {-3, -5}, {-5, 5}, {-7, -1}, {3, 7}, {7, -7}},
-    {{1, 1}, {-1, -3}, {-3, 2}, {4, -1}, {-5, -2}, {2, 5}, {5, 3}, {3, -5}, {-2, 6}, {0, -7}, {-4, -6}, {-6, 4}, {-8, 0}, {7, -4}, {6, 7}, {-7, -8}}};
+constexpr signed char PATTERNS[5][16][2] = {{{0, 0}},
+                                            {{4, 4}, {-4, -4}},
+                                            {{-2, -6}, {6, -2}, {-6, 2}, {2, 6}},
+                                            {{1, -3}, {-1, 3}, {5, 1}, {-3, -5}, {-5, 5}, {-7, -1}, {3, 7}, {7, -7}},
+                                            {{1, 1},
+                                             {-1, -3},
+                                             {-3, 2},
+                                             {4, -1},
+                                             {-5, -2},
+                                             {2, 5},
+                                             {5, 3},
+                                             {3, -5},
+                                             {-2, 6},
+                                             {0, -7},
+                                             {-4, -6},
+                                             {-6, 4},
+                                             {-8, 0},
+                                             {7, -4},
+                                             {6, 7},
+                                             {-7, -8}}};
 
 std::int64_t side(const trirast_vertex &a, const trirast_vertex &b, std::int64_t x, std::int64_t y) {
     return (std::int64_t{b.x} - a.x) * (y - a.y) - (std::int64_t{b.y} - a.y) * (x - a.x);
 }
 
 // A clockwise triangle covers what lies on top edges, which go to the right, and on left edges, which go up.
-std::int64_t least(const trirast_vertex &a, const trirast_vertex &b) { return (a.y == b.y && b.x > a.x) || b.y < a.y ? 0 : 1; }
+std::int64_t least(const trirast_vertex &a, const trirast_vertex &b) {
+    return (a.y == b.y && b.x > a.x) || b.y < a.y ? 0 : 1;
+}
 
-bool passes(std::uint8_t test, std::uint32_t depth, std::uint32_t stored) { return test == TRIRAST_DEPTH_LESS ? depth < stored : true; }
+bool passes(std::uint8_t test, std::uint32_t depth, std::uint32_t stored) {
+    return test == TRIRAST_DEPTH_LESS ? depth < stored : true;
+}
 
 struct Triangle {
     trirast_vertex a, b, c;
@@ -101,7 +121,8 @@ struct Triangle {
         const auto value = [&](std::uint32_t p, std::uint32_t q, std::uint32_t r) {
             return static_cast<std::uint32_t>((Wide{p} * ea + Wide{q} * eb + Wide{r} * ec) / area);
         };
-        values[0] = value(a.red, b.red, c.red), values[1] = value(a.green, b.green, c.green), values[2] = value(a.blue, b.blue, c.blue);
+        values[0] = value(a.red, b.red, c.red), values[1] = value(a.green, b.green, c.green),
+        values[2] = value(a.blue, b.blue, c.blue);
         values[3] = value(a.alpha, b.alpha, c.alpha), values[4] = value(a.depth, b.depth, c.depth);
         return true;
     }
@@ -118,8 +139,8 @@ void draw_at(const trirast_draw &draw, const std::uint32_t (&values)[5], const s
     }
 }
 
-void draw_triangle(const trirast_canvas &canvas, const trirast_draw &draw, const trirast_vertex &a, trirast_vertex b, trirast_vertex c,
-                   const std::uint32_t *id) {
+void draw_triangle(const trirast_canvas &canvas, const trirast_draw &draw, const trirast_vertex &a, trirast_vertex b,
+                   trirast_vertex c, const std::uint32_t *id) {
     const std::int64_t area = side(a, b, c.x, c.y);
     if (area == 0) return;
     if (area < 0) std::swap(b, c);
@@ -127,19 +148,28 @@ void draw_triangle(const trirast_canvas &canvas, const trirast_draw &draw, const
     const std::uint32_t samples = samples_of(canvas);
     int pattern = 0;
     while (1u << pattern < samples) pattern++;
-    const auto first = [](std::int32_t p, std::int32_t origin, std::int64_t start) { return std::max<std::int64_t>((p >> 8) - 1 - origin, start); };
-    const auto end = [](std::int32_t p, std::int32_t origin, std::int64_t most) { return std::min<std::int64_t>((p >> 8) + 2 - origin, most); };
+    const auto first = [](std::int32_t p, std::int32_t origin, std::int64_t start) {
+        return std::max<std::int64_t>((p >> 8) - 1 - origin, start);
+    };
+    const auto end = [](std::int32_t p, std::int32_t origin, std::int64_t most) {
+        return std::min<std::int64_t>((p >> 8) + 2 - origin, most);
+    };
     const std::int64_t right = end(std::max({a.x, b.x, c.x}), canvas.origin_x, canvas.width);
-    const std::int64_t bottom = end(std::max({a.y, b.y, c.y}), canvas.origin_y, std::min<std::int64_t>(canvas.height, std::int64_t{canvas.end} * 64));
+    const std::int64_t bottom = end(std::max({a.y, b.y, c.y}), canvas.origin_y,
+                                    std::min<std::int64_t>(canvas.height, std::int64_t{canvas.end} * 64));
     std::uint32_t values[5];
-    for (std::int64_t y = first(std::min({a.y, b.y, c.y}), canvas.origin_y, std::int64_t{canvas.first} * 64); y < bottom; y++)
+    for (std::int64_t y = first(std::min({a.y, b.y, c.y}), canvas.origin_y, std::int64_t{canvas.first} * 64);
+         y < bottom; y++)
         for (std::int64_t x = first(std::min({a.x, b.x, c.x}), canvas.origin_x, 0); x < right; x++)
             for (std::uint32_t s = 0; s < samples; s++) {
                 const signed char(&place)[2] = PATTERNS[pattern][s];
-                const std::int64_t px = 256 * (x + canvas.origin_x) + 128 + 16 * place[0], py = 256 * (y + canvas.origin_y) + 128 + 16 * place[1];
+                const std::int64_t px = 256 * (x + canvas.origin_x) + 128 + 16 * place[0],
+                                   py = 256 * (y + canvas.origin_y) + 128 + 16 * place[1];
                 if (!triangle.at(px, py, values)) continue;
-                tile_at(canvas, static_cast<std::uint32_t>(x / 64), static_cast<std::uint32_t>(y / 64)).set_cleared(false);
-                draw_at(draw, values, id, sample_at(canvas, static_cast<std::size_t>(x), static_cast<std::size_t>(y), s));
+                tile_at(canvas, static_cast<std::uint32_t>(x / 64), static_cast<std::uint32_t>(y / 64))
+                    .set_cleared(false);
+                draw_at(draw, values, id,
+                        sample_at(canvas, static_cast<std::size_t>(x), static_cast<std::size_t>(y), s));
             }
 }
 
@@ -150,7 +180,8 @@ trirast_status draw_batch(const trirast_canvas &canvas, const trirast_batch &bat
     if (batch.draw_count != 1 || batch.vertex_stride != 0) return TRIRAST_STATUS_BAD_STRIDE;
     for (std::size_t k = 0; k + 2 < batch.index_count; k += 3) {
         const std::uint32_t id = first_id ? *first_id + static_cast<std::uint32_t>(k / 3) : 0;
-        draw_triangle(canvas, batch.draws[0], vertices[indices[k]], vertices[indices[k + 1]], vertices[indices[k + 2]], first_id ? &id : nullptr);
+        draw_triangle(canvas, batch.draws[0], vertices[indices[k]], vertices[indices[k + 1]], vertices[indices[k + 2]],
+                      first_id ? &id : nullptr);
     }
     return TRIRAST_STATUS_OK;
 }
@@ -175,7 +206,8 @@ size_t trirast_canvas_size(const trirast_canvas *canvas) {
 trirast_status trirast_proved_canvas_clear(trirast_canvas *canvas, const trirast_clear *clear) {
     each_tile(*canvas, [&](Tile tile) {
         tile.set_cleared(true);
-        std::fill_n(tile.samples(), TILE * samples_of(*canvas), Sample{clear->depth, {clear->red, clear->green, clear->blue}});
+        std::fill_n(tile.samples(), TILE * samples_of(*canvas),
+                    Sample{clear->depth, {clear->red, clear->green, clear->blue}});
     });
     return TRIRAST_STATUS_OK;
 }
@@ -184,11 +216,13 @@ trirast_status trirast_proved_canvas_draw(trirast_canvas *canvas, const trirast_
     return draw_batch(*canvas, *batch, nullptr);
 }
 
-trirast_status trirast_proved_canvas_draw_ids(trirast_canvas *canvas, const trirast_batch *batch, uint32_t first_id, trirast_error *) {
+trirast_status trirast_proved_canvas_draw_ids(trirast_canvas *canvas, const trirast_batch *batch, uint32_t first_id,
+                                              trirast_error *) {
     return draw_batch(*canvas, *batch, &first_id);
 }
 
-trirast_status trirast_canvas_resolve(const trirast_canvas *canvas, trirast_format format, void *pixels, size_t, size_t stride) {
+trirast_status trirast_canvas_resolve(const trirast_canvas *canvas, trirast_format format, void *pixels, size_t,
+                                      size_t stride) {
     const std::uint32_t samples = samples_of(*canvas);
     const std::size_t unit = pixel_bytes(format), row_bytes = stride == 0 ? unit * canvas->width : stride;
     each_pixel(*canvas, [&](std::uint32_t x, std::uint32_t y, std::size_t row) {
@@ -201,11 +235,13 @@ trirast_status trirast_canvas_resolve(const trirast_canvas *canvas, trirast_form
     return TRIRAST_STATUS_OK;
 }
 
-trirast_status trirast_canvas_colors(const trirast_canvas *canvas, uint32_t sample, trirast_format format, void *pixels, size_t, size_t stride) {
+trirast_status trirast_canvas_colors(const trirast_canvas *canvas, uint32_t sample, trirast_format format, void *pixels,
+                                     size_t, size_t stride) {
     const std::size_t unit = pixel_bytes(format), row_bytes = stride == 0 ? unit * canvas->width : stride;
     each_pixel(*canvas, [&](std::uint32_t x, std::uint32_t y, std::size_t row) {
         const Sample &found = sample_at(*canvas, x, y, sample);
-        put(format, static_cast<std::uint8_t *>(pixels) + row * row_bytes + unit * x, {found.channels[0], found.channels[1], found.channels[2]});
+        put(format, static_cast<std::uint8_t *>(pixels) + row * row_bytes + unit * x,
+            {found.channels[0], found.channels[1], found.channels[2]});
     });
     return TRIRAST_STATUS_OK;
 }
@@ -224,17 +260,20 @@ trirast_status trirast_canvas_ids(const trirast_canvas *canvas, uint32_t sample,
     return TRIRAST_STATUS_OK;
 }
 
-trirast_status trirast_canvas_tile_ids(const trirast_canvas *canvas, uint32_t column, uint32_t row, uint32_t *ids, size_t, uint32_t *uniform) {
+trirast_status trirast_canvas_tile_ids(const trirast_canvas *canvas, uint32_t column, uint32_t row, uint32_t *ids,
+                                       size_t, uint32_t *uniform) {
     const Tile tile = tile_at(*canvas, column, row);
     *uniform = tile.is_cleared();
     for (std::size_t k = 0; k < (*uniform ? 1 : TILE * samples_of(*canvas)); k++) ids[k] = number_of(tile.samples()[k]);
     return TRIRAST_STATUS_OK;
 }
 
-trirast_status trirast_canvas_tile_store(trirast_canvas *canvas, uint32_t column, uint32_t row, const uint32_t *colors, size_t count) {
+trirast_status trirast_canvas_tile_store(trirast_canvas *canvas, uint32_t column, uint32_t row, const uint32_t *colors,
+                                         size_t count) {
     const Tile tile = tile_at(*canvas, column, row);
     if (count != 1) tile.set_cleared(false);
-    for (std::size_t k = 0; k < TILE * samples_of(*canvas); k++) set_number(tile.samples()[k], colors[count == 1 ? 0 : k]);
+    for (std::size_t k = 0; k < TILE * samples_of(*canvas); k++)
+        set_number(tile.samples()[k], colors[count == 1 ? 0 : k]);
     return TRIRAST_STATUS_OK;
 }
 

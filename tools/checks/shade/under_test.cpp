@@ -6,7 +6,9 @@
 namespace {
 
 trirast::Rate rate_of(At rate) {
-    return rate == At::pixel ? trirast::Rate::pixel : rate == At::centre ? trirast::Rate::centre : trirast::Rate::sample;
+    return rate == At::pixel    ? trirast::Rate::pixel
+           : rate == At::centre ? trirast::Rate::centre
+                                : trirast::Rate::sample;
 }
 
 Eight numbers_of(const trirast::Fragments &at) {
@@ -23,10 +25,12 @@ EdgesOfEight weigh_eight(const std::vector<trirast_vertex> &vertices, const std:
                          const std::vector<std::uint32_t> &indices, Eight &at) {
     const trirast::ShadeTriangles triangles(vertices, w, indices);
     trirast::Fragments fragments;
-    fragments.id = trirast::Integers::load(at.id), fragments.x = trirast::Integers::load(at.x), fragments.y = trirast::Integers::load(at.y);
+    fragments.id = trirast::Integers::load(at.id), fragments.x = trirast::Integers::load(at.x),
+    fragments.y = trirast::Integers::load(at.y);
     fragments.used = -1;
     const trirast::detail::TriangleLanes lanes = trirast::detail::triangles_of(triangles.data(), fragments.id);
-    const trirast::detail::EdgeLanes edges = trirast::detail::edges_at(lanes, fragments.x - lanes.ax, fragments.y - lanes.ay);
+    const trirast::detail::EdgeLanes edges =
+        trirast::detail::edges_at(lanes, fragments.x - lanes.ax, fragments.y - lanes.ay);
     trirast::detail::weigh(triangles.data(), fragments);
     at = numbers_of(fragments);
     EdgesOfEight found;
@@ -45,7 +49,8 @@ struct Frame::Parts {
     scene::Seen seen;
 };
 
-Frame::Frame(const scene::Scene &given, std::int32_t width, std::int32_t height) : parts_(std::make_unique<Parts>(given)) {
+Frame::Frame(const scene::Scene &given, std::int32_t width, std::int32_t height)
+    : parts_(std::make_unique<Parts>(given)) {
     parts_->seen.project(parts_->model, given.matrix, scene::clip_of(width, height));
     parts_->seen.prepare(parts_->model);
 }
@@ -58,7 +63,8 @@ void Frame::draw_ids(trirast::TileRows &rows) const { scene::draw_ids(rows, part
 void Frame::draw_glass(trirast::TileRows &rows) const { scene::draw_glass(rows, parts_->seen); }
 
 void Frame::shade(trirast::TileRows &rows, At rate) const {
-    trirast::shade(rows, parts_->seen.triangles, rate_of(rate), scene::background(parts_->model.scene), parts_->seen.shader(parts_->model));
+    trirast::shade(rows, parts_->seen.triangles, rate_of(rate), scene::background(parts_->model.scene),
+                   parts_->seen.shader(parts_->model));
 }
 
 void Frame::shade_tiles(trirast::TileRows &rows, At rate, std::uint32_t part, std::uint32_t parts) const {
@@ -66,8 +72,8 @@ void Frame::shade_tiles(trirast::TileRows &rows, At rate, std::uint32_t part, st
     const scene::Textured shader = parts_->seen.shader(parts_->model);
     trirast::TileEntries entries;
     for (std::uint32_t k = part; k < tiles; k += parts)
-        trirast::shade_tile(rows, k % columns, k / columns, parts_->seen.triangles, rate_of(rate), scene::background(parts_->model.scene),
-                            shader, entries);
+        trirast::shade_tile(rows, k % columns, k / columns, parts_->seen.triangles, rate_of(rate),
+                            scene::background(parts_->model.scene), shader, entries);
 }
 
 void Frame::shade_by(trirast::TileRows &rows, At rate, const std::uint8_t (&background)[3], std::size_t triangles,

@@ -1,5 +1,5 @@
-// What is tested of trirast_shade.hpp and of examples/cpp, as functions of one source: a wrong edit compiles under_test.cpp alone. Nothing
-// else includes these headers.
+// What is tested of trirast_shade.hpp and of examples/cpp, as functions of one source: a wrong edit compiles
+// under_test.cpp alone. Nothing else includes these headers.
 #ifndef UNDER_TEST_HPP
 #define UNDER_TEST_HPP
 
@@ -51,7 +51,8 @@ public:
     void shade_tiles(trirast::TileRows &rows, At rate, std::uint32_t part, std::uint32_t parts) const;
 
     // By any shader, of the first triangles alone.
-    void shade_by(trirast::TileRows &rows, At rate, const std::uint8_t (&background)[3], std::size_t triangles, const Shader &shader) const;
+    void shade_by(trirast::TileRows &rows, At rate, const std::uint8_t (&background)[3], std::size_t triangles,
+                  const Shader &shader) const;
 
 private:
     struct Parts;

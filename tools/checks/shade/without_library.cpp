@@ -1,4 +1,5 @@
-// What filter.cpp needs of the C++ library where there is none for the processor: memory, and strings. Exceptions are not thrown there.
+// What filter.cpp needs of the C++ library where there is none for the processor: memory, and strings. Exceptions are
+// not thrown there.
 #include <cstdlib>
 #include <new>
 #include <string>
