@@ -13,7 +13,7 @@ from tools.checks.cases import MissingError, must
 from tools.checks.library.commands import need, run
 from tools.checks.library.screen import Screen
 from tools.checks.shade import picture
-from tools.checks.shade.programs import OUT, PROGRAMS, STRICT, library, program_of
+from tools.checks.shade.programs import OUT, PROGRAMS, STRICT, library, program_of, stand_in
 from tools.places import INCLUDE
 
 PAGE = os.path.join("docs", "shading.md")
@@ -40,6 +40,13 @@ def check_threads() -> None:
             pictures |= found
     # Of small triangles the middle of the samples and the centre of the pixel may look the same.
     must(len(pictures) >= 8, f"{len(pictures)} pictures of 3 scenes at 3 rates")
+
+
+def check_races() -> None:
+    """ThreadSanitizer finds no race between threads that draw and shade one canvas."""
+    flags = ("-O1", "-march=x86-64-v2", "-fsanitize=thread")
+    program = program_of("textured", *flags, name="textured-races", canvas=stand_in("-fsanitize=thread"))
+    run([program, "--size", "300", "200", "--threads", "4", "--output", "-"])
 
 
 def check_picture() -> None:

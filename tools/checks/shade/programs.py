@@ -91,10 +91,10 @@ def filter_for_arm64(linker: str, *flags: str) -> str:
     return linked(linker, "filter-arm64", "-static", *objects, "-lm", "-Wl,--unresolved-symbols=ignore-all")
 
 
-def program_of(source: str, *flags: str, more: Sequence[str] = (), name: str = "") -> str:
+def program_of(source: str, *flags: str, more: Sequence[str] = (), name: str = "", canvas: str = "") -> str:
     """Builds a program of examples/cpp, without a window unless `more` has the words for SDL. Returns its path."""
     path, text = os.path.join(OUT, name or source), os.path.join(PROGRAMS, f"{source}.cpp")
-    run([need("g++"), *STRICT, *flags, "-I", INCLUDE, text, library(), *more, "-o", path, "-pthread"])
+    run([need("g++"), *STRICT, *flags, "-I", INCLUDE, text, canvas or library(), *more, "-o", path, "-pthread"])
     return path
 
 

@@ -131,6 +131,7 @@ CASES = [
     case("the program of the page", examples.check_page),
     case("the page's picture", examples.check_picture, is_long=True),
     case("textured by threads", examples.check_threads, is_long=True),
+    case("textured without races", examples.check_races, is_long=True),
     case("textured in a window", examples.check_window, is_long=True),
     case("a walk through a model", examples.check_walk, 20),
     case("a walk through a model, 200 frames", examples.check_walk, 200, is_long=True),
