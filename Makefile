@@ -8,7 +8,7 @@
 #   make look      draw examples/mesh.json to out/look.ppm within two minutes, by a program that is not proved
 #   make demo      draw every list of examples/ to out/*.pnm, and to out/*.png where pnmtopng is installed
 #   make library   prove and build the core for other programs: lib/libtrirast.a, lib/libtrirast.so and lib/trirast.pc, and for
-#                  the loader a second lib/x86-64-v3/libtrirast.so.1; with ARCH=aarch64 for ARM64 in lib/aarch64/, by a cross compiler
+#                  the loader a second lib/x86-64-v3/libtrirast.so.2; with ARCH=aarch64 for ARM64 in lib/aarch64/, by a cross compiler
 #   make install   program, manual page, headers, libraries, pkg-config and CMake files and schema below PREFIX (an absolute path,
 #                  /usr/local if not given), behind DESTDIR where that is given; make uninstall takes them away.
 #                  The program is installed for both levels of x86-64, and the loader takes that of the processor
@@ -71,7 +71,7 @@ SOURCES := crates.txt $(shell find crates -name out -prune -o -type f \( -name '
 LISTS := $(wildcard examples/*.json)
 PICTURES := $(LISTS:examples/%.json=out/%.pnm)
 VERSION := $(shell cat VERSION)
-SHARED := libtrirast.so.1
+SHARED := libtrirast.so.2
 # The levels of x86-64; the second as glibc's loader names the folder in which it looks for it by itself.
 FIRST_LEVEL := x86-64-v2
 LEVEL := x86-64-v3
@@ -147,17 +147,22 @@ lib/trirast.o: $(ARCHIVE) | lib
 lib/canvas.o: $(CANVAS_ARCHIVE) | lib
 $(filter-out lib/trirast.o,$(OBJECTS)): %/trirast.o: %/trirast_c.a
 $(filter-out lib/canvas.o,$(CANVAS_OBJECTS)): %/canvas.o: %/canvas_c.a
-$(OBJECTS): %/trirast.o: %/canvas.o
+$(OBJECTS): %/trirast.o: %/canvas.o %/calls.o
 lib/aarch64/trirast.o: lib/aarch64/heap.o
 
 $(OBJECTS):
-	$(LD) -r -o $@ --whole-archive $< --no-whole-archive $(@D)/canvas.o $(HEAP) "$$($(CC) -print-libgcc-file-name)"
+	$(LD) -r -o $@ --whole-archive $< --no-whole-archive $(@D)/canvas.o $(@D)/calls.o $(HEAP) "$$($(CC) -print-libgcc-file-name)"
 	$(ONLY_CALLS) $@
 
 # The calls of a canvas, without a heap. Both archives have the crates on which both stand, so one hides its own before they meet.
 $(CANVAS_OBJECTS):
 	$(LD) -r -o $@ --whole-archive $<
 	$(ONLY_CALLS) $@
+
+# The inline functions of the header.
+$(OBJECTS:%/trirast.o=%/calls.o): packaging/calls.c include/trirast.h
+	@mkdir -p $(@D)
+	$(CC) -std=c99 -O2 -fPIC -Wall -Wextra -Wpedantic -Werror -Iinclude -c -o $@ $<
 
 $(ARCHIVE) $(CANVAS_ARCHIVE): crates/%: $(SOURCES)
 	cd $(@D:%/out=%) && $(RT) lib

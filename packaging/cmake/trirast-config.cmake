@@ -5,8 +5,8 @@ get_filename_component(trirast_LIBRARY_DIR "${CMAKE_CURRENT_LIST_DIR}/../.." ABS
 if(NOT TARGET trirast::trirast)
   add_library(trirast::trirast SHARED IMPORTED)
   set_target_properties(trirast::trirast PROPERTIES
-    IMPORTED_LOCATION "${trirast_LIBRARY_DIR}/libtrirast.so.1"
-    IMPORTED_SONAME "libtrirast.so.1"
+    IMPORTED_LOCATION "${trirast_LIBRARY_DIR}/libtrirast.so.2"
+    IMPORTED_SONAME "libtrirast.so.2"
     INTERFACE_INCLUDE_DIRECTORIES "${trirast_PREFIX}/include")
   add_library(trirast::static STATIC IMPORTED)
   set_target_properties(trirast::static PROPERTIES

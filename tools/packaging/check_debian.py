@@ -42,7 +42,7 @@ def check_dependencies() -> str:
     found = [run(["dpkg-deb", "--field", path, "Depends"]).decode().strip() for path in packages()]
     must(len(found) == 3, f"{len(found)} packages in dist/")
     of_dev, of_library, of_program = found
-    must(of_dev == f"libtrirast1 (= {debian.version()}), libc6-dev", of_dev)
+    must(of_dev == f"libtrirast2 (= {debian.version()}), libc6-dev", of_dev)
     for depends in (of_library, of_program):
         must(re.fullmatch(r"libc6 \(>= [\d.]+\)", depends) is not None, depends)
     return f"{of_program}; {of_library}"

@@ -29,17 +29,17 @@ COPYRIGHT = os.path.join(places.TOP, "packaging", "debian", "copyright")
 # Of each package, the files of an installation that it takes.
 TAKEN = {
     "trirast": (r"usr/bin/.*", r"usr/lib/trirast/.*", r"usr/share/.*"),
-    "libtrirast1": (rf"{LIBRARIES}/(glibc-hwcaps/.*/)?libtrirast\.so\..*",),
+    "libtrirast2": (rf"{LIBRARIES}/(glibc-hwcaps/.*/)?libtrirast\.so\..*",),
     "libtrirast-dev": (r"usr/include/.*", rf"{LIBRARIES}/(libtrirast\.(a|so)|pkgconfig/.*|cmake/.*)"),
 }
 # The documents of each package.
 DOCUMENTS = {
     "trirast": ("draw-list.md", "rules.md", "proofs.md", "statement.md"),
-    "libtrirast1": (),
+    "libtrirast2": (),
     "libtrirast-dev": ("library.md",),
 }
 # The loader's cache has to learn of the library.
-MEMBERS = {"libtrirast1": {"triggers": "activate-noawait ldconfig\n", "shlibs": "libtrirast 1 libtrirast1 (>= {release})\n"}}
+MEMBERS = {"libtrirast2": {"triggers": "activate-noawait ldconfig\n", "shlibs": "libtrirast 2 libtrirast2 (>= {release})\n"}}
 
 
 def version() -> str:

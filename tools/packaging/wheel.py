@@ -21,7 +21,7 @@ from tools.checks.library.commands import python_with
 from tools.packaging.common import DIST, OUT, PROGRAM_MODE, files_below, make_anew, put, release, release_time, run, write
 from tools.places import LIB, PYTHON_SOURCES, TOP
 
-SHARED = "libtrirast.so.1"
+SHARED = "libtrirast.so.2"
 LEVEL = "x86-64-v3"
 # The folder of the library in the package, and what Python loads there: `make library` makes it. It holds nothing, and the loader
 # takes the library that it needs from the folder itself or from the one of the processor's level.

@@ -1,14 +1,17 @@
--- What holds of each index of a draw holds of those of each of its triangles.
-use Rattle.std.proofs.Common.{◌≡◌, sym, subst, ℕ, ℤ, zero, suc, ◌*◌, ◌/◌, ◌%◌, ◌<◌, ◌≤◌, List, [], ◌∷◌, length, drop, get_or, length-drop, arith}
+-- Chunks of indices. What holds of each index of a draw holds of those of each of its triangles.
+use Rattle.std.proofs.Common.{◌≡◌, sym, subst, ℕ, ℤ, zero, suc, ◌*◌, ◌/◌, ◌%◌, ◌<◌, ◌≤◌, List, [], ◌∷◌, length, drop, get_or, length-drop, refl, ap, arith}
 use Rattle.std.specs.List.{All, flat_map}
 use Rattle.std.specs.Simd.{first_chunks}
 use Rattle.std.proofs.lemmas.List.{length-take}
 use Rattle.std.proofs.lemmas.List.Elements.{All-nil, All-cons, All-get_or, All-take, All-drop}
 use Rattle.model.specs.Primitives.{quad_triangles}
 use Rattle.model.proofs.Triangulated.{quad_triangle_at}
-use Rattle.scene.specs.declared.vertex.SceneVertex.{SceneVertex}
-use Rattle.scene.proofs.Chunks.{count_of_chunks}
+use Rattle.batch.specs.declared.vertex.BatchVertex.{BatchVertex}
 use Rattle.batch.specs.Seen.{vertex_at, CanBeSeen, NameSeenVertices}
+
+pub count_of_chunks : {X : Type 0} (n k : ℕ) (xs : List X) → length (first_chunks n k xs) ≡ k
+count_of_chunks n zero xs = refl
+count_of_chunks n (suc k) xs = ap suc (count_of_chunks n k (drop n xs))
 
 length-chunk : (n k : ℕ) (xs : List ℕ) (m : ℕ) → m < k → k * n ≤ length xs → length (get_or (first_chunks n k xs) m []) ≡ n
 length-chunk n zero xs m inside many = absurd (omega (arith, inside))
@@ -41,7 +44,7 @@ module _ (P : ℕ → Type 0) where
       (of_quad (get_or quads (m / 2) []) (m % 2) four (omega arith) (All-chunk 4 (length xs / 4) xs (m / 2) all))
 
 -- the indices of a triangle among those of a draw, each of which names a vertex that can be seen
-module _ (x y : ℤ) (vertices : List SceneVertex) where
+module _ (x y : ℤ) (vertices : List BatchVertex) where
   pub named_in_chunk : (n k : ℕ) (xs : List ℕ) (m : ℕ) (chunk : List ℕ) → chunk ≡ get_or (first_chunks n k xs) m [] → NameSeenVertices x y vertices xs → NameSeenVertices x y vertices chunk
   named_in_chunk n k xs m chunk is all = subst (NameSeenVertices x y vertices) (sym is) (record {
     named = All-chunk (λ i. i < length vertices) n k xs m all.named;

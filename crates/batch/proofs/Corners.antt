@@ -5,26 +5,26 @@ use Rattle.shade.specs.declared.placed.Placed.{Placed}
 use Rattle.model.specs.declared.draw.Vertex.{Vertex}
 use Rattle.model.specs.Primitives.{position_of}
 use Rattle.model.specs.Listing.{placed, triangle_of}
-use Rattle.scene.specs.declared.draw.SceneDraw.{SceneDraw}
-use Rattle.scene.specs.declared.vertex.SceneVertex.{SceneVertex}
-use Rattle.scene.specs.Listed.{vertex_listed, state_listed, draw_listed}
+use Rattle.batch.specs.declared.draw.BatchDraw.{BatchDraw}
+use Rattle.batch.specs.declared.vertex.BatchVertex.{BatchVertex}
+use Rattle.batch.specs.Listed.{vertex_listed, state_listed, draw_listed}
 use Rattle.canvas.specs.Window.{moved_state, moved}
 use Rattle.batch.specs.Seen.{vertex_at, vertex_seen}
 
-pub position_at : (vs : List SceneVertex) (k : ℕ) → position_of (map vertex_listed vs) k ≡ (vertex_listed (vertex_at vs k)).at
+pub position_at : (vs : List BatchVertex) (k : ℕ) → position_of (map vertex_listed vs) k ≡ (vertex_listed (vertex_at vs k)).at
 position_at [] k = refl
 position_at (v ∷ vs) zero = refl
 position_at (v ∷ vs) (suc k) = position_at vs k
 
-pub listed_at : (vs : List SceneVertex) (k : ℕ)
+pub listed_at : (vs : List BatchVertex) (k : ℕ)
     → slice_index_or (map vertex_listed vs) k (record { at = record { x = pos 0; y = pos 0 }; z = 0; rgba = 0 ∷ 0 ∷ 0 ∷ 0 ∷ [] }) ≡ vertex_listed (vertex_at vs k)
 listed_at [] k = refl
 listed_at (v ∷ vs) zero = refl
 listed_at (v ∷ vs) (suc k) = listed_at vs k
 
 -- a triangle of a draw, made of three vertices as they are seen
-module _ (x y : ℤ) (d : SceneDraw) (vs : List SceneVertex) (is : List ℕ) where
-  abbrev own : List SceneVertex
+module _ (x y : ℤ) (d : BatchDraw) (vs : List BatchVertex) (is : List ℕ) where
+  abbrev own : List BatchVertex
   own = take d.vertices vs
 
   abbrev seen_at : List ℕ → ℕ → Vertex

@@ -1,23 +1,23 @@
 //! The checks of a batch, before anything is drawn.
-ghost use Rattle.std.specs.Prelude.{◌↔◌, ◌≤◌, length, IsTrue, ⊤};
+ghost use Rattle.std.specs.Prelude.{◌↔◌, IsTrue, ⊤};
 ghost use Rattle.model.specs.Checking.{IsJudged};
-ghost use Rattle.scene.specs.Listed.{primitives_listed};
-ghost use Rattle.batch.specs.Checks.{AreQuadsSeen, primitives_checks, draw_checks, batch_draws_checks, batch_checks};
+ghost use Rattle.batch.specs.Listed.{primitives_listed};
+ghost use Rattle.batch.specs.Checks.{AreQuadsSeen, primitives_checks, draw_checks, draws_checks};
 
+use crate::draw::BatchDraw;
+use crate::fault::{BatchCause, BatchFault};
 use crate::ids::{after, has_ids};
+use crate::primitives::{corners, triangle_count};
+use crate::vertex::BatchVertex;
 use crate::vertices::{are_quads_seen, are_seen};
 use canvas::Origin;
-use model::{ReadFault, ReadKind, name_vertices};
-use scene::{SceneDraw, SceneVertex, corners, triangle_count};
-
-/// The farthest edge of a scissor, in pixels: the guard band ends there.
-const FARTHEST: u32 = 32_768;
+use model::name_vertices;
 
 /// Whether the vertices of quads can be seen and each quad is strictly convex, if the primitives are quads.
-fn are_convex(kind: u32, vertices: &[SceneVertex], indices: &[u32], origin: &Origin) -> bool
-    ensures { IsTrue result ↔ AreQuadsSeen origin.now.x origin.now.y vertices.now (primitives_listed kind indices.now) }
+fn are_convex(topology: u8, vertices: &[BatchVertex], indices: &[u32], origin: &Origin) -> bool
+    ensures { IsTrue result ↔ AreQuadsSeen origin.now.x origin.now.y vertices.now (primitives_listed topology indices.now) }
 {
-    match kind {
+    match topology {
         0 => true,
         1 => true,
         _ => are_quads_seen(vertices, indices.as_chunks::<4>().0, origin),
@@ -26,51 +26,54 @@ fn are_convex(kind: u32, vertices: &[SceneVertex], indices: &[u32], origin: &Ori
 
 /// Checks the primitives of a draw of these vertices.
 fn check_primitives(
-    kind: u32,
-    vertices: &[SceneVertex],
+    topology: u8,
+    vertices: &[BatchVertex],
     indices: &[u32],
     origin: &Origin,
     ids: Option<u32>,
-) -> Result<(), ReadKind>
-    ensures { IsJudged (primitives_checks origin.now.x origin.now.y ids vertices.now kind indices.now) (λ done. ⊤) result }
+) -> Result<(), BatchCause>
+    ensures { IsJudged (primitives_checks origin.now.x origin.now.y ids vertices.now topology indices.now) (λ done. ⊤) result }
 {
-    if indices.len() % corners(kind) != 0 {
-        return Err(ReadKind::WrongKind);
+    if indices.len() % corners(topology) != 0 {
+        return Err(BatchCause::NotWhole);
     }
-    if !has_ids(ids, triangle_count(kind, indices)) {
-        return Err(ReadKind::TooMany);
+    if !has_ids(ids, triangle_count(topology, indices)) {
+        return Err(BatchCause::TooManyIds);
     }
     if !name_vertices(indices, vertices.len()) {
-        return Err(ReadKind::BadIndex);
+        return Err(BatchCause::BadIndex);
     }
     if !are_seen(vertices, indices, origin) {
-        return Err(ReadKind::OutOfRange);
+        return Err(BatchCause::BadPosition);
     }
-    if !are_convex(kind, vertices, indices, origin) {
-        return Err(ReadKind::NotConvex);
+    if !are_convex(topology, vertices, indices, origin) {
+        return Err(BatchCause::NotConvex);
     }
     Ok(())
 }
 
 /// Checks a draw, whose vertices and indices are the first of these.
 fn check_draw(
-    draw: &SceneDraw,
-    vertices: &[SceneVertex],
+    draw: &BatchDraw,
+    vertices: &[BatchVertex],
     indices: &[u32],
     origin: &Origin,
     ids: Option<u32>,
-) -> Result<(), ReadKind>
+) -> Result<(), BatchCause>
     ensures { IsJudged (draw_checks origin.now.x origin.now.y ids draw.now vertices.now indices.now) (λ done. ⊤) result }
 {
-    let (own_vertices, own_indices) = (draw.vertices as usize, draw.indices as usize);
-    if own_vertices > vertices.len() || own_indices > indices.len() {
-        return Err(ReadKind::WrongKind);
+    let (own_vertices, own_indices) = (draw.vertices, draw.indices);
+    if own_vertices > vertices.len() {
+        return Err(BatchCause::TooFewVertices);
     }
-    if !draw.is_in_range(FARTHEST) {
-        return Err(ReadKind::OutOfRange);
+    if own_indices > indices.len() {
+        return Err(BatchCause::TooFewIndices);
+    }
+    if !draw.is_in_range() {
+        return Err(BatchCause::BadState);
     }
     check_primitives(
-        draw.primitives,
+        draw.topology,
         &vertices[..own_vertices],
         &indices[..own_indices],
         origin,
@@ -78,46 +81,35 @@ fn check_draw(
     )
 }
 
-/// Checks draws.
-fn check_draws(
-    draws: &[SceneDraw],
-    vertices: &[SceneVertex],
+/// Checks draws. Returns the fault of the first check that fails.
+pub(crate) fn check_draws(
+    draws: &[BatchDraw],
+    vertices: &[BatchVertex],
     indices: &[u32],
     origin: &Origin,
     ids: Option<u32>,
-) -> Result<(), ReadFault>
-    requires { length draws.now ≤ 4294967295 }
-    ensures { IsJudged (batch_draws_checks origin.now.x origin.now.y 0 ids draws.now vertices.now indices.now) (λ done. ⊤) result }
+) -> Result<(), BatchFault>
+    ensures { IsJudged (draws_checks origin.now.x origin.now.y 0 ids draws.now vertices.now indices.now) (λ done. ⊤) result }
 {
     let mut next_ids = ids;
     let (mut vertices_left, mut indices_left) = (vertices, indices);
     for (number, draw) in draws.iter().enumerate() {
-        if let Err(kind) = check_draw(draw, vertices_left, indices_left, origin, next_ids) {
-            return Err(ReadFault::in_draw(kind, number as u32));
+        if let Err(cause) = check_draw(draw, vertices_left, indices_left, origin, next_ids) {
+            return Err(BatchFault {
+                cause,
+                draw: Some(number),
+            });
         }
-        let (own, rest) = indices_left.split_at(draw.indices as usize);
-        next_ids = after(next_ids, triangle_count(draw.primitives, own));
+        let (own, rest) = indices_left.split_at(draw.indices);
+        next_ids = after(next_ids, triangle_count(draw.topology, own));
         indices_left = rest;
-        (_, vertices_left) = vertices_left.split_at(draw.vertices as usize);
+        (_, vertices_left) = vertices_left.split_at(draw.vertices);
     }
     if !vertices_left.is_empty() || !indices_left.is_empty() {
-        return Err(ReadFault::outside(ReadKind::WrongKind));
+        return Err(BatchFault {
+            cause: BatchCause::LeftOver,
+            draw: None,
+        });
     }
     Ok(())
-}
-
-/// Checks a batch. Returns the fault of the first check that fails.
-pub(crate) fn check_batch(
-    draws: &[SceneDraw],
-    vertices: &[SceneVertex],
-    indices: &[u32],
-    origin: &Origin,
-    ids: Option<u32>,
-) -> Result<(), ReadFault>
-    ensures { IsJudged (batch_checks origin.now.x origin.now.y ids draws.now vertices.now indices.now) (λ done. ⊤) result }
-{
-    if u32::try_from(draws.len()).is_err() {
-        return Err(ReadFault::outside(ReadKind::TooMany));
-    }
-    check_draws(draws, vertices, indices, origin, ids)
 }

@@ -1,12 +1,20 @@
-//! Batches: draws with their vertices and indices in the caller's arrays. A batch is checked as a whole, by the rules for the arrays of a
-//! scene, and then drawn at the samples of a canvas. No call allocates.
+//! Batches: draws with their vertices and indices in the caller's arrays. A batch is checked as a whole, and then drawn at the samples of a
+//! canvas. No call allocates.
 #![tactic(auto)]
 
+mod blend;
 mod checking;
+mod draw;
 mod drawing;
+mod fault;
 mod ids;
 mod part;
 mod primitives;
+mod vertex;
 mod vertices;
 
+pub use blend::BatchBlend;
+pub use draw::BatchDraw;
 pub use drawing::draw_batch;
+pub use fault::{BatchCause, BatchFault};
+pub use vertex::BatchVertex;

@@ -3,9 +3,9 @@ ghost use Rattle.std.specs.Prelude.{◌≡◌, ◌≤◌, map};
 ghost use Rattle.batch.specs.Seen.{NameSeenVertices};
 
 use crate::primitives::{triangle, triangle_count};
+use crate::vertex::BatchVertex;
 use crate::vertices::seen_triangle;
 use canvas::Origin;
-use scene::SceneVertex;
 use shade::{Placed, State, Triangles};
 
 /// The primitives of a draw, with the vertices and indices that are the draw's own: a source of the draw's triangles, as they are seen.
@@ -13,11 +13,11 @@ use shade::{Placed, State, Triangles};
 pub(crate) struct Part<'a> {
     /// The state of its triangles, with the scissor as seen from the origin.
     pub(crate) state: State,
-    pub(crate) kind: u32,
-    pub(crate) vertices: &'a [SceneVertex],
+    pub(crate) topology: u8,
+    pub(crate) vertices: &'a [BatchVertex],
     pub(crate) indices: &'a [u32],
     pub(crate) origin: Origin,
-    ghost known: { kind ≤ 2 },
+    ghost known: { topology ≤ 2 },
     ghost named: { NameSeenVertices origin.x origin.y vertices.now indices.now },
 }
 
@@ -28,12 +28,12 @@ impl Triangles for Part<'_> {
 
     #[inline]
     fn count(&self) -> usize {
-        triangle_count(self.kind, self.indices)
+        triangle_count(self.topology, self.indices)
     }
 
     #[inline]
     fn triangle(&self, number: usize) -> Placed {
-        let indices = triangle(self.kind, self.indices, number);
+        let indices = triangle(self.topology, self.indices, number);
         seen_triangle(self.vertices, &self.state, indices, &self.origin)
     }
 }

@@ -5,29 +5,30 @@ ghost use Rattle.grid.specs.Position.{IsInBand};
 ghost use Rattle.model.specs.Listing.{triangle_of};
 ghost use Rattle.model.specs.Primitives.{position_of, IsConvexOver};
 ghost use Rattle.model.specs.declared.draw.Vertex.{Vertex as VertexOf};
-ghost use Rattle.scene.specs.Listed.{vertex_listed};
+ghost use Rattle.batch.specs.Listed.{vertex_listed};
 ghost use Rattle.batch.specs.Seen.{vertex_at, vertex_seen, CanBeSeen, AreSeen, NameSeenVertices};
 ghost use Rattle.batch.specs.Checks.{IsQuadSeen};
 
+use crate::vertex::BatchVertex;
 use canvas::{Origin, seen_point};
 use grid::{Point, Quad, Tri};
 use model::Vertex;
-use scene::SceneVertex;
 use shade::{Placed, State};
 
 /// What an index past the end of the vertices stands for.
-const NONE: SceneVertex = SceneVertex {
+const NONE: BatchVertex = BatchVertex {
     x: 0,
     y: 0,
-    z: 0,
-    r: 0,
-    g: 0,
-    b: 0,
-    a: 0,
+    depth: 0,
+    red: 0,
+    green: 0,
+    blue: 0,
+    alpha: 0,
+    unused: 0,
 };
 
 /// The vertex of this index; past the end one of zeros.
-fn numbers_at(vertices: &[SceneVertex], index: u32) -> SceneVertex
+fn numbers_at(vertices: &[BatchVertex], index: u32) -> BatchVertex
     ensures { result ≡ vertex_at vertices.now index }
 {
     match vertices.get(index as usize) {
@@ -37,7 +38,7 @@ fn numbers_at(vertices: &[SceneVertex], index: u32) -> SceneVertex
 }
 
 /// The vertex of this index, or `None` if it cannot be seen.
-fn vertex(vertices: &[SceneVertex], index: u32, origin: &Origin) -> Option<Vertex>
+fn vertex(vertices: &[BatchVertex], index: u32, origin: &Origin) -> Option<Vertex>
     ensures some { IsSome result ↔ CanBeSeen origin.now.x origin.now.y (vertex_at vertices.now index) }
     ensures value { IfSome result (λ v. v ≡ vertex_listed (vertex_at vertices.now index)) }
 {
@@ -47,7 +48,7 @@ fn vertex(vertices: &[SceneVertex], index: u32, origin: &Origin) -> Option<Verte
 }
 
 /// Whether each vertex that an index names can be seen.
-pub(crate) fn are_seen(vertices: &[SceneVertex], indices: &[u32], origin: &Origin) -> bool
+pub(crate) fn are_seen(vertices: &[BatchVertex], indices: &[u32], origin: &Origin) -> bool
     ensures { IsTrue result ↔ AreSeen origin.now.x origin.now.y vertices.now indices.now }
 {
     indices
@@ -57,7 +58,7 @@ pub(crate) fn are_seen(vertices: &[SceneVertex], indices: &[u32], origin: &Origi
 
 /// The position of a vertex that can be seen.
 #[tactic(auto, using(crate::proofs::Corners::position_at))]
-fn position(vertices: &[SceneVertex], index: u32, origin: &Origin) -> Point
+fn position(vertices: &[BatchVertex], index: u32, origin: &Origin) -> Point
     requires { CanBeSeen origin.now.x origin.now.y (vertex_at vertices.now index) }
     ensures { result ≡ position_of (map vertex_listed vertices.now) index }
 {
@@ -65,7 +66,7 @@ fn position(vertices: &[SceneVertex], index: u32, origin: &Origin) -> Point
 }
 
 /// Whether a quad whose vertices can be seen is strictly convex.
-fn is_convex(vertices: &[SceneVertex], quad: [u32; 4], origin: &Origin) -> bool
+fn is_convex(vertices: &[BatchVertex], quad: [u32; 4], origin: &Origin) -> bool
     requires { AreSeen origin.now.x origin.now.y vertices.now quad }
     ensures { IsTrue result ↔ IsConvexOver (map vertex_listed vertices.now) quad }
 {
@@ -77,14 +78,14 @@ fn is_convex(vertices: &[SceneVertex], quad: [u32; 4], origin: &Origin) -> bool
 }
 
 /// Whether the vertices of a quad can be seen, and it is strictly convex.
-fn is_quad_seen(vertices: &[SceneVertex], quad: [u32; 4], origin: &Origin) -> bool
+fn is_quad_seen(vertices: &[BatchVertex], quad: [u32; 4], origin: &Origin) -> bool
     ensures { IsTrue result ↔ IsQuadSeen origin.now.x origin.now.y vertices.now quad }
 {
     are_seen(vertices, &quad, origin) && is_convex(vertices, quad, origin)
 }
 
 /// Whether the same holds of each quad.
-pub(crate) fn are_quads_seen(vertices: &[SceneVertex], quads: &[[u32; 4]], origin: &Origin) -> bool
+pub(crate) fn are_quads_seen(vertices: &[BatchVertex], quads: &[[u32; 4]], origin: &Origin) -> bool
     ensures { IsTrue result ↔ All (IsQuadSeen origin.now.x origin.now.y vertices.now) quads.now }
 {
     quads
@@ -103,7 +104,7 @@ fn seen_coordinate(coordinate: i32, pixel: i32) -> i32
 
 /// The vertex of this index as it is seen. The checks of a batch have found that it can be, so none is made again.
 #[inline]
-fn seen_vertex(vertices: &[SceneVertex], index: u32, origin: &Origin) -> Vertex
+fn seen_vertex(vertices: &[BatchVertex], index: u32, origin: &Origin) -> Vertex
     requires named { index < length vertices.now }
     requires seen { CanBeSeen origin.now.x origin.now.y (vertex_at vertices.now index) }
     ensures { result ≡ vertex_seen origin.now.x origin.now.y (vertex_at vertices.now index) }
@@ -113,20 +114,15 @@ fn seen_vertex(vertices: &[SceneVertex], index: u32, origin: &Origin) -> Vertex
     let down = seen_coordinate(vertex.y, origin.y);
     Vertex {
         at: Point::new(across, down).unwrap(),
-        z: vertex.z as u16,
-        rgba: [
-            vertex.r as u8,
-            vertex.g as u8,
-            vertex.b as u8,
-            vertex.a as u8,
-        ],
+        z: vertex.depth,
+        rgba: [vertex.red, vertex.green, vertex.blue, vertex.alpha],
     }
 }
 
 /// The triangle of the vertices with these indices as they are seen, in this state.
 #[inline]
 pub(crate) fn seen_triangle(
-    vertices: &[SceneVertex],
+    vertices: &[BatchVertex],
     state: &State,
     indices: [u32; 3],
     origin: &Origin,

@@ -5,9 +5,14 @@ use Rattle.model.specs.declared.fault.ReadFault.{ReadFault}
 use Rattle.model.specs.declared.fault.ReadKind.TheVariants.{OutOfMemory as NoMemory}
 use Rattle.c_abi.specs.declared.call_error.CallError.{CallError}
 use Rattle.c_abi.specs.declared.error.Error.{Error}
+use Rattle.c_abi.specs.declared.fault.Fault.{Fault}
 use Rattle.c_abi.specs.declared.status.Status.{Status}
-use Rattle.c_abi.specs.declared.status.Status.TheVariants.{BadList, OutOfMemory}
+use Rattle.c_abi.specs.declared.status.Status.TheVariants.{BadList, BadBatch, OutOfMemory}
 use Rattle.c_abi.specs.Statuses.{number_of}
+
+-- What is wrong with a list, by its numbers. No element is named.
+abbrev pub list_fault : ReadFault → Fault
+list_fault fault = record { cause = list_number_of fault.kind; draw = fault.draw; element = None }
 
 -- An error of which the status says all.
 abbrev pub of_status : Status → CallError
@@ -15,25 +20,29 @@ of_status status = record { status = status; fault = None }
 
 -- The error of what is no draw list.
 abbrev pub of_list : ReadFault → CallError
-of_list fault = record { status = BadList; fault = Some fault }
+of_list fault = record { status = BadList; fault = Some (list_fault fault) }
+
+-- The error of a batch that cannot be drawn.
+abbrev pub of_batch : Fault → CallError
+of_batch fault = record { status = BadBatch; fault = Some fault }
 
 -- The error of a list that was not read. Running out of memory is a status of its own.
 abbrev pub IsOfFault : ReadFault → CallError → Type 0
 IsOfFault fault error = ((fault.kind ≡ NoMemory) × (error ≡ of_status OutOfMemory)) ⊎ ((fault.kind ≢ NoMemory) × (error ≡ of_list fault))
 
+-- An index as the caller gets it: the greatest number of 64 bits stands for none.
+abbrev pub index_or_none : Option ℕ → ℕ
+index_or_none None = 18446744073709551615
+index_or_none (Some index) = index
+
 -- What the caller gets if the status says all; with the status 0 there is no error.
 abbrev pub alone : ℕ → Error
-alone status = record { status = status; list_error = 0; in_draw = 0; draw = 0 }
+alone status = record { status = status; cause = 0; draw = index_or_none None; element = index_or_none None }
 
--- What the caller gets of an error of the list with this number, in this draw, if it is in one.
-abbrev pub in_list : ℕ → ℕ → Option ℕ → Error
-in_list status list_error None = record { status = status; list_error = list_error; in_draw = 0; draw = 0 }
-in_list status list_error (Some draw) = record { status = status; list_error = list_error; in_draw = 1; draw = draw }
-
--- What the caller gets if a call has this status, and of a list this error.
-abbrev pub reported : ℕ → Option ReadFault → Error
+-- What the caller gets if a call has this status, and this is wrong with its list or batch.
+abbrev pub reported : ℕ → Option Fault → Error
 reported status None = alone status
-reported status (Some fault) = in_list status (list_number_of fault.kind) fault.draw
+reported status (Some fault) = record { status = status; cause = fault.cause; draw = index_or_none fault.draw; element = index_or_none fault.element }
 
 -- What the caller gets of an error.
 abbrev pub error_of : CallError → Error

@@ -1,20 +1,21 @@
+use crate::fault::Fault;
 use crate::status::Status;
 use grid::OutOfMemory;
 use model::{ReadFault, ReadKind};
 use std::alloc::AllocError;
 
-/// Why a call failed: its status, and of what is no draw list the first error in it.
+/// Why a call failed: its status, and of what is no draw list or no batch the first error in it.
 #[derive(Clone, Copy, Debug, PartialEq, Eq)]
 pub struct CallError {
     /// The status.
     pub status: Status,
-    /// The error of the list if the status is `BadList`, else none.
-    pub fault: Option<ReadFault>,
+    /// The error of the list or batch if the status is `BadList` or `BadBatch`, else none.
+    pub fault: Option<Fault>,
 }
 
 impl CallError {
     ghost use Rattle.std.specs.Prelude.{◌≡◌};
-    ghost use Rattle.c_abi.specs.Errors.{of_list};
+    ghost use Rattle.c_abi.specs.Errors.{of_list, of_batch};
 
     /// The error of what is no list.
     pub fn of_list(fault: ReadFault) -> CallError
@@ -22,6 +23,16 @@ impl CallError {
     {
         CallError {
             status: Status::BadList,
+            fault: Some(Fault::of_list(fault)),
+        }
+    }
+
+    /// The error of a batch that cannot be drawn.
+    pub fn of_batch(fault: Fault) -> CallError
+        ensures { result ≡ of_batch fault }
+    {
+        CallError {
+            status: Status::BadBatch,
             fault: Some(fault),
         }
     }

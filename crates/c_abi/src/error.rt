@@ -1,21 +1,34 @@
-ghost use Rattle.std.specs.Prelude.{◌≡◌, ◌↔◌, IsOk};
-ghost use Rattle.c_abi.specs.Errors.{alone, error_of};
+ghost use Rattle.std.specs.Prelude.{◌≡◌, ◌↔◌, IsOk, Option, ℕ};
+ghost use Rattle.c_abi.specs.Errors.{alone, index_or_none, error_of};
 ghost use Rattle.c_abi.specs.Calls.{IsReported};
 
 use crate::call_error::CallError;
 
-/// Why a call failed, laid out as in C: all zeros if it did not.
+/// The index that stands for none.
+pub const NONE: usize = usize::MAX;
+
+/// Why a call failed, laid out as in C.
 #[repr(C)]
 #[derive(Clone, Copy, Debug, PartialEq, Eq)]
 pub struct Error {
     /// The status of the call.
     pub status: u32,
-    /// If `status` is 1, the number of the list's error, from 1 to 10; else 0.
-    pub list_error: u32,
-    /// 1 if the list's error is in a draw, else 0.
-    pub in_draw: u32,
-    /// If `in_draw` is 1, the index of that draw in the list; else 0.
-    pub draw: u32,
+    /// If the status is that of a list or of a batch, the number of its error, from 1; else 0.
+    pub cause: u32,
+    /// The index of the draw in which the error is, or `NONE`.
+    pub draw: usize,
+    /// Which one of the draw's indices, vertices or quads it is, or `NONE`.
+    pub element: usize,
+}
+
+/// The index, or the number that stands for none.
+fn index_of(index: Option<usize>) -> usize
+    ensures { result ≡ index_or_none index }
+{
+    match index {
+        None => NONE,
+        Some(index) => index,
+    }
 }
 
 impl Error {
@@ -25,9 +38,9 @@ impl Error {
     {
         Error {
             status,
-            list_error: 0,
-            in_draw: 0,
-            draw: 0,
+            cause: 0,
+            draw: NONE,
+            element: NONE,
         }
     }
 
@@ -40,9 +53,9 @@ impl Error {
             None => Error::alone(status),
             Some(fault) => Error {
                 status,
-                list_error: fault.kind.number(),
-                in_draw: u32::from(fault.draw.is_some()),
-                draw: fault.draw.unwrap_or(0),
+                cause: fault.cause,
+                draw: index_of(fault.draw),
+                element: index_of(fault.element),
             },
         }
     }

@@ -6,7 +6,7 @@ use grid::OutOfMemory;
 /// Why a call failed, by its number in C. A number never changes its meaning. A call that succeeds has the status 0.
 #[derive(Clone, Copy, Debug, PartialEq, Eq)]
 pub enum Status {
-    /// The bytes denote no draw list, or the arrays list none.
+    /// The bytes denote no draw list.
     BadList = 1,
     /// The list has more than 67,108,864 bytes.
     InputTooLong = 2,
@@ -18,7 +18,7 @@ pub enum Status {
     BadTileSize = 5,
     /// The picture or the canvas has no such tile rows.
     BadTileRows = 6,
-    /// A struct, or an element of an array, has another size for the caller than for this library.
+    /// A struct has another size for the caller than for this library.
     BadStructSize = 7,
     /// There is no such canvas.
     BadCanvas = 8,
@@ -34,6 +34,12 @@ pub enum Status {
     BadPixel = 13,
     /// The list has no such draw, or the draw no such triangle.
     BadTriangle = 14,
+    /// The batch cannot be drawn.
+    BadBatch = 15,
+    /// A stride is too short or not aligned, or there are no elements of this size.
+    BadStride = 16,
+    /// The canvas has no such tile.
+    BadTile = 17,
 }
 
 impl Status {
@@ -64,6 +70,9 @@ impl Status {
             12 => Status::BadPosition,
             13 => Status::BadPixel,
             14 => Status::BadTriangle,
+            15 => Status::BadBatch,
+            16 => Status::BadStride,
+            17 => Status::BadTile,
             _ => return None,
         };
         Some(status)
@@ -80,14 +89,17 @@ impl Status {
             Status::BufferTooSmall => "buffer too small",
             Status::BadTileSize => "no such tile size",
             Status::BadTileRows => "no such tile rows",
-            Status::BadStructSize => "no such struct size",
+            Status::BadStructSize => "wrong struct size",
             Status::BadCanvas => "no such canvas",
-            Status::BadMemory => "memory of another size",
+            Status::BadMemory => "wrong memory",
             Status::BadFormat => "no such format",
             Status::BadSample => "no such sample",
             Status::BadPosition => "position out of range",
             Status::BadPixel => "no such pixel",
             Status::BadTriangle => "no such triangle",
+            Status::BadBatch => "wrong batch",
+            Status::BadStride => "wrong stride",
+            Status::BadTile => "no such tile",
         }
     }
 }

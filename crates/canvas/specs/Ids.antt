@@ -5,6 +5,7 @@ use Rattle.grid.specs.Samples.{sample_position}
 use Rattle.grid.specs.declared.sample_count.SampleCount.{SampleCount}
 use Rattle.shade.specs.declared.sample.Sample.{Sample}
 use Rattle.shade.specs.declared.placed.Placed.{Placed}
+use Rattle.shade.specs.declared.state.State.{State}
 use Rattle.shade.specs.Presets.{none_blend}
 use Rattle.shade.specs.Depth.{Passes}
 use Rattle.shade.specs.Placed.{IsInterpolated, Meets, Draws}
@@ -13,12 +14,13 @@ use Rattle.shade.specs.Placed.{IsInterpolated, Meets, Draws}
 abbrev pub colour_of_id : ℕ → List ℕ
 colour_of_id n = n % 256 ∷ n / 256 % 256 ∷ n / 65536 % 256 ∷ 255 ∷ []
 
+-- The state in which a colour replaces what is stored.
+abbrev pub replacing : State → State
+replacing state = record state { merge = record state.merge { write = true ∷ true ∷ true ∷ []; blend = none_blend } }
+
 -- The triangle in the colour of its id, which replaces what is stored.
 abbrev pub with_id : Placed → ℕ → Placed
-with_id t n = record t {
-  rgba = colour_of_id n ∷ colour_of_id n ∷ colour_of_id n ∷ [];
-  state = record t.state { merge = record t.state.merge { write = true ∷ true ∷ true ∷ []; blend = none_blend } };
-}
+with_id t n = record t { rgba = colour_of_id n ∷ colour_of_id n ∷ colour_of_id n ∷ []; state = replacing t.state }
 
 -- The triangles in the colours of their ids, which are counted from n on.
 abbrev pub with_ids : List Placed → ℕ → List Placed

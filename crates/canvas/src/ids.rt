@@ -1,38 +1,50 @@
 //! Triangles that are drawn in their ids in place of their colours.
 ghost use Rattle.std.specs.Prelude.{◌≡◌, ◌↔◌, ◌+◌, ◌<◌, ◌≤◌, length, IsSome, IfSome};
-ghost use Rattle.canvas.specs.Ids.{with_id as with_id_of, with_ids};
+ghost use Rattle.canvas.specs.Ids.{colour_of_id as colour_of, replacing as replacing_of, with_id as with_id_of, with_ids};
 
 use shade::{Blend, Merge, Placed, State, Triangles};
 
 /// How many ids there are: one for each colour of 24 bits.
 const ID_COUNT: usize = 16_777_216;
 
-/// The triangle in the colour of its id, which replaces what is stored.
-fn with_id(triangle: &Placed, id: usize) -> Placed
-    ensures { result ≡ with_id_of triangle.now id }
+/// An id as red, green, blue and alpha: red is its lowest byte, and alpha is opaque.
+pub fn colour_of_id(id: usize) -> [u8; 4]
+    ensures { result ≡ colour_of id }
 {
-    let code = [
+    [
         (id % 256) as u8,
         (id / 256 % 256) as u8,
         (id / 65536 % 256) as u8,
         255,
-    ];
-    let state = triangle.state;
+    ]
+}
+
+/// The state in which a colour replaces what is stored, in all channels and without blending.
+pub fn replacing(state: &State) -> State
+    ensures { result ≡ replacing_of state.now }
+{
+    State {
+        merge: Merge {
+            test: state.merge.test,
+            depth_write: state.merge.depth_write,
+            write: [true; 3],
+            blend: Blend::NONE,
+        },
+        cull: state.cull,
+        sample_mask: state.sample_mask,
+        scissor: state.scissor,
+    }
+}
+
+/// The triangle in the colour of its id, which replaces what is stored.
+fn with_id(triangle: &Placed, id: usize) -> Placed
+    ensures { result ≡ with_id_of triangle.now id }
+{
     Placed {
         tri: triangle.tri,
         z: triangle.z,
-        rgba: [code; 3],
-        state: State {
-            merge: Merge {
-                test: state.merge.test,
-                depth_write: state.merge.depth_write,
-                write: [true; 3],
-                blend: Blend::NONE,
-            },
-            cull: state.cull,
-            sample_mask: state.sample_mask,
-            scissor: state.scissor,
-        },
+        rgba: [colour_of_id(id); 3],
+        state: replacing(&triangle.state),
     }
 }
 

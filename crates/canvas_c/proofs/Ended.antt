@@ -1,18 +1,26 @@
 -- What a status says of how a call ended, and room for rows of pixels.
 use Rattle.std.specs.Prelude.{⊤}
-use Rattle.std.proofs.Common.{◌≡◌, ◌↔◌, refl, subst, ℕ, ℤ, Option, List, Result, Ok, Err, IsOk, OnOk}
+use Rattle.std.proofs.Common.{◌≡◌, ◌≢◌, ◌↔◌, refl, sym, subst, inl, inr, ℕ, max, ℤ, Option, List, Result, Ok, Err, IsOk, IfErr, OnOk, MatchResult}
 use Rattle.std.proofs.lemmas.Bool.{false≢true}
 use Rattle.canvas.specs.declared.misfit.Misfit.{Misfit}
 use Rattle.canvas.specs.declared.tile_rows.TileRows.{TileRows as Rows}
 use Rattle.canvas.specs.Pixels.{IsLargeEnough}
-use Rattle.model.specs.Checking.{FirstIs}
-use Rattle.model.specs.declared.fault.ReadFault.{ReadFault}
-use Rattle.scene.specs.declared.draw.SceneDraw.{SceneDraw}
-use Rattle.scene.specs.declared.vertex.SceneVertex.{SceneVertex}
+use Rattle.grid.specs.Samples.{count_of}
+use Rattle.model.specs.Checking.{Checks, done as checked, check, followed_by, Pass, FirstIs, IsJudged}
+use Rattle.model.proofs.Checking.{pass_both, fails_later}
+use Rattle.batch.specs.declared.draw.BatchDraw.{BatchDraw}
+use Rattle.batch.specs.declared.fault.BatchFault.{BatchFault}
+use Rattle.batch.specs.declared.vertex.BatchVertex.{BatchVertex}
 use Rattle.batch.specs.Checks.{batch_checks}
+use Rattle.c_abi.specs.Calls.{IsCall, IsReported, IsReport, IsStatus}
+use Rattle.c_abi.specs.Statuses.{number_of}
+use Rattle.c_abi.specs.declared.call_error.CallError.{CallError}
+use Rattle.c_abi.specs.declared.error.Error.{Error}
+use Rattle.c_abi.specs.declared.fault.Fault.{Fault}
 use Rattle.c_abi.specs.declared.status.Status.{Status}
+use Rattle.c_abi.specs.declared.status.Status.TheVariants.{BadList, BadBatch, BufferTooSmall}
 use Rattle.canvas_c.specs.declared.piece.CanvasHead.{CanvasHead}
-use Rattle.canvas_c.specs.Pieces.{AreRowsOf, HasRoom}
+use Rattle.canvas_c.specs.Pieces.{IsCount, samples_listed, piece_checks, AreRowsOf, HasRoom}
 
 -- ---- room for rows of pixels
 pub room_of : (head : CanvasHead) (rows : Rows) (unit stride size : ℕ) → AreRowsOf head rows → IsLargeEnough rows.canvas rows.first rows.end unit stride size → HasRoom head unit stride size
@@ -40,7 +48,39 @@ on_done P Q (Ok x) (Ok y) same more on = more on
 on_done P Q (Err e) (Ok y) same more on = absurd (false≢true (same.0 refl))
 
 -- ---- a batch on a canvas whose origin is the same
-pub at_origin : (x x' y y' : ℤ) → x' ≡ x → y' ≡ y → (ids : Option ℕ) (ds : List SceneDraw) (vs : List SceneVertex) (is : List ℕ) (fault : ReadFault)
+pub at_origin : (x x' y y' : ℤ) → x' ≡ x → y' ≡ y → (ids : Option ℕ) (ds : List BatchDraw) (vs : List BatchVertex) (is : List ℕ) (fault : BatchFault)
     → FirstIs (batch_checks x' y' ids ds vs is) fault → FirstIs (batch_checks x y ids ds vs is) fault
 at_origin x x' y y' same_x same_y ids ds vs is fault first =
     subst (λ b. FirstIs (batch_checks x b ids ds vs is) fault) same_y (subst (λ a. FirstIs (batch_checks a y' ids ds vs is) fault) same_x first)
+
+-- ---- how many samples a pixel has
+pub count_is : (samples : ℕ) → IsCount samples → count_of (samples_listed samples) ≡ max 1 samples
+count_is samples (inl e) = rw e refl
+count_is samples (inr (inl e)) = rw e refl
+count_is samples (inr (inr (inl e))) = rw e refl
+count_is samples (inr (inr (inr (inl e)))) = rw e refl
+count_is samples (inr (inr (inr (inr (inl e))))) = rw e refl
+count_is samples (inr (inr (inr (inr (inr e))))) = rw e refl
+
+-- ---- what the caller gets
+pub status_is : (checks : Checks Status) (r : Result ⊤ Status) (n : ℕ) → IsJudged checks (λ done. ⊤) r → MatchResult r (λ done. n ≡ 0) (λ failed. n ≡ number_of failed) → IsStatus checks n
+status_is checks (Ok x) n judged ended = inl (judged.0, ended)
+status_is checks (Err e) n judged ended = inr (e, judged, ended)
+
+pub report_is : (checks : Checks Status) (IsFirst : Fault → Type 0) (r : Result ⊤ CallError) (n : ℕ) (error : Error) → IsCall checks IsFirst (λ done. ⊤) r → IsReported r n error → IsReport checks IsFirst n error
+report_is checks IsFirst (Ok x) n error judged reported = inl (judged.0, reported.0, reported.1)
+report_is checks IsFirst (Err e) n error judged reported = inr (e, judged, reported.0, reported.1)
+
+-- how a call is judged that passes its checks and then reads or writes rows of pixels, which fit or not
+pub fitted_is : (before : Checks Status) (Room : Type 0) (r : Result ⊤ Misfit) (s : Result ⊤ Status) → Pass before → (IsOk s ↔ IsOk r) → IfErr s (λ failed. failed ≡ BufferTooSmall) → (IsOk r ↔ Room)
+    → IsJudged (followed_by before (check Room BufferTooSmall checked)) (λ done. ⊤) s
+fitted_is before Room r (Ok x) passed same small room = (pass_both before (check Room BufferTooSmall checked) passed (room.0 (same.0 refl), record {}), record {})
+fitted_is before Room r (Err e) passed same small room = fails_later before (check Room BufferTooSmall checked) e passed (inl ((λ fits. false≢true (same.1 (room.1 fits))), sym small))
+
+-- ---- what a piece fails by is no list's and no batch's
+pub piece_fault : (head : CanvasHead) (planes : ℕ) (failed : Status) → FirstIs (piece_checks head planes) failed → (failed ≢ BadList) × (failed ≢ BadBatch)
+piece_fault head planes failed (inl a) = subst (λ s. (s ≢ BadList) × (s ≢ BadBatch)) a.1 ((λ h. cc), (λ h. cc))
+piece_fault head planes failed (inr (a, inl b)) = subst (λ s. (s ≢ BadList) × (s ≢ BadBatch)) b.1 ((λ h. cc), (λ h. cc))
+piece_fault head planes failed (inr (a, inr (b, inl c))) = subst (λ s. (s ≢ BadList) × (s ≢ BadBatch)) c.1 ((λ h. cc), (λ h. cc))
+piece_fault head planes failed (inr (a, inr (b, inr (c, inl d)))) = subst (λ s. (s ≢ BadList) × (s ≢ BadBatch)) d.1 ((λ h. cc), (λ h. cc))
+piece_fault head planes failed (inr (a, inr (b, inr (c, inr d)))) = absurd d.1

@@ -1,20 +1,40 @@
 -- The definitions of this crate, each file behind those that it uses; `python3 -m tools.definitions` writes these lines.
 --
 -- Pieces.antt
---   IsCanvas: There is a canvas of this size.
+--   IsCount: A pixel may have this number of samples, with 0 for one.
+--   samples_listed: The samples of a pixel by their number: 0 and 1 are one.
+--   IsCanvas: There is a canvas of this size with these samples and channels.
+--   IsWhole: There is such a canvas, and the struct has the size that this library knows.
+--   tile_rows_of: How many tile rows a canvas of this height has.
 --   HasRows: A canvas of this height has the tile rows from `first` to before `end`.
 --   planes_of: How many planes these tile rows have.
 --   AreRowsOf: The tile rows are those that the caller names.
 --   OnRows: `Holds` is true of the tile rows that the caller names.
+--   stride_of: The bytes from the beginning of a row to that of the next: those of a row if the caller says 0.
 --   HasRoom: The rows of pixels, of `unit` entries a pixel, fit into `size` entries.
 --   piece_checks: What each call on tile rows checks first.
 --   format_of: The formats by their numbers.
 --   image_checks: A picture of `size` bytes is read or written, whose rows begin `stride` bytes behind each other.
---   entries_checks: The samples of one index are read to `size` entries, whose rows begin `stride` entries behind each other.
+--   entries_of: The entries from the beginning of a row to that of the next: those of a row if the caller says 0, else those of `stride` bytes.
+--   entries_checks: The samples of one index are read to `size` entries of `entry_bytes` bytes, whose rows begin `stride` bytes behind each other.
+--
+-- Samples.antt
+--   colours_checks: The colours of one sample index are read or written in `size` bytes, whose rows begin `stride` bytes behind each other.
+--   NamesTile: The tile rows that the caller names have a tile in a column and a row of tiles.
+--   entries_in_tile: How many entries a tile of the canvas has.
+--   tile_ids_checks: The samples of a tile are read to `size` entries.
+--   tile_store_checks: Colours are stored in a tile: one for each sample, or one for all of them.
+--   ids_written: How many ids are written of a tile, by what is said of it.
+--   AreIdsOfTile: The ids of a tile's samples are written, or one if the tile is unchanged since it was cleared, which `uniform` says.
+--   status_for: The status of a call for a tile that does not fit.
+--
+-- Arrays.antt
+--   HasStrides: The vertices and the indices have the sizes that this library knows, or 0 for just these.
 --
 -- Batches.antt
 --   arrays_checks: The checks of the batch itself on this canvas, drawn in its colours or by ids.
 --   draw_checks: The checks of a call that draws a batch.
+--   batch_fault: What is wrong with a batch, by its numbers.
 --   IsFirstOfBatch: The batch has this first error.
 --
 -- Weights.antt
@@ -27,5 +47,7 @@
 --   AreEdges: The same, of the corners as the caller gives them.
 
 pub mod Pieces
+pub mod Samples
+pub mod Arrays
 pub mod Batches
 pub mod Weights

@@ -1,31 +1,56 @@
 -- Tile rows of a canvas, as the caller names them, and the checks of the calls.
-use Rattle.std.specs.Prelude.{◌≡◌, ◌⊎◌, ℕ, ◌==◌, ◌+◌, ◌-◌, ◌*◌, ◌/◌, ◌<◌, ◌≤◌, min, if◌then◌else◌}
+use Rattle.std.specs.Prelude.{◌≡◌, ◌⊎◌, ℕ, ◌==◌, ◌+◌, ◌-◌, ◌*◌, ◌/◌, ◌%◌, ◌<◌, ◌≤◌, min, max, if◌then◌else◌}
 use Rattle.model.specs.Checking.{Checks, done, check, followed_by}
-use Rattle.scene.specs.Listed.{samples_listed}
+use Rattle.grid.specs.declared.sample_count.SampleCount.{SampleCount}
+use Rattle.grid.specs.declared.sample_count.SampleCount.TheVariants as samples
 use Rattle.canvas.specs.declared.canvas.Canvas.{Canvas}
 use Rattle.canvas.specs.declared.format.Format.{Format}
 use Rattle.canvas.specs.declared.format.Format.TheVariants.{Rgb8, Rgba8, Bgra8}
 use Rattle.canvas.specs.declared.tile_rows.TileRows.{TileRows}
 use Rattle.canvas.specs.Layout.{IsCanvasSize}
 use Rattle.canvas.specs.Pixels.{pixel_bytes}
+use Rattle.c_abi.specs.Sizes.{IsOwnSize}
 use Rattle.c_abi.specs.declared.status.Status.{Status}
-use Rattle.c_abi.specs.declared.status.Status.TheVariants.{BufferTooSmall, BadTileRows, BadStructSize, BadCanvas, BadMemory, BadFormat, BadSample}
+use Rattle.c_abi.specs.declared.status.Status.TheVariants.{BufferTooSmall, BadTileRows, BadStructSize, BadCanvas, BadMemory, BadFormat, BadSample, BadStride}
 use Rattle.canvas_c.specs.declared.piece.CanvasHead.{CanvasHead}
 
--- There is a canvas of this size.
-pub record IsCanvas (width height samples : ℕ) : Type 0 where
-  pub size : IsCanvasSize width height
-  pub pattern : (samples ≡ 1) ⊎ (samples ≡ 2) ⊎ (samples ≡ 4) ⊎ (samples ≡ 8) ⊎ (samples ≡ 16)
+-- A pixel may have this number of samples, with 0 for one.
+abbrev pub IsCount : ℕ → Type 0
+IsCount samples = (samples ≡ 0) ⊎ (samples ≡ 1) ⊎ (samples ≡ 2) ⊎ (samples ≡ 4) ⊎ (samples ≡ 8) ⊎ (samples ≡ 16)
+
+-- The samples of a pixel by their number: 0 and 1 are one.
+abbrev pub samples_listed : ℕ → SampleCount
+samples_listed n =
+    if n == 2 then samples.Two
+    else (if n == 4 then samples.Four
+    else (if n == 8 then samples.Eight
+    else (if n == 16 then samples.Sixteen
+    else samples.One)))
+
+-- There is a canvas of this size with these samples and channels.
+pub record IsCanvas (head : CanvasHead) : Type 0 where
+  pub size : IsCanvasSize head.width head.height
+  pub pattern : IsCount head.samples
+  pub channels : (head.channels ≡ 0) ⊎ (head.channels ≡ 3)
+
+-- There is such a canvas, and the struct has the size that this library knows.
+pub record IsWhole (head : CanvasHead) : Type 0 where
+  pub struct_size : IsOwnSize head.struct_size 56
+  pub canvas : IsCanvas head
+
+-- How many tile rows a canvas of this height has.
+abbrev pub tile_rows_of : ℕ → ℕ
+tile_rows_of height = (height + 63) / 64
 
 -- A canvas of this height has the tile rows from `first` to before `end`.
 pub record HasRows (height first end : ℕ) : Type 0 where
   pub rising : first ≤ end
-  pub within : end ≤ (height + 63) / 64
+  pub within : end ≤ tile_rows_of height
 
 -- How many planes these tile rows have. Of each tile one says whether it is unchanged since it was cleared; the others are those of the
--- samples to which it was cleared, and of its own 64 blocks.
+-- samples to which it was cleared, and of its own 64 blocks. 0 samples are one.
 abbrev pub planes_of : ℕ → ℕ → ℕ → ℕ → ℕ
-planes_of width samples first end = (end - first) * ((width + 63) / 64 * (1 + 65 * samples))
+planes_of width samples first end = (end - first) * ((width + 63) / 64 * (1 + 65 * max 1 samples))
 
 -- The tile rows are those that the caller names.
 pub record AreRowsOf (head : CanvasHead) (rows : TileRows) : Type 0 where
@@ -41,6 +66,10 @@ pub record OnRows (head : CanvasHead) (Holds : Canvas → ℕ → ℕ → Type 0
   pub are : AreRowsOf head rows
   pub holds : Holds rows.canvas rows.first rows.end
 
+-- The bytes from the beginning of a row to that of the next: those of a row if the caller says 0.
+abbrev pub stride_of : ℕ → ℕ → ℕ
+stride_of row stride = if stride == 0 then row else stride
+
 -- The rows of pixels, of `unit` entries a pixel, fit into `size` entries.
 -- A row fits between the starts of two rows, and the last row ends within the caller's memory.
 pub record HasRoom (head : CanvasHead) (unit stride size : ℕ) : Type 0 where
@@ -52,8 +81,8 @@ pub record HasRoom (head : CanvasHead) (unit stride size : ℕ) : Type 0 where
 -- they.
 abbrev pub piece_checks : CanvasHead → ℕ → Checks Status
 piece_checks head planes =
-    check (head.struct_size ≡ 48) BadStructSize (
-    check (IsCanvas head.width head.height head.samples) BadCanvas (
+    check (IsOwnSize head.struct_size 56) BadStructSize (
+    check (IsCanvas head) BadCanvas (
     check (HasRows head.height head.first head.end) BadTileRows (
     check (planes ≡ planes_of head.width head.samples head.first head.end) BadMemory
     done)))
@@ -67,13 +96,18 @@ abbrev pub image_checks : CanvasHead → ℕ → ℕ → ℕ → ℕ → Checks 
 image_checks head planes format stride size =
     followed_by (piece_checks head planes) (
     check (format ≤ 2) BadFormat (
-    check (HasRoom head (pixel_bytes (format_of format)) stride size) BufferTooSmall
+    check (HasRoom head (pixel_bytes (format_of format)) (stride_of (head.width * pixel_bytes (format_of format)) stride) size) BufferTooSmall
     done))
 
--- The samples of one index are read to `size` entries, whose rows begin `stride` entries behind each other.
-abbrev pub entries_checks : CanvasHead → ℕ → ℕ → ℕ → ℕ → Checks Status
-entries_checks head planes sample stride size =
+-- The entries from the beginning of a row to that of the next: those of a row if the caller says 0, else those of `stride` bytes.
+abbrev pub entries_of : ℕ → ℕ → ℕ → ℕ
+entries_of row entry_bytes stride = if stride == 0 then row else stride / entry_bytes
+
+-- The samples of one index are read to `size` entries of `entry_bytes` bytes, whose rows begin `stride` bytes behind each other.
+abbrev pub entries_checks : CanvasHead → ℕ → ℕ → ℕ → ℕ → ℕ → Checks Status
+entries_checks head planes sample entry_bytes stride size =
     followed_by (piece_checks head planes) (
-    check (sample < head.samples) BadSample (
-    check (HasRoom head 1 stride size) BufferTooSmall
-    done))
+    check (sample < max 1 head.samples) BadSample (
+    check (stride % entry_bytes ≡ 0) BadStride (
+    check (HasRoom head 1 (entries_of head.width entry_bytes stride) size) BufferTooSmall
+    done)))

@@ -6,20 +6,31 @@ ghost use Rattle.batch.specs.Seen.{triangles_seen};
 ghost use Rattle.batch.specs.Ids.{drawn_as};
 ghost use Rattle.c_abi.specs.Calls.{IsCall, IsReport};
 ghost use Rattle.canvas_c.specs.Pieces.{OnRows};
-ghost use Rattle.canvas_c.specs.Batches.{draw_checks, IsFirstOfBatch};
+ghost use Rattle.canvas_c.specs.Batches.{draw_checks, batch_fault, IsFirstOfBatch};
 
+use crate::arrays::Batch;
 use crate::piece::{CanvasHead, CanvasPiece, rows_of};
-use batch::draw_batch;
-use c_abi::{CallError, Error, Status, report};
+use batch::{BatchFault, draw_batch};
+use c_abi::{CallError, Error, Fault, Status, report};
 use canvas::Origin;
 use lanes::BlockSamples;
-use scene::Arrays;
+
+/// What is wrong with a batch, by its numbers.
+fn fault_of(fault: BatchFault) -> Fault
+    ensures { result ≡ batch_fault fault }
+{
+    Fault {
+        cause: fault.cause.number(),
+        draw: fault.draw,
+        element: None,
+    }
+}
 
 /// Draws a batch, in its colours or by ids.
 fn draw_into(
     head: &CanvasHead,
     planes: &mut [BlockSamples],
-    batch: &Arrays<'_>,
+    batch: &Batch<'_>,
     ids: Option<u32>,
 ) -> Result<(), CallError>
     ensures judged { IsCall (draw_checks head.now (length planes.old) ids batch.now) (IsFirstOfBatch head.now ids batch.now) (λ done. ⊤) result }
@@ -28,8 +39,11 @@ fn draw_into(
     ensures kept { OnErr result (planes.new ≡ planes.old) }
 {
     let rows = rows_of(head, planes)?;
-    if !batch.has_sizes() {
+    if !batch.has_size() {
         return Err(CallError::from(Status::BadStructSize));
+    }
+    if !batch.has_strides() {
+        return Err(CallError::from(Status::BadStride));
     }
     let origin = Origin {
         x: head.origin_x,
@@ -39,16 +53,16 @@ fn draw_into(
     let mut piece = rows.over(planes);
     match draw_batch(&mut piece, draws, vertices, indices, &origin, ids) {
         Ok(()) => Ok(()),
-        Err(fault) => Err(CallError::of_list(fault)),
+        Err(fault) => Err(CallError::of_batch(fault_of(fault))),
     }
 }
 
 /// Draws a batch at the samples of these tile rows, over what is stored there. Returns the status, and writes the error. If the status is
 /// not 0, the samples are unchanged.
 #[unsafe(no_mangle)]
-pub extern "C" fn trirast_canvas_draw(
+pub extern "C" fn trirast_proved_canvas_draw(
     canvas: &mut CanvasPiece<'_>,
-    batch: &Arrays<'_>,
+    batch: &Batch<'_>,
     error: &mut Error,
 ) -> u32
     ensures report { IsReport (draw_checks canvas.old.head (length canvas.old.planes.now) Nothing batch.now) (IsFirstOfBatch canvas.old.head Nothing batch.now) result error.new }
@@ -64,9 +78,9 @@ pub extern "C" fn trirast_canvas_draw(
 
 /// Draws a batch in the same way, each triangle in the colour of its id, unblended: `first_id` and its place in the batch.
 #[unsafe(no_mangle)]
-pub extern "C" fn trirast_canvas_draw_ids(
+pub extern "C" fn trirast_proved_canvas_draw_ids(
     canvas: &mut CanvasPiece<'_>,
-    batch: &Arrays<'_>,
+    batch: &Batch<'_>,
     first_id: u32,
     error: &mut Error,
 ) -> u32

@@ -1,5 +1,5 @@
 //! Samples that are all made the same.
-ghost use Rattle.std.specs.Prelude.{◌≡◌, ◌≢◌, length, slice_index, OnOk, OnErr, ⊤};
+ghost use Rattle.std.specs.Prelude.{◌≡◌, ◌≢◌, length, OnOk, OnErr, ⊤};
 ghost use Rattle.canvas.specs.Drawing.{AreCleared};
 ghost use Rattle.model.specs.Checking.{IsJudged};
 ghost use Rattle.c_abi.specs.Calls.{IsStatus};
@@ -9,6 +9,20 @@ use crate::piece::{CanvasHead, CanvasPiece, rows_of};
 use c_abi::{Status, status_of};
 use lanes::BlockSamples;
 use shade::Sample;
+
+/// What samples are made, laid out as in C.
+#[repr(C)]
+#[derive(Clone, Copy, Debug, PartialEq, Eq)]
+pub struct Clear {
+    pub red: u8,
+    pub green: u8,
+    pub blue: u8,
+    /// Not looked at on a canvas without alpha.
+    pub alpha: u8,
+    pub depth: u16,
+    /// Not read.
+    pub unused: u16,
+}
 
 /// Makes each sample of these tile rows the given one.
 fn clear_into(head: &CanvasHead, planes: &mut [BlockSamples], sample: Sample) -> Result<(), Status>
@@ -24,22 +38,18 @@ fn clear_into(head: &CanvasHead, planes: &mut [BlockSamples], sample: Sample) ->
 
 /// Makes each sample of these tile rows the one of this colour and depth. Returns the status. If it is not 0, the samples are unchanged.
 #[unsafe(no_mangle)]
-pub extern "C" fn trirast_canvas_clear(
-    canvas: &mut CanvasPiece<'_>,
-    color: &[u8; 3],
-    depth: u16,
-) -> u32
+pub extern "C" fn trirast_proved_canvas_clear(canvas: &mut CanvasPiece<'_>, clear: &Clear) -> u32
     ensures status { IsStatus (piece_checks canvas.old.head (length canvas.old.planes.now)) result }
-    ensures cleared { result ≡ 0 → OnRows canvas.old.head (λ c first end. AreCleared c first end (record { r = slice_index color.now 0; g = slice_index color.now 1; b = slice_index color.now 2; z = depth }) canvas.new.planes.now) }
+    ensures cleared { result ≡ 0 → OnRows canvas.old.head (λ c first end. AreCleared c first end (record { r = clear.now.red; g = clear.now.green; b = clear.now.blue; z = clear.now.depth }) canvas.new.planes.now) }
     ensures kept { result ≢ 0 → canvas.new.planes.now ≡ canvas.old.planes.now }
     ensures head { canvas.new.head ≡ canvas.old.head }
     ensures same { canvas.new.planes.ghost_name ≡ canvas.old.planes.ghost_name }
 {
     let sample = Sample {
-        r: color[0],
-        g: color[1],
-        b: color[2],
-        z: depth,
+        r: clear.red,
+        g: clear.green,
+        b: clear.blue,
+        z: clear.depth,
     };
     let head = canvas.head;
     status_of(clear_into(&head, canvas.planes, sample))

@@ -1,12 +1,13 @@
 //! Pictures in the caller's memory.
-ghost use Rattle.std.specs.Prelude.{◌≡◌, ◌≢◌, ◌↔◌, ◌≤◌, length, IsSome, IfSome, IfOk, OnOk, OnErr, ⊤};
+ghost use Rattle.std.specs.Prelude.{◌≡◌, ◌≢◌, ◌↔◌, ◌*◌, ◌≤◌, length, IsSome, IfSome, IfOk, OnOk, OnErr, ⊤};
 ghost use Rattle.canvas.specs.Layout.{planes_of_rows};
 ghost use Rattle.canvas.specs.Colours.{AreResolved};
+ghost use Rattle.canvas.specs.Pixels.{pixel_bytes};
 ghost use Rattle.canvas.specs.Loaded.{AreLoaded};
 ghost use Rattle.model.specs.Checking.{IsJudged, check, followed_by, done as checked};
 ghost use Rattle.c_abi.specs.Calls.{IsStatus};
 ghost use Rattle.c_abi.specs.declared.status.Status.TheVariants as failed;
-ghost use Rattle.canvas_c.specs.Pieces.{AreRowsOf, OnRows, format_of as format_named, piece_checks, image_checks};
+ghost use Rattle.canvas_c.specs.Pieces.{AreRowsOf, OnRows, format_of as format_named, stride_of as row_stride, piece_checks, image_checks};
 
 use crate::piece::{CanvasHead, CanvasPiece, fitted, rows_of};
 use c_abi::{Status, status_of};
@@ -27,7 +28,7 @@ fn format_of(number: u32) -> Option<Format>
 }
 
 /// The tile rows that the caller names, and the format of this number.
-fn image_rows(
+pub(crate) fn image_rows(
     head: &CanvasHead,
     planes: &[BlockSamples],
     format: u32,
@@ -43,6 +44,17 @@ fn image_rows(
     }
 }
 
+/// The bytes from the beginning of a row of pixels to that of the next: those of a row if the caller says 0.
+pub(crate) fn stride_of(head: &CanvasHead, format: Format, stride: usize) -> usize
+    requires { head.now.width ≤ 4096 }
+    ensures { result ≡ row_stride (head.now.width * pixel_bytes format) stride }
+{
+    match stride {
+        0 => head.width as usize * format.pixel_bytes(),
+        _ => stride,
+    }
+}
+
 /// Makes a picture the colour of all samples of its pixels.
 fn load_into(
     head: &CanvasHead,
@@ -52,12 +64,12 @@ fn load_into(
     stride: usize,
 ) -> Result<(), Status>
     ensures judged { IsJudged (image_checks head.now (length planes.old) format stride (length pixels.now)) (λ done. ⊤) result }
-    ensures loaded { OnOk result (OnRows head.now (λ c first end. AreLoaded c first end pixels.now (format_named format) stride planes.old planes.new)) }
+    ensures loaded { OnOk result (OnRows head.now (λ c first end. AreLoaded c first end pixels.now (format_named format) (row_stride (head.now.width * pixel_bytes (format_named format)) stride) planes.old planes.new)) }
     ensures kept { OnErr result (planes.new ≡ planes.old) }
 {
     let (rows, format) = image_rows(head, planes, format)?;
     let mut piece = rows.over(planes);
-    fitted(piece.load(pixels, format, stride))
+    fitted(piece.load(pixels, format, stride_of(head, format, stride)))
 }
 
 /// Makes a picture in this format the colour of all samples of its pixels in these tile rows; depths are unchanged. Returns the status. If
@@ -70,7 +82,7 @@ pub extern "C" fn trirast_canvas_load(
     stride: usize,
 ) -> u32
     ensures status { IsStatus (image_checks canvas.old.head (length canvas.old.planes.now) format stride (length pixels.now)) result }
-    ensures loaded { result ≡ 0 → OnRows canvas.old.head (λ c first end. AreLoaded c first end pixels.now (format_named format) stride canvas.old.planes.now canvas.new.planes.now) }
+    ensures loaded { result ≡ 0 → OnRows canvas.old.head (λ c first end. AreLoaded c first end pixels.now (format_named format) (row_stride (canvas.old.head.width * pixel_bytes (format_named format)) stride) canvas.old.planes.now canvas.new.planes.now) }
     ensures kept { result ≢ 0 → canvas.new.planes.now ≡ canvas.old.planes.now }
     ensures head { canvas.new.head ≡ canvas.old.head }
     ensures same { canvas.new.planes.ghost_name ≡ canvas.old.planes.ghost_name }
@@ -89,12 +101,13 @@ pub extern "C" fn trirast_canvas_resolve(
     stride: usize,
 ) -> u32
     ensures status { IsStatus (image_checks canvas.now.head (length canvas.now.planes.now) format stride (length pixels.old)) result }
-    ensures resolved { result ≡ 0 → OnRows canvas.now.head (λ c first end. AreResolved c first end canvas.now.planes.now (format_named format) stride pixels.old pixels.new) }
+    ensures resolved { result ≡ 0 → OnRows canvas.now.head (λ c first end. AreResolved c first end canvas.now.planes.now (format_named format) (row_stride (canvas.now.head.width * pixel_bytes (format_named format)) stride) pixels.old pixels.new) }
     ensures kept { result ≢ 0 → pixels.new ≡ pixels.old }
 {
     match image_rows(&canvas.head, canvas.planes, format) {
         Ok((rows, format)) => {
             let view = rows.view(canvas.planes);
+            let stride = stride_of(&canvas.head, format, stride);
             status_of(fitted(view.resolve(pixels, format, stride)))
         }
         Err(failed) => failed.number(),

@@ -1,18 +1,22 @@
 //! A canvas for programs in C, and for languages that call C: samples that stay in the caller's memory. No call allocates.
 #![tactic(auto)]
 
+mod arrays;
 mod batches;
 mod cleared;
 mod entries;
 mod images;
 mod piece;
+mod sample_colours;
+mod tiles;
 mod weights;
 
-pub use batches::{trirast_canvas_draw, trirast_canvas_draw_ids};
-pub use cleared::trirast_canvas_clear;
+pub use arrays::Batch;
+pub use batches::{trirast_proved_canvas_draw, trirast_proved_canvas_draw_ids};
+pub use cleared::{Clear, trirast_proved_canvas_clear};
 pub use entries::{trirast_canvas_depths, trirast_canvas_ids};
 pub use images::{trirast_canvas_load, trirast_canvas_resolve};
-pub use piece::{
-    CanvasHead, CanvasPiece, trirast_canvas_bytes, trirast_canvas_row_pixels, trirast_canvas_rows,
-};
-pub use weights::{Corners, Edges, trirast_weights};
+pub use piece::{CanvasHead, CanvasPiece, trirast_canvas_size, trirast_canvas_tile_rows};
+pub use sample_colours::{trirast_canvas_colors, trirast_canvas_store};
+pub use tiles::{trirast_canvas_tile_ids, trirast_canvas_tile_store};
+pub use weights::{Corners, Edges, trirast_edges_at_point};

@@ -1,11 +1,10 @@
 //! Tile rows of a canvas, as the caller names them.
 ghost use Rattle.std.specs.Prelude.{◌≡◌, ◌↔◌, ◌⊎◌, ◌+◌, ◌*◌, ◌/◌, ◌≤◌, length, IsSome, IfSome, IsOk, IfOk, IfErr};
 ghost use Rattle.model.specs.Checking.{IsJudged};
-ghost use Rattle.scene.specs.Listed.{samples_listed};
 ghost use Rattle.canvas.specs.Layout.{planes_of_rows};
-ghost use Rattle.canvas_c.specs.Pieces.{IsCanvas, HasRows, planes_of, AreRowsOf, piece_checks};
+ghost use Rattle.canvas_c.specs.Pieces.{IsCount, samples_listed, IsCanvas, IsWhole, planes_of, tile_rows_of, AreRowsOf, piece_checks};
 
-use c_abi::Status;
+use c_abi::{Status, is_own_size};
 use canvas::{Canvas, Misfit, TileRows};
 use grid::SampleCount;
 use lanes::BlockSamples;
@@ -16,21 +15,20 @@ const PLANE_BYTES: usize = size_of::<BlockSamples>();
 /// The bytes of a piece of a canvas.
 const PIECE_SIZE: u32 = size_of::<CanvasPiece<'_>>() as u32;
 
-/// The pixels of a tile's side.
-const ROW_PIXELS: u32 = 64;
-
 /// A canvas and some of its tile rows, laid out as in C.
 #[repr(C)]
 #[derive(Clone, Copy, Debug, PartialEq, Eq)]
 pub struct CanvasHead {
-    /// The bytes of the whole struct, as the caller has it.
+    /// The bytes of the whole struct, as the caller has it, or 0.
     pub struct_size: u32,
     /// The pixels of a row of the whole canvas: 1 to 4096.
     pub width: u32,
     /// Its rows of pixels: 1 to 4096.
     pub height: u32,
-    /// The samples of a pixel: 1, 2, 4, 8 or 16.
+    /// The samples of a pixel: 1, 2, 4, 8 or 16, or 0 for 1.
     pub samples: u32,
+    /// The channels of a sample: 3, or 0 for 3.
+    pub channels: u32,
     /// The column of the screen at which its upper left pixel lies.
     pub origin_x: i32,
     /// The row of the screen at which its upper left pixel lies.
@@ -53,11 +51,11 @@ pub struct CanvasPiece<'a> {
 
 /// This number of samples of a pixel.
 fn count_of(samples: u32) -> Option<SampleCount>
-    ensures some { IsSome result ↔ ((samples ≡ 1) ⊎ (samples ≡ 2) ⊎ (samples ≡ 4) ⊎ (samples ≡ 8) ⊎ (samples ≡ 16)) }
+    ensures some { IsSome result ↔ IsCount samples }
     ensures value { IfSome result (λ count. count ≡ samples_listed samples) }
 {
     match samples {
-        1 => Some(SampleCount::One),
+        0 | 1 => Some(SampleCount::One),
         2 => Some(SampleCount::Two),
         4 => Some(SampleCount::Four),
         8 => Some(SampleCount::Eight),
@@ -66,12 +64,27 @@ fn count_of(samples: u32) -> Option<SampleCount>
     }
 }
 
-/// The canvas of this size.
-fn canvas(width: u32, height: u32, samples: u32) -> Option<Canvas>
-    ensures some { IsSome result ↔ IsCanvas width height samples }
-    ensures value { IfSome result (λ c. (c.width ≡ width) × (c.height ≡ height) × (c.count ≡ samples_listed samples)) }
+/// The canvas that the caller names.
+fn canvas(head: &CanvasHead) -> Option<Canvas>
+    ensures some { IsSome result ↔ IsCanvas head.now }
+    ensures value { IfSome result (λ c. (c.width ≡ head.now.width) × (c.height ≡ head.now.height) × (c.count ≡ samples_listed head.now.samples)) }
 {
-    Canvas::new(width, height, count_of(samples)?)
+    let count = count_of(head.samples)?;
+    if head.channels != 0 && head.channels != 3 {
+        return None;
+    }
+    Canvas::new(head.width, head.height, count)
+}
+
+/// The canvas that the caller names, if its struct has the size that this library knows.
+fn whole(head: &CanvasHead) -> Option<Canvas>
+    ensures some { IsSome result ↔ IsWhole head.now }
+    ensures value { IfSome result (λ c. (c.width ≡ head.now.width) × (c.height ≡ head.now.height) × (c.count ≡ samples_listed head.now.samples)) }
+{
+    if !is_own_size(head.struct_size, PIECE_SIZE) {
+        return None;
+    }
+    canvas(head)
 }
 
 /// The tile rows that the caller names, if their memory has as many planes.
@@ -79,10 +92,10 @@ pub(crate) fn rows_of(head: &CanvasHead, planes: &[BlockSamples]) -> Result<Tile
     ensures judged { IsJudged (piece_checks head.now (length planes.now)) (AreRowsOf head.now) result }
     ensures planes { IfOk result (λ rows. length planes.now ≡ planes_of_rows rows.canvas rows.first rows.end) }
 {
-    if head.struct_size != PIECE_SIZE {
+    if !is_own_size(head.struct_size, PIECE_SIZE) {
         return Err(Status::BadStructSize);
     }
-    let Some(canvas) = canvas(head.width, head.height, head.samples) else {
+    let Some(canvas) = canvas(head) else {
         return Err(Status::BadCanvas);
     };
     let Some(rows) = canvas.rows(head.first, head.end) else {
@@ -105,44 +118,26 @@ pub(crate) fn fitted(ended: Result<(), Misfit>) -> Result<(), Status>
     }
 }
 
-/// The bytes of the samples of the tile rows from `first` to before `end` of a canvas. Returns 0 if there is no such canvas or it has no
-/// such tile rows.
+/// The bytes of the samples of all tile rows of the canvas. Returns 0 if there is no such canvas.
 #[unsafe(no_mangle)]
-pub extern "C" fn trirast_canvas_bytes(
-    width: u32,
-    height: u32,
-    samples: u32,
-    first: u32,
-    end: u32,
-) -> usize
-    ensures value { IsCanvas width height samples → HasRows height first end → result ≡ 320 * planes_of width samples first end }
-    ensures none { ¬ (IsCanvas width height samples × HasRows height first end) → result ≡ 0 }
+pub extern "C" fn trirast_canvas_size(head: &CanvasHead) -> usize
+    ensures value { IsWhole head.now → result ≡ 320 * planes_of head.now.width head.now.samples 0 (tile_rows_of head.now.height) }
+    ensures none { ¬ IsWhole head.now → result ≡ 0 }
 {
-    let Some(canvas) = canvas(width, height, samples) else {
-        return 0;
-    };
-    match canvas.rows(first, end) {
-        Some(rows) => PLANE_BYTES * rows.planes(),
+    match whole(head) {
+        Some(canvas) => PLANE_BYTES * canvas.all().planes(),
         None => 0,
     }
 }
 
-/// The number of tile rows of a canvas with this many rows of pixels. Returns 0 if there is no such canvas.
+/// The number of tile rows of the canvas. Returns 0 if there is no such canvas.
 #[unsafe(no_mangle)]
-pub extern "C" fn trirast_canvas_rows(height: u32) -> u32
-    ensures value { IsCanvas 1 height 1 → result ≡ (height + 63) / 64 }
-    ensures none { ¬ IsCanvas 1 height 1 → result ≡ 0 }
+pub extern "C" fn trirast_canvas_tile_rows(head: &CanvasHead) -> u32
+    ensures value { IsWhole head.now → result ≡ tile_rows_of head.now.height }
+    ensures none { ¬ IsWhole head.now → result ≡ 0 }
 {
-    match canvas(1, height, 1) {
+    match whole(head) {
         Some(canvas) => canvas.row_count(),
         None => 0,
     }
-}
-
-/// The rows of pixels of a tile row.
-#[unsafe(no_mangle)]
-pub extern "C" fn trirast_canvas_row_pixels() -> u32
-    ensures { result ≡ 64 }
-{
-    ROW_PIXELS
 }

@@ -79,7 +79,12 @@ fn edges_at(corners: &Corners, x: i32, y: i32) -> Result<Edges, Status>
 /// Writes the edge functions of a triangle at a point, in 1/256 pixel. They are exact. Returns the status. If it is not 0, nothing is
 /// written.
 #[unsafe(no_mangle)]
-pub extern "C" fn trirast_weights(corners: &Corners, x: i32, y: i32, edges: &mut Edges) -> u32
+pub extern "C" fn trirast_edges_at_point(
+    corners: &Corners,
+    x: i32,
+    y: i32,
+    edges: &mut Edges,
+) -> u32
     ensures status { IsStatus (weights_checks corners.now (record { x = x; y = y })) result }
     ensures edges { result ≡ 0 → AreEdges corners.now (record { x = x; y = y }) edges.new }
     ensures kept { result ≢ 0 → edges.new ≡ edges.old }

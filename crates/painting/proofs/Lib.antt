@@ -4,3 +4,4 @@ pub mod Tiles
 pub mod Columns
 pub mod Strips
 pub mod TileRows
+pub mod Batches

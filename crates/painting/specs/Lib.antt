@@ -20,6 +20,14 @@
 --   IsFlagged: The same in the first n columns of blocks, from column `first` on.
 --   MeetsHere: The polygon meets sample s of pixel (i, j) of the canvas.
 --   HoldsSamples: Each sample of the canvas that lies in the box is in a column of blocks and a tile row of the window.
+--
+-- Batches.antt
+--   rgba_of: The colour of polygon k: one of these, or that of its id, which is counted from the first one on.
+--   state_of: The state: where ids are drawn, they replace what is stored.
+--   shape_in: Polygon k as it is drawn.
+--   shapes_of: The polygons as they are drawn, in their order.
+--   HasColours: There is a colour for each of n polygons, or an id of 24 bits.
 
 pub mod Painting
 pub mod Parts
+pub mod Batches

@@ -1,6 +1,7 @@
 //! Polygons drawn on a canvas: each in one colour and at one depth, merged as triangles are. No call allocates.
 #![tactic(auto)]
 
+mod batch;
 mod block;
 mod column;
 mod polygon;
@@ -9,5 +10,6 @@ mod rows;
 mod strip;
 mod window;
 
+pub use batch::{Paints, draw_polygons};
 pub use polygon::Polygon;
 pub use rows::draw_polygon;

@@ -9,10 +9,13 @@ use crate::rings::Rings;
 /// Polygons: corners one ring's after another's, and where each ring and each polygon ends.
 #[derive(Clone, Copy, Debug)]
 pub struct Polygons<'a> {
-    corners: &'a [Corner],
-    ring_ends: &'a [u32],
-    polygon_ends: &'a [u32],
-    ghost checked: { ArePolygons corners.now ring_ends.now polygon_ends.now },
+    /// The corners.
+    pub corners: &'a [Corner],
+    /// Of each ring the index behind its last corner.
+    pub ring_ends: &'a [u32],
+    /// Of each polygon the index behind its last ring.
+    pub polygon_ends: &'a [u32],
+    pub ghost checked: { ArePolygons corners.now ring_ends.now polygon_ends.now },
 }
 
 /// What is wrong with polygons in arrays.

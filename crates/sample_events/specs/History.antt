@@ -8,6 +8,7 @@ use Rattle.model.specs.Picture.{IsEnd}
 use Rattle.model.specs.Scene.{Scene}
 use Rattle.model.specs.declared.output.Output.{Output}
 use Rattle.model.specs.declared.output.Output.TheVariants.{Color, Depth}
+use Rattle.c_abi.specs.Sizes.{IsOwnSize}
 use Rattle.c_abi.specs.Calls.{text_checks}
 use Rattle.c_abi.specs.declared.status.Status.{Status}
 use Rattle.c_abi.specs.declared.status.Status.TheVariants.{BadStructSize, BadSample, BadPixel}
@@ -18,11 +19,11 @@ use Rattle.sample_events.specs.Events.{stored_of}
 use Rattle.list_history.specs.Walk.{start_of}
 use Rattle.sample_events.specs.Walk.{AreWritten}
 
--- The structs have the sizes, in bytes, that this library knows.
+-- The structs have the sizes, in bytes, that this library knows, or 0 for just these.
 pub record HasSizes (request : HistoryRequest) : Type 0 where
-  pub request_size : request.struct_size ≡ 28
-  pub event_size : request.event_size ≡ 136
-  pub info_size : request.info_size ≡ 56
+  pub request_size : IsOwnSize request.struct_size 28
+  pub event_size : IsOwnSize request.event_size 136
+  pub info_size : IsOwnSize request.info_size 56
 
 -- The picture has the pixel that is asked for.
 pub record HasPixel (l : Scene) (request : HistoryRequest) : Type 0 where

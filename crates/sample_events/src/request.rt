@@ -5,7 +5,7 @@ ghost use Rattle.sample_events.specs.History.{HasSizes, HasPixel, HasSample, pla
 
 use crate::event::SampleEvent;
 use crate::sample_info::SampleInfo;
-use c_abi::Status;
+use c_abi::{Status, is_own_size};
 use model::DrawList;
 
 /// The sizes in bytes of the structs.
@@ -19,11 +19,11 @@ const INFO_SIZE: u32 = size_of::<SampleInfo>() as u32;
 #[repr(C)]
 #[derive(Clone, Copy, Debug, PartialEq, Eq)]
 pub struct HistoryRequest {
-    /// The bytes of this struct, as the caller has it.
+    /// The bytes of this struct, as the caller has it, or 0.
     pub struct_size: u32,
-    /// The bytes of a `SampleEvent`, as the caller has it.
+    /// The bytes of a `SampleEvent`, as the caller has it, or 0.
     pub event_size: u32,
-    /// The bytes of a `SampleInfo`, as the caller has it.
+    /// The bytes of a `SampleInfo`, as the caller has it, or 0.
     pub info_size: u32,
     /// The column of the pixel.
     pub x: u32,
@@ -40,9 +40,9 @@ impl HistoryRequest {
     pub(crate) fn has_sizes(&self) -> bool
         ensures { IsTrue result ↔ HasSizes self.now }
     {
-        self.struct_size == REQUEST_SIZE
-            && self.event_size == EVENT_SIZE
-            && self.info_size == INFO_SIZE
+        is_own_size(self.struct_size, REQUEST_SIZE)
+            && is_own_size(self.event_size, EVENT_SIZE)
+            && is_own_size(self.info_size, INFO_SIZE)
     }
 
     /// Whether events of all triangles are asked for.

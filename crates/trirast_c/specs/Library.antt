@@ -1,24 +1,19 @@
--- What the library's calls did. `Means` says which draw list the caller gave, as bytes or as arrays, `tile_size` is the number of
+-- What the library's calls did. `Means` says which draw list the caller gave, `tile_size` is the number of
 -- pixels along one edge of a tile, and `size` is the number of bytes of the caller's buffer.
 use Rattle.std.specs.Prelude.{◌≡◌, ℕ, ◌+◌, ◌-◌, ◌*◌, ◌<◌, ◌≤◌, List, ◌++◌, length, drop, min}
 use Rattle.grid.specs.Pixels.{side_of}
 use Rattle.grid.specs.declared.pixels.TileSide.{TileSide}
-use Rattle.model.specs.Checking.{Checks, done, check, allocate, FirstIs}
+use Rattle.model.specs.Checking.{Checks, done, check, allocate}
 use Rattle.model.specs.Denotes.{Denotes}
 use Rattle.model.specs.Picture.{pixel_bytes}
 use Rattle.model.specs.Scene.{Scene}
-use Rattle.model.specs.declared.fault.ReadFault.{ReadFault}
-use Rattle.scene.specs.Arrays.{HasSizes as HasArraySizes}
-use Rattle.scene.specs.Checks.{IsListOf, scene_checks as checks_of_arrays}
-use Rattle.scene.specs.declared.arrays.Arrays.{Arrays}
 use Rattle.tiling.specs.Grid.{tiles_over}
 use Rattle.tiling.specs.TileRow.{AreTileRows}
 use Rattle.picture_file.specs.File.{header_of, IsPictureFile}
-use Rattle.c_abi.specs.Calls.{list_checks, text_checks}
+use Rattle.c_abi.specs.Calls.{text_checks}
 use Rattle.c_abi.specs.declared.status.Status.{Status}
-use Rattle.c_abi.specs.declared.status.Status.TheVariants.{OutOfMemory, BufferTooSmall, BadTileSize, BadTileRows, BadStructSize}
+use Rattle.c_abi.specs.declared.status.Status.TheVariants.{OutOfMemory, BufferTooSmall, BadTileSize, BadTileRows}
 use Rattle.trirast_c.specs.declared.image_info.ImageInfo.{ImageInfo}
-use Rattle.trirast_c.specs.declared.scene_picture.PictureHead.{PictureHead}
 
 -- ---- the picture's bytes in the caller's buffer
 
@@ -107,28 +102,4 @@ rows_checks json tile_size first end size =
     text_checks json (
     check ((l : Scene) (side : TileSide) → Denotes json l → side_of side ≡ tile_size → HasRows l side first end) BadTileRows (
     check ((l : Scene) (side : TileSide) → Denotes json l → side_of side ≡ tile_size → rows_length l side first end ≤ size) BufferTooSmall
-    done)))
-
--- ---- a scene
-
--- The structs and the elements of the arrays have the sizes, in bytes, that this library knows.
-pub record HasSizes (head : PictureHead) (arrays : Arrays) : Type 0 where
-  pub head_size : head.struct_size ≡ 36
-  pub array_sizes : HasArraySizes arrays
-
--- The draw list of a scene, as its head and its arrays list it.
-abbrev pub IsSceneOf : PictureHead → Arrays → Scene → Type 0
-IsSceneOf head arrays = IsListOf head.numbers arrays.draws.now arrays.vertices.now arrays.indices.now
-
--- What the first error of a scene is.
-abbrev pub IsFirstOfScene : PictureHead → Arrays → ReadFault → Type 0
-IsFirstOfScene head arrays = FirstIs (checks_of_arrays head.numbers arrays.draws.now arrays.vertices.now arrays.indices.now)
-
--- The checks of a call that draws the file of a scene.
-abbrev pub scene_checks : PictureHead → Arrays → ℕ → ℕ → Checks Status
-scene_checks head arrays tile_size size =
-    check (HasSizes head arrays) BadStructSize (
-    check (IsTileSize tile_size) BadTileSize (
-    list_checks (IsSceneOf head arrays) (
-    check ((l : Scene) → IsSceneOf head arrays l → file_length l ≤ size) BufferTooSmall
     done)))

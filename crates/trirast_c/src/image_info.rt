@@ -58,7 +58,7 @@ fn info_into(alloc: Global, json: &[u8], info: &mut ImageInfo) -> Result<(), Cal
 /// Reads a list and writes the size of its picture into `info`. Nothing is drawn. Returns the status, and writes the error. If the
 /// status is not 0, `info` is unchanged.
 #[unsafe(no_mangle)]
-pub extern "C" fn trirast_read_image_info(
+pub extern "C" fn trirast_proved_list_info(
     alloc: Global,
     json: &[u8],
     info: &mut ImageInfo,

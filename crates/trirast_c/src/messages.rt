@@ -1,11 +1,14 @@
-//! The line of an error, in the caller's buffer.
-ghost use Rattle.std.specs.Prelude.{◌≡◌, ◌≤◌, length, drop, IfSome};
+//! The message of an error, in the caller's buffer.
+ghost use Rattle.std.specs.Prelude.{◌≡◌, ◌+◌, ◌-◌, ◌<◌, ◌≤◌, min, length, drop, slice_index, IfSome};
 ghost use Rattle.model.specs.Fault.{number_of as list_number_of};
-ghost use Rattle.c_abi.specs.Errors.{error_of};
 
-use c_abi::{CallError, Error, Status};
-use list::{ReadFault, ReadKind};
-use trirast::{Fault, FaultLine, fault_line};
+use arrayvec::ArrayString;
+use c_abi::{Error, NONE, Status};
+use list::ReadKind;
+use std::fmt::Write as _;
+
+/// A message, of at most 95 bytes.
+type Message = ArrayString<95>;
 
 /// The kind of a list's error with this number.
 fn list_kind(number: u32) -> Option<ReadKind>
@@ -26,57 +29,79 @@ fn list_kind(number: u32) -> Option<ReadKind>
     }
 }
 
-/// The error that a call which draws a picture reports in this form.
-fn reported_so(error: &Error) -> Option<CallError>
-    ensures { IfSome result (λ e. error_of e ≡ error.now) }
-{
-    if error.status > Status::BadStructSize.number() {
-        return None;
-    }
-    let status = Status::of_number(error.status)?;
-    let fault = match status {
-        Status::BadList => Some(ReadFault {
-            kind: list_kind(error.list_error)?,
-            draw: match error.in_draw {
-                0 => None,
-                _ => Some(error.draw),
-            },
-        }),
-        _ => None,
+/// What is wrong with a list, as the program has it too.
+fn list_message(error: &Error) -> Message {
+    let mut text = Message::new();
+    let Some(kind) = list_kind(error.cause) else {
+        text.push_str(Status::BadList.text());
+        return text;
     };
-    let found = CallError { status, fault };
-    if Error::of(found) == *error {
-        Some(found)
-    } else {
-        None
+    let _ = write!(text, "list fault {} {}", kind.number(), kind.name());
+    if error.draw != NONE {
+        let _ = write!(text, " in draw {}", error.draw);
+    }
+    text
+}
+
+/// What is wrong with a draw's index, vertex or quad, or with the draw, by the number of the cause.
+fn batch_words(cause: u32) -> (&'static str, &'static str) {
+    match cause {
+        1 => ("", "fewer vertices are left than the draw has"),
+        2 => ("", "fewer indices are left than the draw has"),
+        3 => ("", "a number of its state is out of range"),
+        4 => ("", "the indices make no whole triangles or quads"),
+        5 => ("", "an id is greater than 16777215"),
+        6 => ("index", "is not less than the number of vertices"),
+        7 => ("vertex", "is out of range"),
+        8 => ("quad", "is not strictly convex"),
+        9 => ("", "a vertex or an index is in no draw"),
+        _ => ("", Status::BadBatch.text()),
     }
 }
 
-/// The line of an error, as the program has it too, if the program can end in it.
-fn line_of(error: CallError) -> FaultLine {
-    if let Some(fault) = error.fault {
-        return fault_line(&Fault::List(fault));
+/// What is wrong with a batch.
+fn batch_message(error: &Error) -> Message {
+    let mut text = Message::new();
+    if error.draw != NONE {
+        let _ = write!(text, "draw {}: ", error.draw);
     }
-    let mut line = FaultLine::new();
-    let _ = line.try_push_str("trirast: ");
-    let _ = line.try_push_str(error.status.text());
-    let _ = line.try_push_str("\n");
-    line
+    let (element, words) = batch_words(error.cause);
+    if error.element != NONE {
+        let _ = write!(text, "{element} {} ", error.element);
+    } else if !element.is_empty() {
+        let _ = write!(text, "{element} ");
+    }
+    let _ = text.try_push_str(words);
+    text
 }
 
-/// Writes the line of an error, with its line feed, at the beginning of the buffer, or as much of it as fits. Bytes behind it are
-/// unchanged. Returns the length of the whole line in bytes. Returns 0 and writes nothing if no call reports this error.
+/// The message of an error.
+fn message_of(error: &Error) -> Message {
+    let mut text = Message::new();
+    match Status::of_number(error.status) {
+        Some(Status::BadList) => return list_message(error),
+        Some(Status::BadBatch) => return batch_message(error),
+        Some(status) => text.push_str(status.text()),
+        None if error.status == 0 => text.push_str("ok"),
+        None => text.push_str("unknown status"),
+    }
+    text
+}
+
+/// Writes the message of an error at the beginning of the buffer, with a zero byte behind it, or as much of it as fits before a zero
+/// byte. Bytes behind that are unchanged. Returns the length of the whole message in bytes.
 #[unsafe(no_mangle)]
-pub extern "C" fn trirast_error_line(error: &Error, buffer: &mut [u8]) -> usize
-    ensures behind { drop result buffer.new ≡ drop result buffer.old }
-    ensures short { result ≤ 96 }
+pub extern "C" fn trirast_error_message(error: &Error, buffer: &mut [u8]) -> usize
+    ensures short { result < 96 }
+    ensures end { 1 ≤ length buffer.old → slice_index buffer.new (min result (length buffer.old - 1)) ≡ 0 }
+    ensures behind { drop (result + 1) buffer.new ≡ drop (result + 1) buffer.old }
 {
-    let Some(found) = reported_so(error) else {
-        return 0;
-    };
-    let line = line_of(found);
-    let bytes = line.as_str().as_bytes();
-    let fits = bytes.len().min(buffer.len());
-    buffer[..fits].copy_from_slice(&bytes[..fits]);
+    let text = message_of(error);
+    let bytes = text.as_str().as_bytes();
+    if !buffer.is_empty() {
+        let fits = bytes.len().min(buffer.len() - 1);
+        buffer[..fits].copy_from_slice(&bytes[..fits]);
+        buffer[fits] = 0;
+    }
     bytes.len()
 }

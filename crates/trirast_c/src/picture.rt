@@ -5,7 +5,7 @@ ghost use Rattle.c_abi.specs.Calls.{IsCall, IsFirstOfText, IsReport};
 ghost use Rattle.trirast_c.specs.Library.{DrawsFile, draw_checks};
 
 use crate::buffer::file_into;
-use crate::input::side_of;
+use crate::tile_size::side_of;
 use c_abi::{CallError, Error, report};
 use sample_events::list_of;
 use std::alloc::Global;
@@ -24,7 +24,7 @@ fn draw_into(alloc: Global, json: &[u8], tile_size: u32, buffer: &mut [u8]) -> R
 /// Draws a list's picture by tiles of this size, in pixels, and writes its file at the beginning of the buffer. Bytes behind the file
 /// are unchanged. Returns the status, and writes the error. If the status is not 0, the buffer is unchanged.
 #[unsafe(no_mangle)]
-pub extern "C" fn trirast_draw(
+pub extern "C" fn trirast_proved_list_draw(
     alloc: Global,
     json: &[u8],
     tile_size: u32,

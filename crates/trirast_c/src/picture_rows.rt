@@ -7,7 +7,7 @@ ghost use Rattle.c_abi.specs.Calls.{IsCall, IsFirstOfText, IsReport};
 ghost use Rattle.trirast_c.specs.Library.{DrawsRows, rows_checks, rows_length};
 
 use crate::buffer::put;
-use crate::input::side_of;
+use crate::tile_size::side_of;
 use c_abi::{CallError, Error, Status, report};
 use grid::TileSide;
 use list::DrawList;
@@ -60,7 +60,7 @@ fn draw_rows_into(
 /// status, and writes the error. If the status is not 0, the buffer is unchanged. Two calls share nothing, so several threads may
 /// each draw tile rows of one picture.
 #[unsafe(no_mangle)]
-pub extern "C" fn trirast_draw_rows(
+pub extern "C" fn trirast_proved_list_draw_rows(
     alloc: Global,
     json: &[u8],
     tile_size: u32,

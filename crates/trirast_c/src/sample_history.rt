@@ -15,7 +15,7 @@ use std::alloc::Global;
 /// there are in all, and what the sample begins and ends with. The array is unchanged behind the events. Returns the status, and
 /// writes the error. If the status is not 0, nothing else is written.
 #[unsafe(no_mangle)]
-pub extern "C" fn trirast_history(
+pub extern "C" fn trirast_proved_list_history(
     alloc: Global,
     json: &[u8],
     request: &HistoryRequest,
@@ -34,7 +34,7 @@ pub extern "C" fn trirast_history(
 /// Writes into `samples` how many samples of the picture triangle `triangle` of draw `draw` covers, how many it changes, and how many
 /// still show it in the end. Returns the status, and writes the error. If the status is not 0, `samples` is unchanged.
 #[unsafe(no_mangle)]
-pub extern "C" fn trirast_triangle_samples(
+pub extern "C" fn trirast_proved_list_triangle_samples(
     alloc: Global,
     json: &[u8],
     draw: usize,

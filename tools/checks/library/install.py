@@ -15,8 +15,8 @@ HISTORY = b"triangle 0: result 0, reasons 4, edge bc 0\nred 0, depth 65535\n"
 INSTALLED = (
     "bin/trirast", "bin/trirast_why", "include/trirast.h", "include/trirast.hpp", "include/trirast_clip.h", "include/trirast_clip.hpp",
     "include/trirast_lanes.hpp", "include/trirast_shade.hpp",
-    "lib/cmake/trirast/trirast-config-version.cmake", "lib/cmake/trirast/trirast-config.cmake", f"lib/glibc-hwcaps/{LEVEL}/libtrirast.so.1", "lib/libtrirast.a",
-    "lib/libtrirast.so", "lib/libtrirast.so.1",
+    "lib/cmake/trirast/trirast-config-version.cmake", "lib/cmake/trirast/trirast-config.cmake", f"lib/glibc-hwcaps/{LEVEL}/libtrirast.so.2", "lib/libtrirast.a",
+    "lib/libtrirast.so", "lib/libtrirast.so.2",
     "lib/pkgconfig/trirast.pc", f"lib/trirast/glibc-hwcaps/{LEVEL}/program.so", "lib/trirast/program.so",
     "share/man/man1/trirast.1", "share/man/man1/trirast_why.1",
     "share/trirast/draw-list.schema.json", "share/trirast/history.schema.json",
@@ -47,9 +47,9 @@ def check_install() -> None:
     must(files_below(prefix) == INSTALLED, f"{files_below(prefix)} were installed")
     wanted = drawn_by_program(places.bytes_of(EXAMPLES, "triangle.json")).output
     programs = [text for text in blocks_of_the_page("c") if "int main" in text]
-    must(len(programs) == 3, f"{len(programs)} programs in docs/library.md")
+    must(len(programs) == 2, f"{len(programs)} programs in docs/library.md")
     for text in programs:
-        due = HISTORY if "trirast_history(" in text else wanted
+        due = HISTORY if "trirast_list_history(" in text else wanted
         for flags in ((), ("-static",)):
             must(build_outside(text, prefix, *flags) == due, f"other bytes with {flags}")
     make("uninstall", f"PREFIX={prefix}")

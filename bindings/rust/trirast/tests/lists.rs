@@ -4,7 +4,7 @@ mod common;
 
 use std::fs;
 
-use trirast::{draw, draw_by_threads, draw_into, draw_rows_into, image_info, ErrorKind, ListError, TileSize};
+use trirast::{draw, draw_by_threads, draw_into, draw_rows_into, image_info, ErrorKind, ListCause, TileSize};
 
 const SIZES: [TileSize; 4] = [TileSize::Eight, TileSize::Sixteen, TileSize::ThirtyTwo, TileSize::SixtyFour];
 /// A white triangle over the upper left half of nine pixels. By the top-left rule it covers the first and second pixel of the
@@ -59,11 +59,11 @@ fn refuses_tile_rows_that_there_are_not() {
 #[test]
 fn says_what_is_wrong_with_a_list() {
     let error = draw("{", TileSize::default()).unwrap_err();
-    assert_eq!((error.kind(), error.draw()), (ErrorKind::BadList(ListError::NotJson), None));
+    assert_eq!((error.kind(), error.draw()), (ErrorKind::BadList(ListCause::NotJson), None));
     let bad_index = TRIANGLE.replace("[[0, 1, 2]]", "[[0, 1, 3]]");
     let error = draw(bad_index, TileSize::default()).unwrap_err();
-    assert_eq!((error.kind(), error.draw()), (ErrorKind::BadList(ListError::BadIndex), Some(0)));
-    assert_eq!(error.to_string(), "trirast: list fault 6 BadIndex in draw 0");
+    assert_eq!((error.kind(), error.draw()), (ErrorKind::BadList(ListCause::BadIndex), Some(0)));
+    assert_eq!(error.to_string(), "draw 0: list fault 6 BadIndex");
     let long = vec![b' '; 67_108_865];
     assert_eq!(draw(long, TileSize::default()).unwrap_err().kind(), ErrorKind::InputTooLong);
 }

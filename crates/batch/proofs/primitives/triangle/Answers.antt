@@ -3,7 +3,7 @@ use Rattle.std.specs.List.{flat_map}
 use Rattle.std.specs.Simd.{first_chunks}
 use Rattle.model.specs.Primitives.{quad_triangles}
 use Rattle.model.proofs.Triangulated.{strip_triangle_at}
-use Rattle.scene.proofs.Chunks.{count_of_chunks}
+use Rattle.batch.proofs.Chunks.{count_of_chunks}
 use Rattle.batch.proofs.Chunks.{named_in_chunk, named_in_quad}
 use Rattle.batch.proofs.primitives.triangle.Goals as goal
 
@@ -19,7 +19,7 @@ returns-in-1-clause-value c =
 pub returns-in_default-clause-named : goal.returns-in_default-clause-named
 returns-in_default-clause-named c = λ x y vertices seen.
     let xs = c.args.indices.now in
-    let are_quads : c.args.kind ≡ 2 = omega arith in
+    let are_quads : c.args.topology ≡ 2 = omega arith in
     let below = rw are_quads at c.requires.number in
     let inside : c.args.number < 2 * (length xs / 4) = omega (arith, below, count_of_chunks 4 (length xs / 4) xs) in
     let is : c.quad_triangle.result ≡ get_or (flat_map quad_triangles (first_chunks 4 (length xs / 4) xs)) c.args.number [] =

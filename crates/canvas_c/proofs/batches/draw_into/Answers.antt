@@ -1,18 +1,59 @@
-use Rattle.std.proofs.Common.{rules, inl, inr, refl, subst, length, FitsSigned, w32}
+use Rattle.std.proofs.Common.{rules, inl, inr, refl, subst, ℕ, Option, length, FitsSigned, w32}
 use Rattle.std.proofs.lemmas.Int.{to_z-of_z}
+use Rattle.std.proofs.lemmas.Result.{err_from_is_err_and}
 use Rattle.model.specs.Checking.{Checks, done, check, Pass}
-use Rattle.model.proofs.Checking.{fails_later, only_allocation}
+use Rattle.model.proofs.Checking.{pass_both, fails_before, fails_later, only_allocation}
 use Rattle.canvas.specs.Drawing.{HaveEnds}
-use Rattle.scene.specs.Arrays.{HasSizes}
 use Rattle.batch.specs.Ids.{drawn_as}
 use Rattle.batch.specs.Seen.{triangles_seen}
 use Rattle.batch.proofs.Faults.{none_allocate}
 use Rattle.c_abi.specs.declared.status.Status.{Status}
-use Rattle.c_abi.specs.declared.status.Status.TheVariants.{BadList, BadStructSize}
+use Rattle.c_abi.specs.declared.status.Status.TheVariants.{BadBatch, BadStride, BadStructSize}
+use Rattle.c_abi.specs.Sizes.{IsOwnSize}
+use Rattle.canvas_c.specs.Arrays.{HasStrides}
 use Rattle.canvas_c.specs.Pieces.{piece_checks}
-use Rattle.canvas_c.specs.Batches.{arrays_checks}
-use Rattle.canvas_c.proofs.Ended.{at_origin}
+use Rattle.canvas_c.specs.Batches.{arrays_checks, draw_checks}
+use Rattle.canvas_c.specs.declared.arrays.Batch.{Batch}
+use Rattle.canvas_c.specs.declared.piece.CanvasHead.{CanvasHead}
+use Rattle.canvas_c.proofs.Ended.{at_origin, piece_fault}
 use Rattle.canvas_c.proofs.batches.draw_into.Goals as goal
+
+abbrev later_checks : CanvasHead → Option ℕ → Batch → Checks Status
+later_checks head ids batch =
+    check (IsOwnSize batch.struct_size 64) BadStructSize (check (HasStrides batch) BadStride (check (Pass (arrays_checks head ids batch)) BadBatch done))
+
+pub returns-in_err-rows-clause-judged : goal.returns-in_err-rows-clause-judged
+returns-in_err-rows-clause-judged c =
+    let head = c.args.head.now in
+    let planes : ℕ = length c.args.planes.now in
+    let failed = c.in_err-rows.field-0.0 in
+    let p = err_from_is_err_and c.from_residual.result c.from_residual.ensures.1 in
+    rw (p.1, p.2) (record {
+      first = fails_before (piece_checks head planes) (later_checks head c.args.ids c.args.batch.now) failed c.in_err-rows.ensures.judged;
+      fault = piece_fault head planes failed c.in_err-rows.ensures.judged;
+    })
+
+pub returns-then-not-has_strides-clause-judged : goal.returns-then-not-has_strides-clause-judged
+returns-then-not-has_strides-clause-judged c =
+    let head = c.args.head.now in
+    let batch = c.args.batch.now in
+    let size : IsOwnSize batch.struct_size 64 = search rules in
+    let lacks : ¬ HasStrides batch = search rules in
+    rw c.from-then-not-has_strides.ensures (record {
+      first = fails_later (piece_checks head (length c.args.planes.now)) (later_checks head c.args.ids batch) BadStride c.in_ok-rows.ensures.judged.0 (inr (size, inl (lacks, refl)));
+      fault = ((λ h. cc), (λ h. cc));
+    })
+
+pub returns-in-Ok-clause-judged : goal.returns-in-Ok-clause-judged
+returns-in-Ok-clause-judged c =
+    let head = c.args.head.now in
+    let batch = c.args.batch.now in
+    let x : FitsSigned w32 head.origin_x = search rules in
+    let y : FitsSigned w32 head.origin_y = search rules in
+    let size : IsOwnSize batch.struct_size 64 = search rules in
+    let strides : HasStrides batch = c.has_strides.ensures.0 (search rules) in
+    let passed : Pass (arrays_checks head c.args.ids batch) = rw (to_z-of_z w32 head.origin_x x, to_z-of_z w32 head.origin_y y) at c.in-Ok.ensures.judged.0 in
+    (pass_both (piece_checks head (length c.args.planes.now)) (later_checks head c.args.ids batch) c.in_ok-rows.ensures.judged.0 (size, (strides, (passed, record {}))), record {})
 
 pub returns-in-Ok-clause-drawn : goal.returns-in-Ok-clause-drawn
 returns-in-Ok-clause-drawn c =
@@ -31,8 +72,8 @@ returns-in-Err-clause-judged c =
     let batch = c.args.batch.now in
     let x : FitsSigned w32 head.origin_x = search rules in
     let y : FitsSigned w32 head.origin_y = search rules in
-    let sizes : HasSizes batch = search rules in
+    let size : IsOwnSize batch.struct_size 64 = search rules in
+    let strides : HasStrides batch = c.has_strides.ensures.0 (search rules) in
     let first = at_origin head.origin_x _ head.origin_y _ (to_z-of_z w32 head.origin_x x) (to_z-of_z w32 head.origin_y y) c.args.ids batch.draws.now batch.vertices.now batch.indices.now c.in-Err.fault c.in-Err.ensures.judged in
     let refused : Pass (arrays_checks head c.args.ids batch) → ⊥ = λ pass. only_allocation (λ fault. ⊥) (arrays_checks head c.args.ids batch) c.in-Err.fault (none_allocate head.origin_x head.origin_y c.args.ids batch.draws.now batch.vertices.now batch.indices.now) first pass in
-    let later : Checks Status = check (HasSizes batch) BadStructSize (check (Pass (arrays_checks head c.args.ids batch)) BadList done) in
-    rw c.of_list.ensures (record { first = fails_later (piece_checks head (length c.args.planes.now)) later BadList c.in_ok-rows.ensures.judged.0 (inr (sizes, inl (refused, refl))); fault = (refl, first) })
+    rw (c.of_batch.ensures, c.fault_of.ensures) (record { first = fails_later (piece_checks head (length c.args.planes.now)) (later_checks head c.args.ids batch) BadBatch c.in_ok-rows.ensures.judged.0 (inr (size, inr (strides, inl (refused, refl)))); fault = (inr refl, (c.in-Err.fault, first, refl)) })

@@ -1,4 +1,4 @@
-use Rattle.std.proofs.Common.{◌≤◌, length, inr, arith}
+use Rattle.std.proofs.Common.{◌≤◌, length, inr, refl, arith}
 use Rattle.std.proofs.lemmas.Result.{err_from_is_err_and}
 use Rattle.model.specs.Checking.{done}
 use Rattle.model.specs.Denotes.{Denotes}
@@ -12,5 +12,5 @@ returns-in_err-read-clause-judged c =
     let short : length json ≤ 67_108_864 = omega arith in
     let read = c.in_err-read.ensures in
     let p = err_from_is_err_and c.from_residual.result c.from_residual.ensures.1 in
-    let fails = list_fails (Denotes json) (IsFirstOfText json) done c.in_err-read.field-0.0 p.0 p.2 read.first (λ other l means. other (read.only l means)) in
+    let fails = list_fails (Denotes json) (IsFirstOfText json) done c.in_err-read.field-0.0 p.0 p.2 (λ other. (c.in_err-read.field-0.0, read.first other, refl)) (λ other l means. other (read.only l means)) in
     rw p.1 (record { first = inr (short, fails.first); fault = fails.fault })

@@ -17,7 +17,7 @@ returns-then-first-end-clause-judged c =
     ] in
     rw c.from.ensures (record {
       first = inr (side.0.0, inr (read.judged.0.0, inr (inr (read.judged.0.1.0, inl ((λ all. lacks (all c.in_ok-list.list c.in_ok-side.side read.judged.1 side.1)), refl)))));
-      fault = λ h. cc;
+      fault = (λ h. cc, λ h. cc);
     })
 
 pub returns-then-bytes_of_rows-buffer-clause-judged : goal.returns-then-bytes_of_rows-buffer-clause-judged
@@ -33,5 +33,5 @@ returns-then-bytes_of_rows-buffer-clause-judged c =
     omega (arith, small, c.if-bytes_of_rows-buffer.true) in
     rw c.from-then-bytes_of_rows-buffer.ensures (record {
       first = inr (side.0.0, inr (read.judged.0.0, inr (inr (read.judged.0.1.0, inr (each, inl ((λ all. longer (all list c.in_ok-side.side read.judged.1 side.1)), refl))))));
-      fault = λ h. cc;
+      fault = (λ h. cc, λ h. cc);
     })

@@ -1,0 +1,38 @@
+-- Polygons in arrays, as they are drawn.
+use Rattle.std.specs.Prelude.{ℕ, ◌+◌, ◌≤◌, List, [], map, length, slice_index, slice_index_or, Option, None, Some}
+use Rattle.std.specs.List.{range_with_len}
+use Rattle.shade.specs.declared.state.State.{State}
+use Rattle.polygons.specs.declared.arrays.Polygons.{Polygons}
+use Rattle.polygons.specs.Arrays.{rings_of}
+use Rattle.canvas.specs.Ids.{colour_of_id, replacing}
+use Rattle.painting.specs.declared.batch.Paints.{Paints}
+use Rattle.painting.specs.Painting.{Shape}
+
+-- The colour of polygon k: one of these, or that of its id, which is counted from the first one on.
+abbrev pub rgba_of : Option ℕ → List (List ℕ) → ℕ → List ℕ
+rgba_of None colours k = slice_index_or colours k []
+rgba_of (Some first) colours k = colour_of_id (first + k)
+
+-- The state: where ids are drawn, they replace what is stored.
+abbrev pub state_of : Option ℕ → State → State
+state_of None state = state
+state_of (Some first) state = replacing state
+
+-- Polygon k as it is drawn. Its depth is 0 if there are no depths.
+abbrev pub shape_in : Polygons → Paints → ℕ → Shape
+shape_in polygons paints k = record {
+  rings = rings_of polygons.corners.now polygons.ring_ends.now polygons.polygon_ends.now k;
+  rule = paints.rule;
+  rgba = rgba_of paints.ids paints.colours.now k;
+  z = slice_index paints.depths.now k;
+  state = state_of paints.ids paints.state;
+}
+
+-- The polygons as they are drawn, in their order.
+abbrev pub shapes_of : Polygons → Paints → List Shape
+shapes_of polygons paints = map (shape_in polygons paints) (range_with_len 0 (length polygons.polygon_ends.now))
+
+-- There is a colour for each of n polygons, or an id of 24 bits.
+abbrev pub HasColours : Option ℕ → List (List ℕ) → ℕ → Type 0
+HasColours None colours n = n ≤ length colours
+HasColours (Some first) colours n = first + n ≤ 16777216

@@ -1,0 +1,88 @@
+//! Polygons in a caller's arrays, drawn one after another.
+ghost use Rattle.std.specs.Prelude.{◌≡◌, ◌+◌, ◌*◌, ◌<◌, ◌≤◌, length, slice_index};
+ghost use Rattle.canvas.specs.Layout.{columns_of};
+ghost use Rattle.polygons.specs.Cells.{HasCounters, AreZeros};
+ghost use Rattle.painting.specs.Batches.{HasColours, shape_in, shapes_of};
+ghost use Rattle.painting.specs.Painting.{ArePainted, IsOriginInBand, shape_of};
+
+use crate::polygon::Polygon;
+use crate::rows::draw_polygon;
+use canvas::{Origin, Piece, colour_of_id, replacing};
+use polygons::{Counters, Flags, Polygons, Rule};
+use shade::State;
+
+/// How polygons are drawn: by which rule, each in which colour and at which depth, and in which state.
+#[derive(Clone, Copy, Debug)]
+pub struct Paints<'a> {
+    /// Which points are inside.
+    pub rule: Rule,
+    /// Red, green, blue and alpha of each polygon. They are not read where ids are drawn.
+    pub colours: &'a [[u8; 4]],
+    /// The depth of each polygon. A polygon without one has the depth 0.
+    pub depths: &'a [u16],
+    /// The id of the first polygon, if each is drawn in the colour of its id, which replaces what is stored.
+    pub ids: Option<u32>,
+    /// How they are drawn. A polygon may run either way round: `cull` is not looked at.
+    pub state: State,
+}
+
+/// The depth of this number, or 0 if there is none.
+fn depth_of(depths: &[u16], number: usize) -> u16
+    ensures { result ≡ slice_index depths.now number }
+{
+    match depths.get(number) {
+        None => 0,
+        Some(depth) => *depth,
+    }
+}
+
+impl Paints<'_> {
+    /// The polygon of this number as it is drawn.
+    fn polygon<'a>(&self, polygons: &Polygons<'a>, number: usize) -> Polygon<'a>
+        requires number { number < length polygons.now.polygon_ends.now }
+        requires colours { HasColours self.now.ids self.now.colours.now (length polygons.now.polygon_ends.now) }
+        ensures { shape_of result ≡ shape_in polygons.now self.now number }
+    {
+        let (rgba, state) = match self.ids {
+            None => (self.colours[number], self.state),
+            Some(first) => (
+                colour_of_id(first as usize + number),
+                replacing(&self.state),
+            ),
+        };
+        Polygon {
+            rings: polygons.rings(number),
+            rule: self.rule,
+            rgba,
+            z: depth_of(self.depths, number),
+            state,
+        }
+    }
+}
+
+/// Draws polygons at each sample of these tile rows, one after another, as `draw_polygon` draws each.
+pub fn draw_polygons(
+    piece: &mut Piece<'_>,
+    polygons: &Polygons<'_>,
+    paints: &Paints<'_>,
+    origin: &Origin,
+    flags: &mut [Flags],
+    counters: &mut [Counters],
+)
+    requires colours { HasColours paints.now.ids paints.now.colours.now (length polygons.now.polygon_ends.now) }
+    requires origin { IsOriginInBand origin.now }
+    requires columns { 8 * columns_of piece.old.rows.canvas ≤ length flags.old }
+    requires flags { AreZeros flags.old }
+    requires counters { AreZeros counters.old }
+    requires counted { HasCounters paints.now.rule flags.old counters.old }
+    ensures painted { ArePainted (shapes_of polygons.now paints.now) origin.now piece.old.rows.canvas piece.old.rows.first piece.old.rows.end piece.old.planes.now piece.new.planes.now }
+    ensures rows { piece.new.rows ≡ piece.old.rows }
+    ensures same { piece.new.planes.ghost_name ≡ piece.old.planes.ghost_name }
+    ensures flags { AreZeros flags.new }
+    ensures counters { AreZeros counters.new }
+{
+    for number in 0..polygons.count() {
+        let polygon = paints.polygon(polygons, number);
+        draw_polygon(piece, &polygon, origin, flags, counters);
+    }
+}

@@ -1,4 +1,0 @@
-pub mod Draws
-pub mod Limits
-pub mod Faults
-pub mod Chunks
