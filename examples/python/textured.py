@@ -132,7 +132,7 @@ def panels(width: int, height: int, threads: int) -> List[Any]:
         found.append(canvas.rgb())
     x, y, _z, w = in_clip_space(shown, width, height).T
     off = np.hypot(width / 2 * (1 + x / w) - at.x / 256, height / 2 * (1 - y / w) - at.y / 256).max()
-    print(f"{len(triangles)} triangles, {len(at.id)} fragments; positions are seen at most {off:.4f} pixel off their points")
+    print(f"{len(triangles)} triangles, {len(at.id)} fragments; positions are seen at most {off:.4f} pixel off")
     return found
 
 
