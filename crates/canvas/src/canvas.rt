@@ -59,7 +59,7 @@ impl Canvas {
     }
 
     /// How many planes a tile has.
-    pub(crate) fn planes_of_tile(&self) -> usize
+    pub fn planes_of_tile(&self) -> usize
         ensures value { result ≡ planes_of_tile self.now.count }
         ensures few { result ≤ 1041 }
     {
@@ -75,7 +75,7 @@ impl Canvas {
     }
 
     /// The tile in a column and a row of tiles.
-    pub(crate) fn tile(&self, column: u32, row: u32) -> Tile
+    pub fn tile(&self, column: u32, row: u32) -> Tile
         requires column { column < columns_of self.now }
         requires row { row < rows_of self.now }
         ensures { (result.bx ≡ 8 * column) × (result.by ≡ 8 * row) × (result.side ≡ T64) × (result.count ≡ self.now.count) }

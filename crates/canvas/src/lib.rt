@@ -36,6 +36,7 @@ pub use laws::{joins_batches, moves_by_pixels, tells_last};
 pub use misfit::Misfit;
 pub use piece::Piece;
 pub use shade::Triangles;
+pub use tile_planes::fill_tile;
 pub use tile_rows::TileRows;
 pub use vertex::Vertex;
 pub use view::View;

@@ -38,7 +38,7 @@ pub(crate) fn clear_tile(count: SampleCount, sample: Sample, samples: &mut [Bloc
 }
 
 /// Gives the blocks of a tile that is unchanged since it was cleared their samples, so that these can be changed.
-pub(crate) fn fill_tile(count: SampleCount, samples: &mut [BlockSamples])
+pub fn fill_tile(count: SampleCount, samples: &mut [BlockSamples])
     requires { length samples.old ≡ planes_of_tile count }
     ensures filled { slice_index (slice_index_or samples.new 0 (record { z = []; r = []; g = []; b = [] })).r 0 ≢ 1 }
     ensures kept { (i j s : ℕ) → s < count_of count → stored_in_tile count samples.new i j s ≡ stored_in_tile count samples.old i j s }

@@ -1,5 +1,5 @@
 -- Eight rows of eight bits in a word.
-use Rattle.std.proofs.Common.{◌≡◌, ◌↔◌, inl, inr, sym, subst, ap, ◌∙◌, arith, ℕ, ◌+◌, ◌-◌, ◌*◌, ◌/◌, ◌%◌, ◌^◌, ◌<◌, ◌≤◌, true, false, ltb, List, length, slice_index, max, bit_or, bit_and, pos, ◌+ℤ◌, ◌*ℤ◌}
+use Rattle.std.proofs.Common.{◌≡◌, ◌↔◌, inl, inr, sym, subst, ap, ◌∙◌, arith, ℕ, ◌+◌, ◌-◌, ◌*◌, ◌/◌, ◌%◌, ◌^◌, ◌<◌, ◌≤◌, true, false, ltb, List, length, slice_index, max, bit_or, bit_and}
 use Rattle.std.proofs.lemmas.Bool.{cases_lt, cases_eq, lt-ltb, le-ltb}
 use Rattle.std.proofs.lemmas.Nat.Bits.{bit_at_and, bit_at_or, bit_at_ones, bit_at_above, bit_at-lt}
 use Rattle.std.specs.Int.{bit_at}
@@ -7,13 +7,9 @@ use Rattle.grid.specs.Position.{Position}
 use Rattle.polygons.specs.declared.edge.Edge.{Edge}
 use Rattle.polygons.specs.declared.rule.Rule.{Rule}
 use Rattle.polygons.specs.Crossing.{IsInside}
-use Rattle.polygons.specs.Columns.{along}
 use Rattle.polygons.specs.Rows.{bit_of, IsRowOf}
-use Rattle.polygons.specs.Blocks.{down, in_block, IsBlockRow, IsMaskOf}
-use Rattle.polygons.specs.ManyRows.{row_of}
+use Rattle.polygons.specs.Blocks.{down, in_block, IsBlockRow}
 use Rattle.polygons.proofs.Parity.{bit_of_shifted}
-use Rattle.std.proofs.lemmas.Nat.{shr-shr}
-use Rattle.std.proofs.lemmas.Int.{ints}
 
 -- ---- the first eight bits of a row
 pub low_byte : (word k : ℕ) → k < 8 → bit_at (bit_and word 255) k ≡ bit_at word k

@@ -130,7 +130,7 @@ between a b p =
     (less (times (less (var 2) (var 0)) (less (var 5) (var 1))) (times (less (var 3) (var 1)) (less (var 4) (var 0))))
     (plus (times (less (var 3) (var 5)) (less (var 0) (var 4))) (times (less (var 5) (var 1)) (less (var 2) (var 4)))) refl
 
-at_right : (u v x y : ℤ) → pos 0 ≤ℤ u → pos 0 ≤ℤ v → x ≤ℤ pos 0 → y ≤ℤ pos 0 → (u *ℤ x +ℤ v *ℤ y) ≤ℤ pos 0
+pub at_right : (u v x y : ℤ) → pos 0 ≤ℤ u → pos 0 ≤ℤ v → x ≤ℤ pos 0 → y ≤ℤ pos 0 → (u *ℤ x +ℤ v *ℤ y) ≤ℤ pos 0
 at_right u v x y hu hv hx hy =
     let m = mul_not_negative u (neg_ℤ x) hu (omega (arith, ints)) in
     let n = mul_not_negative v (neg_ℤ y) hv (omega (arith, ints)) in

@@ -1,10 +1,10 @@
 -- Words that are filled one after another, and columns of words.
-use Rattle.std.proofs.Common.{◌≡◌, ◌≢◌, inl, inr, refl, sym, subst, ap, ◌∙◌, arith, ℕ, zero, suc, ◌+◌, ◌*◌, ◌/◌, ◌%◌, ◌<◌, ◌≤◌, Bool, true, false, eqb, ◌&&◌, List, [], ◌∷◌, length, set, slice_index, get_or-set_same, get_or-set_other}
+use Rattle.std.proofs.Common.{◌≡◌, ◌≢◌, inl, inr, refl, sym, subst, ap, ◌∙◌, arith, ℕ, zero, suc, ◌+◌, ◌*◌, ◌/◌, ◌%◌, ◌<◌, ◌≤◌, Bool, true, eqb, ◌&&◌, List, [], ◌∷◌, length, set, slice_index, get_or-set_same, get_or-set_other}
 use Rattle.std.proofs.lemmas.Bool.{cases_eq, cases_lt, eqb-true}
 use Rattle.std.specs.Int.{bit_at}
 use Rattle.polygons.specs.Rows.{parity}
 use Rattle.polygons.specs.ManyRows.{row_of}
-use Rattle.polygons.specs.Cells.{word_of, place_of, flag_of}
+use Rattle.polygons.specs.Cells.{word_of, flag_of}
 use Rattle.polygons.specs.Spreading.{IsFilled, IsNextCarry}
 use Rattle.polygons.proofs.Parity.{parity-append, parity-same}
 use Rattle.polygons.proofs.ByteRows.{both}

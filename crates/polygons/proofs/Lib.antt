@@ -23,3 +23,6 @@ pub mod Bytes
 pub mod Samples
 pub mod RowLists
 pub mod Lines
+pub mod Boxes
+pub mod RingParts
+pub mod ArrayParts

@@ -1,21 +1,20 @@
 -- From the sums of a strip's cells to masks.
-use Rattle.std.proofs.Common.{◌≡◌, ◌≢◌, ◌↔◌, inl, inr, refl, sym, subst, ap, ◌∙◌, arith, ℕ, zero, suc, ◌+◌, ◌*◌, ◌/◌, ◌%◌, ◌^◌, ◌<◌, ◌≤◌, List, [], ◌∷◌, length, slice_index, ℤ, pos, ◌+ℤ◌, ◌-ℤ◌, ◌*ℤ◌, ◌<ℤ◌, neg_ℤ}
+use Rattle.std.proofs.Common.{◌≡◌, ◌≢◌, ◌↔◌, sym, subst, ap, ◌∙◌, arith, ℕ, zero, suc, ◌+◌, ◌*◌, ◌/◌, ◌%◌, ◌^◌, ◌<◌, ◌≤◌, List, [], ◌∷◌, slice_index, ℤ, pos, ◌+ℤ◌, ◌-ℤ◌, ◌*ℤ◌, ◌<ℤ◌, neg_ℤ}
 use Rattle.std.proofs.lemmas.Int.{ints}
-use Rattle.std.proofs.lemmas.Nat.Bits.{bit_at-lt, bit_at-zero}
+use Rattle.std.proofs.lemmas.Nat.Bits.{bit_at-zero}
 use Rattle.std.specs.Int.{bit_at}
 use Rattle.grid.specs.Position.{Position}
 use Rattle.polygons.specs.declared.edge.Edge.{Edge}
 use Rattle.polygons.specs.declared.rule.Rule.{Rule}
 use Rattle.polygons.specs.declared.rule.Rule.TheVariants.{EvenOdd, NonZero}
 use Rattle.polygons.specs.declared.strip.Strip.{Strip}
-use Rattle.polygons.specs.Blocks.{down, in_block, IsMaskOf}
-use Rattle.polygons.specs.Columns.{along}
-use Rattle.polygons.specs.Crossing.{downs, ups, crossings, winding, IsInside}
-use Rattle.polygons.specs.Polygon.{ring_edges, polygon_edges, corner_count}
+use Rattle.polygons.specs.Blocks.{in_block, IsMaskOf}
+use Rattle.polygons.specs.Crossing.{downs, ups, winding, IsInside}
+use Rattle.polygons.specs.Polygon.{polygon_edges, corner_count}
 use Rattle.polygons.specs.Rows.{parity, sum_to}
 use Rattle.polygons.specs.ManyRows.{row_of}
 use Rattle.polygons.specs.Strip.{start_of, sample_of}
-use Rattle.polygons.specs.Cells.{word_of, place_of, flag_of, count_of, cell, total, modulus, IsAlike, AreMarked, AreZeros}
+use Rattle.polygons.specs.Cells.{word_of, place_of, flag_of, cell, total, IsAlike, AreMarked, AreZeros}
 use Rattle.polygons.proofs.Counters.{sum-none}
 use Rattle.polygons.proofs.Counts.{downs-ring, ups-ring, downs-ring-le, ups-ring-le, corners-ring}
 

@@ -1,5 +1,5 @@
 -- What is added to the rows of a strip, one edge after another.
-use Rattle.std.proofs.Common.{◌≡◌, ◌⊎◌, inl, inr, refl, sym, subst, ap, ◌∙◌, arith, ℕ, zero, suc, ◌+◌, ◌-◌, ◌*◌, ◌<◌, ◌≤◌, Bool, true, false, List, [], ◌∷◌, ◌++◌, length, length-drop, take, drop, get_or, drop-cons, add-one, ℤ, pos, neg_ℤ, w32, w64, to_z, of_z, FitsSigned, ◌+ℤ◌, ◌-ℤ◌, ◌*ℤ◌, ◌<ℤ◌, ◌≤ℤ◌}
+use Rattle.std.proofs.Common.{◌≡◌, inl, inr, refl, sym, subst, ap, ◌∙◌, arith, ℕ, zero, suc, ◌+◌, ◌-◌, ◌*◌, ◌<◌, ◌≤◌, Bool, true, false, List, [], ◌∷◌, ◌++◌, length, length-drop, take, drop, get_or, drop-cons, add-one, ℤ, pos, w32, w64, to_z, of_z, FitsSigned, ◌+ℤ◌, ◌-ℤ◌, ◌*ℤ◌, ◌<ℤ◌, ◌≤ℤ◌}
 use Rattle.std.proofs.lemmas.Int.{ints}
 use Rattle.std.proofs.lemmas.Bool.{cases_lt}
 use Rattle.grid.specs.Position.{Position, IsInBand}
@@ -17,7 +17,7 @@ use Rattle.polygons.specs.Crossing.{winding}
 use Rattle.polygons.specs.Polygon.{path_edges, path_end, ring_edges, polygon_edges}
 use Rattle.polygons.specs.Rows.{direction, from_column}
 use Rattle.polygons.specs.Strip.{sample_of}
-use Rattle.polygons.specs.Cells.{total, modulus, signed, IsAlike, HasCounters, IsPlotted}
+use Rattle.polygons.specs.Cells.{modulus, signed, IsAlike, HasCounters, IsPlotted}
 use Rattle.polygons.proofs.Exact.{exact64}
 use Rattle.polygons.proofs.Counters.{direction-from, direction-none}
 use Rattle.polygons.proofs.Cancel.{one_down, one_up}
@@ -106,7 +106,7 @@ plotted_both rule strip f g both a b c d e i sum h k = record {
 }
 
 -- ---- the edges of paths and rings
-winding-cons : (e : Edge) (es : List Edge) (p : Position) → winding (e ∷ es) p ≡ direction e p +ℤ winding es p
+pub winding-cons : (e : Edge) (es : List Edge) (p : Position) → winding (e ∷ es) p ≡ direction e p +ℤ winding es p
 winding-cons e es p = let d = one_down e es p in let u = one_up e es p in omega (arith, ints)
 
 pub rest_of : {X : Type 0} (xs : List X) (i : ℕ) (x : X) → i < length xs → x ≡ get_or xs i x → drop i xs ≡ x ∷ drop (i + 1) xs
@@ -164,10 +164,11 @@ all_taken {X} [] (suc n) h = refl
 all_taken {X} (x ∷ xs) zero h = absurd (omega arith)
 all_taken {X} (x ∷ xs) (suc n) h = ap (λ (ys : List X). x ∷ ys) (all_taken xs n (omega arith))
 
-pub first_and_rest : (ring : List Position) (first : Position) → 1 ≤ length ring → first ≡ get_or ring 0 first → ring ≡ first ∷ take (length ring - 1) (drop 1 ring)
-first_and_rest ring first h e =
+pub rest_or : {X : Type 0} (ring : List X) (none : X) → 1 ≤ length ring → ring ≡ get_or ring 0 none ∷ take (length ring - 1) (drop 1 ring)
+rest_or {X} ring none h =
     let l = length-drop 1 ring in
-    rest_of ring 0 first h e ∙ ap (λ (ys : List Position). first ∷ ys) (sym (all_taken (drop 1 ring) (length ring - 1) (omega arith)))
+    let k : drop 0 ring ≡ get_or ring 0 none ∷ drop 1 ring = drop-cons ring 0 none h in
+    k ∙ ap (λ (ys : List X). get_or ring 0 none ∷ ys) (sym (all_taken (drop 1 ring) (length ring - 1) (omega arith)))
 
 -- an edge that is crossed at no sample of the strip
 pub plotted_apart : (rule : Rule) (strip : Strip) (f : Position → ℤ) (a b : List (List ℕ)) → ((s row k : ℕ) → s < part_size strip.count → row < 64 → k < 8 * length a → f (sample_of strip s row k) ≡ pos 0) → IsPlotted rule strip f a b a b

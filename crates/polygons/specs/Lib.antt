@@ -22,6 +22,26 @@
 --   PolygonCovers: The polygon covers p by the rule.
 --   corner_count: How many corners the rings have, which is how many edges.
 --
+-- Rings.antt
+--   position_of: Where a corner lies.
+--   AreCornersInBand: All corners are inside of the guard band.
+--   AreEnds: Each ring, the first of which begins at `start`, ends no earlier than it begins, and the next one begins there.
+--   rings_from: The rings of these corners, by where the first begins and by the index behind the last corner of each.
+--   IsInExtent: The point is in the box, whose right and lower sides are outside of it.
+--   IsWithin: The point is in the box or on its border.
+--   HoldsInside: By either rule the edges have nothing inside but in the box.
+--
+-- Arrays.antt
+--   begin_of: Where part k begins: where the one before it ends.
+--   ends_of: The ends of the rings of polygon k.
+--   rings_of: The rings of polygon k.
+--   AreParts: The parts end one after another, and the last one with the whole, which has n elements.
+--   ArePolygons: The arrays are those of polygons.
+--   IsFirstFall: Part k is the first that ends before it begins, or behind the whole, which has n elements.
+--   IsShort: The last part ends before the whole does, which has n elements.
+--   IsFirstOutside: Corner k is the first outside of the guard band.
+--   IsWrong: What is wrong with the arrays, looked at in this order: that there are fewer than 2^32 corners; the ends of rings; the ends of polygons; the corners.
+--
 -- Laws.antt
 --   reversed: The edge in the other direction.
 --   CrossingsAdd: The crossings of two lists of edges together are the sum, and so is the winding number.
@@ -114,6 +134,8 @@
 
 pub mod Crossing
 pub mod Polygon
+pub mod Rings
+pub mod Arrays
 pub mod Laws
 pub mod Partition
 pub mod Columns

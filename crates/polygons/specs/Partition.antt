@@ -1,5 +1,5 @@
 -- Cells that share edges, and their outline.
-use Rattle.std.specs.Prelude.{◌≡◌, ◌⊎◌, ℕ, ◌+◌, ◌%◌, ◌≤ℤ◌, pos, List, [], ◌∷◌, ◌++◌, map, flat_map, count_by}
+use Rattle.std.specs.Prelude.{◌≡◌, ◌⊎◌, ℕ, ◌%◌, ◌≤ℤ◌, pos, List, [], ◌∷◌, ◌++◌, map, flat_map, count_by}
 use Rattle.std.specs.List.{All}
 use Rattle.std.specs.List.Sorted.{IsPermutation}
 use Rattle.grid.specs.Position.{Position}

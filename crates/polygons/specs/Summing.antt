@@ -1,5 +1,5 @@
 -- From counters to masks.
-use Rattle.std.specs.Prelude.{◌≡◌, ℕ, zero, suc, ◌+◌, ◌*◌, ◌/◌, ◌%◌, ◌^◌, ◌<◌, cond, ◌==◌, List, slice_index}
+use Rattle.std.specs.Prelude.{◌≡◌, ℕ, zero, suc, ◌+◌, ◌*◌, ◌%◌, ◌^◌, ◌<◌, cond, ◌==◌, List, slice_index}
 use Rattle.std.specs.Int.{bit_at}
 
 -- The sum of a number and of the first n counters from `from` on, modulo 2 ^ 32.

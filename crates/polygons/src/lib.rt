@@ -2,17 +2,21 @@
 #![tactic(auto)]
 
 mod apart;
+mod arrays;
 mod block;
 mod byte_rows;
 mod cells;
+mod corner;
 mod crossings;
 mod divide;
 mod edge;
+mod extent;
 mod fill;
 mod laws;
 mod partition;
 mod plot;
 mod polygon;
+mod rings;
 mod rows;
 mod rule;
 mod spread;
@@ -22,13 +26,17 @@ mod sum;
 mod walk;
 mod windings;
 
+pub use arrays::{ArraysError, Polygons};
 pub use block::{block_mask, sample_mask};
 pub use cells::{Counters, Flags};
+pub use corner::Corner;
 pub use crossings::{Crossings, count_edges};
 pub use edge::Edge;
+pub use extent::Extent;
 pub use laws::{count_both, edges_cover, quad_covers, triangle_covers};
 pub use partition::count_covering;
 pub use polygon::polygon_covers;
+pub use rings::Rings;
 pub use rows::even_odd_row;
 pub use rule::Rule;
 pub use strip::Strip;

@@ -7,14 +7,17 @@ ghost use Rattle.polygons.specs.Blocks.{down};
 ghost use Rattle.polygons.specs.Columns.{along, HasHeight};
 ghost use Rattle.polygons.specs.Crossing.{winding};
 ghost use Rattle.polygons.specs.Polygon.{path_edges, path_end, ring_edges, polygon_edges};
+ghost use Rattle.polygons.specs.Rings.{position_of, rings_from, AreCornersInBand};
 ghost use Rattle.polygons.specs.Rows.{direction};
 ghost use Rattle.polygons.specs.Cells.{total, modulus, signed, IsAlike, HasCounters, AreMarked, IsPlotted};
 ghost use Rattle.polygons.specs.declared.rule.Rule.TheVariants.{EvenOdd};
 
 use crate::apart::is_apart;
 use crate::cells::{Counters, Flags, cross};
+use crate::corner::Corner;
 use crate::divide::divide;
 use crate::edge::Edge;
+use crate::rings::Rings;
 use crate::rule::Rule;
 use crate::strip::{Strip, point_at};
 use crate::walk::EdgeWalk;
@@ -142,17 +145,19 @@ fn plot_path(
     counters: &mut [Counters],
     rule: Rule,
     from: Point,
-    corners: &[Point],
+    corners: &[Corner],
     strip: &Strip,
 ) -> Point
-    requires { HasCounters rule flags.old counters.old }
-    ensures plotted { IsPlotted rule strip.now (λ p. winding (path_edges from corners.now) p) flags.old counters.old flags.new counters.new }
-    ensures end { result ≡ path_end from corners.now }
+    requires counters { HasCounters rule flags.old counters.old }
+    requires corners { AreCornersInBand corners.now }
+    ensures plotted { IsPlotted rule strip.now (λ p. winding (path_edges from (map position_of corners.now)) p) flags.old counters.old flags.new counters.new }
+    ensures end { result ≡ path_end from (map position_of corners.now) }
 {
     let mut from = from;
-    for to in corners {
-        plot_edge(flags, counters, rule, Edge { a: from, b: *to }, strip);
-        from = *to;
+    for corner in corners {
+        let to = corner.at();
+        plot_edge(flags, counters, rule, Edge { a: from, b: to }, strip);
+        from = to;
     }
     from
 }
@@ -162,17 +167,19 @@ fn plot_ring(
     flags: &mut [Flags],
     counters: &mut [Counters],
     rule: Rule,
-    ring: &[Point],
+    ring: &[Corner],
     strip: &Strip,
 )
-    requires { HasCounters rule flags.old counters.old }
-    ensures { IsPlotted rule strip.now (λ p. winding (ring_edges ring.now) p) flags.old counters.old flags.new counters.new }
+    requires counters { HasCounters rule flags.old counters.old }
+    requires corners { AreCornersInBand ring.now }
+    ensures { IsPlotted rule strip.now (λ p. winding (ring_edges (map position_of ring.now)) p) flags.old counters.old flags.new counters.new }
 {
     match ring {
         [] => {}
-        [first, rest @ ..] => {
-            let last = plot_path(flags, counters, rule, *first, rest, strip);
-            plot_edge(flags, counters, rule, Edge { a: last, b: *first }, strip);
+        [corner, rest @ ..] => {
+            let first = corner.at();
+            let last = plot_path(flags, counters, rule, first, rest, strip);
+            plot_edge(flags, counters, rule, Edge { a: last, b: first }, strip);
         }
     }
 }
@@ -182,13 +189,16 @@ pub fn plot(
     flags: &mut [Flags],
     counters: &mut [Counters],
     rule: Rule,
-    rings: &[&[Point]],
+    rings: &Rings<'_>,
     strip: &Strip,
 )
     requires { HasCounters rule flags.old counters.old }
-    ensures { IsPlotted rule strip.now (λ p. winding (polygon_edges (map (λ r. r.now) rings.now)) p) flags.old counters.old flags.new counters.new }
+    ensures { IsPlotted rule strip.now (λ p. winding (polygon_edges (rings_from rings.now.corners.now rings.now.start rings.now.ends.now)) p) flags.old counters.old flags.new counters.new }
 {
-    for ring in rings {
-        plot_ring(flags, counters, rule, ring, strip);
+    let mut start = rings.start as usize;
+    for ring_end in rings.ends {
+        let end = *ring_end as usize;
+        plot_ring(flags, counters, rule, &rings.corners[start..end], strip);
+        start = end;
     }
 }

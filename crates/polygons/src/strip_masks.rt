@@ -1,8 +1,9 @@
 //! What a polygon covers of a strip, as masks of its blocks.
-ghost use Rattle.std.specs.Prelude.{◌≡◌, ℕ, ◌+◌, ◌*◌, ◌^◌, ◌<◌, length, map, slice_index};
+ghost use Rattle.std.specs.Prelude.{◌≡◌, ℕ, ◌+◌, ◌*◌, ◌<◌, length, slice_index};
 ghost use Rattle.grid.specs.Samples.{part_size};
 ghost use Rattle.polygons.specs.Blocks.{IsMaskOf};
-ghost use Rattle.polygons.specs.Polygon.{polygon_edges, corner_count};
+ghost use Rattle.polygons.specs.Polygon.{polygon_edges};
+ghost use Rattle.polygons.specs.Rings.{rings_from};
 ghost use Rattle.polygons.specs.ManyRows.{row_of};
 ghost use Rattle.polygons.specs.Cells.{HasCounters, AreZeros};
 ghost use Rattle.polygons.specs.Strip.{sample_of};
@@ -10,10 +11,10 @@ ghost use Rattle.polygons.specs.Strip.{sample_of};
 use crate::cells::{Counters, Flags};
 use crate::fill::fill;
 use crate::plot::plot;
+use crate::rings::Rings;
 use crate::rule::Rule;
 use crate::strip::Strip;
 use crate::sum::sum;
-use grid::Point;
 
 /// Sets word 4 * row + s of each column of blocks to the mask of sample `from + s` of the pixels of the block in this row: its bit
 /// 8 * row + column says whether the polygon covers that sample of the pixel in this row and column of the block. Pixels lie in
@@ -23,15 +24,14 @@ pub fn cover_strip(
     flags: &mut [Flags],
     counters: &mut [Counters],
     rule: Rule,
-    rings: &[&[Point]],
+    rings: &Rings<'_>,
     strip: &Strip,
 )
     requires flags { AreZeros flags.old }
     requires counters { AreZeros counters.old }
     requires columns { HasCounters rule flags.old counters.old }
-    requires corners { corner_count (map (λ r. r.now) rings.now) < 2 ^ 32 }
     ensures len { length flags.new ≡ length flags.old }
-    ensures masks { (s row column : ℕ) → s < part_size strip.now.count → row < 8 → column < length flags.old → IsMaskOf rule (polygon_edges (map (λ r. r.now) rings.now)) (sample_of strip.now s (8 * row) (8 * column)) (slice_index (row_of flags.new column) (4 * row + s)) }
+    ensures masks { (s row column : ℕ) → s < part_size strip.now.count → row < 8 → column < length flags.old → IsMaskOf rule (polygon_edges (rings_from rings.now.corners.now rings.now.start rings.now.ends.now)) (sample_of strip.now s (8 * row) (8 * column)) (slice_index (row_of flags.new column) (4 * row + s)) }
     ensures counters { AreZeros counters.new }
 {
     plot(flags, counters, rule, rings, strip);

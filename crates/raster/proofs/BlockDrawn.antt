@@ -1,48 +1,43 @@
 -- The samples of one block of a tile.
-use Rattle.std.proofs.Common.{◌≡◌, ◌≢◌, ◌∙◌, ap, sym, subst, suc, zero, ℕ, ◌+◌, ◌-◌, ◌*◌, ◌/◌, ◌%◌, ◌^◌, ◌<◌, ◌≤◌, ◌↔◌, List, [], length, take, drop, IsBitSet, bit_and, pos, ◌+ℤ◌, slice_index, arith}
+use Rattle.std.proofs.Common.{◌≡◌, ◌≢◌, ◌⊎◌, inl, inr, ◌∙◌, ap, sym, subst, suc, zero, ℕ, ◌+◌, ◌-◌, ◌*◌, ◌/◌, ◌%◌, ◌^◌, ◌<◌, ◌≤◌, ◌↔◌, List, [], length, take, drop, IsBitSet, bit_and, pos, ◌+ℤ◌, slice_index, arith}
 use Rattle.std.proofs.lemmas.Int.{ints}
+use Rattle.std.proofs.lemmas.Bool.{cases_lt}
 use Rattle.std.proofs.Math.Nat.{div-div-eq-div-mul}
 use Rattle.std.proofs.lemmas.Nat.{pow-add}
 use Rattle.grid.specs.Pixels.{side_of, IsInBox}
+use Rattle.grid.specs.Triangle.{Covers}
 use Rattle.grid.specs.Samples.{count_of, part_size, IsPart, sample_position, offsets_x, offsets_y}
 use Rattle.grid.specs.declared.sample_count.SampleCount.{SampleCount}
 use Rattle.grid.specs.declared.sample_count.SampleCount.TheVariants.{One, Two, Four, Eight, Sixteen}
 use Rattle.cover.specs.Rasterized.{IsRasterized}
-use Rattle.cover.specs.Masks.{IsPlaneOf}
 use Rattle.lanes.specs.declared.block_samples.BlockSamples.{BlockSamples}
 use Rattle.lanes.specs.declared.block_mask.BlockMask.{BlockMask}
 use Rattle.shade.specs.declared.placed.Placed.{Placed}
 use Rattle.planes.specs.Group.{position_in}
 use Rattle.lanes.specs.Block.{stored_at, AreDrawn}
 use Rattle.lanes.specs.BlockMask.{CoversBlock, IsBlockDrawn, first_of, plane_of}
-use Rattle.shade.specs.Placed.{Meets}
+use Rattle.shade.specs.declared.state.State.{State}
+use Rattle.shade.specs.Placed.{IsDrawnAt, Meets}
 use Rattle.raster.specs.declared.tile.Tile.{Tile}
 use Rattle.raster.specs.Samples.{IsSampleOf, place_of, planes_of, stored}
-use Rattle.raster.specs.Drawing.{DrawsPart, DrawsAt, KeepsAt, IsInSquare, IsInSquarePart, AreMet, LiesIn}
+use Rattle.raster.specs.Drawing.{DrawsPart, KeepsAt, IsInSquare, IsInSquarePart, LiesIn, ArePlanesOf, Allows, AreAllowed, CoversMasks, IsChosen, DrawsMasks}
 use Rattle.raster.proofs.Bits.{both_set}
 use Rattle.raster.proofs.Cut.{put, put_here, put_elsewhere, part_of}
 use Rattle.raster.proofs.Places.{within, same_place, whole_blocks}
 
--- ---- which samples are met
+-- ---- which samples are drawn
 -- those of one sample index
-module _ (t : Placed) (bx by : ℕ) (count : SampleCount) (d : IsRasterized t.tri t.state.cull) (scissor : ℕ)
-    (inside : (row column : ℕ) → row < 8 → column < 8 → (IsBitSet scissor (8 * row + column) ↔ IsInBox t.state.scissor (8 * bx + column) (8 * by + row))) where
-  pub met_plane : (s covered in_mask : ℕ) → IsPlaneOf t.tri bx by count s covered → ((k : ℕ) → k < 64 → (IsBitSet in_mask k ↔ (t.state.sample_mask / 2 ^ s % 2 ≡ 1))) → (row column : ℕ) → row < 8 → column < 8
-      → (IsBitSet (bit_and (bit_and covered scissor) in_mask) (8 * row + column) ↔ Meets t count (8 * bx + column) (8 * by + row) s)
-  met_plane s covered in_mask covers masked row column high wide =
+module _ (state : State) (bx by : ℕ) (scissor : ℕ) (inside : (row column : ℕ) → row < 8 → column < 8 → (IsBitSet scissor (8 * row + column) ↔ IsInBox state.scissor (8 * bx + column) (8 * by + row))) where
+  pub allowed_plane : (s plane in_mask : ℕ) → ((k : ℕ) → k < 64 → (IsBitSet in_mask k ↔ (state.sample_mask / 2 ^ s % 2 ≡ 1))) → (row column : ℕ) → row < 8 → column < 8
+      → (IsBitSet (bit_and (bit_and plane scissor) in_mask) (8 * row + column) ↔ (IsBitSet plane (8 * row + column) × Allows state (8 * bx + column) (8 * by + row) s))
+  allowed_plane s plane in_mask masked row column high wide =
       let k : ℕ = 8 * row + column in
-      let outer = both_set (bit_and covered scissor) in_mask k in
-      let inner = both_set covered scissor k in
-      let c = covers row column high wide in
+      let outer = both_set (bit_and plane scissor) in_mask k in
+      let inner = both_set plane scissor k in
       let i = inside row column high wide in
       let m = masked k (omega arith) in (
-        λ set. record {
-          kept = d.kept;
-          covered = c.0 (inner.0 (outer.0 set).0).0;
-          in_scissor = i.0 (inner.0 (outer.0 set).0).1;
-          in_mask = m.0 (outer.0 set).1;
-        },
-        λ met. outer.1 (inner.1 (c.1 met.covered, i.1 met.in_scissor), m.1 met.in_mask),
+        λ set. ((inner.0 (outer.0 set).0).0, record { in_scissor = i.0 (inner.0 (outer.0 set).0).1; in_mask = m.0 (outer.0 set).1 }),
+        λ both. outer.1 (inner.1 (both.0, i.1 both.1.in_scissor), m.1 both.1.in_mask),
       )
 
 -- a bit of the mask, counted from a part's first one
@@ -77,23 +72,46 @@ pub part_begins : (count : SampleCount) (from : ℕ) → IsPart count from → f
 part_begins count from h = let some = part_at_most count in omega (arith, h, some.0)
 
 -- ---- where they lie
-module _ (t : Placed) (m : BlockMask) (met : AreMet t m) where
-  at_pixel : (s k : ℕ) → position_in (first_of m s) k ≡ sample_position (8 * m.bx + k % 8) (8 * m.by + k / 8) (m.from + s) m.count
-  at_pixel s k =
-      let ox : ℕ = slice_index (offsets_x m.count) (m.from + s) in
-      let oy : ℕ = slice_index (offsets_y m.count) (m.from + s) in
-      let x : pos (256 * (8 * m.bx) + ox) +ℤ pos (256 * (k % 8)) ≡ pos (256 * (8 * m.bx + k % 8) + ox) = omega (arith, ints) in
-      let y : pos (256 * (8 * m.by) + oy) +ℤ pos (256 * (k / 8)) ≡ pos (256 * (8 * m.by + k / 8) + oy) = omega (arith, ints) in
-      λ i. record { x = x i; y = y i }
+at_pixel : (m : BlockMask) (s k : ℕ) → position_in (first_of m s) k ≡ sample_position (8 * m.bx + k % 8) (8 * m.by + k / 8) (m.from + s) m.count
+at_pixel m s k =
+    let ox : ℕ = slice_index (offsets_x m.count) (m.from + s) in
+    let oy : ℕ = slice_index (offsets_y m.count) (m.from + s) in
+    let x : pos (256 * (8 * m.bx) + ox) +ℤ pos (256 * (k % 8)) ≡ pos (256 * (8 * m.bx + k % 8) + ox) = omega (arith, ints) in
+    let y : pos (256 * (8 * m.by) + oy) +ℤ pos (256 * (k / 8)) ≡ pos (256 * (8 * m.by + k / 8) + oy) = omega (arith, ints) in
+    λ i. record { x = x i; y = y i }
 
-  -- the triangle covers what it meets
-  pub met_covered : CoversBlock t m
-  met_covered s small k low set =
-      let here : 8 * (k / 8) + k % 8 ≡ k = omega arith in
-      rw (at_pixel s k) ((met (k / 8) (k % 8) s (omega arith) (omega arith) small).0 (rw here set)).covered
+-- the triangle covers what is drawn, if it covers what is in the masks
+pub allowed_covered : (t : Placed) (masks : List ℕ) (m : BlockMask) → AreAllowed t.state masks m → CoversMasks t.tri m.bx m.by m.count m.from masks → CoversBlock t m
+allowed_covered t masks m allowed covers s small k low set =
+    let here : 8 * (k / 8) + k % 8 ≡ k = omega arith in
+    let both = (allowed (k / 8) (k % 8) s (omega arith) (omega arith) small).0 (rw here set) in
+    rw (at_pixel m s k) (covers (k / 8) (k % 8) s (omega arith) (omega arith) small both.0)
+
+-- ---- a sample is in a part of a block or not
+square_part_or_not : (tile : Tile) (bx by from row column s : ℕ) → IsInSquarePart tile bx by 8 from row column s ⊎ (¬ IsInSquarePart tile bx by 8 from row column s)
+square_part_or_not tile bx by from row column s =
+    elim (cases_lt (8 * tile.bx + column) (8 * bx)) [
+      | inl out ↦ inr (λ p. omega (arith, out, p.square.left))
+      | inr left ↦ elim (cases_lt (8 * tile.bx + column) (8 * bx + 8)) [
+        | inr out ↦ inr (λ p. omega (arith, out, p.square.right))
+        | inl right ↦ elim (cases_lt (8 * tile.by + row) (8 * by)) [
+          | inl out ↦ inr (λ p. omega (arith, out, p.square.top))
+          | inr top ↦ elim (cases_lt (8 * tile.by + row) (8 * by + 8)) [
+            | inr out ↦ inr (λ p. omega (arith, out, p.square.bottom))
+            | inl bottom ↦ elim (cases_lt s from) [
+              | inl out ↦ inr (λ p. omega (arith, out, p.samples.low))
+              | inr low ↦ elim (cases_lt s (from + part_size tile.count)) [
+                | inr out ↦ inr (λ p. omega (arith, out, p.samples.high))
+                | inl high ↦ inl (record { square = record { left = left; right = right; top = top; bottom = bottom }; samples = record { low = low; high = high } })
+              ]
+            ]
+          ]
+        ]
+      ]
+    ]
 
 -- ---- a block of the tile, drawn
-module _ (t : Placed) (tile : Tile) (bx by from : ℕ) (lies : LiesIn tile bx by 8) (is_part : IsPart tile.count from) (m : BlockMask) (is : (m.bx ≡ bx) × (m.by ≡ by) × (m.count ≡ tile.count)) (begins : m.from ≡ from) (met : AreMet t m) where
+module _ (t : Placed) (tile : Tile) (bx by from : ℕ) (masks : List ℕ) (lies : LiesIn tile bx by 8) (is_part : IsPart tile.count from) (m : BlockMask) (is : (m.bx ≡ bx) × (m.by ≡ by) × (m.count ≡ tile.count)) (begins : m.from ≡ from) (allowed : AreAllowed t.state masks m) where
   -- the pixel in its block
   abbrev pixel : ℕ → ℕ → ℕ
   pixel row column = 8 * (row % 8) + column % 8
@@ -117,17 +135,18 @@ module _ (t : Placed) (tile : Tile) (bx by from : ℕ) (lies : LiesIn tile bx by
     down : 8 * by + row % 8 ≡ 8 * tile.by + row
     down = omega (arith, lies.top, p.top, p.bottom)
 
-    met_here : s < part_size tile.count → (IsBitSet (slice_index m.plane s) (pixel row column) ↔ Meets t tile.count (8 * tile.bx + column) (8 * tile.by + row) (from + s))
-    met_here small =
-        let there = met (row % 8) (column % 8) s (omega arith) (omega arith) (rw is.2 small) in
-        rw (is.0, is.1, is.2, begins, across, down) at there
+    allowed_here : s < part_size tile.count
+        → (IsBitSet (slice_index m.plane s) (pixel row column) ↔ (IsBitSet (slice_index masks s) (pixel row column) × Allows t.state (8 * tile.bx + column) (8 * tile.by + row) (from + s)))
+    allowed_here small =
+        let there = allowed (row % 8) (column % 8) s (omega arith) (omega arith) (rw is.2 small) in
+        rw (is.0, is.1, begins, across, down) at there
 
     position : position_in (first_of m s) (pixel row column) ≡ sample_position (8 * tile.bx + column) (8 * tile.by + row) (from + s) tile.count
     position =
         let k : ℕ = pixel row column in
         let x : 8 * m.bx + k % 8 ≡ 8 * tile.bx + column = omega (arith, across, is.0) in
         let y : 8 * m.by + k / 8 ≡ 8 * tile.by + row = omega (arith, down, is.1) in
-        at_pixel t m met s k ∙ (λ i. sample_position (x i) (y i) (begins i + s) (is.2 i))
+        at_pixel m s k ∙ (λ i. sample_position (x i) (y i) (begins i + s) (is.2 i))
 
   -- the block's samples are stored from here on
   abbrev first : ℕ
@@ -141,22 +160,32 @@ module _ (t : Placed) (tile : Tile) (bx by from : ℕ) (lies : LiesIn tile bx by
         let place : place_of tile (row / 8) (column / 8) (from + s) ≡ first + s = rw (in_row row column s p, in_column row column s p) (omega arith) in
         ap (λ k. stored_at (plane_of zs k) (pixel row column)) place
 
-    draws_at : (row column s : ℕ) → s < part_size tile.count → IsInSquare tile bx by 8 row column s → DrawsAt t tile xs ys row column (from + s)
-    draws_at row column s small p =
-        let bit = met_here row column s p small in
-        let drawn = here s small in
-        rw (there row column s xs p, there row column s ys p) (record {
-          met = λ e. rw (← position row column s p) (drawn.drawn (pixel row column) (omega arith) (omega arith) (bit.1 e));
-          missed = λ n. drawn.kept (pixel row column) (omega arith) (omega arith) (λ set. n (bit.0 set));
-        })
+    abbrev Chosen : ℕ → ℕ → ℕ → Type 0
+    Chosen row column s = IsChosen t.state tile bx by from masks row column s
 
-    draws : (row column s : ℕ) → IsSampleOf tile row column s → IsInSquarePart tile bx by 8 from row column s → DrawsAt t tile xs ys row column s
-    draws row column s h p =
-        let part = p.samples in
+    -- at the sample of this index in the part
+    drawn_at : (row column s : ℕ) → s < part_size tile.count → IsInSquare tile bx by 8 row column s → IsBitSet (slice_index m.plane s) (pixel row column)
+        → IsDrawnAt t (sample_position (8 * tile.bx + column) (8 * tile.by + row) (from + s) tile.count) (stored tile xs row column (from + s)) (stored tile ys row column (from + s))
+    drawn_at row column s small p set =
+        rw (there row column s xs p, there row column s ys p, ← position row column s p) ((here s small).drawn (pixel row column) (omega arith) (omega arith) set)
+
+    kept_at : (row column s : ℕ) → s < part_size tile.count → IsInSquare tile bx by 8 row column s → ¬ IsBitSet (slice_index m.plane s) (pixel row column) → KeepsAt tile xs ys row column (from + s)
+    kept_at row column s small p other =
+        rw (there row column s xs p, there row column s ys p) ((here s small).kept (pixel row column) (omega arith) (omega arith) other)
+
+    square_at : (row column s s' : ℕ) → IsInSquare tile bx by 8 row column s → IsInSquare tile bx by 8 row column s'
+    square_at row column s s' p = record { left = p.left; right = p.right; top = p.top; bottom = p.bottom }
+
+    draws : (row column s : ℕ) → IsSampleOf tile row column s → Chosen row column s
+        → IsDrawnAt t (sample_position (8 * tile.bx + column) (8 * tile.by + row) s tile.count) (stored tile xs row column s) (stored tile ys row column s)
+    draws row column s h chosen =
+        let part = chosen.part.samples in
         let same : from + (s - from) ≡ s = omega (arith, part.low) in
-        let square = p.square in
-        subst (λ k. DrawsAt t tile xs ys row column k) same
-        (draws_at row column (s - from) (omega (arith, part.low, part.high)) (record { left = square.left; right = square.right; top = square.top; bottom = square.bottom }))
+        let small : s - from < part_size tile.count = omega (arith, part.low, part.high) in
+        let square = square_at row column s (s - from) chosen.part.square in
+        let allows : Allows t.state (8 * tile.bx + column) (8 * tile.by + row) (from + (s - from)) = rw same chosen.allowed in
+        subst (λ k. IsDrawnAt t (sample_position (8 * tile.bx + column) (8 * tile.by + row) k tile.count) (stored tile xs row column k) (stored tile ys row column k)) same
+        (drawn_at row column (s - from) small square ((allowed_here row column (s - from) square small).1 (chosen.in_masks, allows)))
 
     in_block : (row column s : ℕ) → row / 8 ≡ by - tile.by → column / 8 ≡ bx - tile.bx → IsInSquare tile bx by 8 row column s
     in_block row column s down across = record {
@@ -166,15 +195,36 @@ module _ (t : Placed) (tile : Tile) (bx by from : ℕ) (lies : LiesIn tile bx by
       bottom = omega (arith, lies.top);
     }
 
-    keeps : (row column s : ℕ) → IsSampleOf tile row column s → ¬ IsInSquarePart tile bx by 8 from row column s → KeepsAt tile xs ys row column s
-    keeps row column s h n =
+    -- a sample of the block's part that is not chosen
+    keeps_in : (row column s : ℕ) → IsInSquarePart tile bx by 8 from row column s → ¬ Chosen row column s → KeepsAt tile xs ys row column s
+    keeps_in row column s p n =
+        let part = p.samples in
+        let same : from + (s - from) ≡ s = omega (arith, part.low) in
+        let small : s - from < part_size tile.count = omega (arith, part.low, part.high) in
+        let square = square_at row column s (s - from) p.square in
+        subst (λ k. KeepsAt tile xs ys row column k) same
+        (kept_at row column (s - from) small square
+        (λ set.
+        let both = (allowed_here row column (s - from) square small).0 set in
+        n (record { part = p; in_masks = both.0; allowed = subst (λ k. Allows t.state (8 * tile.bx + column) (8 * tile.by + row) k) same both.1 })))
+
+    -- any other
+    keeps_out : (row column s : ℕ) → IsSampleOf tile row column s → ¬ IsInSquarePart tile bx by 8 from row column s → KeepsAt tile xs ys row column s
+    keeps_out row column s h n =
         let other : (s' : ℕ) → s' < part_size tile.count → place_of tile (row / 8) (column / 8) s ≢ first + s' =
         λ s' small e.
         let same = same_place tile (by - tile.by) (bx - tile.bx) (from + s') row_within column_within (omega (arith, small, is_part)) (row / 8) (column / 8) s (omega (arith, h.wide, whole_blocks tile.side)) h.is_sample (rw e (omega arith)) in
         n (record { square = in_block row column s same.0 same.1; samples = record { low = omega (arith, same.2); high = omega (arith, same.2, small) } }) in
         ap (λ plane. stored_at plane (pixel row column)) (elsewhere (place_of tile (row / 8) (column / 8) s) other)
 
-    block_drawn : DrawsPart t tile (IsInSquarePart tile bx by 8 from) xs ys
+    keeps : (row column s : ℕ) → IsSampleOf tile row column s → ¬ Chosen row column s → KeepsAt tile xs ys row column s
+    keeps row column s h n =
+        elim (square_part_or_not tile bx by from row column s) [
+          | inl p ↦ keeps_in row column s p n
+          | inr p ↦ keeps_out row column s h p
+        ]
+
+    block_drawn : DrawsMasks t tile bx by from masks xs ys
     block_drawn = record { drawn = draws; kept = keeps }
 
   -- the block's samples, drawn and put back
@@ -200,5 +250,33 @@ module _ (t : Placed) (tile : Tile) (bx by from : ℕ) (lies : LiesIn tile bx by
     elsewhere : (k : ℕ) → ((s : ℕ) → s < part_size tile.count → k ≢ first + s) → plane_of (put xs part at n) k ≡ plane_of xs k
     elsewhere k other = put_elsewhere xs part at n none room whole k (λ s l e. other s (omega (arith, many, l)) (omega (arith, e, starts)))
 
-    pub part_drawn : DrawsPart t tile (IsInSquarePart tile bx by 8 from) xs (put xs part at n)
+    pub part_drawn : DrawsMasks t tile bx by from masks xs (put xs part at n)
     part_drawn = block_drawn xs (put xs part at n) long here elsewhere
+
+-- ---- masks of what the triangle covers
+module _ (t : Placed) (tile : Tile) (bx by from : ℕ) (lies : LiesIn tile bx by 8) (d : IsRasterized t.tri t.state.cull) (masks : List ℕ) (planes : ArePlanesOf t.tri bx by tile.count from masks) where
+  module _ (row column s : ℕ) (p : IsInSquarePart tile bx by 8 from row column s) where
+    covers_there : IsBitSet (slice_index masks (s - from)) (8 * (row % 8) + column % 8) ↔ Covers t.tri.a t.tri.b t.tri.c (sample_position (8 * tile.bx + column) (8 * tile.by + row) s tile.count)
+    covers_there =
+        let q = p.square in
+        let l = p.samples in
+        let across : 8 * bx + column % 8 ≡ 8 * tile.bx + column = omega (arith, lies.left, q.left, q.right) in
+        let down : 8 * by + row % 8 ≡ 8 * tile.by + row = omega (arith, lies.top, q.top, q.bottom) in
+        let index : from + (s - from) ≡ s = omega (arith, l.low) in
+        let there = planes (s - from) (omega (arith, l.low, l.high)) (row % 8) (column % 8) (omega arith) (omega arith) in
+        rw (across, down, index) at there
+
+    chosen_met : IsChosen t.state tile bx by from masks row column s → Meets t tile.count (8 * tile.bx + column) (8 * tile.by + row) s
+    chosen_met chosen = record { kept = d.kept; covered = covers_there.0 chosen.in_masks; in_scissor = chosen.allowed.in_scissor; in_mask = chosen.allowed.in_mask }
+
+    met_chosen : Meets t tile.count (8 * tile.bx + column) (8 * tile.by + row) s → IsChosen t.state tile bx by from masks row column s
+    met_chosen met = record { part = p; in_masks = covers_there.1 met.covered; allowed = record { in_scissor = met.in_scissor; in_mask = met.in_mask } }
+
+  pub triangle_drawn : (xs ys : List BlockSamples) → DrawsMasks t tile bx by from masks xs ys → DrawsPart t tile (IsInSquarePart tile bx by 8 from) xs ys
+  triangle_drawn xs ys draws = record {
+    drawn = λ row column s h p. record {
+      met = λ m. draws.drawn row column s h (met_chosen row column s p m);
+      missed = λ n. draws.kept row column s h (λ chosen. n (chosen_met row column s p chosen));
+    };
+    kept = λ row column s h out. draws.kept row column s h (λ chosen. out chosen.part);
+  }

@@ -1,16 +1,17 @@
 -- What a triangle makes of the samples of a tile.
-use Rattle.std.specs.Prelude.{◌≡◌, ◌↔◌, ℕ, ◌+◌, ◌*◌, ◌<◌, ◌≤◌, List, slice_index, IsBitSet}
-use Rattle.grid.specs.Pixels.{side_of}
-use Rattle.grid.specs.Samples.{part_size}
+use Rattle.std.specs.Prelude.{◌≡◌, ◌↔◌, ℕ, ◌+◌, ◌-◌, ◌*◌, ◌/◌, ◌%◌, ◌^◌, ◌<◌, ◌≤◌, List, slice_index, IsBitSet}
+use Rattle.grid.specs.Pixels.{side_of, IsInBox}
+use Rattle.grid.specs.Samples.{part_size, sample_position}
 use Rattle.grid.specs.declared.triangle.Tri.{Tri}
 use Rattle.grid.specs.declared.pixels.TileSide.TheVariants.{T8}
 use Rattle.grid.specs.declared.sample_count.SampleCount.{SampleCount}
 use Rattle.lanes.specs.declared.block_samples.BlockSamples.{BlockSamples}
 use Rattle.lanes.specs.declared.block_mask.BlockMask.{BlockMask}
-use Rattle.cover.specs.Masks.{IsPlaneOf}
+use Rattle.cover.specs.Masks.{CoversInBlock, IsPlaneOf}
 use Rattle.cover.specs.Square.{TestedSquare, CoversIn}
 use Rattle.shade.specs.declared.placed.Placed.{Placed}
-use Rattle.shade.specs.Placed.{Meets, Draws}
+use Rattle.shade.specs.declared.state.State.{State}
+use Rattle.shade.specs.Placed.{IsDrawnAt, Draws}
 use Rattle.raster.specs.declared.tile.Tile.{Tile}
 use Rattle.raster.specs.Samples.{IsSampleOf, stored}
 
@@ -67,12 +68,6 @@ square_of t tile = record { triangle = t; bx = tile.bx; by = tile.by; side = til
 abbrev pub block_of : Tri → Tile → ℕ → ℕ → TestedSquare
 block_of t tile bx by = record { triangle = t; bx = bx; by = by; side = T8; count = tile.count }
 
--- The bits of the mask say which samples of its block the triangle meets.
-abbrev pub AreMet : Placed → BlockMask → Type 0
-AreMet t m =
-    (row column s : ℕ) → row < 8 → column < 8 → s < part_size m.count
-    → (IsBitSet (slice_index m.plane s) (8 * row + column) ↔ Meets t m.count (8 * m.bx + column) (8 * m.by + row) (m.from + s))
-
 -- The planes say which samples of block (bx, by), of the part that begins with sample `from`, the triangle covers.
 abbrev pub ArePlanesOf : Tri → ℕ → ℕ → SampleCount → ℕ → List ℕ → Type 0
 ArePlanesOf t bx by count from planes = (s : ℕ) → s < part_size count → IsPlaneOf t bx by count (from + s) (slice_index planes s)
@@ -81,3 +76,34 @@ ArePlanesOf t bx by count from planes = (s : ℕ) → s < part_size count → Is
 abbrev pub CoversNoneOf : TestedSquare → ℕ → Type 0
 CoversNoneOf q from =
     (s row column : ℕ) → s < part_size q.count → row < side_of q.side → column < side_of q.side → ¬ CoversIn q (from + s) row column
+
+-- ---- masks
+
+-- The state lets sample s of pixel (i, j) be drawn: the pixel is in the scissor, and bit s of the sample mask is set.
+pub record Allows (state : State) (i j s : ℕ) : Type 0 where
+  pub in_scissor : IsInBox state.scissor i j
+  pub in_mask : state.sample_mask / 2 ^ s % 2 ≡ 1
+
+-- The bits of the block's masks are those of these masks that the state lets be drawn.
+abbrev pub AreAllowed : State → List ℕ → BlockMask → Type 0
+AreAllowed state masks m =
+    (row column s : ℕ) → row < 8 → column < 8 → s < part_size m.count
+    → (IsBitSet (slice_index m.plane s) (8 * row + column) ↔ (IsBitSet (slice_index masks s) (8 * row + column) × Allows state (8 * m.bx + column) (8 * m.by + row) (m.from + s)))
+
+-- The triangle covers the samples in these masks of block (bx, by), of the part that begins with sample `from`.
+abbrev pub CoversMasks : Tri → ℕ → ℕ → SampleCount → ℕ → List ℕ → Type 0
+CoversMasks t bx by count from masks =
+    (row column s : ℕ) → row < 8 → column < 8 → s < part_size count → IsBitSet (slice_index masks s) (8 * row + column) → CoversInBlock t bx by count (from + s) row column
+
+-- Sample s of the pixel in a row and a column of the tile is in these masks of block (bx, by), of the part that begins with sample
+-- `from`, and the state lets it be drawn.
+pub record IsChosen (state : State) (tile : Tile) (bx by from : ℕ) (masks : List ℕ) (row column s : ℕ) : Type 0 where
+  pub part : IsInSquarePart tile bx by 8 from row column s
+  pub in_masks : IsBitSet (slice_index masks (s - from)) (8 * (row % 8) + column % 8)
+  pub allowed : Allows state (8 * tile.bx + column) (8 * tile.by + row) s
+
+-- The triangle is drawn at the samples in the masks that the state lets be drawn, and the others are unchanged.
+pub record DrawsMasks (t : Placed) (tile : Tile) (bx by from : ℕ) (masks : List ℕ) (old new : List BlockSamples) : Type 0 where
+  pub drawn : (row column s : ℕ) → IsSampleOf tile row column s → IsChosen t.state tile bx by from masks row column s
+      → IsDrawnAt t (sample_position (8 * tile.bx + column) (8 * tile.by + row) s tile.count) (stored tile old row column s) (stored tile new row column s)
+  pub kept : (row column s : ℕ) → IsSampleOf tile row column s → ¬ IsChosen t.state tile bx by from masks row column s → KeepsAt tile old new row column s

@@ -3,17 +3,16 @@ ghost use Rattle.std.specs.Prelude.{◌≡◌, ◌↔◌, ℕ, ◌+◌, ◌-◌,
 ghost use Rattle.grid.specs.Pixels.{IsInBox};
 ghost use Rattle.grid.specs.Samples.{IsPart};
 ghost use Rattle.cover.specs.Rasterized.{IsRasterized};
-ghost use Rattle.shade.specs.declared.placed.Placed.{Placed as Triangle};
 ghost use Rattle.raster.specs.Samples.{planes_of};
 ghost use Rattle.raster.specs.Region.{HoldsTile};
-ghost use Rattle.raster.specs.Drawing.{DrawsPart, IsInSquarePart, LiesIn, ArePlanesOf, AreMet};
+ghost use Rattle.raster.specs.Drawing.{DrawsPart, IsInSquarePart, LiesIn, ArePlanesOf, AreAllowed, CoversMasks, DrawsMasks};
 
 use crate::scissor::in_scissor_of_tile;
 use crate::tile::Tile;
 use grid::SampleCount;
 use lanes::{BlockMask, BlockSamples, Interpolants};
 use planes::Corrections;
-use shade::Placed;
+use shade::State;
 
 /// All pixels of a block if bit `s` of a sample mask is set, else none.
 #[inline]
@@ -24,41 +23,74 @@ fn in_sample_mask(mask: u16, s: u32) -> u64
     if (mask >> s) % 2 == 1 { u64::MAX } else { 0 }
 }
 
-/// Which samples of block (bx, by) the triangle meets, of those that it covers of the part that begins with sample `from`. `scissor`
+/// Which samples of block (bx, by) the state lets be drawn, of those in the masks of the part that begins with sample `from`. `scissor`
 /// says which pixels are in the scissor.
 #[inline]
-fn met(
-    triangle: &Placed,
+fn allowed(
+    state: &State,
     bx: u32,
     by: u32,
     from: u32,
     count: SampleCount,
-    covered: &[u64; 4],
+    masks: &[u64; 4],
     scissor: u64,
 ) -> BlockMask
     requires column { bx < 512 }
     requires row { by < 512 }
     requires part { IsPart count from }
-    requires drawn { IsRasterized triangle.now.tri triangle.now.state.cull }
-    requires covered { ArePlanesOf triangle.now.tri bx by count from covered.now }
-    requires scissor { (row column : ℕ) → row < 8 → column < 8 → (IsBitSet scissor (8 * row + column) ↔ IsInBox triangle.now.state.scissor (8 * bx + column) (8 * by + row)) }
-    ensures met { AreMet triangle.now result }
+    requires scissor { (row column : ℕ) → row < 8 → column < 8 → (IsBitSet scissor (8 * row + column) ↔ IsInBox state.now.scissor (8 * bx + column) (8 * by + row)) }
+    ensures allowed { AreAllowed state.now masks.now result }
     ensures block { (result.bx ≡ bx) × (result.by ≡ by) × (result.count ≡ count) }
     ensures part { result.from ≡ from }
 {
-    let mask = triangle.state.sample_mask >> from;
+    let mask = state.sample_mask >> from;
     BlockMask {
         bx,
         by,
         count,
         from,
         plane: [
-            covered[0] & scissor & in_sample_mask(mask, 0),
-            covered[1] & scissor & in_sample_mask(mask, 1),
-            covered[2] & scissor & in_sample_mask(mask, 2),
-            covered[3] & scissor & in_sample_mask(mask, 3),
+            masks[0] & scissor & in_sample_mask(mask, 0),
+            masks[1] & scissor & in_sample_mask(mask, 1),
+            masks[2] & scissor & in_sample_mask(mask, 2),
+            masks[3] & scissor & in_sample_mask(mask, 3),
         ],
     }
+}
+
+/// Draws the triangle at the samples of block (bx, by) that are in the masks, each of which it covers, of the part that begins with
+/// sample `from`, if its state lets them be drawn. `whole` says that all pixels of the tile are in the scissor. A pixel has `count`
+/// samples.
+#[inline(always)]
+pub fn draw_masks(
+    triangle: &Interpolants,
+    tile: &Tile,
+    count: SampleCount,
+    bx: u32,
+    by: u32,
+    from: u32,
+    masks: &[u64; 4],
+    whole: bool,
+    samples: &mut [BlockSamples],
+    corrections: &mut Corrections,
+)
+    requires samples { length samples.old ≡ planes_of tile.now.side tile.now.count }
+    requires count { count ≡ tile.now.count }
+    requires block { LiesIn tile.now bx by 8 }
+    requires part { IsPart count from }
+    requires covered { CoversMasks triangle.now.tri bx by count from masks.now }
+    requires whole { IsTrue whole → HoldsTile triangle.now.state.scissor tile.now }
+    ensures { DrawsMasks triangle.now tile.now bx by from masks.now samples.old samples.new }
+{
+    let state = &triangle.placed().state;
+    let scissor = in_scissor_of_tile(&state.scissor, whole, tile, bx, by);
+    let mask = allowed(state, bx, by, from, count, masks, scissor);
+    let first = tile.place_by_count(count, by - tile.by, bx - tile.bx, from);
+    triangle.draw(
+        &mask,
+        &mut samples[first..first + count.part_size() as usize],
+        corrections,
+    );
 }
 
 /// Draws the triangle at the samples of block (bx, by), of the part that begins with sample `from`. The bits of `covered` say which
@@ -86,13 +118,16 @@ pub(crate) fn draw_block<const N: u32>(
     requires whole { IsTrue whole → HoldsTile triangle.now.state.scissor tile.now }
     ensures { DrawsPart triangle.now tile.now (IsInSquarePart tile.now bx by 8 from) samples.old samples.new }
 {
-    let placed = triangle.placed();
-    let scissor = in_scissor_of_tile(&placed.state.scissor, whole, tile, bx, by);
-    let mask = met(placed, bx, by, from, count, covered, scissor);
-    let first = tile.place_by_count(count, by - tile.by, bx - tile.bx, from);
-    triangle.draw(
-        &mask,
-        &mut samples[first..first + count.part_size() as usize],
+    draw_masks(
+        triangle,
+        tile,
+        count,
+        bx,
+        by,
+        from,
+        covered,
+        whole,
+        samples,
         corrections,
     );
 }

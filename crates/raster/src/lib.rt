@@ -9,6 +9,7 @@ mod region;
 mod scissor;
 mod tile;
 
+pub use block::draw_masks;
 pub use cleared::clear;
 pub use pixel_row::{colours, colours_by};
 pub use rasterize::{covers_tile, draw_triangle};

@@ -4,7 +4,9 @@ ghost use Rattle.std.specs.Prelude.{◌<◌, ◌≤◌, IfSome};
 use crate::answer::{Answer, whole};
 use crate::words::Words;
 use grid::{Point, SampleCount};
-use polygons::{Edge, Flags, Rule, Strip, count_covering, cover_strip, polygon_covers};
+use polygons::{
+    Corner, Edge, Flags, Polygons, Rule, Strip, count_covering, cover_strip, polygon_covers,
+};
 
 /// As many corners as a ring of a line has at most.
 const CORNERS: usize = 8;
@@ -79,12 +81,24 @@ pub(crate) fn strip_of(words: &mut Words<'_>) -> Option<Answer> {
         count: SampleCount::One,
         from: 0,
     };
+    let mut corners = [Corner { x: 0, y: 0 }; CORNERS];
+    for (k, corner) in corners[..ring.count].iter_mut().enumerate() {
+        *corner = Corner {
+            x: ring.corners[k].x(),
+            y: ring.corners[k].y(),
+        };
+    }
+    let ends = [u32::try_from(ring.count).ok()?];
+    let polygons = Polygons::new(&corners[..ring.count], &ends, &[1]).ok()?;
+    if polygons.count() == 0 {
+        return None;
+    }
     let mut flags: [Flags; 1] = [[0; 32]];
     cover_strip(
         &mut flags,
         &mut [],
         Rule::EvenOdd,
-        &[&ring.corners[..ring.count]],
+        &polygons.rings(0),
         &strip,
     );
     Some(Answer::Mask(flags[0][0]))

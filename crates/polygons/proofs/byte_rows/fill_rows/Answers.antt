@@ -1,4 +1,4 @@
-use Rattle.std.proofs.Common.{◌≡◌, ◌∙◌, arith, ◌+◌, ◌*◌}
+use Rattle.std.proofs.Common.{◌∙◌, arith}
 use Rattle.polygons.proofs.ByteRows.{with_carry}
 use Rattle.polygons.proofs.byte_rows.fill_rows.Goals as goal
 

@@ -1,4 +1,4 @@
-use Rattle.std.proofs.Common.{arith, ◌+◌, ◌/◌, ◌<◌, length}
+use Rattle.std.proofs.Common.{arith, ◌/◌, ◌<◌, length}
 use Rattle.polygons.proofs.Totals.{flip_here, set_other, flipped_other}
 use Rattle.polygons.proofs.cells.flip.Goals as goal
 

@@ -1,4 +1,4 @@
-use Rattle.std.proofs.Common.{arith, ◌+◌, ◌/◌, ◌<◌, length}
+use Rattle.std.proofs.Common.{arith, ◌/◌, ◌<◌, length}
 use Rattle.polygons.proofs.Totals.{mark_here, set_other, marked_other}
 use Rattle.polygons.proofs.cells.mark.Goals as goal
 

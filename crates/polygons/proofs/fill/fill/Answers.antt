@@ -1,11 +1,11 @@
-use Rattle.std.proofs.Common.{◌≡◌, ◌≢◌, inl, inr, refl, sym, subst, ap, ◌∙◌, arith, ℕ, ◌+◌, ◌*◌, ◌/◌, ◌%◌, ◌<◌, ◌≤◌, List, length, set, slice_index, length-set}
-use Rattle.std.proofs.lemmas.Bool.{cases_eq, cases_lt}
+use Rattle.std.proofs.Common.{◌≡◌, inl, inr, refl, subst, ap, ◌∙◌, arith, ℕ, ◌+◌, ◌*◌, ◌/◌, ◌%◌, ◌<◌, List, length, set, slice_index, length-set}
+use Rattle.std.proofs.lemmas.Bool.{cases_eq}
 use Rattle.std.proofs.lemmas.Nat.Bits.{bit_at-zero}
 use Rattle.std.specs.Int.{bit_at}
 use Rattle.polygons.specs.Rows.{parity}
 use Rattle.polygons.specs.ManyRows.{row_of}
 use Rattle.polygons.specs.Cells.{word_of, flag_of}
-use Rattle.polygons.specs.Spreading.{IsCarry, IsFilled, IsNextCarry}
+use Rattle.polygons.specs.Spreading.{IsFilled, IsNextCarry}
 use Rattle.polygons.proofs.RowLists.{row-here, row-other}
 use Rattle.polygons.proofs.Filling.{before_column, filled_flag, next_carry}
 use Rattle.polygons.proofs.fill.fill.Goals as goal

@@ -1,4 +1,4 @@
-use Rattle.std.proofs.Common.{◌≡◌, sym, subst, ◌∙◌, arith, ℕ, ◌<◌, ◌≤◌, length, slice_index}
+use Rattle.std.proofs.Common.{subst, ◌∙◌, arith, ℕ, slice_index}
 use Rattle.polygons.specs.Spreading.{IsCarry, IsFilled, IsNextCarry}
 use Rattle.polygons.proofs.Filling.{one_more_element, element-other, changed_or_not}
 use Rattle.polygons.proofs.fill.fill_column.Goals as goal

@@ -1,6 +1,5 @@
-use Rattle.std.proofs.Common.{◌≡◌, map, take, count_by}
+use Rattle.std.proofs.Common.{◌≡◌, take, count_by}
 use Rattle.polygons.specs.Crossing.{is_inside}
-use Rattle.polygons.specs.Partition.{covering}
 use Rattle.polygons.proofs.partition.count_covering.Given as goal
 
 abbrev pub invariant-loop-edges : goal.invariant-loop-edges

@@ -1,44 +1,65 @@
-use Rattle.std.proofs.Common.{◌≡◌, refl, sym, ap, ◌∙◌, arith, ◌≤◌, List, drop, length}
-use Rattle.grid.specs.Position.{Position}
+use Rattle.std.proofs.Common.{◌≡◌, refl, sym, ap, ◌∙◌, arith, ◌<◌, ◌≤◌, ℕ, List, map, drop, get_or, length, pos}
+use Rattle.std.proofs.lemmas.List.{get_or-map, length-map}
+use Rattle.std.proofs.lemmas.List.Elements.{All-get_or}
+use Rattle.grid.specs.Position.{Position, IsInGuardBand}
+use Rattle.polygons.specs.declared.corner.Corner.{Corner}
 use Rattle.polygons.specs.Crossing.{winding}
 use Rattle.polygons.specs.Polygon.{path_edges, path_end}
+use Rattle.polygons.specs.Rings.{position_of}
 use Rattle.polygons.proofs.Plotted.{has_counters, plotted_none, plotted_both, plotted_as, path_step, end_step, none_left, nothing_yet, one_more, nothing_left}
 use Rattle.polygons.proofs.plot.plot_path.Goals as goal
 
 pub plot_edge-requires : goal.plot_edge-requires
 plot_edge-requires c =
-    let v = c.loop-to.invariant.plotted in
-    has_counters c.args.rule c.args.flags.now c.args.counters.now c.loop-to.flags c.loop-to.counters v.flags_len v.counters_len c.requires
+    let v = c.loop-corner.invariant.plotted in
+    has_counters c.args.rule c.args.flags.now c.args.counters.now c.loop-corner.flags c.loop-corner.counters v.flags_len v.counters_len c.requires.counters
 
-pub loop-to-init : goal.loop-to-init
-loop-to-init c = record {
-  plotted = plotted_none c.args.rule c.args.strip.now _ c.args.flags.now c.args.counters.now (λ p. nothing_yet (winding (path_edges c.args.from c.args.corners.now) p));
+abbrev zeros : Corner
+zeros = record { x = pos 0; y = pos 0 }
+
+pub at-to-requires : goal.at-to-requires
+at-to-requires c = All-get_or (λ k. IsInGuardBand (position_of k)) c.args.corners.now c.loop-corner.corner-index zeros c.loop-corner-test.true c.requires.corners
+
+pub loop-corner-init : goal.loop-corner-init
+loop-corner-init c = record {
+  plotted = plotted_none c.args.rule c.args.strip.now _ c.args.flags.now c.args.counters.now (λ p. nothing_yet (winding (path_edges c.args.from (map position_of c.args.corners.now)) p));
   end = refl;
 }
 
-pub loop-to-preserved : goal.loop-to-preserved
-loop-to-preserved c =
-    let v = c.loop-to.invariant in
-    let i = c.loop-to.to-index in
-    let from = c.loop-to.from in
-    let to = c.to-item.result in
-    let cs = c.args.corners.now in
+item_of : (to : Position) (cs : List Corner) (i : ℕ) → i < length cs → to ≡ position_of (get_or cs i zeros) → to ≡ get_or (map position_of cs) i to
+item_of to cs i small at = at ∙ sym (get_or-map position_of cs i zeros to small)
+
+inside : (cs : List Corner) (i : ℕ) → i < length cs → i < length (map position_of cs)
+inside cs i h = omega (arith, length-map cs position_of)
+
+pub loop-corner-preserved : goal.loop-corner-preserved
+loop-corner-preserved c =
+    let v = c.loop-corner.invariant in
+    let i = c.loop-corner.corner-index in
+    let from = c.loop-corner.from in
+    let to = c.at-to.result in
+    let corners = c.args.corners.now in
+    let cs = map position_of corners in
+    let small = inside corners i c.loop-corner-test.true in
+    let item = item_of to corners i c.loop-corner-test.true c.at-to.ensures in
     record {
       plotted = plotted_both c.args.rule c.args.strip.now _ _ _ _ _ _ _ _ _
-          (λ p. one_more (winding (path_edges c.args.from cs) p) _ _ _ (path_step from to cs i p c.loop-to-test.true c.to-item.is))
+          (λ p. one_more (winding (path_edges c.args.from cs) p) _ _ _ (path_step from to cs i p small item))
           v.plotted c.plot_edge.ensures;
-      end = v.end ∙ end_step from to cs i c.loop-to-test.true c.to-item.is;
+      end = v.end ∙ end_step from to cs i small item;
     }
 
 pub returns : goal.returns
 returns c =
-    let v = c.loop-to.invariant in
-    let none = none_left c.args.corners.now c.loop-to.to-index c.loop-to-test.false in
+    let v = c.loop-corner.invariant in
+    let cs = map position_of c.args.corners.now in
+    let past : length cs ≤ c.loop-corner.corner-index = omega (arith, length-map c.args.corners.now position_of, c.loop-corner-test.false) in
+    let none = none_left cs c.loop-corner.corner-index past in
     record {
       plotted = plotted_as c.args.rule c.args.strip.now _ _ _ _ _ _
-          (λ p. nothing_left (winding (path_edges c.args.from c.args.corners.now) p) _ (ap (λ (r : List Position). winding (path_edges c.loop-to.from r) p) none))
+          (λ p. nothing_left (winding (path_edges c.args.from cs) p) _ (ap (λ (r : List Position). winding (path_edges c.loop-corner.from r) p) none))
           v.plotted;
-      end = sym_end (path_end c.loop-to.from (drop c.loop-to.to-index c.args.corners.now)) v.end (ap (path_end c.loop-to.from) none);
+      end = sym_end (path_end c.loop-corner.from (drop c.loop-corner.corner-index cs)) v.end (ap (path_end c.loop-corner.from) none);
     }
   where
     sym_end : {a b : Position} (z : Position) → a ≡ z → z ≡ b → b ≡ a

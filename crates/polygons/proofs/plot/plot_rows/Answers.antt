@@ -1,4 +1,4 @@
-use Rattle.std.proofs.Common.{◌≡◌, inl, inr, refl, sym, subst, ap, ◌∙◌, arith, ℕ, ◌+◌, ◌*◌, ◌<◌, ◌≤◌, length, ℤ, pos, w32, w64, to_z, of_z, FitsSigned, ◌+ℤ◌, ◌*ℤ◌, ◌<ℤ◌}
+use Rattle.std.proofs.Common.{◌≡◌, inl, inr, refl, sym, subst, ap, ◌∙◌, arith, ℕ, ◌+◌, ◌*◌, ◌<◌, ◌≤◌, ℤ, pos, w32, w64, to_z, of_z, FitsSigned, ◌+ℤ◌, ◌*ℤ◌, ◌<ℤ◌}
 use Rattle.std.proofs.lemmas.Int.{ints}
 use Rattle.std.proofs.lemmas.Bool.{cases_eq, cases_lt}
 use Rattle.grid.specs.Position.{Position, IsInBand}
@@ -6,7 +6,7 @@ use Rattle.grid.proofs.Bounds.{passed}
 use Rattle.polygons.specs.declared.edge.Edge.{Edge}
 use Rattle.polygons.specs.Blocks.{down}
 use Rattle.polygons.specs.Columns.{Walk, along, below, HasHeight}
-use Rattle.polygons.specs.Rows.{direction, from_column}
+use Rattle.polygons.specs.Rows.{direction}
 use Rattle.polygons.specs.Cells.{total, modulus, signed, IsAlike}
 use Rattle.polygons.proofs.Plotted.{has_counters, row_height, row_after, walk_direction, alike_from, alike_moved}
 use Rattle.polygons.proofs.plot.plot_rows.Goals as goal

@@ -1,4 +1,4 @@
-use Rattle.std.proofs.Common.{◌≡◌, ℕ, ◌+◌, ◌*◌, ◌<◌, ◌≤◌, length, pos, ◌+ℤ◌}
+use Rattle.std.proofs.Common.{◌≡◌, ℕ, ◌*◌, ◌<◌, ◌≤◌, length, pos, ◌+ℤ◌}
 use Rattle.polygons.specs.Blocks.{down}
 use Rattle.polygons.specs.Columns.{along}
 use Rattle.polygons.specs.Rows.{direction}

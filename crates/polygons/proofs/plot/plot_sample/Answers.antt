@@ -1,13 +1,12 @@
-use Rattle.std.proofs.Common.{◌≡◌, inl, inr, refl, sym, subst, ap, ◌∙◌, arith, ℕ, ◌+◌, ◌*◌, ◌<◌, ◌≤◌, Bool, true, false, length, ℤ, pos, ◌+ℤ◌, ◌<ℤ◌, ◌≤ℤ◌}
+use Rattle.std.proofs.Common.{◌≡◌, inl, inr, refl, arith, ℕ, ◌*◌, ◌<◌, ◌≤◌, ℤ, pos, ◌+ℤ◌, ◌<ℤ◌, ◌≤ℤ◌}
 use Rattle.std.proofs.lemmas.Int.{ints}
 use Rattle.std.proofs.lemmas.Bool.{cases_lt}
 use Rattle.grid.specs.Position.{Position, IsInBand}
 use Rattle.grid.proofs.Bounds.{passed}
 use Rattle.polygons.specs.declared.edge.Edge.{Edge}
 use Rattle.polygons.specs.Blocks.{down}
-use Rattle.polygons.specs.Columns.{along, HasHeight}
-use Rattle.polygons.specs.Rows.{direction}
-use Rattle.polygons.specs.Cells.{total, modulus, signed, IsAlike}
+use Rattle.polygons.specs.Columns.{HasHeight}
+use Rattle.polygons.specs.Cells.{modulus}
 use Rattle.polygons.proofs.Plotted.{alike_none, direction_above, direction_below}
 use Rattle.polygons.proofs.plot.plot_sample.Goals as goal
 

@@ -1,7 +1,6 @@
-use Rattle.std.proofs.Common.{◌≡◌, inl, inr, refl, sym, subst, ap, ◌∙◌, arith, ℕ, ◌+◌, ◌*◌, ◌<◌, ◌≤◌, pos, ◌+ℤ◌}
+use Rattle.std.proofs.Common.{◌≡◌, inl, inr, refl, sym, subst, ap, ◌∙◌, arith, ℕ, ◌<◌, ◌≤◌, pos, ◌+ℤ◌}
 use Rattle.std.proofs.lemmas.Bool.{cases_eq}
 use Rattle.grid.specs.Position.{Position}
-use Rattle.grid.specs.Samples.{part_size}
 use Rattle.polygons.specs.Blocks.{down}
 use Rattle.polygons.specs.Columns.{along}
 use Rattle.polygons.specs.Rows.{direction}

@@ -1,5 +1,4 @@
 use Rattle.std.proofs.Common.{◌≡◌, ℕ, ◌*◌, ◌<◌, ◌≤◌, length, ◌+ℤ◌}
-use Rattle.grid.specs.Samples.{part_size}
 use Rattle.polygons.specs.Strip.{sample_of}
 use Rattle.polygons.specs.Rows.{direction}
 use Rattle.polygons.specs.Cells.{total, modulus, signed, IsAlike, AreMarked}

@@ -1,22 +1,24 @@
-use Rattle.std.proofs.Common.{◌≡◌, ◌↔◌, refl, sym, subst, ap, ◌∙◌, arith, ℕ, ◌+◌, ◌*◌, ◌^◌, ◌<◌, ◌≤◌, List, map, length, slice_index, pos}
+use Rattle.std.proofs.Common.{refl, ap, ◌∙◌, arith, ℕ, ◌+◌, ◌^◌, ◌<◌, ◌≤◌, List, length, slice_index}
 use Rattle.std.proofs.lemmas.Nat.Bits.{bit_at-lt}
-use Rattle.polygons.specs.declared.rule.Rule.{Rule}
 use Rattle.polygons.specs.declared.rule.Rule.TheVariants.{EvenOdd, NonZero}
-use Rattle.polygons.specs.Polygon.{polygon_edges}
+use Rattle.polygons.specs.Polygon.{polygon_edges, corner_count}
+use Rattle.polygons.specs.Rings.{rings_from}
 use Rattle.polygons.specs.ManyRows.{row_of}
 use Rattle.polygons.specs.Strip.{sample_of}
-use Rattle.polygons.specs.Cells.{HasCounters, AreZeros, AreMarked, flag_of, total}
+use Rattle.polygons.specs.Cells.{flag_of}
 use Rattle.polygons.proofs.Plotted.{part_small, has_counters}
 use Rattle.polygons.proofs.Masks.{mask_of_flags, even_odd_inside, nonzero_inside, marked_zeros, total-zeros, from_zeros}
+use Rattle.polygons.proofs.RingParts.{few_corners}
 use Rattle.polygons.proofs.strip_masks.cover_strip.Goals as goal
 
-few : (s n : ℕ) → s < n → n ≤ 4 → s < 4
-few s n h k = omega arith
+within : (s n : ℕ) → s < n → n ≤ 4 → s < 4
+within s n h k = omega arith
 
 pub returns-in-EvenOdd : goal.returns-in-EvenOdd
 returns-in-EvenOdd c =
     let p = c.plot.ensures in
-    let edges = polygon_edges (map (λ r. r.now) c.args.rings.now) in
+    let rings = c.args.rings.now in
+    let edges = polygon_edges (rings_from rings.corners.now rings.start rings.ends.now) in
     let strip = c.args.strip.now in
     record {
       len = c.fill.ensures.len ∙ p.flags_len;
@@ -26,14 +28,16 @@ returns-in-EvenOdd c =
           let t = rw c.in-EvenOdd.is at (p.totals s j k h j_small k_small) in
           let sum = from_zeros 2 _ _ _ (total-zeros EvenOdd c.args.flags.now c.args.counters.now s j k c.requires.flags c.requires.counters) t in
           even_odd_inside edges (sample_of strip s j k) (flag_of c.plot.new.flags s j) (k + 1) (flag_of c.fill.new.flags s j k) _
-          (c.fill.ensures.bits s j k (few s _ h (part_small strip.count)) j_small (let e = p.flags_len in omega arith)) (bit_at-lt _ _) refl sum));
+          (c.fill.ensures.bits s j k (within s _ h (part_small strip.count)) j_small (let e = p.flags_len in omega arith)) (bit_at-lt _ _) refl sum));
       counters = λ column i. ap (λ (cs : List (List ℕ)). slice_index (row_of cs column) i) (p.kept c.in-EvenOdd.is) ∙ c.requires.counters column i;
     }
 
 pub returns-in-NonZero : goal.returns-in-NonZero
 returns-in-NonZero c =
     let p = c.plot.ensures in
-    let rings = map (λ r. r.now) c.args.rings.now in
+    let shape = c.args.rings.now in
+    let rings = rings_from shape.corners.now shape.start shape.ends.now in
+    let few : corner_count rings < 2 ^ 32 = omega (arith, few_corners shape.corners.now shape.start shape.ends.now shape.rising, shape.few) in
     let strip = c.args.strip.now in
     record {
       len = c.sum.ensures.len ∙ p.flags_len;
@@ -42,8 +46,8 @@ returns-in-NonZero c =
           (mask_of_flags NonZero (polygon_edges rings) strip c.sum.new.flags s row column (length c.args.flags.now) l m (λ j k j_small k_small.
           let t = rw c.in-NonZero.is at (p.totals s j k h j_small k_small) in
           let sum = from_zeros (2 ^ 32) _ _ _ (total-zeros NonZero c.args.flags.now c.args.counters.now s j k c.requires.flags c.requires.counters) t in
-          nonzero_inside rings (sample_of strip s j k) (flag_of c.sum.new.flags s j k) _ c.requires.corners
-          (c.sum.ensures.bits s j k (few s _ h (part_small strip.count)) j_small (let e = p.flags_len in omega arith)) sum));
+          nonzero_inside rings (sample_of strip s j k) (flag_of c.sum.new.flags s j k) _ few
+          (c.sum.ensures.bits s j k (within s _ h (part_small strip.count)) j_small (let e = p.flags_len in omega arith)) sum));
       counters = c.sum.ensures.counters;
     }
 

@@ -1,5 +1,5 @@
-use Rattle.std.proofs.Common.{◌≡◌, sym, ap, ◌∙◌, arith, ℕ, ◌+◌, ◌*◌, ◌/◌, ◌%◌, ◌^◌, ◌<◌, ◌≤◌, length, slice_index}
-use Rattle.polygons.specs.Summing.{run, nonzero_bit}
+use Rattle.std.proofs.Common.{sym, ap, ◌∙◌, arith, ◌+◌, ◌*◌, ◌%◌, slice_index}
+use Rattle.polygons.specs.Summing.{nonzero_bit}
 use Rattle.polygons.proofs.RunningSums.{run-none, byte_zero, in_row}
 use Rattle.polygons.proofs.sum.sum_marked.Goals as goal
 

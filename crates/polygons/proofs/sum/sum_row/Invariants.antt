@@ -1,4 +1,4 @@
-use Rattle.std.proofs.Common.{◌≡◌, ℕ, ◌+◌, ◌*◌, ◌/◌, ◌<◌, ◌≤◌, slice_index}
+use Rattle.std.proofs.Common.{◌≡◌, ℕ, ◌+◌, ◌*◌, ◌<◌, ◌≤◌, slice_index}
 use Rattle.std.specs.Int.{bit_at}
 use Rattle.polygons.specs.Summing.{run, nonzero_bit}
 use Rattle.polygons.proofs.sum.sum_row.Given as goal

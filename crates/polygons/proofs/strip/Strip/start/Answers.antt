@@ -1,8 +1,7 @@
-use Rattle.std.proofs.Common.{◌≡◌, ◌∙◌, ap, arith, ℕ, ◌+◌, ◌*◌, ◌<◌, slice_index, ℤ, pos, ◌+ℤ◌, ◌*ℤ◌, ◌≤ℤ◌, ◌<ℤ◌, w32, to_z, of_z}
+use Rattle.std.proofs.Common.{◌≡◌, ◌∙◌, ap, arith, ℕ, ◌+◌, ◌*◌, ◌<◌, ℤ, pos, ◌+ℤ◌, ◌*ℤ◌, ◌≤ℤ◌, ◌<ℤ◌, w32, to_z, of_z}
 use Rattle.std.proofs.lemmas.Int.{ints}
 use Rattle.grid.specs.Position.{Position}
 use Rattle.grid.proofs.Bounds.{passed}
-use Rattle.grid.specs.Samples.{offsets_x, offsets_y}
 use Rattle.polygons.specs.Screen.{IsPixelInBand}
 use Rattle.polygons.proofs.Samples.{offset_x, offset_y}
 use Rattle.polygons.proofs.strip.Strip.start.Goals as goal

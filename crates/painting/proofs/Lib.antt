@@ -1,0 +1,6 @@
+pub mod Screen
+pub mod Joined
+pub mod Tiles
+pub mod Columns
+pub mod Strips
+pub mod TileRows

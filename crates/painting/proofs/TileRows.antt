@@ -1,0 +1,108 @@
+-- Tile rows that are painted one after another, and the whole of what the polygon makes.
+use Rattle.std.proofs.Common.{◌≡◌, ◌≢◌, ◌⊎◌, inl, inr, refl, sym, subst, ap, ◌∙◌, arith, ℕ, ◌+◌, ◌-◌, ◌*◌, ◌/◌, ◌<◌, ◌≤◌, List, [], ◌∷◌, ◌++◌, length, take, drop, slice_index, get_or, pos, ◌+ℤ◌}
+use Rattle.std.proofs.lemmas.Bool.{cases_lt}
+use Rattle.std.proofs.lemmas.List.{get_or-take, get_or_past, length-take}
+use Rattle.grid.specs.Samples.{sample_position}
+use Rattle.lanes.specs.declared.block_samples.BlockSamples.{BlockSamples}
+use Rattle.shade.specs.declared.placed.Placed.{Placed}
+use Rattle.shade.specs.declared.sample.Sample.{Sample}
+use Rattle.shade.specs.Placed.{IsDrawnAt}
+use Rattle.polygons.specs.Rings.{HoldsInside, rings_from}
+use Rattle.polygons.specs.Polygon.{polygon_edges}
+use Rattle.polygons.specs.declared.extent.Extent.{Extent}
+use Rattle.polygons.specs.ManyRows.{row_of}
+use Rattle.polygons.specs.Cells.{AreZeros}
+use Rattle.canvas.specs.declared.canvas.Canvas.{Canvas}
+use Rattle.canvas.specs.declared.window.Origin.{Origin}
+use Rattle.canvas.specs.Layout.{IsStoredIn, rows_of, planes_of_row, stored}
+use Rattle.canvas.proofs.Cut.{put, put_here, put_elsewhere}
+use Rattle.canvas.proofs.Places.{row_of as in_row, row_put, row_kept}
+use Rattle.painting.specs.declared.polygon.Polygon.{Polygon}
+use Rattle.painting.specs.declared.window.Window.{Window}
+use Rattle.painting.specs.Painting.{ArePainted, shape_of}
+use Rattle.painting.specs.Parts.{over_screen, MeetsHere, RowsPaint, HoldsSamples}
+use Rattle.painting.proofs.Joined.{rows_joined}
+use Rattle.painting.proofs.Screen.{applied}
+use Rattle.painting.proofs.Strips.{cases_eq}
+
+-- ---- one tile row of several
+module _ (t : Placed) (c : Canvas) (first end row : ℕ) (from : first ≤ row) (Q : ℕ → ℕ → ℕ → Type 0) (mid part : List BlockSamples) (n a : ℕ) (room : a + n ≤ length mid) (long : length part ≡ n) (many : n ≡ planes_of_row c)
+    (at : a ≡ (row - first) * planes_of_row c) (paints : RowsPaint t c row (row + 1) Q (take n (drop a mid)) part) where
+  module _ (i j s : ℕ) (h : IsStoredIn c first end i j s) where
+    here : j / 64 ≡ row → IsStoredIn c row (row + 1) i j s
+    here same = record { column = h.column; from = omega (arith, same); below = omega (arith, same); is_sample = h.is_sample }
+
+    old_is : j / 64 ≡ row → stored c row (take n (drop a mid)) i j s ≡ stored c first mid i j s
+    old_is same = in_row c i j s row first mid n a same many (at ∙ ap (λ k. (k - first) * planes_of_row c) (sym same)) h.column h.is_sample
+
+    new_is : j / 64 ≡ row → stored c row part i j s ≡ stored c first (put mid part a n) i j s
+    new_is same = sym (row_put c i j s mid part n a room long first row many at from h.from h.column h.is_sample same)
+
+    met : j / 64 ≡ row → Q i j s → IsDrawnAt t (sample_position i j s c.count) (stored c first mid i j s) (stored c first (put mid part a n) i j s)
+    met same q =
+        subst (λ (x : Sample). IsDrawnAt t (sample_position i j s c.count) x (stored c first (put mid part a n) i j s)) (old_is same)
+        (subst (λ (y : Sample). IsDrawnAt t (sample_position i j s c.count) (stored c row (take n (drop a mid)) i j s) y) (new_is same) (paints.met i j s (here same) q))
+
+    missed : ¬ ((j / 64 ≡ row) × Q i j s) → stored c first (put mid part a n) i j s ≡ stored c first mid i j s
+    missed other =
+        elim (cases_eq (j / 64) row) [
+          | inl same ↦ sym (new_is same) ∙ paints.missed i j s (here same) (λ q. other (same, q)) ∙ old_is same
+          | inr apart ↦ row_kept c i j s mid part n a room long first row many at from h.from h.column h.is_sample apart
+        ]
+
+  row_in_rows : RowsPaint t c first end (λ i j s. (j / 64 ≡ row) × Q i j s) mid (put mid part a n)
+  row_in_rows = record { met = λ i j s h q. met i j s h q.0 q.1; missed = missed }
+
+  -- the rows before this one have been painted
+  abbrev pub Before : ℕ → ℕ → ℕ → ℕ → Type 0
+  Before next i j s = (j / 64 < next) × Q i j s
+
+  pub one_row_more : (old : List BlockSamples) → RowsPaint t c first end (Before row) old mid → RowsPaint t c first end (Before (row + 1)) old (put mid part a n)
+  one_row_more old before =
+      rows_joined t c first end (Before row) (λ i j s. (j / 64 ≡ row) × Q i j s) (Before (row + 1)) old mid (put mid part a n) before row_in_rows
+      (λ i j s h p q. let l = p.0 in let e = q.0 in omega (arith, l, e))
+      (λ i j s h r. elim (cases_lt (j / 64) row) [ inl less ↦ inl (less, r.1) | inr more ↦ inr (omega (arith, more, r.0), r.1) ])
+      (λ i j s h p. (omega (arith, p.0), p.1))
+      (λ i j s h q. (omega (arith, q.0), q.1))
+
+-- ---- what is in the window
+module _ (polygon : Polygon) (origin : Origin) (c : Canvas) (extent : Extent) (w : Window)
+    (holds : HoldsInside extent (polygon_edges (rings_from polygon.rings.corners.now polygon.rings.start polygon.rings.ends.now))) (window : HoldsSamples w extent origin c) where
+  pub in_window : (first end i j s : ℕ) → end ≤ rows_of c → IsStoredIn c first end i j s → MeetsHere polygon origin c.count i j s → (w.left ≤ i / 8) × (i / 8 < w.right) × (w.top ≤ j / 64) × (j / 64 < w.bottom)
+  in_window first end i j s few h m =
+      let high = c.height_fits in
+      let below = h.below in
+      window i j s h.column (omega (arith, few, high, below)) (holds polygon.rule _ m.covered)
+
+-- ---- the samples as the polygon makes them
+pub polygon_painted : (polygon : Polygon) (origin : Origin) (c : Canvas) (first end : ℕ) (old new : List BlockSamples) → end ≤ rows_of c
+    → RowsPaint (over_screen polygon origin) c first end (MeetsHere polygon origin c.count) old new → ArePainted (shape_of polygon ∷ []) origin c first end old new
+polygon_painted polygon origin c first end old new few paints i j s h =
+    let wide = c.width_fits in
+    let high = c.height_fits in
+    let column = h.column in
+    let below = h.below in (
+      stored c first new i j s,
+      record {
+        met = λ m. applied polygon origin c.count i j s _ _ (omega (arith, wide, column)) (omega (arith, few, high, below)) (paints.met i j s h m);
+        missed = λ n. paints.missed i j s h n;
+      },
+      refl,
+    )
+
+-- ---- parts of scratch memory
+pub zeros_of_part : (xs : List (List ℕ)) (n : ℕ) → AreZeros xs → AreZeros (take n xs)
+zeros_of_part xs n h column i =
+    elim (cases_lt column n) [
+      | inl less ↦ ap (λ (row : List ℕ). slice_index row i) (get_or-take n xs column [] less) ∙ h column i
+      | inr past ↦ ap (λ (row : List ℕ). slice_index row i) (get_or_past (take n xs) column [] (omega (arith, past, length-take n xs)))
+    ]
+
+pub zeros_put : (xs part : List (List ℕ)) (n : ℕ) → n ≤ length xs → length part ≡ n → AreZeros xs → AreZeros part → AreZeros (put xs part 0 n)
+zeros_put xs part n fits long h k column i =
+    elim (cases_lt column n) [
+      | inl less ↦
+          let place : column ≡ 0 + column = omega arith in
+          ap (λ m. slice_index (row_of (put xs part 0 n) m) i) place ∙ ap (λ (row : List ℕ). slice_index row i) (put_here xs part 0 n [] (omega (arith, fits)) long column less) ∙ k column i
+      | inr past ↦ ap (λ (row : List ℕ). slice_index row i) (put_elsewhere xs part 0 n [] (omega (arith, fits)) long column (λ s l e. omega (arith, past, l, e))) ∙ h column i
+    ]

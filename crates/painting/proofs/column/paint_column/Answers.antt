@@ -1,0 +1,34 @@
+use Rattle.std.proofs.Common.{arith, ◌≡◌, ◌∙◌, sym, subst, ℕ, ◌+◌, ◌*◌, ◌<◌, List, slice_index, IsTrue}
+use Rattle.shade.specs.declared.placed.Placed.{Placed}
+use Rattle.lanes.specs.declared.block_samples.BlockSamples.{BlockSamples}
+use Rattle.raster.specs.Region.{HoldsTile}
+use Rattle.painting.specs.Parts.{IsInColumn, TilePaints}
+use Rattle.painting.proofs.Columns.{one_block_more, one_block_skipped}
+use Rattle.painting.proofs.Joined.{tile_none}
+use Rattle.painting.proofs.column.paint_column.Goals as goal
+use Rattle.painting.proofs.column.paint_column.Goals.{then-has_some, else-has_some}
+
+pub paint_block-requires-clause-whole : goal.paint_block-requires-clause-whole
+paint_block-requires-clause-whole c =
+    subst (λ (t : Placed). IsTrue c.holds_tile-whole.result → HoldsTile t.state.scissor c.args.tile.now) c.placed.ensures c.holds_tile-whole.ensures
+
+pub loop-row-init : goal.loop-row-init
+loop-row-init c =
+    let t = c.args.triangle.now in
+    let tile = c.args.tile.now in
+    tile_none t tile (IsInColumn t.state tile c.args.bx c.args.from 0 c.args.words.now) c.args.samples.now (λ row column s h p. omega (arith, p.before))
+
+pub loop-row-preserved : goal.loop-row-preserved
+loop-row-preserved c =
+    let t = c.args.triangle.now in
+    let tile = c.args.tile.now in
+    let row = c.loop-row.row in
+    let After = λ (xs : List BlockSamples). TilePaints t tile (IsInColumn t.state tile c.args.bx c.args.from (row + 1) c.args.words.now) c.args.samples.now xs in
+    elim c.if-has_some.branch [
+      | then-has_some w ↦
+          subst After (sym w.samples-is)
+          (one_block_more t tile c.args.bx c.args.from row c.args.words.now c.masks_of-masks.result c.masks_of-masks.ensures c.args.samples.now c.loop-row.samples w.paint_block.new.samples c.loop-row.invariant w.paint_block.ensures)
+      | else-has_some w ↦
+          subst After (sym w.samples-is)
+          (one_block_skipped t tile c.args.bx c.args.from row c.args.words.now c.masks_of-masks.result c.masks_of-masks.ensures c.args.samples.now c.loop-row.samples (c.has_some.ensures w.if-has_some.false) c.loop-row.invariant)
+    ]

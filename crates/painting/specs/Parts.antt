@@ -1,0 +1,77 @@
+-- Parts of a canvas that are painted one after another, by masks.
+use Rattle.std.specs.Prelude.{◌≡◌, ℕ, ◌+◌, ◌-◌, ◌*◌, ◌/◌, ◌%◌, ◌<◌, ◌≤◌, ℤ, pos, negsuc, ◌+ℤ◌, List, [], ◌∷◌, length, slice_index, IsBitSet}
+use Rattle.grid.specs.Position.{Position}
+use Rattle.grid.specs.Samples.{sample_position}
+use Rattle.grid.specs.Triangle.{Covers}
+use Rattle.grid.specs.declared.cull.Cull.TheVariants.{None as NoCulling}
+use Rattle.grid.specs.declared.sample_count.SampleCount.{SampleCount}
+use Rattle.shade.specs.declared.placed.Placed.{Placed}
+use Rattle.shade.specs.declared.state.State.{State}
+use Rattle.shade.specs.Placed.{IsDrawnAt}
+use Rattle.lanes.specs.declared.block_samples.BlockSamples.{BlockSamples}
+use Rattle.polygons.specs.declared.extent.Extent.{Extent}
+use Rattle.polygons.specs.ManyRows.{row_of}
+use Rattle.polygons.specs.Rings.{IsInExtent}
+use Rattle.polygons.specs.Screen.{screen_sample}
+use Rattle.raster.specs.declared.tile.Tile.{Tile}
+use Rattle.raster.specs.Drawing.{Allows, IsInPart}
+use Rattle.raster.specs.Samples.{IsSampleOf}
+use Rattle.canvas.specs.declared.canvas.Canvas.{Canvas}
+use Rattle.canvas.specs.declared.window.Origin.{Origin}
+use Rattle.canvas.specs.Layout.{IsStoredIn, columns_of, stored, stored_in_tile}
+use Rattle.canvas.specs.Window.{moved_state}
+use Rattle.painting.specs.declared.polygon.Polygon.{Polygon}
+use Rattle.painting.specs.declared.window.Window.{Window}
+use Rattle.painting.specs.Painting.{MeetsSample, shape_of}
+
+-- A triangle that covers the screen, in the colour, at the depth and in the state of the polygon, with the scissor as seen from the origin.
+abbrev pub over_screen : Polygon → Origin → Placed
+over_screen polygon origin = record {
+  tri = record { a = record { x = negsuc 0; y = negsuc 0 }; b = record { x = pos 8388607; y = negsuc 0 }; c = record { x = negsuc 0; y = pos 8388607 } };
+  z = polygon.z ∷ polygon.z ∷ polygon.z ∷ [];
+  rgba = polygon.rgba ∷ polygon.rgba ∷ polygon.rgba ∷ [];
+  state = record (moved_state origin.x origin.y polygon.state) { cull = NoCulling };
+}
+
+-- The triangle covers each sample of the screen, which is 4096 by 4096 pixels.
+abbrev pub CoversScreen : Placed → Type 0
+CoversScreen t = (count : SampleCount) (i j s : ℕ) → i < 4096 → j < 4096 → Covers t.tri.a t.tri.b t.tri.c (sample_position i j s count)
+
+-- The triangle is drawn at those samples of the tile that are in this part, and the others are unchanged.
+pub record TilePaints (t : Placed) (tile : Tile) (part : ℕ → ℕ → ℕ → Type 0) (old new : List BlockSamples) : Type 0 where
+  pub met : (row column s : ℕ) → IsSampleOf tile row column s → part row column s
+      → IsDrawnAt t (sample_position (8 * tile.bx + column) (8 * tile.by + row) s tile.count) (stored_in_tile tile.count old column row s) (stored_in_tile tile.count new column row s)
+  pub missed : (row column s : ℕ) → IsSampleOf tile row column s → ¬ part row column s → stored_in_tile tile.count new column row s ≡ stored_in_tile tile.count old column row s
+
+-- The same of tile rows.
+pub record RowsPaint (t : Placed) (c : Canvas) (first end : ℕ) (part : ℕ → ℕ → ℕ → Type 0) (old new : List BlockSamples) : Type 0 where
+  pub met : (i j s : ℕ) → IsStoredIn c first end i j s → part i j s → IsDrawnAt t (sample_position i j s c.count) (stored c first old i j s) (stored c first new i j s)
+  pub missed : (i j s : ℕ) → IsStoredIn c first end i j s → ¬ part i j s → stored c first new i j s ≡ stored c first old i j s
+
+-- The sample is in column `bx` of blocks and in the part that begins with sample `from`, its bit is set in the words of this column's
+-- masks, and the state lets it be drawn. Of each of the first n rows of blocks there are four words.
+pub record IsInColumn (state : State) (tile : Tile) (bx from n : ℕ) (words : List ℕ) (row column s : ℕ) : Type 0 where
+  pub left : 8 * bx ≤ 8 * tile.bx + column
+  pub right : 8 * tile.bx + column < 8 * bx + 8
+  pub before : row < 8 * n
+  pub samples : IsInPart tile.count from s
+  pub in_masks : IsBitSet (slice_index words (4 * (row / 8) + (s - from))) (8 * (row % 8) + column % 8)
+  pub allowed : Allows state (8 * tile.bx + column) (8 * tile.by + row) s
+
+-- The same in the first n columns of blocks, from column `first` on.
+pub record IsFlagged (state : State) (count : SampleCount) (first from n : ℕ) (flags : List (List ℕ)) (i j s : ℕ) : Type 0 where
+  pub left : 8 * first ≤ i
+  pub right : i < 8 * (first + n)
+  pub samples : IsInPart count from s
+  pub in_masks : IsBitSet (slice_index (row_of flags (i / 8 - first)) (4 * (j % 64 / 8) + (s - from))) (8 * (j % 8) + i % 8)
+  pub allowed : Allows state i j s
+
+-- The polygon meets sample s of pixel (i, j) of the canvas.
+abbrev pub MeetsHere : Polygon → Origin → SampleCount → ℕ → ℕ → ℕ → Type 0
+MeetsHere polygon origin count i j s = MeetsSample (shape_of polygon) count (pos i +ℤ origin.x) (pos j +ℤ origin.y) s
+
+-- Each sample of the canvas that lies in the box is in a column of blocks and a tile row of the window.
+abbrev pub HoldsSamples : Window → Extent → Origin → Canvas → Type 0
+HoldsSamples w e origin c =
+    (i j s : ℕ) → i / 64 < columns_of c → j < 4096 → IsInExtent e (screen_sample (pos i +ℤ origin.x) (pos j +ℤ origin.y) s c.count)
+    → (w.left ≤ i / 8) × (i / 8 < w.right) × (w.top ≤ j / 64) × (j / 64 < w.bottom)

@@ -1,0 +1,55 @@
+//! The samples of a tile row, in columns of blocks.
+ghost use Rattle.std.specs.Prelude.{◌≡◌, ◌+◌, ◌*◌, ◌<◌, ◌≤◌, length};
+ghost use Rattle.grid.specs.Samples.{IsPart};
+ghost use Rattle.canvas.specs.Layout.{columns_of, rows_of, planes_of_row};
+ghost use Rattle.polygons.specs.Cells.{AreZeros};
+ghost use Rattle.painting.specs.Parts.{CoversScreen, IsFlagged, RowsPaint};
+
+use crate::column::paint_column;
+use canvas::Canvas;
+use lanes::{BlockSamples, Interpolants};
+use polygons::Flags;
+
+/// Draws a triangle that covers the screen at those samples of a tile row whose bits are set, of the part that begins with sample `from`.
+/// There are bits of columns of blocks from column `first` on.
+pub(crate) fn paint_strip(
+    canvas: &Canvas,
+    row: u32,
+    first: u32,
+    from: u32,
+    triangle: &Interpolants,
+    flags: &[Flags],
+    samples: &mut [BlockSamples],
+)
+    requires row { row < rows_of canvas.now }
+    requires columns { first + length flags.now ≤ 8 * columns_of canvas.now }
+    requires part { IsPart canvas.now.count from }
+    requires covers { CoversScreen triangle.now }
+    requires samples { length samples.old ≡ planes_of_row canvas.now }
+    ensures { RowsPaint triangle.now canvas.now row (row + 1) (IsFlagged triangle.now.state canvas.now.count first from (length flags.now) flags.now) samples.old samples.new }
+{
+    let each = canvas.planes_of_tile();
+    for k in 0..flags.len() {
+        let bx = first + k as u32;
+        let tile = canvas.tile(bx / 8, row);
+        let at = (bx / 8) as usize * each;
+        paint_column(
+            triangle,
+            &tile,
+            bx,
+            from,
+            &flags[k],
+            &mut samples[at..at + each],
+        );
+    }
+}
+
+/// Sets all flags to 0.
+pub(crate) fn clear(flags: &mut [Flags])
+    ensures len { length flags.new ≡ length flags.old }
+    ensures zeros { AreZeros flags.new }
+{
+    for words in flags.iter_mut() {
+        *words = [0; 32];
+    }
+}

@@ -1,0 +1,41 @@
+-- Rings as parts of a list of corners.
+use Rattle.std.proofs.Common.{◌≡◌, refl, ap, ◌∙◌, arith, ℕ, suc, ◌+◌, ◌-◌, ◌<◌, ◌≤◌, List, [], ◌∷◌, map, take, drop, length, slice_index, drop-cons, add-one, ◌+ℤ◌}
+use Rattle.std.proofs.lemmas.List.{length-take, length-map}
+use Rattle.grid.specs.Position.{Position}
+use Rattle.polygons.specs.declared.corner.Corner.{Corner}
+use Rattle.polygons.specs.Crossing.{winding}
+use Rattle.polygons.specs.Polygon.{ring_edges, polygon_edges, corner_count}
+use Rattle.polygons.specs.Rings.{position_of, rings_from, AreEnds}
+use Rattle.polygons.proofs.Counts.{corners-ring}
+use Rattle.polygons.proofs.Plotted.{winding-ring}
+
+-- the rings from i on begin with one ring
+pub ring_step : (corners : List Corner) (start : ℕ) (ends : List ℕ) (i : ℕ) (p : Position) → i < length ends
+    → winding (polygon_edges (rings_from corners start (drop i ends))) p
+    ≡ winding (ring_edges (map position_of (take (slice_index ends i - start) (drop start corners)))) p +ℤ winding (polygon_edges (rings_from corners (slice_index ends i) (drop (i + 1) ends))) p
+ring_step corners start ends i p h =
+    let end : ℕ = slice_index ends i in
+    let rest : drop i ends ≡ end ∷ drop (i + 1) ends = rw add-one (drop-cons ends i 0 h) in
+    ap (λ (es : List ℕ). winding (polygon_edges (rings_from corners start es)) p) rest
+    ∙ winding-ring (map position_of (take (end - start) (drop start corners))) (rings_from corners end (drop (i + 1) ends)) p
+
+-- the next ring begins where one ends
+pub next_start : (start : ℕ) (ends : List ℕ) (i : ℕ) → slice_index (start ∷ ends) (i + 1) ≡ slice_index ends i
+next_start start ends i = rw add-one refl
+
+-- a ring's corners are in the list
+pub ring_rises : (start : ℕ) (ends : List ℕ) (limit i a : ℕ) → AreEnds start ends limit → i < length ends → a ≡ slice_index (start ∷ ends) i → (a ≤ slice_index ends i) × (slice_index ends i ≤ limit)
+ring_rises start ends limit i a h l is = (omega (arith, is, h.rising i l), h.within i l)
+
+-- the rings have no more corners than the list has from the first on
+pub few_corners : (corners : List Corner) (start : ℕ) (ends : List ℕ) → AreEnds start ends (length corners) → corner_count (rings_from corners start ends) ≤ length corners - start
+few_corners corners start [] h = omega arith
+few_corners corners start (end ∷ ends) h =
+    let ring = map position_of (take (end - start) (drop start corners)) in
+    let count = corners-ring ring (rings_from corners end ends) in
+    let long = length-map (take (end - start) (drop start corners)) position_of in
+    let most = length-take (end - start) (drop start corners) in
+    let rises : start ≤ end = h.rising 0 (omega arith) in
+    let ends_in : end ≤ length corners = h.within 0 (omega arith) in
+    let rest = few_corners corners end ends (record { begins = ends_in; rising = λ k l. h.rising (suc k) (omega (arith, l)); within = λ k l. h.within (suc k) (omega (arith, l)) }) in
+    omega arith

@@ -1,0 +1,33 @@
+use Rattle.std.proofs.Common.{arith, ℕ, ◌+◌, ◌<◌, List, map, take, get_or, length, pos}
+use Rattle.std.specs.List.{All}
+use Rattle.std.proofs.lemmas.List.{get_or-map, length-map, take_all}
+use Rattle.std.proofs.lemmas.List.Elements.{All-more, All-weaker}
+use Rattle.grid.specs.Position.{Position}
+use Rattle.polygons.specs.declared.corner.Corner.{Corner}
+use Rattle.polygons.specs.declared.extent.Extent.{Extent}
+use Rattle.polygons.specs.Rings.{position_of, IsWithin}
+use Rattle.polygons.proofs.Boxes.{ring_outside}
+use Rattle.polygons.proofs.rings.with_ring.Goals as goal
+
+abbrev zeros : Corner
+zeros = record { x = pos 0; y = pos 0 }
+
+one_more : (e f : Extent) (ring : List Corner) (i : ℕ) → i < length ring → ((p : Position) → IsWithin e p → IsWithin f p) → IsWithin f (position_of (get_or ring i zeros))
+    → All (IsWithin e) (take i (map position_of ring)) → All (IsWithin f) (take (i + 1) (map position_of ring))
+one_more e f ring i h grows here before =
+    let long = length-map ring position_of in
+    All-more (IsWithin f) (map position_of ring) i (position_of zeros) (omega (arith, h, long)) (All-weaker (IsWithin e) (IsWithin f) grows (take i (map position_of ring)) before)
+    (rw (get_or-map position_of ring i zeros (position_of zeros) h) here)
+
+pub loop-corner-preserved : goal.loop-corner-preserved
+loop-corner-preserved c = record {
+  corners = one_more c.loop-corner.extent c.with-extent.result c.args.ring.now c.loop-corner.corner-index c.loop-corner-test.true c.with-extent.ensures.others c.with-extent.ensures.corner c.loop-corner.invariant.corners;
+  grows = λ p h. c.with-extent.ensures.inside p (c.loop-corner.invariant.grows p h);
+}
+
+pub returns-clause-ring : goal.returns-clause-ring
+returns-clause-ring c p out =
+    let ring = map position_of c.args.ring.now in
+    let long = length-map c.args.ring.now position_of in
+    let all : All (IsWithin c.loop-corner.extent) ring = rw (take_all c.loop-corner.corner-index ring (omega (arith, long, c.loop-corner-test.false))) at c.loop-corner.invariant.corners in
+    ring_outside c.loop-corner.extent ring p all out

@@ -1,0 +1,62 @@
+-- Polygons in arrays: corners one ring's after another's, of each ring the index behind its last corner, and of each polygon the index
+-- behind its last ring.
+use Rattle.std.specs.Prelude.{◌≡◌, ℕ, ◌-◌, ◌^◌, ◌<◌, ◌≤◌, List, ◌∷◌, take, drop, length, slice_index, slice_index_or, pos}
+use Rattle.grid.specs.Position.{Position, IsInGuardBand}
+use Rattle.polygons.specs.declared.arrays.ArraysError.{ArraysError}
+use Rattle.polygons.specs.declared.arrays.ArraysError.TheVariants.{TooManyCorners, Ring, CornersLeft, Polygon, RingsLeft, OutOfBand}
+use Rattle.polygons.specs.declared.corner.Corner.{Corner}
+use Rattle.polygons.specs.Rings.{position_of, rings_from, AreCornersInBand, AreEnds}
+
+-- Where part k begins: where the one before it ends.
+abbrev pub begin_of : List ℕ → ℕ → ℕ
+begin_of ends k = slice_index (0 ∷ ends) k
+
+-- The ends of the rings of polygon k.
+abbrev pub ends_of : List ℕ → List ℕ → ℕ → List ℕ
+ends_of ring_ends polygon_ends k = take (slice_index polygon_ends k - begin_of polygon_ends k) (drop (begin_of polygon_ends k) ring_ends)
+
+-- The rings of polygon k.
+abbrev pub rings_of : List Corner → List ℕ → List ℕ → ℕ → List (List Position)
+rings_of corners ring_ends polygon_ends k = rings_from corners (begin_of ring_ends (begin_of polygon_ends k)) (ends_of ring_ends polygon_ends k)
+
+-- The parts end one after another, and the last one with the whole, which has n elements.
+pub record AreParts (ends : List ℕ) (n : ℕ) : Type 0 where
+  pub rising : AreEnds 0 ends n
+  pub whole : begin_of ends (length ends) ≡ n
+
+-- The arrays are those of polygons.
+pub record ArePolygons (corners : List Corner) (ring_ends polygon_ends : List ℕ) : Type 0 where
+  pub few : length corners < 2 ^ 32
+  pub rings : AreParts ring_ends (length corners)
+  pub polygons : AreParts polygon_ends (length ring_ends)
+  pub seen : AreCornersInBand corners
+
+-- Part k is the first that ends before it begins, or behind the whole, which has n elements.
+pub record IsFirstFall (ends : List ℕ) (n k : ℕ) : Type 0 where
+  pub inside : k < length ends
+  pub before : AreEnds 0 (take k ends) n
+  pub falls : ¬ ((begin_of ends k ≤ slice_index ends k) × (slice_index ends k ≤ n))
+
+-- The last part ends before the whole does, which has n elements.
+pub record IsShort (ends : List ℕ) (n : ℕ) : Type 0 where
+  pub rising : AreEnds 0 ends n
+  pub short : begin_of ends (length ends) < n
+
+-- Corner k is the first outside of the guard band.
+pub record IsFirstOutside (corners : List Corner) (k : ℕ) : Type 0 where
+  pub inside : k < length corners
+  pub before : AreCornersInBand (take k corners)
+  pub outside : ¬ IsInGuardBand (position_of (slice_index_or corners k (record { x = pos 0; y = pos 0 })))
+
+-- What is wrong with the arrays, looked at in this order: that there are fewer than 2^32 corners; the ends of rings; the ends of
+-- polygons; the corners.
+abbrev pub IsWrong : List Corner → List ℕ → List ℕ → ArraysError → Type 0
+IsWrong corners ring_ends polygon_ends TooManyCorners = 2 ^ 32 ≤ length corners
+IsWrong corners ring_ends polygon_ends (Ring k) = (length corners < 2 ^ 32) × IsFirstFall ring_ends (length corners) k
+IsWrong corners ring_ends polygon_ends CornersLeft = (length corners < 2 ^ 32) × IsShort ring_ends (length corners)
+IsWrong corners ring_ends polygon_ends (Polygon k) =
+    (length corners < 2 ^ 32) × AreParts ring_ends (length corners) × IsFirstFall polygon_ends (length ring_ends) k
+IsWrong corners ring_ends polygon_ends RingsLeft =
+    (length corners < 2 ^ 32) × AreParts ring_ends (length corners) × IsShort polygon_ends (length ring_ends)
+IsWrong corners ring_ends polygon_ends (OutOfBand k) =
+    (length corners < 2 ^ 32) × AreParts ring_ends (length corners) × AreParts polygon_ends (length ring_ends) × IsFirstOutside corners k

@@ -1,0 +1,129 @@
+//! Polygons in a caller's arrays.
+ghost use Rattle.std.specs.Prelude.{◌≡◌, ◌^◌, ◌<◌, length, ◌+◌, IfOk, IfErr, IfSome, None as Nothing};
+ghost use Rattle.polygons.specs.Rings.{AreCornersInBand, AreEnds};
+ghost use Rattle.polygons.specs.Arrays.{ArePolygons, IsFirstFall, IsFirstOutside, IsWrong, begin_of as begin};
+
+use crate::corner::Corner;
+use crate::rings::Rings;
+
+/// Polygons: corners one ring's after another's, and where each ring and each polygon ends.
+#[derive(Clone, Copy, Debug)]
+pub struct Polygons<'a> {
+    corners: &'a [Corner],
+    ring_ends: &'a [u32],
+    polygon_ends: &'a [u32],
+    ghost checked: { ArePolygons corners.now ring_ends.now polygon_ends.now },
+}
+
+/// What is wrong with polygons in arrays.
+#[derive(Clone, Copy, Debug, PartialEq, Eq)]
+pub enum ArraysError {
+    /// There are 2^32 corners or more.
+    TooManyCorners,
+    /// The ring of this index ends before it begins, or behind the last corner.
+    Ring(usize),
+    /// The last ring ends before the last corner.
+    CornersLeft,
+    /// The polygon of this index ends before it begins, or behind the last ring.
+    Polygon(usize),
+    /// The last polygon ends before the last ring.
+    RingsLeft,
+    /// The corner of this index is outside of the guard band.
+    OutOfBand(usize),
+}
+
+/// The index of the first part that ends before it begins, or behind the whole, which has `whole` elements.
+fn first_fall(ends: &[u32], whole: usize) -> Option<usize>
+    ensures some { IfSome result (λ k. IsFirstFall ends.now whole k) }
+    ensures none { result ≡ Nothing → AreEnds 0 ends.now whole }
+{
+    let mut begin = 0;
+    for (k, end) in ends.iter().enumerate() {
+        if *end < begin || whole < *end as usize {
+            return Some(k);
+        }
+        begin = *end;
+    }
+    None
+}
+
+/// Where a part begins: where the one before it ends.
+fn begin_of(ends: &[u32], k: usize) -> u32
+    requires { k < length ends.now + 1 }
+    ensures { result ≡ begin ends.now k }
+{
+    if k == 0 { 0 } else { ends[k - 1] }
+}
+
+/// The index of the first corner that is outside of the guard band.
+fn first_outside(corners: &[Corner]) -> Option<usize>
+    ensures some { IfSome result (λ k. IsFirstOutside corners.now k) }
+    ensures none { result ≡ Nothing → AreCornersInBand corners.now }
+{
+    for (k, corner) in corners.iter().enumerate() {
+        if corner.point().is_none() {
+            return Some(k);
+        }
+    }
+    None
+}
+
+impl<'a> Polygons<'a> {
+    ghost use Rattle.polygons.specs.Arrays.{rings_of};
+    ghost use Rattle.polygons.specs.Rings.{rings_from};
+
+    /// The polygons in these arrays, or what is wrong first.
+    pub fn new(
+        corners: &'a [Corner],
+        ring_ends: &'a [u32],
+        polygon_ends: &'a [u32],
+    ) -> Result<Polygons<'a>, ArraysError>
+        ensures arrays { IfOk result (λ p. (p.corners.now ≡ corners.now) × (p.ring_ends.now ≡ ring_ends.now) × (p.polygon_ends.now ≡ polygon_ends.now)) }
+        ensures wrong { IfErr result (λ e. IsWrong corners.now ring_ends.now polygon_ends.now e) }
+    {
+        if u32::try_from(corners.len()).is_err() {
+            return Err(ArraysError::TooManyCorners);
+        }
+        if let Some(k) = first_fall(ring_ends, corners.len()) {
+            return Err(ArraysError::Ring(k));
+        }
+        if (begin_of(ring_ends, ring_ends.len()) as usize) < corners.len() {
+            return Err(ArraysError::CornersLeft);
+        }
+        if let Some(k) = first_fall(polygon_ends, ring_ends.len()) {
+            return Err(ArraysError::Polygon(k));
+        }
+        if (begin_of(polygon_ends, polygon_ends.len()) as usize) < ring_ends.len() {
+            return Err(ArraysError::RingsLeft);
+        }
+        if let Some(k) = first_outside(corners) {
+            return Err(ArraysError::OutOfBand(k));
+        }
+        Ok(Polygons {
+            corners,
+            ring_ends,
+            polygon_ends,
+        })
+    }
+
+    /// How many there are.
+    pub fn count(&self) -> usize
+        ensures { result ≡ length self.now.polygon_ends.now }
+    {
+        self.polygon_ends.len()
+    }
+
+    /// The rings of the polygon of this number.
+    pub fn rings(&self, number: usize) -> Rings<'a>
+        requires { number < length self.now.polygon_ends.now }
+        ensures { rings_from result.corners.now result.start result.ends.now ≡ rings_of self.now.corners.now self.now.ring_ends.now self.now.polygon_ends.now number }
+    {
+        let first = begin_of(self.polygon_ends, number) as usize;
+        let end = self.polygon_ends[number] as usize;
+        Rings {
+            corners: self.corners,
+            start: begin_of(self.ring_ends, first),
+            ends: &self.ring_ends[first..end],
+        }
+    }
+}

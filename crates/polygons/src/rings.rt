@@ -1,0 +1,53 @@
+//! The rings of a polygon in a list of corners.
+ghost use Rattle.std.specs.Prelude.{◌≡◌, ◌^◌, ◌<◌, pos, map, length};
+ghost use Rattle.grid.specs.Position.{Position};
+ghost use Rattle.polygons.specs.Crossing.{winding};
+ghost use Rattle.polygons.specs.Polygon.{ring_edges, polygon_edges};
+ghost use Rattle.polygons.specs.Rings.{position_of, AreCornersInBand, AreEnds, IsInExtent};
+
+use crate::corner::Corner;
+use crate::extent::{Extent, NOTHING};
+
+/// The rings of a polygon: corners, one ring's after another's, and where each ring ends.
+#[derive(Clone, Copy, Debug)]
+pub struct Rings<'a> {
+    /// The corners, also those of other polygons.
+    pub corners: &'a [Corner],
+    /// The index of the first ring's first corner.
+    pub start: u32,
+    /// Of each ring the index behind its last corner. The next ring begins there.
+    pub ends: &'a [u32],
+    pub ghost seen: { AreCornersInBand corners.now },
+    pub ghost rising: { AreEnds start ends.now (length corners.now) },
+    pub ghost few: { length corners.now < 2 ^ 32 },
+}
+
+/// The box with the corners of one ring more.
+fn with_ring(extent: Extent, ring: &[Corner]) -> Extent
+    ensures grows { (p : Position) → IsInExtent extent p → IsInExtent result p }
+    ensures ring { (p : Position) → ¬ IsInExtent result p → winding (ring_edges (map position_of ring.now)) p ≡ pos 0 }
+{
+    let mut extent = extent;
+    for corner in ring {
+        extent = extent.with(corner);
+    }
+    extent
+}
+
+impl Rings<'_> {
+    ghost use Rattle.polygons.specs.Rings.{rings_from, HoldsInside};
+
+    /// The box of the corners: by either rule the polygon has nothing inside but in the box.
+    pub fn extent(&self) -> Extent
+        ensures { HoldsInside result (polygon_edges (rings_from self.now.corners.now self.now.start self.now.ends.now)) }
+    {
+        let mut extent = NOTHING;
+        let mut start = self.start as usize;
+        for ring_end in self.ends {
+            let end = *ring_end as usize;
+            extent = with_ring(extent, &self.corners[start..end]);
+            start = end;
+        }
+        extent
+    }
+}
