@@ -77,7 +77,8 @@ def parsed() -> argparse.Namespace:
 
 def print_table(options: argparse.Namespace) -> None:
     program, renderer = built("shading", options.level), ""
-    print(f"Machine: {processor_name()}, {os.cpu_count()} processors; load before the run {load()}. Headers for {options.level}.\n")
+    print(f"Machine: {processor_name()}, {os.cpu_count()} processors; load before the run {load()}. ", end="")
+    print(f"Headers for {options.level}.\n")
     print("| " + " | ".join(COLUMNS) + " |\n" + "|---" * len(COLUMNS) + "|")
     for scene in options.scenes:
         for threads in options.threads:

@@ -62,8 +62,8 @@ def check_walk(frames: int) -> str:
 
 
 def check_page() -> str:
-    """The program of the page draws the cube: other pictures from other sides, each with the checks of its faces. Returns
-    how many pixels."""
+    """The program of the page draws the cube: other pictures from other sides, each with the checks of its faces.
+    Returns how many pixels."""
     (text,) = re.findall(r"```cpp\n(.*?)```", places.text_of(PAGE), re.DOTALL)
     program, source = os.path.join(OUT, "page"), os.path.join(OUT, "page.cpp")
     with open(source, "w", encoding="ascii") as file:

@@ -100,7 +100,8 @@ def program_of(source: str, *flags: str, more: Sequence[str] = (), name: str = "
 
 def edits() -> list[str]:
     """The names of the wrong edits."""
-    return [os.path.basename(path)[: -len(".edit")] for path in places.files("tools", "checks", "shade", "edits", "*.edit")]
+    paths = places.files("tools", "checks", "shade", "edits", "*.edit")
+    return [os.path.basename(path)[: -len(".edit")] for path in paths]
 
 
 def edited(name: str) -> str:

@@ -33,7 +33,8 @@ OFF, FAST, SCALAR = "-ffp-contract=off", "-ffp-contract=fast", "-DTRIRAST_SCALAR
 FILTERS = (
     ("g++", V2, OFF, "-O1"), ("clang++", V3, OFF, "-O1"), ("g++", SCALAR, OFF, "-O1"),
     ("g++", V3, OFF, "-O2"), ("g++", "-O0"), ("g++", V3, OFF, "-O3"), ("g++", "-mavx", OFF, "-O2"),
-    ("clang++", V2, OFF, "-O2"), ("clang++", SCALAR, OFF, "-O2"), ("g++", "-march=native", OFF, "-O2"), ("clang++", "-march=native", OFF, "-O2"),
+    ("clang++", V2, OFF, "-O2"), ("clang++", SCALAR, OFF, "-O2"), ("g++", "-march=native", OFF, "-O2"),
+    ("clang++", "-march=native", OFF, "-O2"),
     ("g++", SCALAR, OFF, "-O1", *SANITIZERS), ("clang++", V3, OFF, "-O1", *SANITIZERS),
 )
 SHORT_FILTERS = 2
@@ -61,7 +62,7 @@ def check_tests(seeds: int, *flags: str, compiler: str = "g++") -> str:
 
 
 def check_sanitized() -> None:
-    """AddressSanitizer and UndefinedBehaviorSanitizer find nothing in the headers, over a canvas that they look into."""
+    """AddressSanitizer and UndefinedBehaviorSanitizer find nothing in the headers, over a canvas that they see too."""
     canvas = programs.stand_in(*SANITIZERS)
     status, text = outcome(tests_of("sanitized", "-O1", V2, OFF, *SANITIZERS, canvas=canvas), SEEDS)
     must(status == 0, text[-1500:])
@@ -124,8 +125,8 @@ CASES = [
     case("weights, points and pictures, by clang", check_tests, 2, "-O2", V2, compiler="clang++", is_long=True),
     case("weights, points and pictures, as eight plain numbers", check_tests, 2, "-O2", SCALAR, OFF, is_long=True),
     case("sanitizers find nothing", check_sanitized, is_long=True),
-    *(case(" ".join(("the same bytes:", *each)), check_filter, *each) for each in FILTERS[1:SHORT_FILTERS]),
-    *(case(" ".join(("the same bytes:", *each)), check_filter, *each, is_long=True) for each in FILTERS[SHORT_FILTERS:]),
+    *(case(f"the same bytes: {' '.join(each)}", check_filter, *each) for each in FILTERS[1:SHORT_FILTERS]),
+    *(case(f"the same bytes: {' '.join(each)}", check_filter, *each, is_long=True) for each in FILTERS[SHORT_FILTERS:]),
     case("the same bytes: ARM64", check_arm64, is_long=True),
     case("the program of the page", examples.check_page),
     case("the program of the page in Python", examples.check_python, needs="the program of the page"),
