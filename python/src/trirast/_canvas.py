@@ -12,6 +12,7 @@ from ._buffers import Buffer, Form, check_writable, raw, readable
 from ._draw import EVERY_SAMPLE, Cull, DepthTest, Draw
 from ._errors import BatchError, CanvasError
 from ._ffi import CCanvas, CClear, CCorners, CError, library
+from ._fragments import Fragments, Rate, fragments_of
 from ._picture import Path, Picture
 from ._records import table_of
 from ._threads import share
@@ -215,6 +216,48 @@ class Canvas:
     def ids(self, sample: SupportsIndex = 0, out: Optional[Any] = None, *, threads: SupportsIndex = 1) -> Any:
         """The id of one sample of each pixel: 32 bits, of the shape (height, width)."""
         return self._written(library().trirast_canvas_ids, number("sample", sample), self._form(("uint32", "int32")), out, threads)
+
+    def colors(self, sample: SupportsIndex = 0, out: Optional[Any] = None, *, threads: SupportsIndex = 1) -> Any:
+        """The colour of one sample of each pixel, red, green and blue: bytes of the shape (height, width, 3)."""
+        index = number("sample", sample)
+        call = library().trirast_canvas_colors
+        form = self._form(("uint8",), 3)
+        return self._written(lambda piece, *rows: call(piece, index, *rows), FORMATS["rgb"][0], form, out, threads)
+
+    def store(self, sample: SupportsIndex, image: Any, *, threads: SupportsIndex = 1) -> None:
+        """Makes an image the colour of one sample of each pixel: bytes of the shape (height, width, 3) or (height,
+        width, 4), of which the last is not read. Depths and other samples stay."""
+        index = number("sample", sample)
+        call = library().trirast_canvas_store
+        forms = [self._form(("uint8",), channels) for channels in (3, 4)]
+        found, pixels = readable("image", image, *forms)
+        code = FORMATS[("rgb", "rgba")[forms.index(found)]][0]
+        with pixels:
+            self._rows("image", pixels, lambda piece, *rows: call(piece, index, *rows), code, 1, threads)
+
+    # ---- Shading
+
+    def fragments(
+        self, vertices: Any, triangles: Any, w: Any, *, rate: Rate = "pixel", threads: SupportsIndex = 1
+    ) -> Fragments:
+        """What the ids of this canvas show, for shading by numpy: it was cleared to white and drawn with these vertices
+        and triangles from the id 0. `w` is that of clip space, one for each vertex; `trirast.clip` has all three.
+
+        `rate` is "pixel", each triangle that a pixel shows once, in the middle of the samples that show it; "centre",
+        the same in the pixel's centre, which may lie beside the triangle; or "sample", each sample. Needs numpy, and
+        vertices with the fields x and y."""
+        import numpy as np
+
+        ids = np.stack([self.ids(sample, threads=threads) for sample in range(self.samples)])
+        return fragments_of(ids, self.origin, vertices, triangles, w, rate)
+
+    def shade(
+        self, fragments: Fragments, colors: Any, background: Any = (0, 0, 0), *, threads: SupportsIndex = 1
+    ) -> None:
+        """Puts the colours of fragments in place of the ids, a row of 0 to 255 for each, and elsewhere the background.
+        Depths stay."""
+        for sample, image in enumerate(fragments.picture(colors, background)):
+            self.store(sample, image, threads=threads)
 
     # ---- Copies
 

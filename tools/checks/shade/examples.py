@@ -10,7 +10,7 @@ import sys
 
 from tools import picture_file, places
 from tools.checks.cases import MissingError, must
-from tools.checks.library.commands import need, run
+from tools.checks.library.commands import PACKAGE_ENVIRONMENT, need, python_with, run
 from tools.checks.library.screen import Screen
 from tools.checks.shade import picture
 from tools.checks.shade.programs import OUT, PROGRAMS, STRICT, library, program_of, stand_in
@@ -85,6 +85,18 @@ def check_page() -> str:
         must(len(frequent) >= 5, f"{len(frequent)} colours of faces and background")
     must(20000 < shown[0] < 60000 and shown[0] != shown[1], f"{shown} pixels of a cube")
     return f"{shown[0]} and {shown[1]} pixels of the cube"
+
+
+def check_python() -> str:
+    """The program in Python of the page draws the cube of that in C++: no channel is more than 1 away. Returns how many
+    differ."""
+    (text,) = re.findall(r"```python\n(.*?)```", places.text_of(PAGE), re.DOTALL)
+    more = "\nimport sys\nsys.stdout.buffer.write(frame(float(sys.argv[1])).rgb().tobytes())\n"
+    drawn = run([python_with("numpy"), "-c", text + more, "0.6"], env=PACKAGE_ENVIRONMENT, cwd=OUT)
+    wanted = picture_file.decode(run([os.path.join(OUT, "page"), "0.6"])).pixel_data
+    off = [abs(one - other) for one, other in zip(drawn, wanted)]
+    must(len(drawn) == len(wanted) and max(off) <= 1, f"a channel is {max(off)} away")
+    return f"{sum(map(bool, off))} of {len(off)} channels differ by 1"
 
 
 def check_window() -> None:

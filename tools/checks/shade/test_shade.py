@@ -129,6 +129,7 @@ CASES = [
     *(case(f"the same bytes: {' '.join(each)}", check_filter, *each, is_long=True) for each in FILTERS[SHORT_FILTERS:]),
     case("the same bytes: ARM64", check_arm64, is_long=True),
     case("the program of the page", examples.check_page),
+    case("the program of the page in Python", examples.check_python, needs="the program of the page"),
     case("the page's picture", examples.check_picture, is_long=True),
     case("textured by threads", examples.check_threads, is_long=True),
     case("textured without races", examples.check_races, is_long=True),
