@@ -384,6 +384,7 @@ void time_rate(Ours &ours, Theirs &theirs, trirast::Rate rate, const Options &op
 int main(int count, char **words) {
     try {
         const Options options = read_options(count, words);
+        std::setvbuf(stdout, nullptr, _IOLBF, 0);
         gl::open(options.threads);
         const scene::Scene given =
             scene::made(options.scene, options.seed, static_cast<double>(options.width) / options.height);
