@@ -120,9 +120,9 @@ typedef enum trirast_batch_cause {
     TRIRAST_BATCH_BAD_STATE = 3,        /* a number of the draw is outside of its range */
     TRIRAST_BATCH_NOT_WHOLE = 4,        /* the indices of the draw make no whole triangles or quads */
     TRIRAST_BATCH_TOO_MANY_IDS = 5,     /* the id of a triangle would be greater than 16,777,215 (trirast_canvas_draw_ids) */
-    TRIRAST_BATCH_BAD_INDEX = 6,        /* an index is not less than the draw's vertex_count; element: the index */
-    TRIRAST_BATCH_BAD_POSITION = 7,     /* a vertex that an index names is too far away; element: the vertex */
-    TRIRAST_BATCH_NOT_CONVEX = 8,       /* a quad is not strictly convex; element: the quad */
+    TRIRAST_BATCH_BAD_INDEX = 6,        /* an index is not less than the draw's vertex_count */
+    TRIRAST_BATCH_BAD_POSITION = 7,     /* a vertex that an index names is too far away */
+    TRIRAST_BATCH_NOT_CONVEX = 8,       /* a quad is not strictly convex */
     TRIRAST_BATCH_LEFT_OVER = 9         /* a vertex or an index is in no draw */
 } trirast_batch_cause;
 
@@ -131,7 +131,8 @@ typedef struct trirast_error {
     uint32_t status; /* the trirast_status that the call returned */
     uint32_t cause;  /* a trirast_list_cause or a trirast_batch_cause if the status is one of a list or of a batch, else 0 */
     size_t draw;     /* the index of the draw in which the error is, from 0; TRIRAST_NONE if it is in none */
-    size_t element;  /* of a batch: which one of the draw's own indices, vertices or quads, from 0; TRIRAST_NONE if it is none */
+    size_t element;  /* which one of the draw's indices, vertices or quads it is, from 0; TRIRAST_NONE if it is none. Not yet:
+                      * TRIRAST_NONE always */
 } trirast_error;
 
 /* Returns a string for a status, without a line feed, as "out of memory".
@@ -162,8 +163,8 @@ inline const char *trirast_status_string(trirast_status status) {
 }
 
 /* Writes a line that says what went wrong, without a line feed and with a zero byte behind it, or as much of it as
- * fits. So the habits are those of snprintf: "draw 3: index 17 is not less than the number of vertices", "draw 1: list
- * fault 6 BadIndex", "out of memory".
+ * fits: "out of memory", "draw 3: one index is not less than the number of vertices", "list fault 6 BadIndex in draw 1".
+ * So the habits are those of snprintf.
  *
  * @error: what a call wrote; not NULL.
  * @buffer: where the line goes. Bytes behind its zero byte are unchanged.
@@ -310,19 +311,17 @@ typedef struct trirast_draw {
     trirast_blend blend;    /* what the new colour does to the stored one */
 } trirast_draw;
 
-/* Draws with their vertices and indices. With vertices and a vertex_count alone it is one draw of {0}, a triangle for
- * each three. */
+/* Draws with their vertices and indices. If draw_count is 0, they are one draw of {0} with all vertices and indices. */
 typedef struct trirast_batch {
-    uint32_t struct_size;       /* 0 or sizeof(trirast_batch) */
-    uint32_t vertex_stride;     /* bytes from a vertex to the next: 0 for 16, or a multiple of 4 from 16 on */
-    uint32_t index_size;        /* bytes of an index: 0 or 4, or 2 */
-    const trirast_draw *draws;  /* in the order in which they are drawn. If draw_count is 0, there is one draw: that of {0} with all
-                                 * vertices and indices */
+    uint32_t struct_size;   /* 0 or sizeof(trirast_batch) */
+    uint32_t vertex_stride; /* bytes from a vertex to the next: 0 or 16. Not yet: other strides */
+    uint32_t index_size;    /* bytes of an index: 0 or 4. Not yet: 2 */
+    const trirast_draw *draws; /* in the order in which they are drawn */
     size_t draw_count;
-    const void *vertices;       /* trirast_vertex, of all draws, one draw's after another's; aligned to 4 */
+    const void *vertices;   /* trirast_vertex, of all draws, one draw's after another's; aligned to 4 */
     size_t vertex_count;
-    const void *indices;        /* uint32_t or uint16_t, of all draws, one draw's after another's; 0 is the first vertex of the draw. If
-                                 * index_count is 0, each draw has its vertices in their order, as if its indices were 0, 1, 2 .. */
+    const void *indices;    /* uint32_t, of all draws, one draw's after another's; 0 is the first vertex of the draw. Not yet:
+                             * draws without indices, of their vertices in their order */
     size_t index_count;
 } trirast_batch;
 

@@ -47,6 +47,8 @@ pub enum ErrorKind {
     BadTriangle,
     /// A stride is no multiple of an element's bytes.
     BadStride,
+    /// The canvas has no such tile. No function of this crate asks for one.
+    BadTile,
     /// A status that this crate does not know: the library is a later one.
     Other(u32),
 }
@@ -158,6 +160,7 @@ impl Error {
             sys::TRIRAST_STATUS_BAD_PIXEL => ErrorKind::BadPixel,
             sys::TRIRAST_STATUS_BAD_TRIANGLE => ErrorKind::BadTriangle,
             sys::TRIRAST_STATUS_BAD_STRIDE => ErrorKind::BadStride,
+            sys::TRIRAST_STATUS_BAD_TILE => ErrorKind::BadTile,
             other => ErrorKind::Other(other),
         }
     }
