@@ -154,8 +154,6 @@ STATUSES: Dict[str, List[Any]] = {
     "trirast_canvas_draw_ids": CANVAS + to(CBatch) + NUMBER + ERROR,
     "trirast_canvas_load": PIXELS,
     "trirast_canvas_resolve": PIXELS,
-    "trirast_canvas_colors": CANVAS + 2 * NUMBER + BUFFER + STRIDE,
-    "trirast_canvas_store": CANVAS + 2 * NUMBER + BUFFER + STRIDE,
     "trirast_canvas_depths": PIXELS,
     "trirast_canvas_ids": PIXELS,
     "trirast_canvas_colors": CANVAS + 2 * NUMBER + BUFFER + STRIDE,
