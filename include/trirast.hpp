@@ -361,22 +361,6 @@ public:
         });
     }
 
-    /* Stores the colour of one sample of each pixel. */
-    void store(std::uint32_t sample, trirast_format format, Span<const std::uint8_t> pixels, std::size_t stride = 0) {
-        detail::check(trirast_canvas_store(&rows_, sample, format, pixels.data(), pixels.size(), stride));
-    }
-
-    /* The colour of one sample of each pixel. */
-    void colors(std::uint32_t sample, trirast_format format, Span<std::uint8_t> pixels, std::size_t stride = 0) const {
-        detail::check(trirast_canvas_colors(&rows_, sample, format, pixels.data(), pixels.size(), stride));
-    }
-
-    std::vector<std::uint8_t> colors(std::uint32_t sample, trirast_format format = TRIRAST_FORMAT_RGB8) const {
-        std::vector<std::uint8_t> found(std::size_t{width()} * height() * (format == TRIRAST_FORMAT_RGB8 ? 3 : 4));
-        colors(sample, format, found);
-        return found;
-    }
-
     void resolve(trirast_format format, Span<std::uint8_t> pixels, std::size_t stride = 0) const {
         detail::check(trirast_canvas_resolve(&rows_, format, pixels.data(), pixels.size(), stride));
     }
