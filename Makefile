@@ -83,7 +83,7 @@ LIBRARY_aarch64 := lib/aarch64/libtrirast.a lib/aarch64/libtrirast.so lib/aarch6
 PROGRAM_x86_64 := $(PROGRAM)
 PROGRAM_aarch64 := bin/aarch64/trirast
 CMAKE_FILES := trirast-config.cmake trirast-config-version.cmake
-HEADERS := trirast.h trirast.hpp trirast_clip.h trirast_clip.hpp
+HEADERS := trirast.h trirast.hpp trirast_clip.h trirast_clip.hpp trirast_lanes.hpp trirast_shade.hpp
 # What is installed: the mode of each file, where it lies here, and below PREFIX. And the files that are made there.
 INSTALLED := 755:$(STUB):bin/trirast 755:$(WHY):bin/trirast_why \
     755:lib/$(FIRST_LEVEL)/program.so:lib/trirast/program.so \

@@ -239,6 +239,13 @@ CHECKS = (
         runs=("library",), needs=(*COMPILER, "g++"),
     ),
     Check(
+        name="shade",
+        about="shading in C++: weights and pictures beside exact ones, the same bytes by every compiler, wrong edits",
+        command="pytest tools/checks/shade", seconds=55,
+        long="-m 'long or not long'", long_seconds=420,
+        runs=("library",), needs=(*COMPILER, "g++"),
+    ),
+    Check(
         name="fuzz-package",
         about="calls of the Python package that are made up, each picture against a plain one",
         command="tools.checks.fuzz_package --calls 400", seconds=4,

@@ -49,6 +49,7 @@ from ._errors import (
     TileSizeError,
     TriangleError,
 )
+from ._fragments import Fragments
 from ._history import Event, Fragment, PixelHistory, SampleHistory, Stored, TriangleSamples, triangle_samples, why
 from ._picture import ImageInfo, Picture
 from ._snap import snap
@@ -57,8 +58,9 @@ from ._vertices import VERTEX
 
 __all__ = [
     "BLENDS", "BatchError", "Blend", "BufferTooSmallError", "Canvas", "CanvasError", "Clipped", "Draw", "DrawList", "DrawListError", "Error",
-    "Event", "FormatError", "Fragment", "ImageInfo", "LimitError", "MemorySizeError", "OutOfMemoryError", "Picture", "PixelError",
-    "PixelHistory", "PositionError", "SampleError", "SampleHistory", "State", "Stored", "StrideError", "StructSizeError", "TileError", "TileRowsError",
-    "TileSizeError", "TriangleError", "TriangleSamples", "VERTEX", "__version__", "clip", "draw", "draw_file", "edges_at", "image_info", "snap",
+    "Event", "FormatError", "Fragment", "Fragments", "ImageInfo", "LimitError", "MemorySizeError", "OutOfMemoryError",
+    "Picture", "PixelError", "PixelHistory", "PositionError", "SampleError", "SampleHistory", "State", "Stored", "StrideError",
+    "StructSizeError", "TileError", "TileRowsError", "TileSizeError", "TriangleError", "TriangleSamples", "VERTEX",
+    "__version__", "clip", "draw", "draw_file", "edges_at", "image_info", "snap",
     "triangle_samples", "why",
 ]

@@ -12,6 +12,7 @@ from ._buffers import Buffer, Form, check_writable, raw, readable
 from ._draw import EVERY_SAMPLE, Cull, DepthTest, Draw
 from ._errors import BatchError, CanvasError
 from ._ffi import CCanvas, CClear, CCorners, CError, library
+from ._fragments import Fragments, Rate, fragments_of
 from ._picture import Path, Picture
 from ._records import table_of
 from ._threads import share
@@ -233,6 +234,30 @@ class Canvas:
         code, channels = FORMATS[format]
         call = of_sample(library().trirast_canvas_colors, number("sample", sample))
         return self._written(call, code, self._form(("uint8",), channels), out, threads)
+
+    # ---- Shading
+
+    def fragments(
+        self, vertices: Any, triangles: Any, w: Any, *, rate: Rate = "pixel", threads: SupportsIndex = 1
+    ) -> Fragments:
+        """What the ids of this canvas show, for shading by numpy: it was cleared to white and drawn with these vertices
+        and triangles from the id 0. `w` is that of clip space, one for each vertex; `trirast.clip` has all three.
+
+        `rate` is "pixel", each triangle that a pixel shows once, in the middle of the samples that show it; "centre",
+        the same in the pixel's centre, which may lie beside the triangle; or "sample", each sample. Needs numpy, and
+        vertices with the fields x and y."""
+        import numpy as np
+
+        ids = np.stack([self.ids(sample, threads=threads) for sample in range(self.samples)])
+        return fragments_of(ids, self.origin, vertices, triangles, w, rate)
+
+    def shade(
+        self, fragments: Fragments, colors: Any, background: Any = (0, 0, 0), *, threads: SupportsIndex = 1
+    ) -> None:
+        """Puts the colours of fragments in place of the ids, a row of 0 to 255 for each, and elsewhere the background.
+        Depths stay."""
+        for sample, image in enumerate(fragments.picture(colors, background)):
+            self.store(image, sample, threads=threads)
 
     # ---- Copies
 

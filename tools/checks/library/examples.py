@@ -216,15 +216,15 @@ def check_gouraud() -> str:
 
 
 def check_textured() -> str:
-    """The positions that textured.py interpolates lie at their samples, and its picture does not depend on the number of threads."""
+    """The positions that textured.py interpolates lie at their points, and its picture does not depend on the number of threads."""
     python, pictures = python_with("numpy"), []
     for threads in ("1", "3"):
         path = os.path.join(OUT, f"textured-{threads}.ppm")
         text = printed_by(python, "textured.py", path, "--size", "150", "130", "--threads", threads)
         pictures.append(places.bytes_of(path))
-    off, off_on_screen = (float(number) for number in re.findall(r"\d+\.\d+", text))
+    (off,) = (float(number) for number in re.findall(r"\d+\.\d+", text))
     # A vertex lies up to 1/512 pixel off in each direction, since positions on the screen are rounded.
-    must(off < 1 / 64 and off_on_screen > 5, text)
+    must(off < 1 / 64, text)
     must(pictures[0] == pictures[1] and len(pictures[0]) == len(b"P6\n450 130\n255\n") + 450 * 130 * 3, "another picture")
     return text.splitlines()[-1]
 

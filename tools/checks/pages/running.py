@@ -24,6 +24,7 @@ from tools.places import OUT, PROGRAM, PYTHON_SOURCES, TOP
 NEEDS: dict[str, tuple[str, ...]] = {
     "docs/gallery.md": ("numpy", "matplotlib"), "docs/matplotlib.md": ("numpy", "matplotlib"),
     "docs/posters.md": ("numpy", "distributed"), "docs/python.md": ("numpy",), "docs/rules.md": ("matplotlib",),
+    "docs/shading.md": ("numpy",),
 }
 # Pictures that a page's commands leave, and the pictures of the documents that have to be the same: whole, or in the colours of their shapes.
 PICTURES = {

@@ -1,0 +1,165 @@
+"""Fragments: what the ids of a canvas show, as arrays of numpy, for shading. include/trirast_shade.hpp has the same for
+C++, and docs/shading.md pictures and bounds."""
+
+from typing import Any, Literal, NamedTuple, Sequence, Tuple
+
+from ._arguments import named
+
+# One of numpy, which the package does without until a call needs it.
+Array = Any
+Rate = Literal["pixel", "centre", "sample"]
+RATES: Tuple[Rate, ...] = ("pixel", "centre", "sample")
+# Where samples lie in a pixel, in 1/16 pixel from its centre: docs/rules.md.
+PATTERNS = {
+    1: ((0, 0),),
+    2: ((4, 4), (-4, -4)),
+    4: ((-2, -6), (6, -2), (-6, 2), (2, 6)),
+    8: ((1, -3), (-1, 3), (5, 1), (-3, -5), (-5, 5), (-7, -1), (3, 7), (7, -7)),
+    16: (
+        (1, 1), (-1, -3), (-3, 2), (4, -1), (-5, -2), (2, 5), (5, 3), (3, -5), (-2, 6), (0, -7), (-4, -6), (-6, 4),
+        (-8, 0), (7, -4), (6, 7), (-7, -8),
+    ),
+}
+CENTRE, UNIT = 128, 256
+
+
+class Fragments(NamedTuple):
+    """Points, each with a triangle that is seen there. Arrays have a row for each."""
+
+    id: Array  # int64, of the triangle: its index among those that were drawn
+    x: Array  # int64, in 1/256 pixel of the screen
+    y: Array
+    corners: Array  # int64, the three indices of the triangle
+    weights: Array  # float64, of the corners, right in perspective
+    # How the weights differ at the pixel to the right; where 1 / w falls to less than a half, at the one to the left, turned.
+    right: Array
+    down: Array  # the same of the pixel below, or above
+    index: Array  # int64, of the shape (samples, height, width): the row of each sample's fragment, or -1
+
+    def value(self, values: Any) -> Array:
+        """A number at the points, or a row of them, of those of the vertices."""
+        return self._mean(self.weights, values)
+
+    def to_right(self, values: Any) -> Array:
+        """How it differs at the pixel to the right."""
+        return self._mean(self.right, values)
+
+    def to_below(self, values: Any) -> Array:
+        """How it differs at the pixel below."""
+        return self._mean(self.down, values)
+
+    def _mean(self, by: Array, values: Any) -> Array:
+        import numpy as np
+
+        return np.einsum("fc,fc...->f...", by, np.asarray(values)[self.corners])
+
+    def picture(self, colors: Any, background: Any = (0, 0, 0)) -> Array:
+        """The colours of all samples: bytes of the shape (samples, height, width, 4), of which the last are 255.
+        Fragments have rows of three colours of 0 to 255, rounded to the nearest byte, halves up; what is no number is
+        0. Where there is no fragment the background stands, one colour or one for each pixel."""
+        import numpy as np
+
+        table = packed(colors)
+        found = table[self.index] if len(table) else np.zeros(self.index.shape, np.uint32)
+        np.copyto(found, packed(background), where=self.index < 0)
+        return found.view(np.uint8).reshape(*self.index.shape, 4)
+
+
+def packed(colors: Any) -> Array:
+    """Colours as bytes, four in 32 bits."""
+    import numpy as np
+
+    given = np.asarray(colors, float)
+    found = np.full((*given.shape[:-1], 4), 255, np.uint8)
+    with np.errstate(invalid="ignore"):
+        found[..., :3] = np.where(given == given, np.clip(given, 0, 255) + 0.5, 0)
+    return found.view(np.uint32)[..., 0]
+
+
+def places_of(samples: int) -> Array:
+    """Where samples lie in a pixel, in 1/256 pixel."""
+    import numpy as np
+
+    return CENTRE + 16 * np.array(PATTERNS[samples], np.int64)
+
+
+def shown_by(ids: Array, count: int, rate: str) -> Tuple[Array, Array, Tuple[Array, Array]]:
+    """Of the ids of all samples: the row of each sample's fragment, or -1; the triangles of the rows; and their places
+    in the picture."""
+    import numpy as np
+
+    is_shown = ids < count
+    owner = np.broadcast_to(np.arange(len(ids))[:, None, None], ids.shape).copy()
+    if rate != "sample":
+        for sample in range(len(ids) - 1, 0, -1):
+            for before in range(sample - 1, -1, -1):
+                owner[sample][ids[sample] == ids[before]] = before
+    first = is_shown & (owner == np.arange(len(ids))[:, None, None])
+    index = np.full(ids.shape, -1)
+    index[first] = np.arange(np.count_nonzero(first))
+    rest = is_shown & ~first
+    index[rest] = np.take_along_axis(index, owner, 0)[rest]
+    _sample, y, x = np.nonzero(first)
+    return index, ids[first].astype(np.int64), (x, y)
+
+
+def middles(index: Array, count: int) -> Array:
+    """Where each fragment is shaded in its pixel: in the centre if all samples show it, else in the middle of those that
+    do, rounded to 1/256; of three of sixteen in that of the first and the last, since the mean of three on a line may
+    be rounded off it."""
+    import numpy as np
+
+    sample, *_pixel = np.nonzero(index >= 0)
+    rows, places = index[index >= 0], places_of(len(index))
+    number = np.bincount(rows, minlength=count)
+    # Sums of integers in doubles are exact.
+    sums = np.stack([np.bincount(rows, places[sample, axis], count) for axis in (0, 1)], 1).astype(np.int64)
+    found = (2 * sums + number[:, None]) // (2 * number[:, None])
+    if len(index) == 16:
+        least, most = np.full(count, 16), np.full(count, -1)
+        np.minimum.at(least, rows, sample)
+        np.maximum.at(most, rows, sample)
+        three = number == 3
+        found[three] = (places[least[three]] + places[most[three]]) // 2
+    found[number == len(index)] = CENTRE
+    return found
+
+
+def weigh(corners: Array, w: Array, points: Array) -> Tuple[Array, Array, Array]:
+    """The weights at points in triangles, and how they differ at the next pixels. `corners` has rows of three pairs of
+    x and y."""
+    import numpy as np
+
+    from_point = corners - points[:, None]
+    ahead, behind = np.roll(from_point, -1, 1), np.roll(from_point, -2, 1)
+    edges = (ahead[..., 0] * behind[..., 1] - ahead[..., 1] * behind[..., 0]) / w
+    whole = 1 / edges.sum(1, keepdims=True)
+    weights = edges * whole
+    steps = []
+    for size in (UNIT * (ahead[..., 1] - behind[..., 1]), UNIT * (behind[..., 0] - ahead[..., 0])):
+        step = size / w * whole
+        total = step.sum(1, keepdims=True)
+        steps.append((step - weights * total) / (1 + np.where(total < -0.5, -total, total)))
+    return weights, steps[0], steps[1]
+
+
+def fragments_of(
+    ids: Array, origin: Sequence[int], vertices: Any, triangles: Any, w: Any, rate: str
+) -> Fragments:
+    """The fragments of ids, of the shape (samples, height, width)."""
+    import numpy as np
+
+    named("rate", RATES, rate)
+    rows = np.asarray(triangles).astype(np.int64).reshape(-1, 3)
+    places = np.stack([vertices["x"], vertices["y"]], 1).astype(np.int64)
+    index, number, (x, y) = shown_by(ids, len(rows), rate)
+    if rate == "sample":
+        within = places_of(len(ids))[np.nonzero(index >= 0)[0]]
+    elif rate == "pixel":
+        within = middles(index, len(number))
+    else:
+        within = np.full((len(number), 2), CENTRE)
+    points = UNIT * (np.stack([x, y], 1) + np.array(origin)) + within
+    corners = rows[number]
+    weights, right, down = weigh(places[corners], np.asarray(w, float)[corners], points)
+    return Fragments(number, points[:, 0], points[:, 1], corners, weights, right, down, index)

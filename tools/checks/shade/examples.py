@@ -1,0 +1,128 @@
+"""The programs over the headers for shading: examples/cpp/textured.cpp and obj.cpp, also in a window, and that of
+docs/shading.md."""
+
+from __future__ import annotations
+
+import os
+import re
+import subprocess
+import sys
+
+from tools import picture_file, places
+from tools.checks.cases import MissingError, must
+from tools.checks.library.commands import PACKAGE_ENVIRONMENT, need, python_with, run
+from tools.checks.library.screen import Screen
+from tools.checks.shade import picture
+from tools.checks.shade.programs import OUT, PROGRAMS, STRICT, library, program_of, stand_in
+from tools.places import INCLUDE
+
+PAGE = os.path.join("docs", "shading.md")
+FLAGS = ("-O2", "-march=x86-64-v2", "-ffp-contract=off")
+SIZE, PIXEL = ("160", "120"), ("80", "70")
+
+
+def textured(*more: str) -> bytes:
+    """The pixels that textured writes. It is built if it is not there."""
+    path = os.path.join(OUT, "textured")
+    if not os.path.exists(path):
+        program_of("textured", *FLAGS)
+    return picture_file.decode(run([path, *more, "--output", "-"])).pixel_data
+
+
+def check_threads() -> None:
+    """textured writes the same bytes for 1 to 4 threads, at each rate, and another picture of each scene."""
+    pictures = set()
+    for scene in ("ring", "front", "dust"):
+        for rate in ("pixel", "centre", "sample"):
+            words = ("--scene", scene, "--rate", rate, "--size", *SIZE)
+            found = {textured(*words, "--threads", str(threads)) for threads in (1, 2, 3, 4)}
+            must(len(found) == 1, f"{len(found)} pictures by 1 to 4 threads: {scene}, {rate}")
+            pictures |= found
+    # Of small triangles the middle of the samples and the centre of the pixel may look the same.
+    must(len(pictures) >= 8, f"{len(pictures)} pictures of 3 scenes at 3 rates")
+
+
+def check_races() -> None:
+    """ThreadSanitizer finds no race between threads that draw and shade one canvas."""
+    flags = ("-O1", "-march=x86-64-v2", "-fsanitize=thread")
+    program = program_of("textured", *flags, name="textured-races", canvas=stand_in("-fsanitize=thread"))
+    run([program, "--size", "300", "200", "--threads", "4", "--output", "-"])
+
+
+def check_picture() -> None:
+    """The example draws the page's picture."""
+    must(picture.drawn() == places.bytes_of(picture.PICTURE), "another picture than docs/shading.png")
+
+
+def check_walk(frames: int) -> str:
+    """In a walk through a closed hall no frame is refused, and each sample shows a triangle. Returns the line."""
+    hall = os.path.join(OUT, "hall")
+    run([sys.executable, os.path.join(PROGRAMS, "make_hall.py"), hall])
+    program = program_of("obj", *FLAGS)
+    model = os.path.join(hall, "hall.obj")
+    line = run([program, "--path", str(frames), "--size", "320", "180", model]).decode().strip()
+    found = re.fullmatch(rf"{frames} frames, (\d+) cuts, 0 samples without a triangle", line)
+    must(found is not None and int(found[1]) > 10 * frames, line)
+    shown = picture_file.decode(run([program, "--size", *SIZE, "--output", "-", model])).pixel_data
+    must(len({shown[k : k + 3] for k in range(0, len(shown), 3)}) > 500, "few colours")
+    return line
+
+
+def check_page() -> str:
+    """The program of the page draws the cube: other pictures from other sides, each with the checks of its faces.
+    Returns how many pixels."""
+    (text,) = re.findall(r"```cpp\n(.*?)```", places.text_of(PAGE), re.DOTALL)
+    program, source = os.path.join(OUT, "page"), os.path.join(OUT, "page.cpp")
+    with open(source, "w", encoding="ascii") as file:
+        file.write(text)
+    run([need("g++"), *STRICT, "-O1", "-I", INCLUDE, source, library(), "-o", program, "-lm"])
+    shown = []
+    for turn in ("0.6", "1.4"):
+        pixels = picture_file.decode(run([program, turn])).pixel_data
+        colors = [pixels[k : k + 3] for k in range(0, len(pixels), 3)]
+        shown.append(len(colors) - colors.count(bytes((24, 24, 32))))
+        frequent = [color for color in set(colors) if colors.count(color) > 300]
+        must(len(frequent) >= 5, f"{len(frequent)} colours of faces and background")
+    must(20000 < shown[0] < 60000 and shown[0] != shown[1], f"{shown} pixels of a cube")
+    return f"{shown[0]} and {shown[1]} pixels of the cube"
+
+
+def check_python() -> str:
+    """The program in Python of the page draws the cube of that in C++: no channel is more than 1 away. Returns how many
+    differ."""
+    (text,) = re.findall(r"```python\n(.*?)```", places.text_of(PAGE), re.DOTALL)
+    more = "\nimport sys\nsys.stdout.buffer.write(frame(float(sys.argv[1])).rgb().tobytes())\n"
+    drawn = run([python_with("numpy"), "-c", text + more, "0.6"], env=PACKAGE_ENVIRONMENT, cwd=OUT)
+    wanted = picture_file.decode(run([os.path.join(OUT, "page"), "0.6"])).pixel_data
+    off = [abs(one - other) for one, other in zip(drawn, wanted)]
+    must(len(drawn) == len(wanted) and max(off) <= 1, f"a channel is {max(off)} away")
+    return f"{sum(map(bool, off))} of {len(off)} channels differ by 1"
+
+
+def check_window() -> None:
+    """In a window textured shows its picture and the frames a second, and a click asks the triangle."""
+    done = subprocess.run([need("pkg-config"), "--cflags", "--libs", "sdl2"], capture_output=True, text=True)
+    if done.returncode:
+        raise MissingError("libsdl2-dev")
+    still = ("--size", *SIZE, "--speed", "0", "--turn", "40")
+    program, wanted = program_of("textured", *FLAGS, more=done.stdout.split(), name="textured-window"), textured(*still)
+    (triangle,) = re.findall(r"triangle (\d+)", picked(program, *still))
+    title = rf"textured: [1-9]\d* frames a second, triangle {triangle}"
+    with Screen(os.path.join(OUT, "screen"), *map(int, SIZE)) as screen:
+        with subprocess.Popen([program, *still, "--threads", "2"], env=screen.environment) as window:
+            try:
+                screen.wait_for(lambda: screen.pixels() == wanted, "the picture on the screen")
+                run([need("xdotool"), "mousemove", *PIXEL, "click", "1"], env=screen.environment)
+                screen.wait_for(lambda: re.fullmatch(title, title_on(screen)) is not None, f"the title {title}")
+            finally:
+                window.terminate()
+
+
+def title_on(screen: Screen) -> str:
+    name = [need("xdotool"), "search", "--name", "textured", "getwindowname"]
+    return subprocess.run(name, env=screen.environment, stdout=subprocess.PIPE, text=True).stdout.strip()
+
+
+def picked(program: str, *words: str) -> str:
+    """What the program says of the triangle at PIXEL."""
+    return subprocess.run([program, *words, "--pick", *PIXEL], stderr=subprocess.PIPE, text=True, check=True).stderr

@@ -1,0 +1,121 @@
+"""Programs over the headers for shading."""
+
+from __future__ import annotations
+
+import glob
+import os
+import re
+import shutil
+import subprocess
+from typing import Sequence
+
+from tools import places
+from tools.checks.cases import MAX_SECONDS, must
+from tools.checks.library.commands import WARNINGS, need, run
+from tools.ci.edit import pairs_in
+from tools.places import EXAMPLES, INCLUDE, STATIC_LIBRARY, TOP, text_of
+
+OUT = os.path.join(places.OUT, "check-shade")
+SOURCES = os.path.join(TOP, "tools", "checks", "shade")
+PROGRAMS = os.path.join(EXAMPLES, "cpp")
+STRICT = ("-std=c++17", *WARNINGS, "-Wconversion")
+# The tests have products of 128 bits.
+LENIENT = tuple(flag for flag in STRICT if flag != "-Wpedantic")
+# The C++ library of this machine serves for the headers of another processor, and is not linked there.
+LIBRARY_HEADERS = ("/usr/include/c++/12", "/usr/include/x86_64-linux-gnu/c++/12", "/usr/aarch64-linux-gnu/include")
+
+
+def compiled(compiler: str, source: str, name: str, *flags: str, before: str = "") -> str:
+    """Compiles a source of this folder with warnings, which are errors, to an object. Returns its path. Headers in
+    `before` come first."""
+    path = os.path.join(OUT, f"{name}.o")
+    folders = [f"-I{folder}" for folder in (before, INCLUDE, PROGRAMS, SOURCES) if folder]
+    warnings = STRICT if source == "under_test.cpp" else LENIENT
+    run([need(compiler), *warnings, *flags, *folders, "-c", os.path.join(SOURCES, source), "-o", path])
+    return path
+
+
+def linked(compiler: str, name: str, *words: str) -> str:
+    """Links objects into a program. Returns its path."""
+    path = os.path.join(OUT, name)
+    run([need(compiler), *words, "-o", path, "-pthread"])
+    return path
+
+
+def library() -> str:
+    """The library, or where it lacks the calls for tiles a stand-in. Returns its path."""
+    if os.path.exists(STATIC_LIBRARY) and b"trirast_canvas_tile_store" in run([need("nm"), "-g", STATIC_LIBRARY]):
+        return STATIC_LIBRARY
+    return stand_in()
+
+
+def stand_in(*flags: str) -> str:
+    """The calls on a canvas by plain rules, so that sanitizers look into them. Returns the path of the object."""
+    name = "-".join(["stand_in", *(re.sub(r"[^\w]", "_", flag.strip("-")) for flag in flags)])
+    path = os.path.join(OUT, f"{name}.o")
+    return path if os.path.exists(path) else compiled("g++", "stand_in.cpp", name, "-O2", *flags)
+
+
+def tests_of(name: str, *flags: str, compiler: str = "g++", before: str = "", canvas: str = "") -> str:
+    """Builds the tests: the references once, and over the headers by a compiler and its flags. Returns the program.
+    `canvas` is in place of the library."""
+    main = os.path.join(OUT, "main.o")
+    if not os.path.exists(main):
+        compiled("g++", "main.cpp", "main", "-O1")
+    parts = compiled(compiler, "under_test.cpp", f"{name}-parts", *flags, before=before)
+    return linked(compiler, name, main, parts, *flags, canvas or library())
+
+
+def outcome(program: str, seeds: int) -> tuple[int, str]:
+    """Runs the tests. Returns their status and what they print."""
+    done = subprocess.run([program, "--seeds", str(seeds)], stdout=subprocess.PIPE, text=True, timeout=MAX_SECONDS)
+    return done.returncode, done.stdout
+
+
+def failures(text: str) -> list[str]:
+    return re.findall(r"^FAILED (.*)$", text, re.MULTILINE)
+
+
+def filter_by(compiler: str, *flags: str) -> str:
+    """Builds the filter. Returns its path."""
+    name = "-".join(["filter", compiler, *(re.sub(r"[^\w]", "_", flag.strip("-")) for flag in flags)])
+    return linked(compiler, name, compiled(compiler, "filter.cpp", name, *flags), *flags)
+
+
+def filter_for_arm64(linker: str, *flags: str) -> str:
+    """Builds the filter for ARM64 by clang++ and that processor's linker, without a C++ library. Returns its path."""
+    folders = [word for folder in LIBRARY_HEADERS for word in ("-isystem", folder)]
+    words = ("--target=aarch64-linux-gnu", "-nostdinc++", *folders, *flags)
+    objects = [compiled("clang++", f"{name}.cpp", f"{name}-arm64", *words) for name in ("filter", "without_library")]
+    # Of what is not there nothing is called: exceptions.
+    return linked(linker, "filter-arm64", "-static", *objects, "-lm", "-Wl,--unresolved-symbols=ignore-all")
+
+
+def program_of(source: str, *flags: str, more: Sequence[str] = (), name: str = "", canvas: str = "") -> str:
+    """Builds a program of examples/cpp, without a window unless `more` has the words for SDL. Returns its path."""
+    path, text = os.path.join(OUT, name or source), os.path.join(PROGRAMS, f"{source}.cpp")
+    run([need("g++"), *STRICT, *flags, "-I", INCLUDE, text, canvas or library(), *more, "-o", path, "-pthread"])
+    return path
+
+
+def edits() -> list[str]:
+    """The names of the wrong edits."""
+    paths = places.files("tools", "checks", "shade", "edits", "*.edit")
+    return [os.path.basename(path)[: -len(".edit")] for path in paths]
+
+
+def edited(name: str) -> str:
+    """A folder with the headers, made wrong by an edit. Each old text stands once in what the pairs before it made."""
+    folder = os.path.join(OUT, name)
+    os.makedirs(folder)
+    # All of them: a header that stands beside another one is taken before any folder.
+    for source in (INCLUDE, PROGRAMS):
+        for header in glob.glob(os.path.join(source, "*.h*")):
+            shutil.copy(header, folder)
+    for file, old, new in pairs_in(text_of("tools", "checks", "shade", "edits", f"{name}.edit")):
+        path = os.path.join(folder, file)
+        text = text_of(path)
+        must(text.count(old) == 1, f"{text.count(old)} times in {file}, and not once: {old}")
+        with open(path, "w", encoding="ascii") as header_file:
+            header_file.write(text.replace(old, new))
+    return folder

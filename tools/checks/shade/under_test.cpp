@@ -1,0 +1,90 @@
+#include "under_test.hpp"
+
+#include "frame.hpp"
+#include "trirast_shade.hpp"
+
+namespace {
+
+trirast::Rate rate_of(At rate) {
+    return rate == At::pixel    ? trirast::Rate::pixel
+           : rate == At::centre ? trirast::Rate::centre
+                                : trirast::Rate::sample;
+}
+
+Eight numbers_of(const trirast::Fragments &at) {
+    Eight found;
+    at.id.store(found.id), at.x.store(found.x), at.y.store(found.y), at.used.store(found.used);
+    for (std::size_t c = 0; c < 3; c++)
+        at.weight[c].store(found.weight[c]), at.right[c].store(found.right[c]), at.down[c].store(found.down[c]);
+    return found;
+}
+
+} // namespace
+
+EdgesOfEight weigh_eight(const std::vector<trirast_vertex> &vertices, const std::vector<float> &w,
+                         const std::vector<std::uint32_t> &indices, Eight &at) {
+    const trirast::ShadeTriangles triangles(vertices, w, indices);
+    trirast::Fragments fragments;
+    fragments.id = trirast::Integers::load(at.id), fragments.x = trirast::Integers::load(at.x),
+    fragments.y = trirast::Integers::load(at.y);
+    fragments.used = -1;
+    const trirast::detail::TriangleLanes lanes = trirast::detail::triangles_of(triangles.data(), fragments.id);
+    const trirast::detail::EdgeLanes edges =
+        trirast::detail::edges_at(lanes, fragments.x - lanes.ax, fragments.y - lanes.ay);
+    trirast::detail::weigh(triangles.data(), fragments);
+    at = numbers_of(fragments);
+    EdgesOfEight found;
+    edges.a.store(found.a), edges.b.store(found.b), edges.c.store(found.c);
+    return found;
+}
+
+void place_of(std::uint32_t samples, std::uint32_t s, std::int32_t &x, std::int32_t &y) {
+    const trirast::SamplePlace place = trirast::sample_place(samples, s);
+    x = place.x, y = place.y;
+}
+
+struct Frame::Parts {
+    explicit Parts(const scene::Scene &given) : model(given) {}
+    scene::Model model;
+    scene::Seen seen;
+};
+
+Frame::Frame(const scene::Scene &given, std::int32_t width, std::int32_t height)
+    : parts_(std::make_unique<Parts>(given)) {
+    parts_->seen.project(parts_->model, given.matrix, scene::clip_of(width, height));
+    parts_->seen.prepare(parts_->model);
+}
+
+Frame::~Frame() = default;
+
+const trirast::Clipped &Frame::mesh() const { return parts_->seen.mesh; }
+const trirast::Clipped &Frame::glass() const { return parts_->seen.glass; }
+void Frame::draw_ids(trirast::TileRows &rows) const { scene::draw_ids(rows, parts_->seen); }
+void Frame::draw_glass(trirast::TileRows &rows) const { scene::draw_glass(rows, parts_->seen); }
+
+void Frame::shade(trirast::TileRows &rows, At rate) const {
+    trirast::shade(rows, parts_->seen.triangles, rate_of(rate), scene::background(parts_->model.scene),
+                   parts_->seen.shader(parts_->model));
+}
+
+void Frame::shade_tiles(trirast::TileRows &rows, At rate, std::uint32_t part, std::uint32_t parts) const {
+    const std::uint32_t columns = trirast::tile_columns(rows), tiles = columns * rows.end();
+    const scene::Textured shader = parts_->seen.shader(parts_->model);
+    trirast::TileEntries entries;
+    for (std::uint32_t k = part; k < tiles; k += parts)
+        trirast::shade_tile(rows, k % columns, k / columns, parts_->seen.triangles, rate_of(rate),
+                            scene::background(parts_->model.scene), shader, entries);
+}
+
+void Frame::shade_by(trirast::TileRows &rows, At rate, const std::uint8_t (&background)[3], std::size_t triangles,
+                     const Shader &shader) const {
+    const trirast::Clipped &seen = parts_->seen.mesh;
+    const trirast::ShadeTriangles shaded(seen.vertices, seen.w, {seen.indices.data(), 3 * triangles});
+    trirast::shade(rows, shaded, rate_of(rate), {background[0], background[1], background[2]},
+                   [&](const trirast::Fragments &at, trirast::Colors &out) {
+                       float colors[3][8];
+                       shader(numbers_of(at), colors);
+                       out.red = trirast::Floats::load(colors[0]), out.green = trirast::Floats::load(colors[1]);
+                       out.blue = trirast::Floats::load(colors[2]);
+                   });
+}
