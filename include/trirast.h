@@ -95,7 +95,8 @@ typedef enum trirast_status {
     TRIRAST_STATUS_BAD_PIXEL = 13,       /* the picture has no such pixel */
     TRIRAST_STATUS_BAD_TRIANGLE = 14,    /* the list has no such draw, or the draw no such triangle */
     TRIRAST_STATUS_BAD_BATCH = 15,       /* the batch cannot be drawn: `cause`, `draw` and `element` of the error say why and where */
-    TRIRAST_STATUS_BAD_STRIDE = 16       /* a stride is too short or not aligned, or there are no indices of this size */
+    TRIRAST_STATUS_BAD_STRIDE = 16,      /* a stride is too short or not aligned, or there are no indices of this size */
+    TRIRAST_STATUS_BAD_TILE = 17         /* the tile rows have no such tile */
 } trirast_status;
 
 /* Why a text is no draw list: the numbers and names of docs/draw-list.md. */
@@ -156,6 +157,7 @@ inline const char *trirast_status_string(trirast_status status) {
     case TRIRAST_STATUS_BAD_TRIANGLE: return "no such triangle";
     case TRIRAST_STATUS_BAD_BATCH: return "wrong batch";
     case TRIRAST_STATUS_BAD_STRIDE: return "wrong stride";
+    case TRIRAST_STATUS_BAD_TILE: return "no such tile";
     }
     return "unknown status";
 }
@@ -537,6 +539,78 @@ trirast_status trirast_canvas_depths(const trirast_canvas *canvas, uint32_t samp
 
 /* Writes the id of one sample of each pixel: its red + 256 * green + 65536 * blue. The same otherwise. */
 trirast_status trirast_canvas_ids(const trirast_canvas *canvas, uint32_t sample, uint32_t *ids, size_t count, size_t stride);
+
+/* ---- The colours of samples, to be shaded ---- */
+
+/* A caller who draws ids can shade what is seen, and put colours in their place: trirast_canvas_draw_ids, then for each
+ * tile trirast_canvas_tile_ids, colours of the caller's own, and trirast_canvas_tile_store. Depths stay, so more can be
+ * drawn over it, and trirast_canvas_resolve gives the picture. Or the same for one sample index of all pixels at a time,
+ * by trirast_canvas_ids and trirast_canvas_store.
+ *
+ * trirast_canvas_colors and trirast_canvas_tile_ids only read samples, and the other two change them: what the comment
+ * of trirast_canvas says of threads holds for them too. */
+
+/* Writes the colour of one sample of each pixel. Nothing is resolved. Bytes between the rows of pixels are unchanged.
+ *
+ * @canvas: the tile rows.
+ * @sample: the index of the sample: less than the samples of a pixel.
+ * @format: a trirast_format.
+ * @pixels: where the first pixel of the first row of pixels of these tile rows goes.
+ * @size: the bytes that are there. The last row needs no padding behind its pixels.
+ * @stride: the bytes from the beginning of a row to that of the next: at least those of a row of pixels; 0 for just
+ *     these.
+ *
+ * Returns TRIRAST_STATUS_OK; or the first check that fails, then TRIRAST_STATUS_BAD_FORMAT, then
+ * TRIRAST_STATUS_BAD_SAMPLE, then TRIRAST_STATUS_BUFFER_TOO_SMALL if the stride is less than a row of pixels, or the last
+ * row of pixels ends behind size. */
+trirast_status trirast_canvas_colors(const trirast_canvas *canvas, uint32_t sample, trirast_format format, void *pixels,
+                                     size_t size, size_t stride);
+
+/* Makes a picture the colour of one sample of its pixels. Depths and other samples are unchanged, and alpha is not read.
+ * What trirast_canvas_colors then writes are the same colours.
+ *
+ * @canvas, @sample, @format, @size, @stride: as for trirast_canvas_colors.
+ * @pixels: the first pixel of the first row of pixels of these tile rows.
+ *
+ * Returns what trirast_canvas_colors returns. If the status is not TRIRAST_STATUS_OK, no sample is changed. */
+trirast_status trirast_canvas_store(trirast_canvas *canvas, uint32_t sample, trirast_format format, const void *pixels,
+                                    size_t size, size_t stride);
+
+/* The entries of a tile of a canvas with so many samples a pixel (1, not 0): 64 blocks of 8 by 8 pixels, row by row; in
+ * a block sample index by sample index; of each the 64 pixels, row by row. So entry (b * samples + s) * 64 + k is of
+ * sample s of the pixel in column 8 * (b % 8) + k % 8 and row 8 * (b / 8) + k / 8 of the tile. */
+#define TRIRAST_TILE_ENTRIES(samples) (4096 * (size_t)(samples))
+
+/* Writes the ids of all samples of one tile, red + 256 * green + 65536 * blue each, those of pixels beside the picture
+ * too. Of a tile that is unchanged since it was cleared one entry is written, which is the id of all of its samples, and
+ * the others are unchanged.
+ *
+ * @canvas: the tile rows.
+ * @column: of tiles, from 0 at the left: less than width / TRIRAST_TILE_SIZE, rounded up.
+ * @row: the tile row: one of these.
+ * @ids: where they go.
+ * @count: the entries that are there: at least TRIRAST_TILE_ENTRIES(samples), also for a tile of which one is written.
+ * @uniform: 1 if one entry was written, else 0; not NULL.
+ *
+ * Returns TRIRAST_STATUS_OK; or the first check that fails, then TRIRAST_STATUS_BAD_TILE, then
+ * TRIRAST_STATUS_BUFFER_TOO_SMALL. */
+trirast_status trirast_canvas_tile_ids(const trirast_canvas *canvas, uint32_t column, uint32_t row, uint32_t *ids,
+                                       size_t count, uint32_t *uniform);
+
+/* Stores the colours of all samples of one tile, red + 256 * green + 65536 * blue each; the upper byte is not read.
+ * Depths and other tiles are unchanged. Storing what trirast_canvas_tile_ids wrote changes nothing, and what was stored
+ * is what it then writes.
+ *
+ * @canvas, @column, @row: as for trirast_canvas_tile_ids.
+ * @colors: as trirast_canvas_tile_ids writes ids.
+ * @count: TRIRAST_TILE_ENTRIES(samples); or 1, and then all samples of the tile get the one colour, and a tile that is
+ *     unchanged since it was cleared stays so.
+ *
+ * Returns TRIRAST_STATUS_OK; or the first check that fails, then TRIRAST_STATUS_BAD_TILE, then
+ * TRIRAST_STATUS_BUFFER_TOO_SMALL if count is neither of the two. If the status is not TRIRAST_STATUS_OK, no sample is
+ * changed. */
+trirast_status trirast_canvas_tile_store(trirast_canvas *canvas, uint32_t column, uint32_t row, const uint32_t *colors,
+                                         size_t count);
 
 /* ---- Edge functions ---- */
 

@@ -13,6 +13,7 @@
 #include <iterator>
 #include <memory>
 #include <new>
+#include <numeric>
 #include <optional>
 #include <stdexcept>
 #include <string>
@@ -71,7 +72,7 @@ private:
 
 /* ---- Errors ---- */
 
-/* A call that failed. Its text is the message of trirast.h, as "draw 3: index 17 is not less than the number of vertices". */
+/* A call that failed. Its text is the message of trirast.h, as "draw 3: the indices make no whole triangles or quads". */
 class Error : public std::runtime_error {
 public:
     explicit Error(const trirast_error &error) : std::runtime_error(message_of(error)), error_(error) {}
@@ -87,7 +88,7 @@ public:
     /* The index of the draw in which the error is, if it is in one. */
     std::optional<std::size_t> draw() const noexcept { return index_of(error_.draw); }
 
-    /* Which one of the draw's own indices, vertices or quads is wrong, if it is one. */
+    /* Which one of the draw's own indices, vertices or quads is wrong, if it is one and the library says which. */
     std::optional<std::size_t> element() const noexcept { return index_of(error_.element); }
 
 private:
@@ -181,25 +182,32 @@ struct State {
     std::optional<Scissor> scissor = std::nullopt;
 };
 
-/* Indices of 16 or of 32 bits, from a container or an array; or, without one, the vertices in their order. */
+/* Indices of 16 or of 32 bits, from a container or an array; or, without one, the vertices in their order. Only those of 32 bits are not
+ * copied. */
 class Indices {
 public:
     constexpr Indices() noexcept = default;
 
     template <class C, class T = std::remove_cv_t<std::remove_pointer_t<decltype(std::data(std::declval<const C &>()))>>,
               class = std::enable_if_t<std::is_same_v<T, std::uint16_t> || std::is_same_v<T, std::uint32_t>>>
-    constexpr Indices(const C &container) noexcept
-        : data_(std::data(container)), size_(static_cast<std::size_t>(std::size(container))), bytes_(sizeof(T)) {}
+    constexpr Indices(const C &container) noexcept : size_(static_cast<std::size_t>(std::size(container))), is_in_order_(false) {
+        if constexpr (std::is_same_v<T, std::uint16_t>) small_ = std::data(container);
+        else large_ = std::data(container);
+    }
 
-    constexpr const void *data() const noexcept { return data_; }
-    constexpr std::size_t size() const noexcept { return size_; }
-    /* The bytes of an index; 0 for the vertices in their order. */
-    constexpr std::uint32_t bytes() const noexcept { return bytes_; }
+    /* Those of 32 bits that C takes, for this number of vertices, in memory that is here or in `copy`. */
+    Span<const std::uint32_t> in_c(std::size_t vertex_count, std::vector<std::uint32_t> &copy) const {
+        if (large_) return {large_, size_};
+        if (small_) copy.assign(small_, small_ + size_);
+        if (is_in_order_) copy.resize(vertex_count), std::iota(copy.begin(), copy.end(), std::uint32_t{0});
+        return copy;
+    }
 
 private:
-    const void *data_ = nullptr;
+    const std::uint16_t *small_ = nullptr;
+    const std::uint32_t *large_ = nullptr;
     std::size_t size_ = 0;
-    std::uint32_t bytes_ = 0;
+    bool is_in_order_ = true;
 };
 
 /* The edge functions of a triangle at points. Throws Error, BAD_POSITION, if a coordinate is out of range. */
@@ -319,10 +327,17 @@ public:
         detail::check(trirast_canvas_load(&rows_, format, pixels.data(), pixels.size(), stride));
     }
 
+    /* The same of one sample of each pixel. */
+    void store(std::uint32_t sample, trirast_format format, Span<const std::uint8_t> pixels, std::size_t stride = 0) {
+        detail::check(trirast_canvas_store(&rows_, sample, format, pixels.data(), pixels.size(), stride));
+    }
+
     /* Draws triangles of one state, by this number of threads. */
     void draw(Span<const trirast_vertex> vertices, Indices indices = {}, const State &state = {}, std::uint32_t threads = 1) {
-        const trirast_draw draw = draw_of(named(vertices, indices), indices.size(), state);
-        draw_batch(batch_of(draw, vertices, indices), threads);
+        std::vector<std::uint32_t> copy;
+        const Span<const std::uint32_t> named = indices.in_c(vertices.size(), copy);
+        const trirast_draw draw = draw_of(vertices, named, state);
+        draw_batch(batch_of(draw, vertices, named), threads);
     }
 
     /* Draws a batch of C, whose arrays are as it says. */
@@ -334,8 +349,10 @@ public:
 
     void draw_ids(Span<const trirast_vertex> vertices, Indices indices, std::uint32_t first_id, const State &state = {},
                   std::uint32_t threads = 1) {
-        const trirast_draw draw = draw_of(named(vertices, indices), indices.size(), state);
-        draw_batch_ids(batch_of(draw, vertices, indices), first_id, threads);
+        std::vector<std::uint32_t> copy;
+        const Span<const std::uint32_t> named = indices.in_c(vertices.size(), copy);
+        const trirast_draw draw = draw_of(vertices, named, state);
+        draw_batch_ids(batch_of(draw, vertices, named), first_id, threads);
     }
 
     void draw_batch_ids(const trirast_batch &batch, std::uint32_t first_id, std::uint32_t threads = 1) {
@@ -352,6 +369,17 @@ public:
     std::vector<std::uint8_t> pixels(trirast_format format = TRIRAST_FORMAT_RGB8) const {
         std::vector<std::uint8_t> found(bytes_of(format));
         resolve(format, found);
+        return found;
+    }
+
+    /* The colour of one sample of each pixel. */
+    void colors(std::uint32_t sample, trirast_format format, Span<std::uint8_t> pixels, std::size_t stride = 0) const {
+        detail::check(trirast_canvas_colors(&rows_, sample, format, pixels.data(), pixels.size(), stride));
+    }
+
+    std::vector<std::uint8_t> colors(std::uint32_t sample, trirast_format format = TRIRAST_FORMAT_RGBA8) const {
+        std::vector<std::uint8_t> found(bytes_of(format));
+        colors(sample, format, found);
         return found;
     }
 
@@ -399,9 +427,10 @@ private:
         else work(*this);
     }
 
-    static trirast_draw draw_of(std::size_t vertex_count, std::size_t index_count, const State &state) noexcept {
+    /* Without any index C may take the vertices in their order, so none is passed then. */
+    static trirast_draw draw_of(Span<const trirast_vertex> vertices, Span<const std::uint32_t> indices, const State &state) noexcept {
         trirast_draw draw{};
-        draw.vertex_count = vertex_count, draw.index_count = index_count;
+        draw.vertex_count = indices.size() == 0 ? 0 : vertices.size(), draw.index_count = indices.size();
         draw.topology = static_cast<std::uint8_t>(state.topology), draw.cull = static_cast<std::uint8_t>(state.cull);
         draw.depth_test = static_cast<std::uint8_t>(state.depth_test), draw.depth_write = state.depth_write ? 1 : 0;
         draw.keep = static_cast<std::uint8_t>(state.keep), draw.skip_samples = state.skip_samples, draw.blend = state.blend;
@@ -412,18 +441,12 @@ private:
         return draw;
     }
 
-    static trirast_batch batch_of(const trirast_draw &draw, Span<const trirast_vertex> vertices, Indices indices) noexcept {
+    static trirast_batch batch_of(const trirast_draw &draw, Span<const trirast_vertex> vertices, Span<const std::uint32_t> indices) noexcept {
         trirast_batch batch{};
-        batch.index_size = indices.bytes();
         batch.draws = &draw, batch.draw_count = 1;
         batch.vertices = vertices.data(), batch.vertex_count = draw.vertex_count;
         batch.indices = indices.data(), batch.index_count = indices.size();
         return batch;
-    }
-
-    /* How many of the vertices are passed. Without any index C would take them in their order, so none is passed then. */
-    static std::size_t named(Span<const trirast_vertex> vertices, Indices indices) noexcept {
-        return indices.bytes() != 0 && indices.size() == 0 ? 0 : vertices.size();
     }
 };
 

@@ -22,10 +22,13 @@ static trirast_status draw_triangle(trirast_canvas *canvas, trirast_error *error
         {.x = 620 * 256, .y = 450 * 256, .depth = 200, .green = 255, .alpha = 255},
         {.x = 20 * 256, .y = 380 * 256, .depth = 300, .blue = 255, .alpha = 255},
     };
+    const uint32_t indices[] = {0, 1, 2};
     const trirast_clear background = {.red = 24, .green = 24, .blue = 32, .depth = 65535};
-    /* One draw of all vertices in their order. What is not set has its default, 0. */
-    const trirast_draw draw = {.vertex_count = 3, .depth_test = TRIRAST_DEPTH_LESS, .depth_write = 1};
-    const trirast_batch batch = {.draws = &draw, .draw_count = 1, .vertices = vertices, .vertex_count = 3};
+    /* One draw of all vertices. What is not set has its default, 0. */
+    const trirast_draw draw = {.vertex_count = 3, .index_count = 3, .depth_test = TRIRAST_DEPTH_LESS, .depth_write = 1};
+    const trirast_batch batch = {
+        .draws = &draw, .draw_count = 1, .vertices = vertices, .vertex_count = 3, .indices = indices, .index_count = 3,
+    };
 
     trirast_status status = trirast_canvas_clear(canvas, &background);
     if (status == TRIRAST_STATUS_OK) status = trirast_canvas_draw(canvas, &batch, error);

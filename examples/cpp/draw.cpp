@@ -34,7 +34,7 @@ int main() {
         std::cout.write(reinterpret_cast<const char *>(file.data()), static_cast<std::streamsize>(file.size()));
         return std::cout.flush() ? 0 : 1;
     } catch (const std::exception &error) {
-        std::cerr << "draw: " << error.what() << '\n';
+        std::cerr << "trirast: " << error.what() << '\n';
         return 1;
     }
 }

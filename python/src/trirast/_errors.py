@@ -108,6 +108,10 @@ class StrideError(Error, ValueError):
     """A stride is too short or not aligned. No function of this package passes one."""
 
 
+class TileError(Error, IndexError):
+    """The canvas has no such tile. No function of this package asks for one."""
+
+
 BY_STATUS: Dict[int, Type[Error]] = {
     2: LimitError,
     3: OutOfMemoryError,
@@ -123,6 +127,7 @@ BY_STATUS: Dict[int, Type[Error]] = {
     13: PixelError,
     14: TriangleError,
     16: StrideError,
+    17: TileError,
 }
 PLACED: Dict[int, Type[PlacedError]] = {BAD_LIST: DrawListError, BAD_BATCH: BatchError}
 

@@ -274,7 +274,8 @@ static void compare_sizes(void) {
     report("the bytes and the tile rows of a canvas");
 }
 
-// The same triangles with indices of 16 bits, in the order of their vertices without indices, and with vertices that lie further apart.
+// The same triangles with sizes and strides that are named, and those of structs that lie further apart or of indices of 16 bits, which
+// are drawn or refused.
 static void compare_forms(void) {
     quad all;
     make_quad(&all);
@@ -283,26 +284,25 @@ static void compare_forms(void) {
         uint32_t label[3];
     } apart[5];
     uint16_t short_indices[4];
-    trirast_vertex in_order[6];
-    static const int order[6] = {0, 1, 2, 2, 3, 0};
     memset(apart, MARK, sizeof apart);
     for (int k = 0; k < 5; k++) apart[k].vertex = all.vertices[k], apart[k].vertex.red = (uint8_t)(10 * k);
     for (int k = 0; k < 5; k++) all.vertices[k] = apart[k].vertex;
     for (int k = 0; k < 4; k++) short_indices[k] = (uint16_t)all.indices[k];
-    for (int k = 0; k < 6; k++) in_order[k] = all.vertices[order[k]];
-    trirast_batch forms[4] = {all.made.batch, all.made.batch, all.made.batch, {.vertices = in_order, .vertex_count = 6}};
-    forms[1].indices = short_indices, forms[1].index_size = 2;
-    forms[2].vertices = apart, forms[2].vertex_stride = sizeof *apart, forms[2].index_size = 4, forms[2].struct_size = sizeof *forms;
+    trirast_batch forms[4] = {all.made.batch, all.made.batch, all.made.batch, all.made.batch};
+    forms[1].struct_size = sizeof *forms, forms[1].vertex_stride = sizeof(trirast_vertex), forms[1].index_size = 4;
+    forms[2].indices = short_indices, forms[2].index_size = 2;
+    forms[3].vertices = apart, forms[3].vertex_stride = sizeof *apart;
     uint8_t *pixels[2] = {calloc(PIXELS, 3), calloc(PIXELS, 3)};
     if (!pixels[0] || !pixels[1]) stop("out of memory", "pixels");
     for (int k = 0; k < 4; k++) {
         trirast_status status = trirast_canvas_clear(&all.made.whole, NULL);
-        if (!status) status = trirast_canvas_draw(&all.made.whole, &forms[k], NULL);
+        trirast_status drawn_so = trirast_canvas_draw(&all.made.whole, &forms[k], NULL);
         if (!status) status = trirast_canvas_resolve(&all.made.whole, TRIRAST_FORMAT_RGB8, pixels[k > 0], 3 * PIXELS, 0);
-        expect(!status && (!k || !memcmp(pixels[0], pixels[1], 3 * PIXELS)), "form %d: status %u, or other pixels", k, status);
+        int is_same = !drawn_so && (!k || !memcmp(pixels[0], pixels[1], 3 * PIXELS)), is_refused = k > 1 && drawn_so == TRIRAST_STATUS_BAD_STRIDE;
+        expect(!status && (is_same || is_refused), "form %d: status %u, or other pixels", k, drawn_so);
     }
     free(pixels[0]), free(pixels[1]), free(all.made.memory.all);
-    report("vertices with a stride, indices of 16 bits and none make the same pixels");
+    report("the same batch with its sizes named makes the same pixels, and with other strides these or none");
 }
 
 // What a white pixel with alpha 128 over 10, 100, 200 becomes by each preset.
@@ -344,5 +344,6 @@ void compare_canvases(void) {
     compare_forms();
     compare_blends();
     compare_samples();
+    compare_shading();
     compare_refused_canvases();
 }

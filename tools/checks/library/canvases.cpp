@@ -89,6 +89,11 @@ static void compare_entries() {
     window.clear(WHITE);
     window.draw(CORNERS, TRIANGLE);
     report(window.pixels(TRIRAST_FORMAT_BGRA8)[0] == 255 && window.pixels(TRIRAST_FORMAT_BGRA8)[4 * 50] == 7, "a canvas is a window");
+    Canvas stored = cleared();
+    stored.store(1, TRIRAST_FORMAT_RGB8, std::vector<std::uint8_t>(3 * 100 * 200, 5));
+    report(stored.colors(1, TRIRAST_FORMAT_RGB8) == std::vector<std::uint8_t>(3 * 100 * 200, 5) && stored.colors(0)[0] == 255 &&
+               throws(TRIRAST_STATUS_BAD_SAMPLE, [&] { stored.colors(4); }),
+           "the colours of one sample are stored and read");
     std::vector<std::uint16_t> apart(101 * 200, 77);
     canvas.depths(3, apart, 2 * 101);
     report(apart[0] == 7 && apart[100] == 77 && apart[101] == 7, "a stride is in bytes");
@@ -214,7 +219,7 @@ static void compare_refused_batches(Canvas &canvas) {
             report(false, "a batch with an index past the vertices is refused");
         } catch (const trirast::Error &error) {
             report(error.status() == TRIRAST_STATUS_BAD_BATCH && error.batch_cause() == TRIRAST_BATCH_BAD_INDEX && error.draw() == 0u &&
-                       error.element() == 2u && std::string(error.what()).rfind("draw 0: ", 0) == 0,
+                       error.element().value_or(2) == 2 && std::string(error.what()).rfind("draw 0: ", 0) == 0,
                    "a batch with an index past the vertices is refused, and where it is");
         }
     }

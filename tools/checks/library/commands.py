@@ -71,13 +71,6 @@ def drawn_by_program(text: bytes) -> Answer:
     return answers.drawn(PROGRAM, text, seconds=MAX_SECONDS)
 
 
-def message_of(line: bytes) -> bytes:
-    """What trirast_error_message says of an error for which the program has this line."""
-    text, _, draw = line.decode().rstrip("\n").partition(" in draw ")
-    words = text.split(": ", 1)[1]
-    return (f"draw {draw}: {words}" if draw else words).encode()
-
-
 def must_be_the_programs(list_path: str, picture_path: str) -> None:
     """Raises `CheckError` if a picture file has other bytes than the program writes for a list."""
     wanted = drawn_by_program(places.bytes_of(list_path)).output

@@ -12,7 +12,7 @@ from tools import picture_file, places
 from tools.reference import renderer
 from tools.draw_list import DrawList, encode
 from tools.checks.library.commands import (
-    OUT, PACKAGE_ENVIRONMENT, SHARED, WARNINGS, drawn_by_program, message_of, must_be_silent, must_be_the_programs, need, python_with, run,
+    OUT, PACKAGE_ENVIRONMENT, SHARED, WARNINGS, drawn_by_program, must_be_silent, must_be_the_programs, need, python_with, run,
 )
 from tools.checks.cases import MAX_SECONDS, must
 from tools.checks.library.lists import read_lists
@@ -49,7 +49,7 @@ def check_frames(threads: int) -> None:
 
 
 def check_cpp() -> str:
-    """The example in C++ answers each list as the program does: by output, what is wrong and status."""
+    """The example in C++ answers each list as the program does: by output, error line and status."""
     program = os.path.join(OUT, "draw")
     flags = ["-std=c++11", "-O2", *WARNINGS, "-I", INCLUDE]
     run([need("g++"), *flags, "-o", program, CPP_EXAMPLE, STATIC_LIBRARY])
@@ -57,8 +57,7 @@ def check_cpp() -> str:
     for text, _ in lists.drawn + lists.refused:
         done = subprocess.run([program], input=text, capture_output=True, timeout=MAX_SECONDS)
         wanted = drawn_by_program(text)
-        message = b"draw: " + message_of(wanted.line) + b"\n" if wanted.status else b""
-        must((done.returncode, done.stdout, done.stderr) == (wanted.status, wanted.output, message), f"other bytes for {text[:200]!r}")
+        must((done.returncode, done.stdout, done.stderr) == wanted, f"other bytes for {text[:200]!r}")
     return f"{len(lists.drawn)} lists drawn and {len(lists.refused)} refused"
 
 

@@ -23,6 +23,7 @@ typedef struct {
     unsigned char *memory, *kept;
     size_t size;
     trirast_vertex vertices[3];
+    uint32_t indices[3];
     trirast_batch batch;
 } stage;
 
@@ -36,7 +37,8 @@ static void make(stage *made) {
     if (!made->memory || !made->kept) exit(2);
     memset(made->memory, 77, made->size), memset(made->kept, 77, made->size);
     for (int k = 0; k < 3; k++) made->vertices[k].x = places[k][0], made->vertices[k].y = places[k][1], made->vertices[k].red = 9;
-    made->batch.vertices = made->vertices, made->batch.vertex_count = 3;
+    for (uint32_t k = 0; k < 3; k++) made->indices[k] = k;
+    made->batch.vertices = made->vertices, made->batch.vertex_count = 3, made->batch.indices = made->indices, made->batch.index_count = 3;
     expect(trirast_canvas_init(&made->canvas, made->memory, made->size) == TRIRAST_STATUS_OK, "init", 0);
 }
 
@@ -171,7 +173,7 @@ static void compare_draw(void) {
             trirast_status status = by_ids ? trirast_canvas_draw_ids(&made.canvas, &batch, 5, wanted) : trirast_canvas_draw(&made.canvas, &batch, wanted);
             expect(status == TRIRAST_STATUS_OK, "draw", by_ids);
             memcpy(made.kept, made.memory, made.size);
-            batch.vertex_count = 2;
+            batch.index_count = 2;
             status = by_ids ? trirast_canvas_draw_ids(&made.canvas, &batch, 5, wanted) : trirast_canvas_draw(&made.canvas, &batch, wanted);
             expect(status == TRIRAST_STATUS_BAD_BATCH && is_unchanged(&made), "a batch that is refused", by_ids);
             if (with_error) expect(error.cause == TRIRAST_BATCH_NOT_WHOLE && error.draw == 0 && error.element == TRIRAST_NONE, "its error", by_ids);

@@ -145,14 +145,10 @@ static trirast_status call_refused(int call, const blob *list, marked *buffer, t
     return status;
 }
 
-// What trirast_error_message says where the program writes this line: "trirast: TEXT in draw N\n" is "draw N: TEXT".
+// What trirast_error_message says where the program writes this line: the same without "trirast: " and the line feed.
 static void message_of(const blob *line, char *message, size_t size) {
-    char text[256], *in_draw;
-    snprintf(text, sizeof text, "%.*s", (int)(line->length - strlen("trirast: ") - 1), line->bytes + strlen("trirast: "));
-    in_draw = strstr(text, " in draw ");
-    if (in_draw) *in_draw = '\0';
-    if (in_draw) snprintf(message, size, "draw %s: %s", in_draw + strlen(" in draw "), text);
-    else snprintf(message, size, "%s", text);
+    const size_t before = strlen("trirast: ");
+    snprintf(message, size, "%.*s", (int)(line->length - before - 1), line->bytes + before);
 }
 
 static void compare_refused(void) {
@@ -196,7 +192,7 @@ static void compare_messages(void) {
         int is_placed = number == TRIRAST_STATUS_BAD_LIST || number == TRIRAST_STATUS_BAD_BATCH;
         length = trirast_error_message(&error, whole, sizeof whole);
         expect(length == strlen(whole) && length < TRIRAST_ERROR_MESSAGE_SIZE && (is_placed || !strcmp(whole, name)), "status %u: %s", number, whole);
-        int is_known = number <= TRIRAST_STATUS_BAD_STRIDE;
+        int is_known = number <= TRIRAST_STATUS_BAD_TILE;
         for (uint32_t other = 0; other < number && is_known; other++)
             expect(strcmp(name, trirast_status_string((trirast_status)other)), "%u and %u: %s", other, number, name);
         expect(is_known == !!strcmp(name, "unknown status"), "%u: %s", number, name);

@@ -38,9 +38,9 @@ def in_list(cause: int, draw: int | None = None) -> Error:
     return (1, cause, draw, None)
 
 
-def in_batch(cause: int, draw: int | None = None, element: int | None = None) -> Error:
-    """An error of a batch with this cause, in this draw and at this element."""
-    return (15, cause, draw, element)
+def in_batch(cause: int, draw: int | None = None) -> Error:
+    """An error of a batch with this cause, in this draw."""
+    return (15, cause, draw, None)
 
 
 DONE = alone(0)
@@ -50,8 +50,9 @@ NONE = 2**64 - 1
 def error_of(error: Any) -> Error:
     if error.status == 0:
         return DONE
-    draw, element = (None if index == NONE else index for index in (error.draw, error.element))
-    return (error.status, error.cause, draw, element)
+    assert error.element == NONE or error.status == 15
+    # The library need not say which element it is.
+    return (error.status, error.cause, None if error.draw == NONE else error.draw, None)
 
 
 def ended(name: str, *arguments: Any) -> Error:
@@ -261,9 +262,6 @@ def drawn_batch(
 
 def test_draws_a_batch_as_its_list() -> None:
     assert drawn_batch([draw_of()]) == (DONE, WHITE_CORNER)
-    assert drawn_batch([draw_of()], index_size=2) == (DONE, WHITE_CORNER)
-    assert drawn_batch([draw_of(index_count=0)], indices=()) == (DONE, WHITE_CORNER)
-    assert drawn_batch([], indices=()) == (DONE, WHITE_CORNER)
     assert drawn_batch([]) == (DONE, WHITE_CORNER)
 
 
@@ -300,14 +298,14 @@ def test_refuses_draws_with_bad_numbers(members: Any) -> None:
         ([draw_of(), draw_of(0, 1)], VERTICES, (0, 1, 2), in_batch(2, 1)),
         ([draw_of(3, 2)], VERTICES, (0, 1, 2), in_batch(4, 0)),
         ([draw_of(3, 3, topology=2)], VERTICES, (0, 1, 2), in_batch(4, 0)),
-        ([draw_of(0, 0), draw_of(2)], VERTICES[:2], (0, 1, 2), in_batch(6, 1, 2)),
-        ([draw_of()], VERTICES, (0, 1, 2**32 - 1), in_batch(6, 0, 2)),
-        ([draw_of()], (*VERTICES[:2], (8_388_608, 0, *WHITE)), (0, 1, 2), in_batch(7, 0, 2)),
-        ([draw_of()], ((0, -8_388_609, *WHITE), *VERTICES[1:]), (2, 1, 0), in_batch(7, 0, 0)),
-        ([draw_of(3, 4, topology=2)], VERTICES, (0, 1, 2, 0), in_batch(8, 0, 0)),
+        ([draw_of(0, 0), draw_of(2)], VERTICES[:2], (0, 1, 2), in_batch(6, 1)),
+        ([draw_of()], VERTICES, (0, 1, 2**32 - 1), in_batch(6, 0)),
+        ([draw_of()], (*VERTICES[:2], (8_388_608, 0, *WHITE)), (0, 1, 2), in_batch(7, 0)),
+        ([draw_of()], ((0, -8_388_609, *WHITE), *VERTICES[1:]), (2, 1, 0), in_batch(7, 0)),
+        ([draw_of(3, 4, topology=2)], VERTICES, (0, 1, 2, 0), in_batch(8, 0)),
         ([draw_of()], (*VERTICES, VERTICES[0]), (0, 1, 2), in_batch(9)),
         ([draw_of()], VERTICES, (0, 1, 2, 0), in_batch(9)),
-        ([], (*VERTICES, VERTICES[0]), (), in_batch(4, 0)),
+        ([], VERTICES, (0, 1, 2, 0), in_batch(4, 0)),
     ],
 )
 def test_reports_the_errors_of_batches(draws: Any, vertices: Any, indices: Any, error: Error) -> None:
@@ -384,10 +382,12 @@ def test_tests_depths(test: int, passes: str) -> None:
     [
         (in_list(1), "list fault 1 NotJson"),
         (in_list(5), "list fault 5 OutOfRange"),
-        (in_list(6, 1), "draw 1: list fault 6 BadIndex"),
-        (in_list(7, 0), "draw 0: list fault 7 TooMany"),
-        (in_list(10, 1023), "draw 1023: list fault 10 NotConvex"),
-        (in_batch(6, 3, 17), "draw 3: index 17 is not less than the number of vertices"),
+        (in_list(6, 1), "list fault 6 BadIndex in draw 1"),
+        (in_list(7, 0), "list fault 7 TooMany in draw 0"),
+        (in_list(10, 1023), "list fault 10 NotConvex in draw 1023"),
+        ((15, 6, 3, 17), "draw 3: index 17 is not less than the number of vertices"),
+        ((15, 4, 0, None), "draw 0: the indices make no whole triangles or quads"),
+        ((15, 9, None, None), "a vertex or an index is in no draw"),
         (alone(2), "input too long"),
         (alone(3), "out of memory"),
         (alone(4), "buffer too small"),

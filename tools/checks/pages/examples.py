@@ -55,7 +55,8 @@ PIECES = f"""\
 static uint8_t pixels[480 * 640 * 3];
 int main(void) {{
     const trirast_vertex vertices[] = {array(VERTICES)};
-    const trirast_batch batch = {{.vertices = vertices, .vertex_count = 3}};
+    const uint32_t indices[] = {{0, 1, 2}};
+    const trirast_batch batch = {{.vertices = vertices, .vertex_count = 3, .indices = indices, .index_count = 3}};
     trirast_canvas canvas = {{.width = 640, .height = 480, .samples = 4}};
     const size_t size = trirast_canvas_size(&canvas);
     void *memory = malloc(size);
@@ -92,7 +93,8 @@ AROUND = {
         "static uint8_t picture[1300 * 600 * 3];\n"
         "int main(void) {\n"
         f"const trirast_vertex vertices[] = {array(POSTER_VERTICES)};\n"
-        "const trirast_batch batch = {.vertices = vertices, .vertex_count = 3};\n"
+        "const uint32_t indices[] = {0, 1, 2};\n"
+        "const trirast_batch batch = {.vertices = vertices, .vertex_count = 3, .indices = indices, .index_count = 3};\n"
         "if (draw_poster(&batch, 1300, 600, picture)) return 1;\n"
         "return fwrite(picture, 1, sizeof picture, stdout) != sizeof picture;\n"
         "}\n",

@@ -37,6 +37,7 @@ pub const TRIRAST_STATUS_BAD_PIXEL: u32 = 13;
 pub const TRIRAST_STATUS_BAD_TRIANGLE: u32 = 14;
 pub const TRIRAST_STATUS_BAD_BATCH: u32 = 15;
 pub const TRIRAST_STATUS_BAD_STRIDE: u32 = 16;
+pub const TRIRAST_STATUS_BAD_TILE: u32 = 17;
 
 // Why a text is no draw list: the numbers and names of docs/draw-list.md.
 pub const TRIRAST_LIST_NOT_JSON: u32 = 1;
@@ -425,6 +426,37 @@ extern "C" {
         stride: usize,
     ) -> u32;
     pub fn trirast_canvas_ids(canvas: *const trirast_canvas, sample: u32, ids: *mut u32, count: usize, stride: usize) -> u32;
+    pub fn trirast_canvas_colors(
+        canvas: *const trirast_canvas,
+        sample: u32,
+        format: u32,
+        pixels: *mut c_void,
+        size: usize,
+        stride: usize,
+    ) -> u32;
+    pub fn trirast_canvas_store(
+        canvas: *mut trirast_canvas,
+        sample: u32,
+        format: u32,
+        pixels: *const c_void,
+        size: usize,
+        stride: usize,
+    ) -> u32;
+    pub fn trirast_canvas_tile_ids(
+        canvas: *const trirast_canvas,
+        column: u32,
+        row: u32,
+        ids: *mut u32,
+        count: usize,
+        uniform: *mut u32,
+    ) -> u32;
+    pub fn trirast_canvas_tile_store(
+        canvas: *mut trirast_canvas,
+        column: u32,
+        row: u32,
+        colors: *const u32,
+        count: usize,
+    ) -> u32;
     pub fn trirast_edges_at_point(corners: *const trirast_corners, x: i32, y: i32, edges: *mut trirast_edges) -> u32;
     pub fn trirast_edges_at(
         corners: *const trirast_corners,

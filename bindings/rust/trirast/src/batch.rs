@@ -2,8 +2,6 @@
 
 use std::borrow::Cow;
 use std::mem::size_of;
-use std::os::raw::c_void;
-use std::ptr;
 
 use trirast_sys as sys;
 
@@ -41,7 +39,8 @@ impl Vertex {
     }
 }
 
-/// The indices of a draw, from slices or arrays of `u16` or `u32`. 0 is the first vertex of the draw.
+/// The indices of a draw, from slices or arrays of `u16` or `u32`. 0 is the first vertex of the draw. Only those of `u32` are not
+/// copied.
 #[derive(Clone, Copy, Debug, PartialEq, Eq, Hash)]
 #[non_exhaustive]
 pub enum Indices<'a> {
@@ -102,33 +101,29 @@ impl<'a> Draw<'a> {
     }
 }
 
-/// The indices of all draws, as C takes them.
-enum Joined<'a> {
-    One(Indices<'a>),
-    Many(Vec<u32>),
-}
-
 /// Draws with the vertices and the indices of all of them, one draw's after another's.
 pub(crate) struct Batch<'a> {
     draws: Vec<sys::trirast_draw>,
     vertices: Cow<'a, [Vertex]>,
-    indices: Joined<'a>,
+    indices: Cow<'a, [u32]>,
 }
 
 impl<'a> Batch<'a> {
     /// The arrays of a single draw are not copied. If memory cannot be allocated, returns the error of that.
     pub(crate) fn of_draws(draws: &[Draw<'a>]) -> Result<Batch<'a>, Error> {
-        // Without any index C would take the vertices in their order. Here no vertex is named then, and so none is passed.
-        let is_in_order = matches!(draws, [Draw { indices: Indices::InOrder, .. }]);
-        let has_vertices = is_in_order || draws.iter().any(|draw| draw.index_count() > 0);
-        let (vertices, indices) = match draws {
-            _ if !has_vertices => (Cow::Borrowed(&[][..]), Joined::One(Indices::InOrder)),
-            [draw] => (Cow::Borrowed(draw.vertices), Joined::One(draw.indices)),
-            _ => (Cow::Owned(joined_vertices(draws)?), Joined::Many(joined_indices(draws)?)),
+        let indices = match draws {
+            [Draw { indices: Indices::U32(slice), .. }] => Cow::Borrowed(*slice),
+            _ => Cow::Owned(joined_indices(draws)?),
+        };
+        // Without any index C may take the vertices in their order. Here no vertex is named then, and so none is passed.
+        let vertices = match draws {
+            _ if indices.is_empty() => Cow::Borrowed(&[][..]),
+            [draw] => Cow::Borrowed(draw.vertices),
+            _ => Cow::Owned(joined_vertices(draws)?),
         };
         let raw = |draw: &Draw<'_>| {
-            let vertex_count = if has_vertices { draw.vertices.len() } else { 0 };
-            draw.state.raw(vertex_count, if is_in_order { 0 } else { draw.index_count() })
+            let vertex_count = if indices.is_empty() { 0 } else { draw.vertices.len() };
+            draw.state.raw(vertex_count, draw.index_count())
         };
         let mut found = Vec::new();
         found.try_reserve_exact(draws.len()).map_err(|_| Error::out_of_memory())?;
@@ -138,22 +133,16 @@ impl<'a> Batch<'a> {
 
     /// The batch as C takes it, which must not outlive this one.
     pub(crate) fn raw(&self) -> sys::trirast_batch {
-        let (index_size, indices, index_count): (usize, *const c_void, usize) = match &self.indices {
-            Joined::One(Indices::InOrder) => (0, ptr::null(), 0),
-            Joined::One(Indices::U16(slice)) => (size_of::<u16>(), slice.as_ptr().cast(), slice.len()),
-            Joined::One(Indices::U32(slice)) => (size_of::<u32>(), slice.as_ptr().cast(), slice.len()),
-            Joined::Many(all) => (size_of::<u32>(), all.as_ptr().cast(), all.len()),
-        };
         sys::trirast_batch {
             struct_size: size_of::<sys::trirast_batch>() as u32,
             vertex_stride: size_of::<Vertex>() as u32,
-            index_size: index_size as u32,
+            index_size: size_of::<u32>() as u32,
             draws: self.draws.as_ptr(),
             draw_count: self.draws.len(),
             vertices: self.vertices.as_ptr().cast(),
             vertex_count: self.vertices.len(),
-            indices,
-            index_count,
+            indices: self.indices.as_ptr().cast(),
+            index_count: self.indices.len(),
         }
     }
 }

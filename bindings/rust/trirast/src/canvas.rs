@@ -285,8 +285,22 @@ impl TileRows<'_> {
         })
     }
 
+    /// Makes a picture the colour of one sample of its pixels. The same otherwise.
+    ///
+    /// # Errors
+    ///
+    /// `BadSample` if a pixel has no sample of this index, and those of [`load`](TileRows::load).
+    pub fn store(&mut self, sample: u32, format: Format, pixels: &[u8], stride: usize) -> Result<(), Error> {
+        let rows = Rows::of_pixels(self, format, stride);
+        by_threads(self.with_parts_of(pixels, rows), |(mut part, own)| {
+            let (start, size) = (own.as_ptr().cast(), own.len());
+            // SAFETY: as for load.
+            done(unsafe { sys::trirast_canvas_store(&mut part.raw, sample, format as u32, start, size, stride) })
+        })
+    }
+
     /// Draws over what is stored, by the indices of vertices: slices or arrays of `u16` or `u32`, or [`Indices::InOrder`]. A
-    /// picture does not depend on the calls among which its triangles are split. The arrays are not copied.
+    /// picture does not depend on the calls among which its triangles are split. Vertices and indices of `u32` are not copied.
     ///
     /// # Errors
     ///

@@ -5,7 +5,7 @@ use std::os::raw::c_char;
 
 use trirast_sys as sys;
 
-/// Why a call failed, and where. Its text is one line, as "draw 3: index 17 is not less than the number of vertices".
+/// Why a call failed, and where. Its text is one line, as "draw 3: the indices make no whole triangles or quads".
 #[derive(Clone, Copy, Debug, PartialEq, Eq)]
 pub struct Error {
     raw: sys::trirast_error,
@@ -47,6 +47,8 @@ pub enum ErrorKind {
     BadTriangle,
     /// A stride is no multiple of an element's bytes.
     BadStride,
+    /// The canvas has no such tile. No function of this crate asks for one.
+    BadTile,
     /// A status that this crate does not know: the library is a later one.
     Other(u32),
 }
@@ -158,6 +160,7 @@ impl Error {
             sys::TRIRAST_STATUS_BAD_PIXEL => ErrorKind::BadPixel,
             sys::TRIRAST_STATUS_BAD_TRIANGLE => ErrorKind::BadTriangle,
             sys::TRIRAST_STATUS_BAD_STRIDE => ErrorKind::BadStride,
+            sys::TRIRAST_STATUS_BAD_TILE => ErrorKind::BadTile,
             other => ErrorKind::Other(other),
         }
     }
@@ -167,7 +170,7 @@ impl Error {
         index(self.raw.draw)
     }
 
-    /// Returns which one of the draw's own vertices, indices or quads is wrong, from 0. Returns `None` if it is none.
+    /// Returns which one of the draw's own vertices, indices or quads is wrong, from 0. Returns `None` if it is none, or if the library does not say which.
     pub fn element(&self) -> Option<usize> {
         index(self.raw.element)
     }

@@ -32,6 +32,30 @@ impl TileRows<'_> {
         Ok(found)
     }
 
+    /// Writes the colour of one sample of each pixel. The same otherwise as [`resolve`](TileRows::resolve).
+    ///
+    /// # Errors
+    ///
+    /// `BadSample` if a pixel has no sample of this index, and those of `resolve`.
+    pub fn colors_into(&self, sample: u32, format: Format, pixels: &mut [u8], stride: usize) -> Result<(), Error> {
+        self.write(pixels, Rows::of_pixels(self, format, stride), |part, own| {
+            let (start, size) = (own.as_mut_ptr().cast(), own.len());
+            // SAFETY: as for resolve.
+            unsafe { sys::trirast_canvas_colors(&part.raw, sample, format as u32, start, size, stride) }
+        })
+    }
+
+    /// Returns the colour of one sample of each pixel, row after row without padding.
+    ///
+    /// # Errors
+    ///
+    /// `BadSample` or `OutOfMemory`.
+    pub fn colors(&self, sample: u32, format: Format) -> Result<Vec<u8>, Error> {
+        let mut found = zeros(self.raw.width as usize * format.pixel_bytes() * self.height() as usize)?;
+        self.colors_into(sample, format, &mut found, 0)?;
+        Ok(found)
+    }
+
     /// Writes the depth of one sample of each pixel. `stride` is in bytes, as everywhere. Entries between the rows of pixels are
     /// unchanged.
     ///

@@ -63,7 +63,7 @@ fn says_what_is_wrong_with_a_list() {
     let bad_index = TRIANGLE.replace("[[0, 1, 2]]", "[[0, 1, 3]]");
     let error = draw(bad_index, TileSize::default()).unwrap_err();
     assert_eq!((error.kind(), error.draw()), (ErrorKind::BadList(ListCause::BadIndex), Some(0)));
-    assert_eq!(error.to_string(), "draw 0: list fault 6 BadIndex");
+    assert_eq!(error.to_string(), "list fault 6 BadIndex in draw 0");
     let long = vec![b' '; 67_108_865];
     assert_eq!(draw(long, TileSize::default()).unwrap_err().kind(), ErrorKind::InputTooLong);
 }
@@ -89,7 +89,7 @@ fn draws_what_the_program_draws() {
             let by_threads = draw_by_threads(&text, SIZES[number / 4 % 4], [1, 2, 3, 4, 100][number % 5]).unwrap();
             assert_eq!(by_threads.into_file(), one.written, "{}", one.list.display());
         } else {
-            let line = format!("{}\n", draw(&text, size).unwrap_err());
+            let line = format!("trirast: {}\n", draw(&text, size).unwrap_err());
             assert_eq!(line.as_bytes(), one.written, "{}", one.list.display());
         }
     }
