@@ -375,8 +375,7 @@ uint32_t trirast_canvas_tile_rows(const trirast_canvas *canvas);
 /* Gives a canvas its memory: sets first, end, memory and plane_count, for the whole canvas.
  *
  * @canvas: of which struct_size, width, height, samples, channels and the origin are set.
- * @memory: the samples: aligned to 2; aligned to 64 is faster. Its bytes are not looked at, and may be NULL's: then the
- *     status says so.
+ * @memory: the samples: aligned to 2; aligned to 64 is faster.
  * @size: its bytes: at least trirast_canvas_size(canvas).
  *
  * Returns TRIRAST_STATUS_OK; TRIRAST_STATUS_BAD_CANVAS if there is no such canvas or its struct_size is wrong; or
@@ -395,8 +394,7 @@ inline trirast_status trirast_canvas_init(trirast_canvas *canvas, void *memory, 
 /* Checks of every call on a canvas, of which the first that fails is reported: TRIRAST_STATUS_BAD_STRUCT_SIZE,
  * TRIRAST_STATUS_BAD_CANVAS, TRIRAST_STATUS_BAD_TILE_ROWS if first is greater than end, or end is greater than the
  * number of tile rows, TRIRAST_STATUS_BAD_MEMORY if plane_count is not exactly as great as these tile rows need. Then
- * come those that the call's own text names. `first` may be `end`: then there are no samples, and memory may be NULL.
- * */
+ * come those that the call's own text names. `first` may be `end`: then there are no samples, and memory may be NULL. */
 
 /* Makes a struct for some of the tile rows of another. The piece has no memory of its own: it is a part of the whole's.
  *

@@ -96,6 +96,21 @@ class Pictures(unittest.TestCase):
         ids = array("I", bytes_of(canvas.ids()))
         self.assertEqual(list(ids), [70000, 70000, WHITE_ID, 70000] + 5 * [WHITE_ID])
 
+    def test_colors_of_one_sample_are_stored_and_read(self) -> None:
+        for samples in COUNTS:
+            canvas = trirast.Canvas(3, 70, samples=samples)
+            canvas.clear((1, 2, 3), 9)
+            image = bytes(k * 7 % 256 for k in range(3 * 3 * 70))
+            canvas.store(image, samples - 1, threads=2)
+            for sample in range(samples):
+                found = bytes_of(canvas.colors(sample))
+                self.assertEqual(found, image if sample == samples - 1 else bytes((1, 2, 3)) * 210)
+                self.assertEqual(set(array("H", bytes_of(canvas.depth(sample)))), {9})
+            bgra = bytes_of(canvas.colors(samples - 1, format="bgra"))
+            self.assertEqual((bgra[2::4], bgra[1::4], bgra[0::4], set(bgra[3::4])), (image[0::3], image[1::3], image[2::3], {255}))
+            for refused in (lambda: canvas.colors(samples), lambda: canvas.store(image, samples)):
+                self.assertRaises(trirast.SampleError, refused)
+
     def test_every_sample_of_each_count_is_drawn(self) -> None:
         for samples in COUNTS:
             canvas = trirast.Canvas(3, 70, samples=samples)

@@ -55,6 +55,7 @@ fn recolour(plane: &mut BlockSamples, k: usize, format: Format, pixel: &[u8])
 }
 
 /// Stores the colour of these bytes in place of those of some samples of pixel (i, j), in the planes of its tile.
+#[inline(always)]
 fn store_pixel(
     count: SampleCount,
     i: u32,

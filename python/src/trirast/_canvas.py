@@ -112,13 +112,22 @@ class Canvas:
         """Makes an image the colour of all samples of its pixels; depths stay. The image is a buffer of bytes of the shape (height,
         width, 3) or (height, width, 4), or of as many bytes without a shape. `format` is "rgb", "rgba" or "bgra"; without it the
         image is "rgb" or "rgba" by its length. Alpha is not read. An image that cannot be written or is not contiguous is copied."""
+        self._stored(library().trirast_canvas_load, image, format, threads)
+
+    def store(
+        self, image: Any, sample: SupportsIndex = 0, *, format: Optional[Format] = None, threads: SupportsIndex = 1
+    ) -> None:
+        """Makes an image the colour of one sample of its pixels; depths and other samples stay. The image is as for `load`."""
+        self._stored(of_sample(library().trirast_canvas_store, number("sample", sample)), image, format, threads)
+
+    def _stored(self, call: Any, image: Any, format: Optional[Format], threads: SupportsIndex) -> None:
         if format is not None:
             named("format", FORMATS, format)
         kinds = ("rgb", "rgba") if format is None else (format,)
         forms = [self._form(("uint8",), FORMATS[kind][1]) for kind in kinds]
         found, pixels = readable("image", image, *forms)
         with pixels:
-            self._rows("image", pixels, library().trirast_canvas_load, FORMATS[kinds[forms.index(found)]][0], 1, threads)
+            self._rows("image", pixels, call, FORMATS[kinds[forms.index(found)]][0], 1, threads)
 
     def draw(
         self,
@@ -216,6 +225,15 @@ class Canvas:
         """The id of one sample of each pixel: 32 bits, of the shape (height, width)."""
         return self._written(library().trirast_canvas_ids, number("sample", sample), self._form(("uint32", "int32")), out, threads)
 
+    def colors(
+        self, sample: SupportsIndex = 0, out: Optional[Any] = None, *, format: Format = "rgb", threads: SupportsIndex = 1
+    ) -> Any:
+        """The colour of one sample of each pixel, which is not resolved: bytes of the shape (height, width, 3), or 4 with alpha."""
+        named("format", FORMATS, format)
+        code, channels = FORMATS[format]
+        call = of_sample(library().trirast_canvas_colors, number("sample", sample))
+        return self._written(call, code, self._form(("uint8",), channels), out, threads)
+
     # ---- Copies
 
     def __getstate__(self) -> Dict[str, Any]:
@@ -281,6 +299,11 @@ class Canvas:
         with Buffer(check_writable("out", made, form)) as buffer:
             self._rows("out", buffer, call, chosen, struct.calcsize(CODES[form.kinds[0]]), threads)
         return made
+
+
+def of_sample(call: Any, sample: int) -> Any:
+    """A call on the colours of one sample index, as one on those of pixels: with a format before the buffer."""
+    return lambda piece, format, *buffer: call(piece, sample, format, *buffer)
 
 
 # What `_set` makes, which a copy makes anew.

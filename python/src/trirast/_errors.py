@@ -108,8 +108,8 @@ class StrideError(Error, ValueError):
     """A stride is too short or not aligned. No function of this package passes one."""
 
 
-class TileError(Error, ValueError):
-    """The tile rows have no such tile. No function of this package asks for one."""
+class TileError(Error, IndexError):
+    """The canvas has no such tile. No function of this package asks for one."""
 
 
 BY_STATUS: Dict[int, Type[Error]] = {

@@ -156,6 +156,10 @@ STATUSES: Dict[str, List[Any]] = {
     "trirast_canvas_resolve": PIXELS,
     "trirast_canvas_depths": PIXELS,
     "trirast_canvas_ids": PIXELS,
+    "trirast_canvas_colors": CANVAS + 2 * NUMBER + BUFFER + STRIDE,
+    "trirast_canvas_store": CANVAS + 2 * NUMBER + BUFFER + STRIDE,
+    "trirast_canvas_tile_ids": CANVAS + 2 * NUMBER + BUFFER + to(WORD),
+    "trirast_canvas_tile_store": CANVAS + 2 * NUMBER + BUFFER,
     "trirast_edges_at": to(CCorners) + [POINTER, COUNT, COUNT, POINTER],
 }
 OTHERS: Dict[str, Tuple[List[Any], Any]] = {

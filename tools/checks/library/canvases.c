@@ -344,5 +344,6 @@ void compare_canvases(void) {
     compare_forms();
     compare_blends();
     compare_samples();
+    compare_shading();
     compare_refused_canvases();
 }

@@ -28,6 +28,9 @@ void make_quad(quad *all);
 // Each number of samples a pixel, in samples.c.
 void compare_samples(void);
 
+// Colours of one sample index and of one tile, in shading.c.
+void compare_shading(void);
+
 // What each call refuses, in refused_canvases.c.
 void compare_refused_canvases(void);
 

@@ -15,7 +15,7 @@ from tools.places import INCLUDE, LEVEL, LIB, SECOND_LEVEL, SHARED_LIBRARY, STAT
 
 SOURCES = os.path.join(TOP, "tools", "checks", "library")
 # The parts of the test but the way in which allocations fail.
-PARTS = ("main", "cases", "scenes", "canvases", "samples", "refused_canvases", "large_batch", "histories", "stack")
+PARTS = ("main", "cases", "scenes", "canvases", "samples", "shading", "refused_canvases", "large_batch", "histories", "stack")
 WAYS = (
     "pictures", "rows", "buffers", "refused", "messages", "odd", "canvases", "large", "histories", "threads", "stack", "memory",
 )

@@ -47,7 +47,7 @@ pub enum ErrorKind {
     BadTriangle,
     /// A stride is no multiple of an element's bytes.
     BadStride,
-    /// The tile rows have no such tile. No function of this crate passes another.
+    /// The canvas has no such tile. No function of this crate asks for one.
     BadTile,
     /// A status that this crate does not know: the library is a later one.
     Other(u32),

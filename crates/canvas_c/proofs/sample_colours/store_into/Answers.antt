@@ -8,8 +8,7 @@ use Rattle.model.specs.Checking.{done, check, followed_by}
 use Rattle.model.proofs.Checking.{fails_before}
 use Rattle.c_abi.specs.declared.status.Status.TheVariants.{BufferTooSmall, BadFormat, BadSample}
 use Rattle.canvas_c.specs.Pieces.{samples_listed, HasRoom, format_of, stride_of, piece_checks}
-use Rattle.canvas_c.proofs.Ended.{on_done, room_of, large_of}
-use Rattle.canvas_c.proofs.Judged.{judged_fit}
+use Rattle.canvas_c.proofs.Ended.{on_done, room_of, large_of, fitted_is}
 use Rattle.canvas_c.proofs.sample_colours.store_into.Goals as goal
 
 pub returns-in_err-rows-clause-judged : goal.returns-in_err-rows-clause-judged
@@ -33,8 +32,8 @@ returns-clause-judged c =
     let judged = c.in_ok-rows.ensures.judged in
     let sample : c.args.sample < count_of rows.canvas.count = rw judged.1.count (judged.0.1.1.1.1.1.0) in
     let fits : IsOk c.store.result ↔ FitEntries rows.canvas rows.first rows.end c.args.sample unit stride size = rw (c.stride_of.ensures, c.in_ok-rows.ensures.format, c.over-piece.ensures.rows) at c.store.ensures.fits in
-    judged_fit (followed_by (piece_checks head planes) (check (c.args.format ≤ 2) BadFormat (check (c.args.sample < count_of (samples_listed head.samples)) BadSample done))) (HasRoom head unit stride size) _ c.store.result c.fitted.result judged.0 c.fitted.ensures.done c.fitted.ensures.small
-    fits (λ room. (sample, large_of head rows unit stride size judged.1 room)) (λ fit. room_of head rows unit stride size judged.1 fit.1)
+    fitted_is (followed_by (piece_checks head planes) (check (c.args.format ≤ 2) BadFormat (check (c.args.sample < count_of (samples_listed head.samples)) BadSample done))) (HasRoom head unit stride size) c.store.result c.fitted.result judged.0 c.fitted.ensures.done c.fitted.ensures.small
+    ((λ ok. room_of head rows unit stride size judged.1 (fits.0 ok).1), (λ room. fits.1 (sample, large_of head rows unit stride size judged.1 room)))
 
 pub returns-clause-stored : goal.returns-clause-stored
 returns-clause-stored c =

@@ -1,7 +1,6 @@
 use Rattle.std.proofs.Common.{length}
 use Rattle.canvas_c.specs.Samples.{colours_checks}
-use Rattle.canvas_c.proofs.Ended.{done_if}
-use Rattle.canvas_c.proofs.Judged.{status_is}
+use Rattle.canvas_c.proofs.Ended.{done_if, status_is}
 use Rattle.canvas_c.proofs.sample_colours.trirast_canvas_store.Goals as goal
 
 pub returns-clause-status : goal.returns-clause-status

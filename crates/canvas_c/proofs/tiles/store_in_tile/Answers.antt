@@ -6,7 +6,7 @@ use Rattle.model.proofs.Checking.{fails_before}
 use Rattle.c_abi.specs.declared.status.Status.TheVariants.{BufferTooSmall, BadTile}
 use Rattle.canvas_c.specs.Pieces.{piece_checks}
 use Rattle.canvas_c.specs.Samples.{NamesTile, entries_in_tile}
-use Rattle.canvas_c.proofs.Judged.{tile_fits, tile_fails}
+use Rattle.canvas_c.proofs.OfTiles.{tile_fits, tile_fails}
 use Rattle.canvas_c.proofs.tiles.store_in_tile.Goals as goal
 
 pub returns-in_err-rows-clause-judged : goal.returns-in_err-rows-clause-judged

@@ -1,7 +1,6 @@
 use Rattle.std.proofs.Common.{ℕ, length}
 use Rattle.canvas_c.specs.Samples.{tile_store_checks}
-use Rattle.canvas_c.proofs.Ended.{done_if}
-use Rattle.canvas_c.proofs.Judged.{status_is}
+use Rattle.canvas_c.proofs.Ended.{done_if, status_is}
 use Rattle.canvas_c.proofs.tiles.trirast_canvas_tile_store.Goals as goal
 
 pub returns-clause-status : goal.returns-clause-status

@@ -1,8 +1,5 @@
--- How calls end that read or write rows of pixels or a tile.
-use Rattle.std.specs.Prelude.{⊤}
-use Rattle.std.proofs.Common.{◌≡◌, ◌≢◌, ◌↔◌, ◌⊎◌, inl, inr, refl, sym, ap, subst, ℕ, ◌<◌, ◌≤◌, List, take, slice_index, arith, Result, Ok, Err, IsOk, IfErr, MatchResult}
-use Rattle.std.proofs.lemmas.Bool.{false≢true}
-use Rattle.grid.specs.Samples.{count_of}
+-- How calls end that read or store the samples of one tile.
+use Rattle.std.proofs.Common.{◌≡◌, ◌≢◌, inl, inr, refl, sym, ap, subst, ℕ, ◌≤◌, List, take, slice_index, arith}
 use Rattle.lanes.specs.declared.block_samples.BlockSamples.{BlockSamples}
 use Rattle.canvas.specs.declared.canvas.Canvas.{Canvas}
 use Rattle.canvas.specs.declared.misfit.Misfit.{Misfit}
@@ -10,30 +7,13 @@ use Rattle.canvas.specs.declared.tile_rows.TileRows.{TileRows as Rows}
 use Rattle.canvas.specs.Layout.{HasTile}
 use Rattle.canvas.specs.Tiles.{IsTileMisfit, IsWritten, AreTileIds}
 use Rattle.canvas.proofs.TileEntries.{many_entries}
-use Rattle.model.specs.Checking.{Checks, done, check, followed_by, Pass, FirstIs, IsJudged}
+use Rattle.model.specs.Checking.{done, check, followed_by, Pass, FirstIs}
 use Rattle.model.proofs.Checking.{pass_both, fails_later}
-use Rattle.c_abi.specs.declared.status.Status.{Status}
 use Rattle.c_abi.specs.declared.status.Status.TheVariants.{BufferTooSmall, BadTile}
-use Rattle.c_abi.specs.Calls.{IsStatus}
-use Rattle.c_abi.specs.Statuses.{number_of}
 use Rattle.canvas_c.specs.declared.piece.CanvasHead.{CanvasHead}
 use Rattle.canvas_c.specs.Pieces.{AreRowsOf, piece_checks}
 use Rattle.canvas_c.specs.Samples.{NamesTile, status_for, AreIdsOfTile}
 
--- the status of what was judged
-pub status_is : (checks : Checks Status) (r : Result ⊤ Status) (n : ℕ) → IsJudged checks (λ (x : ⊤). ⊤) r → MatchResult r (λ x. n ≡ 0) (λ failed. n ≡ number_of failed) → IsStatus checks n
-status_is checks (Ok x) n judged ended = inl (judged.0, ended)
-status_is checks (Err e) n judged ended = inr (e, judged, ended)
-
--- rows of pixels fit if the last check holds
-pub judged_fit : (first : Checks Status) (Room Fit : Type 0) (r : Result ⊤ Misfit) (s : Result ⊤ Status) → Pass first → (IsOk s ↔ IsOk r) → IfErr s (λ failed. failed ≡ BufferTooSmall) → (IsOk r ↔ Fit) → (Room → Fit) → (Fit → Room)
-    → IsJudged (followed_by first (check Room BufferTooSmall done)) (λ (x : ⊤). ⊤) s
-judged_fit first Room Fit (Ok x) (Ok y) pass same small fits into from = (pass_both first (check Room BufferTooSmall done) pass (from (fits.0 refl), tt), y)
-judged_fit first Room Fit (Err e) (Err f) pass same small fits into from = fails_later first (check Room BufferTooSmall done) f pass (inl ((λ room. false≢true (fits.1 (into room))), sym small))
-judged_fit first Room Fit (Ok x) (Err f) pass same small fits into from = absurd (false≢true (same.1 refl))
-judged_fit first Room Fit (Err e) (Ok y) pass same small fits into from = absurd (false≢true (same.0 refl))
-
--- ---- tiles
 module _ (head : CanvasHead) (rows : Rows) (are : AreRowsOf head rows) (column row : ℕ) where
   pub tile_named : HasTile rows.canvas rows.first rows.end column row → NamesTile head column row
   tile_named h = record { wide = rw are.width at h.wide; from = rw are.first at h.from; below = rw are.end at h.below }
