@@ -7,11 +7,10 @@ ghost use Rattle.why.specs.declared.program.Failure.TheVariants.{Run};
 use crate::arguments::{Question, read_arguments};
 use crate::counts::report_triangle;
 use crate::text::{ReportFault, report};
-use command_line::LineFault;
 use list::read;
 use model::{DrawList, ReadFault};
 use picture_file::Counted;
-use program_input::{Fault, fail_with, read_input, refuse_with};
+use program_input::{Fault, LineFault, fail_with, read_input, refuse_with};
 use std::alloc::Global;
 use std::io::{Read, Write};
 
