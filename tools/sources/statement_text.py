@@ -237,7 +237,7 @@ GROUPS = (
         (
             "crates/grid/src/pixels.rt#TileSide",
             "crates/grid/specs/Pixels.antt#side_of",
-            "crates/command_line/src/drawing_options.rt",
+            "crates/program_input/src/drawing_options.rt",
             "crates/pool/src/fault.rt",
             "crates/program_input/src/fault.rt",
             "crates/program_input/specs/Input.antt",

@@ -13,7 +13,7 @@ use Rattle.model.specs.Rows.{IsRowSpan}
 use Rattle.model.specs.Scene.{Scene}
 use Rattle.model.specs.declared.rows.RowSpan.{RowSpan}
 use Rattle.list_history.proofs.Rows.{in_rows}
-use Rattle.list_history.specs.Walk.{ListPlace, IsOfList, IsNextOfList, IsNextCoveredOfList}
+use Rattle.list_history.specs.Walk.{ListPlace, IsPlaceOfList, IsNextOfList, IsNextCoveredOfList}
 use Rattle.list_history.specs.declared.list_event.ListEvent.{ListEvent}
 
 -- ---- the triangle that comes
@@ -26,20 +26,20 @@ get_left ts n t is =
     let read : get_or ts n t ≡ t = ap (λ k. get_or ts k t) none ∙ sym (get_or-drop n ts 0 t) ∙ get_or_from_slice_get (drop n ts) 0 t t is in
     slice_get-get_or ts n t (within_left ts n t is) ∙ ap Some read
 
-next_left : (l : Scene) (q : Place) → IsOfList l q → q.number < length l.triangles → (t : Placed) × (slice_get q.left 0 ≡ Some t)
+next_left : (l : Scene) (q : Place) → IsPlaceOfList l q → q.number < length l.triangles → (t : Placed) × (slice_get q.left 0 ≡ Some t)
 next_left l q is some = elim (slice_get_cases q.left 0).1 [
   | inl w ↦ (w.0, w.2)
   | inr w ↦ absurd (omega (arith, some, w.0, ap length is.left ∙ length-drop q.number l.triangles))
 ]
 
-pub some_left : (l : Scene) (q : Place) → IsOfList l q → q.number < length l.triangles → ¬ (q.left ≡ [])
+pub some_left : (l : Scene) (q : Place) → IsPlaceOfList l q → q.number < length l.triangles → ¬ (q.left ≡ [])
 some_left l q is some none = absurd (omega (arith, some, ap length none, ap length is.left ∙ length-drop q.number l.triangles))
 
-get_next : (l : Scene) (q : Place) (t : Placed) → IsOfList l q → slice_get q.left 0 ≡ Some t → slice_get l.triangles q.number ≡ Some t
+get_next : (l : Scene) (q : Place) (t : Placed) → IsPlaceOfList l q → slice_get q.left 0 ≡ Some t → slice_get l.triangles q.number ≡ Some t
 get_next l q t is found = get_left l.triangles q.number t (subst (λ (ts : List Placed). slice_get ts 0 ≡ Some t) is.left found)
 
 -- it does not cover the sample if its rows do not have the sample's
-pub outside : (l : Scene) (q : Place) (span : RowSpan) → IsOfList l q → q.number < length l.triangles → IfSome (slice_get l.triangles q.number) (λ t. IsRowSpan t.tri span)
+pub outside : (l : Scene) (q : Place) (span : RowSpan) → IsPlaceOfList l q → q.number < length l.triangles → IfSome (slice_get l.triangles q.number) (λ t. IsRowSpan t.tri span)
     → ¬ ((span.first ≤ q.j) × (q.j < span.end)) → (t : Placed) × (slice_get q.left 0 ≡ Some t) × (¬ IsCoveredBy q t)
 outside l q span is some rows out =
     let next = next_left l q is some in
@@ -48,7 +48,7 @@ outside l q span is some rows out =
 
 -- ---- a history behind some of the list's triangles
 of_moved : (l : Scene) (q : Place) (past rest : List Placed) (stored : Sample) → q.left ≡ past ++ rest
-    → ((end : Sample) → EndsWith (moved q past rest stored) end → EndsWith q end) → IsOfList l q → IsOfList l (moved q past rest stored)
+    → ((end : Sample) → EndsWith (moved q past rest stored) end → EndsWith q end) → IsPlaceOfList l q → IsPlaceOfList l (moved q past rest stored)
 of_moved l q past rest stored split ends is = record {
   column = is.column;
   row = is.row;
@@ -59,20 +59,20 @@ of_moved l q past rest stored split ends is = record {
   ends = λ end h. is.ends end (ends end h);
 }
 
-pub of_next : (l : Scene) (q next : Place) (e : Event) → IsOfList l q → IsNext q e next → IsOfList l next
+pub of_next : (l : Scene) (q next : Place) (e : Event) → IsPlaceOfList l q → IsNext q e next → IsPlaceOfList l next
 of_next l q next e is h =
-    subst (λ (x : Place). IsOfList l x) (sym h.behind)
+    subst (λ (x : Place). IsPlaceOfList l x) (sym h.behind)
     (of_moved l q (h.triangle ∷ []) next.left e.after h.first (λ end k. (next_ends q next e end h).1 (subst (λ (x : Place). EndsWith x end) (sym h.behind) k)) is)
 
-pub of_past : (l : Scene) (q next : Place) → IsOfList l q → IsPast q next → IsOfList l next
+pub of_past : (l : Scene) (q next : Place) → IsPlaceOfList l q → IsPast q next → IsPlaceOfList l next
 of_past l q next is h =
-    subst (λ (x : Place). IsOfList l x) (sym h.behind)
+    subst (λ (x : Place). IsPlaceOfList l x) (sym h.behind)
     (of_moved l q h.skipped next.left q.stored h.split (λ end k. (past_ends q next end h).1 (subst (λ (x : Place). EndsWith x end) (sym h.behind) k)) is)
 
-pub none_left : (l : Scene) (q : Place) → IsOfList l q → length l.triangles ≤ q.number → q.left ≡ []
+pub none_left : (l : Scene) (q : Place) → IsPlaceOfList l q → length l.triangles ≤ q.number → q.left ≡ []
 none_left l q is h = is.left ∙ drop_of_length-le l.triangles h
 
-pub end_past : (l : Scene) (q now : Place) → IsOfList l q → IsPast q now → now.left ≡ [] → IsEnd l q.i q.j q.s q.stored
+pub end_past : (l : Scene) (q now : Place) → IsPlaceOfList l q → IsPast q now → now.left ≡ [] → IsEnd l q.i q.j q.s q.stored
 end_past l q now is past none = is.ends q.stored (uncovered_ends q (past_all q now past none).0)
 
 -- ---- the sample that a history keeps, and the triangles that are left

@@ -19,7 +19,7 @@ use Rattle.model.specs.Rows.{IsRowSpan}
 use Rattle.model.specs.declared.rows.RowSpan.{RowSpan}
 use Rattle.list_history.proofs.Rows.{in_rows}
 use Rattle.list_history.proofs.Sums.{no_sums}
-use Rattle.list_history.specs.Counts.{CoversSample, AreCountsAt, AreSums, HoldColumns, HoldCovered, IsRowAfter, no_counts}
+use Rattle.list_history.specs.Counts.{CoversSample, AreCountsAt, AreCountSums, HoldColumns, HoldCovered, IsRowAfter, no_counts}
 use Rattle.list_history.specs.declared.columns.Columns.{Columns}
 use Rattle.list_history.specs.declared.sample_counts.SampleCounts.{SampleCounts}
 
@@ -200,10 +200,10 @@ row_skipped l n j s columns k row span within rows screen down sample apart h =
 
 pub sums_skipped : (l : Scene) (n j : ℕ) (span : RowSpan) → n < length l.triangles → IfSome (slice_get l.triangles n) (λ t. IsRowSpan t.tri span)
     → l.width ≤ 4096 → j < 4096 → (j < span.first) ⊎ (span.end ≤ j)
-    → AreSums (λ s c. AreSums (λ i d. AreCountsAt l n i j s d) l.width c) (count_of l.count) no_counts
+    → AreCountSums (λ s c. AreCountSums (λ i d. AreCountsAt l n i j s d) l.width c) (count_of l.count) no_counts
 sums_skipped l n j span within rows narrow down apart =
     let t = at_number l n within in
     let is : IsRowSpan t.0.tri span = rw t.1 at rows in
-    no_sums (λ s c. AreSums (λ i d. AreCountsAt l n i j s d) l.width c) (count_of l.count) (λ s sample.
+    no_sums (λ s c. AreCountSums (λ i d. AreCountsAt l n i j s d) l.width c) (count_of l.count) (λ s sample.
     no_sums (λ i d. AreCountsAt l n i j s d) l.width (λ i across.
     counts_uncovered l n i j s t.0 t.1 (outside t.0.tri span l i j s (omega (arith, across, narrow)) down sample is apart)))

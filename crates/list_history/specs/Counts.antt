@@ -39,9 +39,9 @@ abbrev pub both_counts : SampleCounts → SampleCounts → SampleCounts
 both_counts c d = record { covered = c.covered + d.covered; changed = c.changed + d.changed; shown = c.shown + d.shown }
 
 -- The counts are the sums of those that P gives for 0 to before n.
-abbrev pub AreSums : (ℕ → SampleCounts → Type 0) → ℕ → SampleCounts → Type 0
-AreSums P zero c = c ≡ no_counts
-AreSums P (suc n) c = (rest : SampleCounts) × (last : SampleCounts) × AreSums P n rest × P n last × (c ≡ both_counts rest last)
+abbrev pub AreCountSums : (ℕ → SampleCounts → Type 0) → ℕ → SampleCounts → Type 0
+AreCountSums P zero c = c ≡ no_counts
+AreCountSums P (suc n) c = (rest : SampleCounts) × (last : SampleCounts) × AreCountSums P n rest × P n last × (c ≡ both_counts rest last)
 
 -- No count exceeds m.
 pub record AreAtMost (m : ℕ) (c : SampleCounts) : Type 0 where

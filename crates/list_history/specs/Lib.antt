@@ -6,7 +6,7 @@
 --   AreCountsAt: Of sample s of pixel (i, j) alone: each count is 1 or 0.
 --   no_counts: No samples.
 --   both_counts: The counts of two sets of samples together.
---   AreSums: The counts are the sums of those that P gives for 0 to before n.
+--   AreCountSums: The counts are the sums of those that P gives for 0 to before n.
 --   AreAtMost: No count exceeds m.
 --   HoldColumns: The columns `some` hold each column of `all` in which the triangle covers a sample of the screen.
 --   HoldCovered: The columns hold each one of the picture in which triangle n covers a sample.
@@ -15,7 +15,7 @@
 -- Walk.antt
 --   ListPlace: Where the history of a sample of a list's picture stands.
 --   start_of: Where the history of sample s of pixel (i, j) begins: before the first triangle, with the clear colour and depth.
---   IsOfList: The triangles to come are those of the list from the number on, and they end with the picture's sample.
+--   IsPlaceOfList: The triangles to come are those of the list from the number on, and they end with the picture's sample.
 --   IsNextOfList: The event is that of the next triangle, with its draw and what that writes, and the history stands behind it.
 --   IsNextCoveredOfList: The event is that of the first triangle to come that covers the sample, and the history stands behind it.
 

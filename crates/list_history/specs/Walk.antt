@@ -20,7 +20,7 @@ start_of l i j s = record {
 }
 
 -- The triangles to come are those of the list from the number on, and they end with the picture's sample.
-pub record IsOfList (l : Scene) (q : Place) : Type 0 where
+pub record IsPlaceOfList (l : Scene) (q : Place) : Type 0 where
   pub column : q.i < 4096
   pub row : q.j < 4096
   pub sample : q.s < count_of q.count

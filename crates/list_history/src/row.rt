@@ -4,7 +4,7 @@ ghost use Rattle.grid.specs.Samples.{count_of};
 ghost use Rattle.grid.specs.Triangle.{Covers};
 ghost use Rattle.history.specs.Samples.{IsOneIf};
 ghost use Rattle.list_history.specs.declared.columns.Columns.{Columns};
-ghost use Rattle.list_history.specs.Counts.{HoldCovered, IsRowAfter, AreCountsAt, AreSums, AreAtMost};
+ghost use Rattle.list_history.specs.Counts.{HoldCovered, IsRowAfter, AreCountsAt, AreCountSums, AreAtMost};
 
 use crate::columns::Columns;
 use crate::sample_counts::SampleCounts;
@@ -40,7 +40,7 @@ fn new_row(alloc: Global, list: &DrawList) -> Result<Vec<Followed>, AllocError>
 impl SampleRow<'_> {
     /// Returns how many of the row's samples the triangle covers, changes and is shown by.
     pub(crate) fn counts(&self, alloc: Global) -> Result<SampleCounts, AllocError>
-        ensures sums { IfOk result (AreSums (λ i c. AreCountsAt self.now.list.now self.now.number i self.now.py self.now.s c) self.now.list.now.width) }
+        ensures sums { IfOk result (AreCountSums (λ i c. AreCountsAt self.now.list.now self.now.number i self.now.py self.now.s c) self.now.list.now.width) }
         ensures at_most { IfOk result (AreAtMost 4096) }
     {
         let mut row = new_row(alloc, self.list)?;
@@ -87,7 +87,7 @@ impl SampleRow<'_> {
     fn counts_in(&self, row: &[Followed]) -> SampleCounts
         requires width { length row.now ≡ self.now.list.now.width }
         requires followed { IsRowAfter self.now.list.now self.now.number self.now.py self.now.s self.now.columns (length self.now.list.now.triangles) row.now }
-        ensures sums { AreSums (λ i c. AreCountsAt self.now.list.now self.now.number i self.now.py self.now.s c) self.now.list.now.width result }
+        ensures sums { AreCountSums (λ i c. AreCountsAt self.now.list.now self.now.number i self.now.py self.now.s c) self.now.list.now.width result }
         ensures at_most { AreAtMost 4096 result }
     {
         let triangle = self.list.triangle(self.number).tri;

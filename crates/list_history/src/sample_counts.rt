@@ -1,6 +1,6 @@
 ghost use Rattle.std.specs.Prelude.{◌≡◌, ◌<◌, ◌≤◌, ◌*◌, ◌+◌, length, IfOk};
 ghost use Rattle.grid.specs.Samples.{count_of};
-ghost use Rattle.list_history.specs.Counts.{AreCountsOf, AreCountsAt, AreSums, AreAtMost, no_counts, both_counts};
+ghost use Rattle.list_history.specs.Counts.{AreCountsOf, AreCountsAt, AreCountSums, AreAtMost, no_counts, both_counts};
 
 use crate::columns::Columns;
 use crate::row::SampleRow;
@@ -70,7 +70,7 @@ fn counts_of_row(
 ) -> Result<SampleCounts, AllocError>
     requires number { number < length list.now.triangles }
     requires row { py < 4096 }
-    ensures sums { IfOk result (AreSums (λ s c. AreSums (λ i d. AreCountsAt list.now number i py s d) list.now.width c) (count_of list.now.count)) }
+    ensures sums { IfOk result (AreCountSums (λ s c. AreCountSums (λ i d. AreCountsAt list.now number i py s d) list.now.width c) (count_of list.now.count)) }
     ensures at_most { IfOk result (AreAtMost 65536) }
 {
     let mut counts = SampleCounts::none();

@@ -3,7 +3,7 @@ ghost use Rattle.grid.specs.Samples.{count_of};
 ghost use Rattle.shade.specs.declared.placed.Placed.{Placed};
 ghost use Rattle.history.specs.History.{IsPast, IsCoveredBy, AreUncovered, moved};
 ghost use Rattle.model.specs.Picture.{IsEnd};
-ghost use Rattle.list_history.specs.Walk.{IsOfList, IsNextOfList, IsNextCoveredOfList, start_of};
+ghost use Rattle.list_history.specs.Walk.{IsPlaceOfList, IsNextOfList, IsNextCoveredOfList, start_of};
 
 use crate::list_event::ListEvent;
 use history::SampleHistory;
@@ -19,13 +19,13 @@ pub struct ListHistory<'a> {
 }
 
 impl<'a> Model for ListHistory<'a> {
-    ghost use Rattle.list_history.specs.Walk.{ListPlace, IsOfList};
+    ghost use Rattle.list_history.specs.Walk.{ListPlace, IsPlaceOfList};
 
     ghost Value = { ListPlace };
 
     ghost view = { λ h. record { scene = h.list.now; history = h.history } };
 
-    ghost invariant = { λ h. IsOfList h.list.now h.history };
+    ghost invariant = { λ h. IsPlaceOfList h.list.now h.history };
 }
 
 impl<'a> ListHistory<'a> {
@@ -89,7 +89,7 @@ impl<'a> ListHistory<'a> {
     /// The number of the next triangle in draw order, or how many there are.
     pub fn number(&self) -> usize
         ensures value { result ≡ self.now.history.number }
-        ensures list { IsOfList self.now.scene self.now.history }
+        ensures list { IsPlaceOfList self.now.scene self.now.history }
     {
         self.history.number()
     }
@@ -104,7 +104,7 @@ impl<'a> ListHistory<'a> {
 
 /// Passes over the triangles that do not cover the sample, up to the first that does, and returns that one.
 fn pass_uncovered(list: &DrawList, history: &mut SampleHistory<'_, DrawList>) -> Option<Placed>
-    requires { IsOfList list.now history.old }
+    requires { IsPlaceOfList list.now history.old }
     ensures past { IsPast history.old history.new }
     ensures some { IfSome result (λ t. (slice_get history.new.left 0 ≡ Some t) × IsCoveredBy history.new t) }
     ensures none { IfNone result (history.new.left ≡ []) }
@@ -121,7 +121,7 @@ fn pass_uncovered(list: &DrawList, history: &mut SampleHistory<'_, DrawList>) ->
 
 /// The next triangle, if it covers the sample. Few triangles have the sample's row, and those that do not are seen by their rows.
 fn coming_if_covered(list: &DrawList, history: &SampleHistory<'_, DrawList>) -> Option<Placed>
-    requires list { IsOfList list.now history.now }
+    requires list { IsPlaceOfList list.now history.now }
     requires some { history.now.number < length list.now.triangles }
     ensures some { IfSome result (λ t. (slice_get history.now.left 0 ≡ Some t) × IsCoveredBy history.now t) }
     ensures none { IfNone result ((t : Placed) × (slice_get history.now.left 0 ≡ Some t) × (¬ IsCoveredBy history.now t)) }

@@ -1,10 +1,11 @@
 //! A program's command over its own arguments and standard streams.
 ghost use Rattle.std.specs.Prelude.{◌≡◌, ◌<◌, ◌⊎◌, map, string_bytes, IfOk, IfErr};
 ghost use Rattle.std.specs.Process.{exit_status};
-ghost use Rattle.command_line.specs.Args.{status_of};
+ghost use Rattle.program_input.specs.Args.{status_of};
 
+use crate::line_fault::LineFault;
+use crate::process_args::as_slices;
 use crate::refusal::refuse_with;
-use command_line::{LineFault, as_slices};
 use picture_file::Counted;
 use std::io::{Stderr, Stdin, Stdout};
 use std::process::ExitCode;

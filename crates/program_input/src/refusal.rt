@@ -1,10 +1,11 @@
 //! What a program writes if its arguments do not say what to do, or its run fails.
 ghost use Rattle.std.specs.Prelude.{◌≡◌, ◌<◌};
-ghost use Rattle.command_line.specs.Args.{status_of};
+ghost use Rattle.program_input.specs.Args.{status_of};
 ghost use Rattle.program_input.specs.Refusal.{WritesLine, WritesSomeLine, refusal_line};
 
 use crate::fault::Fault;
-use command_line::{LineFault, fault_line};
+use crate::line_fault::LineFault;
+use crate::messages::fault_line;
 use picture_file::Counted;
 use std::io::Write;
 

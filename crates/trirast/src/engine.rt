@@ -8,11 +8,10 @@ ghost use Rattle.model.specs.FirstFault.{IsFirstFault};
 ghost use Rattle.trirast.specs.Runs.{EndsAs};
 
 use crate::picture::write_picture;
-use command_line::Options;
 use list::{DrawList, MOST_BYTES, read};
 use picture_file::Counted;
 use pool::{Gate, Open};
-use program_input::{Fault, read_input};
+use program_input::{Fault, Options, read_input};
 use std::alloc::Global;
 use std::io::{Read, Write};
 use std::sync::Wait;

@@ -5,11 +5,10 @@ ghost use Rattle.trirast.specs.Picture.{EndsRows, ExplainsPicture, fault_of};
 ghost use Rattle.trirast.specs.Runs.{WritesAll, WritesFile};
 ghost use Rattle.trirast.specs.declared.picture.PictureFault.TheVariants as picture;
 
-use command_line::Options;
 use model::DrawList;
 use picture_file::{Counted, WriteFault, ppm_rows, write_header};
 use pool::Gate;
-use program_input::Fault;
+use program_input::{Fault, Options};
 use std::alloc::Global;
 use std::io::Write;
 use std::sync::Wait;

@@ -1,14 +1,13 @@
 //! The command line program, over arguments and streams.
 ghost use Rattle.std.specs.Prelude.{◌≡◌, ◌<◌, ◌⊎◌, map};
-ghost use Rattle.command_line.specs.Args.{AsksForHelp};
+ghost use Rattle.program_input.specs.Args.{AsksForHelp};
 ghost use Rattle.program_input.specs.Refusal.{WritesLine, WritesSomeLine, refusal_line};
 ghost use Rattle.trirast.specs.Program.{EndsByFault, usage_line};
 ghost use Rattle.trirast.specs.Runs.{WritesPicture};
 
 use crate::engine::run;
-use command_line::options;
 use picture_file::Counted;
-use program_input::{fail_with, refuse_with};
+use program_input::{fail_with, options, refuse_with};
 use std::alloc::Global;
 use std::io::{Read, Write};
 use std::sync::Wait;

@@ -1,8 +1,7 @@
 //! The program `trirast_why`: its arguments and standard streams, given to `why::command`.
 #![tactic(auto)]
 
-use command_line::own_arguments;
-use program_input::run_program;
+use program_input::{own_arguments, run_program};
 use std::process::ExitCode;
 use why::{USAGE, command};
 

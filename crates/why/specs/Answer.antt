@@ -16,16 +16,16 @@ use Rattle.why.specs.declared.program.Failure.TheVariants.{NotThere, Run}
 use Rattle.why.specs.declared.text.Pixel.{Pixel}
 use Rattle.why.specs.declared.text.ReportFault.{ReportFault}
 use Rattle.why.specs.declared.text.ReportFault.TheVariants as report
-use Rattle.why.specs.Report.{HasSample, HasTriangle, IsShownAt, AreCountsOfAsked}
+use Rattle.why.specs.Report.{HasAskedSample, HasAskedTriangle, IsShownAt, AreCountsOfAsked}
 use Rattle.why.specs.Text.{counts_text, pixel_text}
 
 -- The line that the program writes if its arguments ask for help.
-abbrev pub usage_line : List ℕ
-usage_line = codes "usage: trirast_why (X,Y [--sample S] [--all] | --triangle DRAW,NUMBER) [--json] < list.json\n"
+abbrev pub why_usage_line : List ℕ
+why_usage_line = codes "usage: trirast_why (X,Y [--sample S] [--all] | --triangle DRAW,NUMBER) [--json] < list.json\n"
 
 -- The text reports this pixel, which the list has: with what the picture shows there, and some histories.
 pub record ReportsPixel (l : Scene) (asked : Asked) (text : List ℕ) : Type 0 where
-  pub there : HasSample l asked
+  pub there : HasAskedSample l asked
   pub pixel : Pixel
   pub shown : IsShownAt l asked.x asked.y pixel
   pub histories : List ℕ
@@ -38,14 +38,14 @@ pub record ReportsTriangle (l : Scene) (asked : AskedTriangle) (text : List ℕ)
   pub whole : text ≡ counts_text asked counts
 
 -- The text is the report that is asked for.
-abbrev pub IsReport : Scene → Question → List ℕ → Type 0
-IsReport l (OfPixel asked) = ReportsPixel l asked
-IsReport l (OfTriangle asked) = ReportsTriangle l asked
+abbrev pub IsAskedReport : Scene → Question → List ℕ → Type 0
+IsAskedReport l (OfPixel asked) = ReportsPixel l asked
+IsAskedReport l (OfTriangle asked) = ReportsTriangle l asked
 
 -- The picture has no such pixel, the pixel no such sample, or the list no such triangle.
 abbrev pub Lacks : Scene → Question → Type 0
-Lacks l (OfPixel asked) = ¬ HasSample l asked
-Lacks l (OfTriangle asked) = ¬ HasTriangle l asked
+Lacks l (OfPixel asked) = ¬ HasAskedSample l asked
+Lacks l (OfTriangle asked) = ¬ HasAskedTriangle l asked
 
 -- The input's bytes, up to its end, denote a draw list of which `Holds` holds.
 pub record GivesList (Holds : Scene → Type 0) (left left_after : Option (List ℕ)) : Type 0 where
@@ -57,7 +57,7 @@ pub record GivesList (Holds : Scene → Type 0) (left left_after : Option (List 
 
 -- The input gives a draw list, and this text is the report that is asked for.
 abbrev pub GivesReport : Question → List ℕ → Option (List ℕ) → Option (List ℕ) → Type 0
-GivesReport question text = GivesList (λ l. IsReport l question text)
+GivesReport question text = GivesList (λ l. IsAskedReport l question text)
 
 -- What each error says of the input before anything is written.
 abbrev pub ExplainsUnread : Fault → Option (List ℕ) → Option (List ℕ) → Type 0
@@ -74,10 +74,10 @@ ExplainsFailure question NotThere left left_after = GivesList (λ l. Lacks l que
 ExplainsFailure question (Run fault) left left_after = ExplainsUnread fault left left_after
 
 -- What an error of a report means for the program.
-abbrev pub failure_of : ReportFault → Failure
-failure_of report.NoSuchSample = NotThere
-failure_of report.NoSuchTriangle = NotThere
-failure_of report.OutOfMemory = Run OutOfMemory
+abbrev pub failure_of_report : ReportFault → Failure
+failure_of_report report.NoSuchSample = NotThere
+failure_of_report report.NoSuchTriangle = NotThere
+failure_of_report report.OutOfMemory = Run OutOfMemory
 
 -- The input gives a draw list, which lacks what a question asks for.
 pub record LacksAnswer (left left_after : Option (List ℕ)) : Type 0 where
@@ -105,7 +105,7 @@ pub record WritesReport (left left_after held held_after : Option (List ℕ)) : 
   pub written : Appends held held_after text
 
 -- The first `count` bytes of the report of a question were written.
-pub record WritesBeginning (count : ℕ) (left left_after held held_after : Option (List ℕ)) : Type 0 where
+pub record WritesReportBeginning (count : ℕ) (left left_after held held_after : Option (List ℕ)) : Type 0 where
   pub question : Question
   pub text : List ℕ
   pub given : GivesReport question text left left_after
@@ -113,14 +113,14 @@ pub record WritesBeginning (count : ℕ) (left left_after held held_after : Opti
   pub written : Appends held held_after (take count text)
 
 -- What each error says of the input's and the output's bytes.
-abbrev pub Explains : Fault → Option (List ℕ) → Option (List ℕ) → Option (List ℕ) → Option (List ℕ) → Type 0
-Explains (WriteFailed count) left left_after held held_after = WritesBeginning count left left_after held held_after
-Explains fault left left_after held held_after = ExplainsUnread fault left left_after × Keeps held held_after
+abbrev pub ExplainsReportFault : Fault → Option (List ℕ) → Option (List ℕ) → Option (List ℕ) → Option (List ℕ) → Type 0
+ExplainsReportFault (WriteFailed count) left left_after held held_after = WritesReportBeginning count left left_after held held_after
+ExplainsReportFault fault left left_after held held_after = ExplainsUnread fault left left_after × Keeps held held_after
 
 -- There is an error that explains what the input gave and what was written. It is a failed input if and only if a read failed, and a
 -- failed output if and only if a write did.
-pub record EndsByFault (left left_after held held_after : Option (List ℕ)) (ReadHasFailed WriteHasFailed : Type 0) : Type 0 where
+pub record ReportEndsByFault (left left_after held held_after : Option (List ℕ)) (ReadHasFailed WriteHasFailed : Type 0) : Type 0 where
   pub fault : Fault
-  pub explained : Explains fault left left_after held held_after
+  pub explained : ExplainsReportFault fault left left_after held held_after
   pub input_failed : (fault ≡ InputFailed) ↔ ReadHasFailed
   pub write_failed : ((count : ℕ) × (fault ≡ WriteFailed count)) ↔ WriteHasFailed

@@ -1,10 +1,10 @@
 -- The definitions of this crate, each file behind those that it uses; `python3 -m tools.definitions` writes these lines.
 --
 -- Report.antt
---   HasSample: The picture has the pixel that is asked for, and the pixel the sample, if one is named.
+--   HasAskedSample: The picture has the pixel that is asked for, and the pixel the sample, if one is named.
 --   IsSameSample: Both are histories of the same sample of the same list.
 --   IsShownAt: What the picture shows at pixel (i, j), be it of colours or of depths: the resolved colour, and the final depth of sample 0.
---   HasTriangle: The list has the triangle that is asked for.
+--   HasAskedTriangle: The list has the triangle that is asked for.
 --   AreCountsOfAsked: The counts are those of the triangle that is asked for.
 --
 -- Text.antt
@@ -21,23 +21,23 @@
 --   pixel_text: The text of a report of a pixel, with the histories of its samples.
 --
 -- Answer.antt
---   usage_line: The line that the program writes if its arguments ask for help.
+--   why_usage_line: The line that the program writes if its arguments ask for help.
 --   ReportsPixel: The text reports this pixel, which the list has: with what the picture shows there, and some histories.
 --   ReportsTriangle: The text reports this triangle, which the list has: the numbers of its samples.
---   IsReport: The text is the report that is asked for.
+--   IsAskedReport: The text is the report that is asked for.
 --   Lacks: The picture has no such pixel, the pixel no such sample, or the list no such triangle.
 --   GivesList: The input's bytes, up to its end, denote a draw list of which `Holds` holds.
 --   GivesReport: The input gives a draw list, and this text is the report that is asked for.
 --   ExplainsUnread: What each error says of the input before anything is written.
 --   ExplainsFailure: Why there is no text of a report: what is asked for is not there, or an error.
---   failure_of: What an error of a report means for the program.
+--   failure_of_report: What an error of a report means for the program.
 --   LacksAnswer: The input gives a draw list, which lacks what a question asks for.
 --   CutsText: The error is that of a writer which failed after a beginning of the text.
 --   WritesText: The text was written whole, or the error says how many bytes of it were.
 --   WritesReport: The report of a question was written whole.
---   WritesBeginning: The first `count` bytes of the report of a question were written.
---   Explains: What each error says of the input's and the output's bytes.
---   EndsByFault: There is an error that explains what the input gave and what was written.
+--   WritesReportBeginning: The first `count` bytes of the report of a question were written.
+--   ExplainsReportFault: What each error says of the input's and the output's bytes.
+--   ReportEndsByFault: There is an error that explains what the input gave and what was written.
 
 pub mod Report
 pub mod Text

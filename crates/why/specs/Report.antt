@@ -12,7 +12,7 @@ use Rattle.why.specs.declared.arguments.AskedTriangle.{AskedTriangle}
 use Rattle.why.specs.declared.text.Pixel.{Pixel}
 
 -- The picture has the pixel that is asked for, and the pixel the sample, if one is named.
-pub record HasSample (l : Scene) (asked : Asked) : Type 0 where
+pub record HasAskedSample (l : Scene) (asked : Asked) : Type 0 where
   pub column : asked.x < l.width
   pub row : asked.y < l.height
   pub sample : IfSome asked.sample (λ s. s < count_of l.count)
@@ -32,7 +32,7 @@ pub record IsShownAt (l : Scene) (i j : ℕ) (pixel : Pixel) : Type 0 where
   pub depth : pixel.depth ≡ first.z
 
 -- The list has the triangle that is asked for.
-pub record HasTriangle (l : Scene) (asked : AskedTriangle) : Type 0 where
+pub record HasAskedTriangle (l : Scene) (asked : AskedTriangle) : Type 0 where
   pub number : ℕ
   pub within : number < length l.triangles
   pub place : IsPlace l number asked.place

@@ -1,8 +1,8 @@
 //! What the arguments ask for.
 
 use clap::{Arg, ArgAction, Command};
-use command_line::LineFault;
 use model::TrianglePlace;
+use program_input::LineFault;
 use std::alloc::Global;
 
 /// How a report is written.

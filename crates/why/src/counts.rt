@@ -1,6 +1,6 @@
 //! How many samples a triangle covers, changes and is shown by, as text.
 ghost use Rattle.std.specs.Prelude.{◌≡◌, ◌↔◌, ◌⊎◌, ◌++◌, string_bytes, IfOk, IfErr, OnOk};
-ghost use Rattle.why.specs.Report.{HasTriangle, AreCountsOfAsked};
+ghost use Rattle.why.specs.Report.{HasAskedTriangle, AreCountsOfAsked};
 ghost use Rattle.why.specs.Text.{place_json, numbers_json, counts_json, line, counts_table, counts_text};
 
 use crate::arguments::{AskedTriangle, Form};
@@ -87,7 +87,7 @@ pub fn report_triangle(
     ensures counts { IfOk result (λ r. AreCountsOfAsked list.now asked.now r.1) }
     ensures text { IfOk result (λ r. string_bytes r.0 ≡ counts_text asked.now r.1) }
     ensures faults { IfErr result (λ e. (e ≡ ReportFault.NoSuchTriangle) ⊎ (e ≡ ReportFault.OutOfMemory)) }
-    ensures no_triangle { (result ≡ Err ReportFault.NoSuchTriangle) ↔ ¬ HasTriangle list.now asked.now }
+    ensures no_triangle { (result ≡ Err ReportFault.NoSuchTriangle) ↔ ¬ HasAskedTriangle list.now asked.now }
 {
     let Some(number) = number_of(list, asked.place) else {
         return Err(ReportFault::NoSuchTriangle);

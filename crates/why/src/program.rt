@@ -1,17 +1,16 @@
 //! The command line program, over arguments and streams.
 ghost use Rattle.std.specs.Prelude.{◌≡◌, ◌↔◌, ◌<◌, ◌⊎◌, ℕ, string_bytes, IfOk, IfErr, IsErrOf};
 ghost use Rattle.program_input.specs.Refusal.{WritesLine, WritesSomeLine, refusal_line};
-ghost use Rattle.why.specs.Answer.{IsReport, Lacks, LacksAnswer, GivesReport, ExplainsFailure, WritesText, WritesReport, EndsByFault, failure_of, usage_line};
+ghost use Rattle.why.specs.Answer.{IsAskedReport, Lacks, LacksAnswer, GivesReport, ExplainsFailure, WritesText, WritesReport, ReportEndsByFault, failure_of_report, why_usage_line};
 ghost use Rattle.why.specs.declared.program.Failure.TheVariants.{Run};
 
 use crate::arguments::{Question, read_arguments};
 use crate::counts::report_triangle;
 use crate::text::{ReportFault, report};
-use command_line::LineFault;
 use list::read;
 use model::{DrawList, ReadFault};
 use picture_file::Counted;
-use program_input::{Fault, fail_with, read_input, refuse_with};
+use program_input::{Fault, LineFault, fail_with, read_input, refuse_with};
 use std::alloc::Global;
 use std::io::{Read, Write};
 
@@ -48,9 +47,9 @@ impl From<ReadFault> for Failure {
 }
 
 impl From<ReportFault> for Failure {
-    ghost use Rattle.why.specs.Answer.{failure_of};
+    ghost use Rattle.why.specs.Answer.{failure_of_report};
 
-    ghost from_gives = { λ fault failure. failure ≡ failure_of fault };
+    ghost from_gives = { λ fault failure. failure ≡ failure_of_report fault };
 
     fn from(fault: ReportFault) -> Failure {
         match fault {
@@ -74,8 +73,8 @@ fn write_text<W: Write>(text: &str, output: &mut Counted<W>) -> Result<(), Fault
 
 /// The text of the report that is asked for.
 fn text_of(alloc: Global, list: &DrawList, question: &Question) -> Result<String, ReportFault>
-    ensures report { IfOk result (λ text. IsReport list.now question.now (string_bytes text)) }
-    ensures fault { IfErr result (λ e. (e ≡ ReportFault.OutOfMemory) ⊎ ((failure_of e ≡ Failure.NotThere) × Lacks list.now question.now)) }
+    ensures report { IfOk result (λ text. IsAskedReport list.now question.now (string_bytes text)) }
+    ensures fault { IfErr result (λ e. (e ≡ ReportFault.OutOfMemory) ⊎ ((failure_of_report e ≡ Failure.NotThere) × Lacks list.now question.now)) }
 {
     match question {
         Question::Pixel(asked) => match report(alloc, list, asked) {
@@ -122,11 +121,11 @@ pub fn command<'a, R: Read, W: Write, E: Write>(
     requires output { output.old.failures < u64.MAX }
     requires errors { errors.old.failures < u64.MAX }
     ensures status { (result ≡ 0) ⊎ (result ≡ 1) ⊎ (result ≡ 2) }
-    ensures reported { result ≡ 0 → WritesLine usage_line (W.contents output.old.inner) (W.contents output.new.inner) output.old.failures output.new.failures
+    ensures reported { result ≡ 0 → WritesLine why_usage_line (W.contents output.old.inner) (W.contents output.new.inner) output.old.failures output.new.failures
         ⊎ WritesReport (R.remaining input.old.inner) (R.remaining input.new.inner) (W.contents output.old.inner) (W.contents output.new.inner) }
     ensures quiet { result ≡ 0 → errors.new ≡ errors.old }
     // What is on the output is what a fault of the run explains, and nothing behind it.
-    ensures failed { result ≡ 1 → EndsByFault (R.remaining input.old.inner) (R.remaining input.new.inner) (W.contents output.old.inner) (W.contents output.new.inner)
+    ensures failed { result ≡ 1 → ReportEndsByFault (R.remaining input.old.inner) (R.remaining input.new.inner) (W.contents output.old.inner) (W.contents output.new.inner)
         (input.old.failures < input.new.failures) (output.old.failures < output.new.failures) }
     ensures failure { result ≡ 1 → WritesSomeLine (E.contents errors.old.inner) (E.contents errors.new.inner) errors.old.failures errors.new.failures }
     ensures refused { result ≡ 2 → output.new ≡ output.old }

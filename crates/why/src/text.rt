@@ -1,6 +1,6 @@
 //! The history of a pixel's samples, as text.
 ghost use Rattle.std.specs.Prelude.{◌≡◌, ◌↔◌, ◌<◌, ◌⊎◌, ℕ, List, string_bytes, IsTrue, IfOk, IfErr, OnOk};
-ghost use Rattle.why.specs.Report.{HasSample, IsShownAt};
+ghost use Rattle.why.specs.Report.{HasAskedSample, IsShownAt};
 ghost use Rattle.why.specs.Text.{pixel_text};
 
 use crate::arguments::Asked;
@@ -59,7 +59,7 @@ fn push_samples(list: &DrawList, asked: &Asked, out: &mut String) -> Result<Pixe
 
 /// Whether the picture has the pixel, and the pixel the sample, if one is named.
 fn has_sample(list: &DrawList, asked: &Asked) -> bool
-    ensures has { IsTrue result ↔ HasSample list.now asked.now }
+    ensures has { IsTrue result ↔ HasAskedSample list.now asked.now }
     ensures screen { IsTrue result → (asked.now.x < 4096) × (asked.now.y < 4096) }
 {
     let is_there = match asked.sample {
@@ -73,11 +73,11 @@ fn has_sample(list: &DrawList, asked: &Asked) -> bool
 /// the pixel. Fails with `NoSuchSample` if and only if the picture has no such pixel, or the pixel no such sample.
 pub fn report(alloc: Global, list: &DrawList, asked: &Asked) -> Result<(String, Pixel), ReportFault>
     ensures shown { IfOk result (λ r. IsShownAt list.now asked.now.x asked.now.y r.1) }
-    ensures there { OnOk result (HasSample list.now asked.now) }
+    ensures there { OnOk result (HasAskedSample list.now asked.now) }
     // The text has these numbers, and histories of which nothing is said.
     ensures text { IfOk result (λ r. (histories : List ℕ) × (string_bytes r.0 ≡ pixel_text list.now.output asked.now r.1 histories)) }
     ensures faults { IfErr result (λ e. (e ≡ ReportFault.NoSuchSample) ⊎ (e ≡ ReportFault.OutOfMemory)) }
-    ensures no_sample { (result ≡ Err ReportFault.NoSuchSample) ↔ ¬ HasSample list.now asked.now }
+    ensures no_sample { (result ≡ Err ReportFault.NoSuchSample) ↔ ¬ HasAskedSample list.now asked.now }
 {
     if !has_sample(list, asked) {
         return Err(ReportFault::NoSuchSample);

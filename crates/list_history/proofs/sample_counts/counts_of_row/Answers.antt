@@ -1,7 +1,7 @@
 use Rattle.std.proofs.Common.{◌+◌, ◌*◌, inl, inr, arith}
 use Rattle.list_history.proofs.RowAfter.{sums_skipped}
 use Rattle.list_history.proofs.Sums.{sums_more, at_most_more, both_at_most}
-use Rattle.list_history.specs.Counts.{AreSums, AreCountsAt}
+use Rattle.list_history.specs.Counts.{AreCountSums, AreCountsAt}
 use Rattle.list_history.proofs.sample_counts.counts_of_row.Goals as goal
 
 pub returns-then-py-from-clause-sums : goal.returns-then-py-from-clause-sums
@@ -16,7 +16,7 @@ returns-then-from-py-clause-sums c =
 
 pub loop-s-preserved : goal.loop-s-preserved
 loop-s-preserved c = record {
-  sums = sums_more (λ s d. AreSums (λ i e. AreCountsAt c.args.list.now c.args.number i c.args.py s e) c.args.list.now.width d) c.loop-s.s
+  sums = sums_more (λ s d. AreCountSums (λ i e. AreCountsAt c.args.list.now c.args.number i c.args.py s e) c.args.list.now.width d) c.loop-s.s
       c.loop-s.counts c.in_ok-of_samples.of_samples c.and-counts.result c.loop-s.invariant.sums c.in_ok-of_samples.ensures.sums c.and-counts.ensures;
   small = rw c.and-counts.ensures (at_most_more (4096 * c.loop-s.s + 4096) (4096 * (c.loop-s.s + 1)) _
       (both_at_most (4096 * c.loop-s.s) 4096 c.loop-s.counts c.in_ok-of_samples.of_samples c.loop-s.invariant.small c.in_ok-of_samples.ensures.at_most) (omega arith));

@@ -1,6 +1,6 @@
 use Rattle.std.proofs.Common.{◌≡◌, ◌<◌, ℕ, length, subst, arith}
 use Rattle.grid.specs.Samples.{sample_position}
-use Rattle.list_history.specs.Counts.{AreSums, AreCountsAt}
+use Rattle.list_history.specs.Counts.{AreCountSums, AreCountsAt}
 use Rattle.list_history.proofs.RowAfter.{counts_in_column}
 use Rattle.list_history.proofs.Sums.{sums_more, both_at_most}
 use Rattle.list_history.proofs.row.SampleRow.counts_in.Goals as goal
@@ -25,4 +25,4 @@ loop-px-preserved c =
 pub returns-clause-sums : goal.returns-clause-sums
 returns-clause-sums c =
     let all : c.loop-px.px ≡ c.args.self.now.list.now.width = omega (arith, c.width-px-end.ensures.value) in
-    subst (λ (k : ℕ). AreSums (λ i d. AreCountsAt c.args.self.now.list.now c.args.self.now.number i c.args.self.now.py c.args.self.now.s d) k c.loop-px.counts) all c.loop-px.invariant.sums
+    subst (λ (k : ℕ). AreCountSums (λ i d. AreCountsAt c.args.self.now.list.now c.args.self.now.number i c.args.self.now.py c.args.self.now.s d) k c.loop-px.counts) all c.loop-px.invariant.sums

@@ -1,6 +1,6 @@
 //! Why arguments give no options.
 ghost use Rattle.std.specs.Prelude.{◌≡◌, ◌≢◌};
-ghost use Rattle.command_line.specs.declared.line_fault.LineFault.TheVariants.{Help, OutOfMemory};
+ghost use Rattle.program_input.specs.declared.line_fault.LineFault.TheVariants.{Help, OutOfMemory};
 
 use std::alloc::{AllocError, AllocFailed};
 use std::io;

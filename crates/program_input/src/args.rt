@@ -1,7 +1,7 @@
 //! The options that the arguments of the command line name.
 ghost use Rattle.std.specs.Prelude.{◌≡◌, ◌≤◌, [], map, codes, option_map, IfOk, IfSome, IsSome};
 ghost use Rattle.clap.specs.Words.{fault_of};
-ghost use Rattle.command_line.specs.Args.{AsksForHelp, trirast_app, matched, tile_text, IsNumberText};
+ghost use Rattle.program_input.specs.Args.{AsksForHelp, trirast_app, matched, tile_text, IsNumberText};
 
 use crate::drawing_options::Options;
 use crate::line_fault::LineFault;
@@ -12,7 +12,7 @@ use std::alloc::Global;
 
 impl From<Error> for LineFault {
     ghost use Rattle.clap.specs.Words.{kind_of};
-    ghost use Rattle.command_line.specs.Args.{line_fault};
+    ghost use Rattle.program_input.specs.Args.{line_fault};
 
     ghost from_gives = { λ error fault. fault ≡ line_fault (kind_of error) };
 

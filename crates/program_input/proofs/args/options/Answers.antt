@@ -7,10 +7,10 @@ use Rattle.clap.proofs.WalkLemmas.{first_value-rows}
 use Rattle.clap.specs.declared.error.kind.ErrorKind.{ErrorKind}
 use Rattle.clap.specs.declared.error.kind.ErrorKind.TheVariants as kind
 use Rattle.clap.specs.declared.parser.matches.ArgMatches.{ArgMatches}
-use Rattle.command_line.specs.declared.line_fault.LineFault.{LineFault}
-use Rattle.command_line.specs.declared.line_fault.LineFault.TheVariants as fault
-use Rattle.command_line.specs.Args.{option_rule, trirast_app, matched, line_fault, IsNumberText}
-use Rattle.command_line.proofs.args.options.Goals as goal
+use Rattle.program_input.specs.declared.line_fault.LineFault.{LineFault}
+use Rattle.program_input.specs.declared.line_fault.LineFault.TheVariants as fault
+use Rattle.program_input.specs.Args.{option_rule, trirast_app, matched, line_fault, IsNumberText}
+use Rattle.program_input.proofs.args.options.Goals as goal
 
 help_only : (k : ErrorKind) → line_fault k ≡ fault.Help → k ≡ kind.DisplayHelp
 help_only kind.DisplayHelp h = refl

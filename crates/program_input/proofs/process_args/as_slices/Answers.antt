@@ -1,7 +1,7 @@
 use Rattle.std.proofs.Common.{rules}
 use Rattle.std.proofs.lemmas.Iterator.{YieldsList-from_map_by, YieldsList-from_slice}
 use Rattle.std.proofs.lemmas.Iterator.Consumers.{map_from_collect}
-use Rattle.command_line.proofs.process_args.as_slices.Goals as goal
+use Rattle.program_input.proofs.process_args.as_slices.Goals as goal
 
 pub returns : goal.returns
 returns c = map_from_collect _ c.collect.ensures.ran (YieldsList-from_map_by _ _ _ (YieldsList-from_slice c.args.arguments.now cc) c.map.ensures.closure (λ x r q k. search rules))

@@ -6,8 +6,8 @@ use Rattle.clap.specs.declared.error.kind.ErrorKind.{ErrorKind}
 use Rattle.clap.specs.declared.error.kind.ErrorKind.TheVariants as kind
 use Rattle.grid.specs.declared.pixels.TileSide.{TileSide}
 use Rattle.grid.specs.declared.pixels.TileSide.TheVariants.{T8, T16, T32, T64}
-use Rattle.command_line.specs.declared.line_fault.LineFault.{LineFault}
-use Rattle.command_line.specs.declared.line_fault.LineFault.TheVariants as fault
+use Rattle.program_input.specs.declared.line_fault.LineFault.{LineFault}
+use Rattle.program_input.specs.declared.line_fault.LineFault.TheVariants as fault
 
 -- An option `--name VALUE` with this default.
 abbrev pub option_rule : Text → Text → Rule
