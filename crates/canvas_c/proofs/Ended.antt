@@ -80,7 +80,7 @@ fitted_is before Room r (Err e) passed same small room = fails_later before (che
 -- ---- what a piece fails by is no list's and no batch's
 pub piece_fault : (head : CanvasHead) (planes : ℕ) (failed : Status) → FirstIs (piece_checks head planes) failed → (failed ≢ BadList) × (failed ≢ BadBatch)
 piece_fault head planes failed (inl a) = subst (λ s. (s ≢ BadList) × (s ≢ BadBatch)) a.1 ((λ h. cc), (λ h. cc))
-piece_fault head planes failed (inr (a , inl b)) = subst (λ s. (s ≢ BadList) × (s ≢ BadBatch)) b.1 ((λ h. cc), (λ h. cc))
-piece_fault head planes failed (inr (a , inr (b , inl c))) = subst (λ s. (s ≢ BadList) × (s ≢ BadBatch)) c.1 ((λ h. cc), (λ h. cc))
-piece_fault head planes failed (inr (a , inr (b , inr (c , inl d)))) = subst (λ s. (s ≢ BadList) × (s ≢ BadBatch)) d.1 ((λ h. cc), (λ h. cc))
-piece_fault head planes failed (inr (a , inr (b , inr (c , inr d)))) = absurd d.1
+piece_fault head planes failed (inr (a, inl b)) = subst (λ s. (s ≢ BadList) × (s ≢ BadBatch)) b.1 ((λ h. cc), (λ h. cc))
+piece_fault head planes failed (inr (a, inr (b, inl c))) = subst (λ s. (s ≢ BadList) × (s ≢ BadBatch)) c.1 ((λ h. cc), (λ h. cc))
+piece_fault head planes failed (inr (a, inr (b, inr (c, inl d)))) = subst (λ s. (s ≢ BadList) × (s ≢ BadBatch)) d.1 ((λ h. cc), (λ h. cc))
+piece_fault head planes failed (inr (a, inr (b, inr (c, inr d)))) = absurd d.1

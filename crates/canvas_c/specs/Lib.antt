@@ -1,20 +1,30 @@
 -- The definitions of this crate, each file behind those that it uses; `python3 -m tools.definitions` writes these lines.
 --
 -- Pieces.antt
---   IsCanvas: There is a canvas of this size.
+--   IsCount: A pixel may have this number of samples, with 0 for one.
+--   samples_listed: The samples of a pixel by their number: 0 and 1 are one.
+--   IsCanvas: There is a canvas of this size with these samples and channels.
+--   IsWhole: There is such a canvas, and the struct has the size that this library knows.
+--   tile_rows_of: How many tile rows a canvas of this height has.
 --   HasRows: A canvas of this height has the tile rows from `first` to before `end`.
 --   planes_of: How many planes these tile rows have.
 --   AreRowsOf: The tile rows are those that the caller names.
 --   OnRows: `Holds` is true of the tile rows that the caller names.
+--   stride_of: The bytes from the beginning of a row to that of the next: those of a row if the caller says 0.
 --   HasRoom: The rows of pixels, of `unit` entries a pixel, fit into `size` entries.
 --   piece_checks: What each call on tile rows checks first.
 --   format_of: The formats by their numbers.
 --   image_checks: A picture of `size` bytes is read or written, whose rows begin `stride` bytes behind each other.
---   entries_checks: The samples of one index are read to `size` entries, whose rows begin `stride` entries behind each other.
+--   entries_of: The entries from the beginning of a row to that of the next: those of a row if the caller says 0, else those of `stride` bytes.
+--   entries_checks: The samples of one index are read to `size` entries of `entry_bytes` bytes, whose rows begin `stride` bytes behind each other.
+--
+-- Arrays.antt
+--   HasStrides: The vertices and the indices have the sizes that this library knows, or 0 for just these.
 --
 -- Batches.antt
 --   arrays_checks: The checks of the batch itself on this canvas, drawn in its colours or by ids.
 --   draw_checks: The checks of a call that draws a batch.
+--   batch_fault: What is wrong with a batch, by its numbers.
 --   IsFirstOfBatch: The batch has this first error.
 --
 -- Weights.antt
@@ -25,8 +35,24 @@
 --   weights_checks: The checks of a call that writes edge functions: the corners are in the guard band, and so is the point.
 --   AreEdgesOf: The edge functions at a point, each of the edge across from its corner, the doubled area, and whether the point is covered.
 --   AreEdges: The same, of the corners as the caller gives them.
+--
+-- PolygonChecks.antt
+--   origin_of: The origin of the caller's canvas.
+--   rule_of: The rules by their numbers.
+--   IsKnown: The rule and the state are known ones.
+--   HasDepths: There is a depth for each polygon, or none at all.
+--   AreGood: The polygons can be drawn, in their colours or by ids.
+--   columns_of_blocks: How many columns of blocks a canvas of this width has.
+--   HasScratch: The scratch memory has a column of flags for each column of blocks, and by the nonzero rule as many columns of counters.
+--   polygons_checks: The checks of a call that draws polygons.
+--   array_fault: What is wrong with arrays of polygons, by its number and with the index of the ring, the polygon or the corner.
+--   colours_cause: There are too few colours, or an id would have more than 24 bits.
+--   of_all: An error of all polygons together.
+--   IsFirstOfPolygons: This is the first that is wrong with the polygons: the rule or the state, then the arrays, the colours or ids, and the depths.
+--   shapes_listed: The polygons as they are drawn, in their order.
 
 pub mod Pieces
 pub mod Arrays
 pub mod Batches
 pub mod Weights
+pub mod PolygonChecks

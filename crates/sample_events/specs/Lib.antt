@@ -19,7 +19,7 @@
 --   AreWritten: The events to come that are asked for are written at the beginning of the array.
 --
 -- History.antt
---   HasSizes: The structs have the sizes, in bytes, that this library knows.
+--   HasSizes: The structs have the sizes, in bytes, that this library knows, or 0 for just these.
 --   HasPixel: The picture has the pixel that is asked for.
 --   HasSample: A pixel has the sample that is asked for.
 --   output_number: What a picture shows, by its number in C.

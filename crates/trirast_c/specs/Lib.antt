@@ -15,9 +15,5 @@
 --   file_checks: The checks of a list whose file is drawn: its bytes fit.
 --   draw_checks: The checks of a call that draws the file of a list.
 --   rows_checks: The checks of a call that draws tile rows of a list.
---   HasSizes: The structs and the elements of the arrays have the sizes, in bytes, that this library knows.
---   IsSceneOf: The draw list of a scene, as its head and its arrays list it.
---   IsFirstOfScene: What the first error of a scene is.
---   scene_checks: The checks of a call that draws the file of a scene.
 
 pub mod Library

@@ -18,7 +18,7 @@ pub returns-in_err-rows-clause-judged : goal.returns-in_err-rows-clause-judged
 returns-in_err-rows-clause-judged g c =
     let head = c.args.head.now in
     let later : Checks Status = check (c.args.sample < max 1 head.samples) BadSample (check (c.args.stride % c.args.entry_bytes ≡ 0) BadStride
-        (check (HasRoom head 1 (entries_of head.width c.args.entry_bytes c.args.stride) (length c.args.entries.now)) BufferTooSmall done)) in
+    (check (HasRoom head 1 (entries_of head.width c.args.entry_bytes c.args.stride) (length c.args.entries.now)) BufferTooSmall done)) in
     let p = err_from_is_err_and c.from_residual.result c.from_residual.ensures.1 in
     rw (p.1, p.2) (fails_before (piece_checks head (length c.args.planes.now)) later _ c.in_err-rows.ensures.judged)
 
