@@ -4,8 +4,7 @@
 
 Needs `make library` and gcc.
 
-parts: the least time of clearing, of drawing and of resolving each scene on a canvas, and of trirast_draw_scene, which does all three,
-by processor time on one thread; the ways take turns. Every pixel is compared.
+parts: the least time of clearing, of drawing and of resolving each scene on a canvas, by processor time on one thread.
 batches: the processor time of a batch of two triangles of 8 pixels, of 10,000.
 samples: the instructions of a sample with 2, 8 and 16 samples a pixel by those of one with four, and its time so; clear and draw.
 Instructions need valgrind.
@@ -51,8 +50,9 @@ BATCH_SIZES = (1, 16, 64, 256, 1024, 4096)
 
 def built() -> bool:
     """Builds the program in C over the static library."""
-    source = os.path.join(TOP, "bench", "canvas.c")
-    command = ["gcc", "-std=c11", "-O2", "-I", INCLUDE, "-o", PROGRAM, source, STATIC_LIBRARY]
+    tests = os.path.join(TOP, "tools", "checks", "library")
+    sources = [os.path.join(TOP, "bench", "canvas.c"), os.path.join(tests, "scenes.c")]
+    command = ["gcc", "-std=c11", "-O2", "-I", INCLUDE, "-I", tests, "-o", PROGRAM, *sources, STATIC_LIBRARY]
     return subprocess.run(command).returncode == 0
 
 
@@ -78,10 +78,10 @@ def arrays_path(name: str) -> str:
 
 
 def print_scenes(names: list[str], rounds: int) -> None:
-    print("| scene | clear | draw | resolve | together | trirast_draw_scene |\n|---|---|---|---|---|---|")
+    print("| scene | clear | draw | resolve | together |\n|---|---|---|---|---|")
     for name in names:
         times = timed("scene", arrays_path(name), str(rounds))
-        cells = [f"{time / 1000:.2f}" for time in (*times[:3], sum(times[:3]), times[3])]
+        cells = [f"{time / 1000:.2f}" for time in (*times, sum(times))]
         print(f"| {name} | {' | '.join(cells)} |", flush=True)
 
 

@@ -3,7 +3,7 @@
     PYTHONPATH=python/src python3 -m bench.library [--runs 5] [--threads 4] [--scenes tiny mesh ..]
 
 Needs `make library`. For each scene it gives the least time of some rounds of: the program with one worker and with as many
-workers as threads, a whole process each; trirast_read_image_info, which reads the list and draws nothing; trirast_draw on one
+workers as threads, a whole process each; trirast_list_info, which reads the list and draws nothing; trirast_list_draw on one
 thread, which reads the list and draws its file into a buffer that is there; and trirast.draw of Python with the threads, which
 reads the image info, makes a buffer, and has each thread read the list and draw its part. The ways take turns, so that a busy
 machine slows them all. Linux alone.
@@ -48,13 +48,13 @@ def ways(program: str, threads: int, source: str) -> dict[str, Way]:
         return run.Run([program, "--workers", str(workers)], source, os.devnull).wall
 
     def draw() -> float:
-        return seconds(_ffi.library().trirast_draw, data, len(data), TILE_SIZE, part, len(buffer), error)
+        return seconds(_ffi.library().trirast_list_draw, data, len(data), TILE_SIZE, part, len(buffer), error)
 
     return {
         "program, 1 worker": lambda: process(1),
         f"program, {threads} workers": lambda: process(threads),
-        "trirast_read_image_info": lambda: seconds(trirast.image_info, data),
-        "trirast_draw": draw,
+        "trirast_list_info": lambda: seconds(trirast.image_info, data),
+        "trirast_list_draw": draw,
         f"Python, {threads} threads": lambda: seconds(trirast.draw, data, TILE_SIZE, threads),
     }
 

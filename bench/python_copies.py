@@ -22,12 +22,25 @@ COLUMNS, ROWS = 317, 160
 
 
 def of_positions(positions: Any) -> Any:
-    """Vertices at positions in pixels, each in a colour of its own."""
+    """Rows of vertices at positions in pixels, each in a colour of its own."""
     found = np.zeros((len(positions), 7), np.int32)
     found[:, :2] = trirast.snap(positions)
     found[:, 3:6] = np.random.default_rng(2).integers(0, 256, (len(positions), 3))
     found[:, 6] = 255
     return found
+
+
+def forms(rows: Any) -> dict[str, dict[str, Any]]:
+    """The same vertices in several forms: as records, which are not copied, as rows, and as positions and colours."""
+    records = np.zeros(len(rows), trirast.VERTEX)
+    for (name, _kind), values in zip(trirast.VERTEX, rows.T):
+        records[name] = values
+    return {
+        "records": {"vertices": records},
+        "rows of int32": {"vertices": rows},
+        "rows of int64": {"vertices": rows.astype(np.int64)},
+        "xy of int32, colors of uint8": {"vertices": rows[:, :2].copy(), "colors": rows[:, 3:].astype(np.uint8)},
+    }
 
 
 def mesh() -> tuple[Any, Any]:
@@ -63,10 +76,10 @@ def main() -> None:
     canvas = trirast.Canvas(WIDTH, HEIGHT, samples=4)
     canvas.clear()
     for name, (vertices, triangles) in (("mesh", mesh()), ("loose", loose())):
-        for kind, given in (("int32", vertices), ("int64", vertices.astype(np.int64))):
-            copies = milliseconds(lambda: trirast.Draw(given, triangles), runs)
-            draws = milliseconds(lambda: canvas.draw(given, triangles, depth_test="less", depth_write=True), runs)
-            print(f"{name:6} {kind}  copies {copies:7.2f}  draws {draws:7.2f}  share {100 * copies / draws:5.1f} %", flush=True)
+        for kind, given in forms(vertices).items():
+            copies = milliseconds(lambda: trirast.Draw(**given, triangles=triangles), runs)
+            draws = milliseconds(lambda: canvas.draw(**given, triangles=triangles, depth_test="less", depth_write=True), runs)
+            print(f"{name:6} {kind:29}  copies {copies:7.2f}  draws {draws:7.2f}  share {100 * copies / draws:5.1f} %", flush=True)
 
 
 if __name__ == "__main__":

@@ -95,7 +95,8 @@ typedef enum trirast_status {
     TRIRAST_STATUS_BAD_PIXEL = 13,       /* the picture has no such pixel */
     TRIRAST_STATUS_BAD_TRIANGLE = 14,    /* the list has no such draw, or the draw no such triangle */
     TRIRAST_STATUS_BAD_BATCH = 15,       /* the batch cannot be drawn: `cause`, `draw` and `element` of the error say why and where */
-    TRIRAST_STATUS_BAD_STRIDE = 16       /* a stride is too short or not aligned, or there are no indices of this size */
+    TRIRAST_STATUS_BAD_STRIDE = 16,      /* a stride is too short or not aligned, or there are no indices of this size */
+    TRIRAST_STATUS_BAD_TILE = 17         /* the tile rows have no such tile */
 } trirast_status;
 
 /* Why a text is no draw list: the numbers and names of docs/draw-list.md. */
@@ -119,9 +120,9 @@ typedef enum trirast_batch_cause {
     TRIRAST_BATCH_BAD_STATE = 3,        /* a number of the draw is outside of its range */
     TRIRAST_BATCH_NOT_WHOLE = 4,        /* the indices of the draw make no whole triangles or quads */
     TRIRAST_BATCH_TOO_MANY_IDS = 5,     /* the id of a triangle would be greater than 16,777,215 (trirast_canvas_draw_ids) */
-    TRIRAST_BATCH_BAD_INDEX = 6,        /* an index is not less than the draw's vertex_count; element: the index */
-    TRIRAST_BATCH_BAD_POSITION = 7,     /* a vertex that an index names is too far away; element: the vertex */
-    TRIRAST_BATCH_NOT_CONVEX = 8,       /* a quad is not strictly convex; element: the quad */
+    TRIRAST_BATCH_BAD_INDEX = 6,        /* an index is not less than the draw's vertex_count */
+    TRIRAST_BATCH_BAD_POSITION = 7,     /* a vertex that an index names, or a corner, is too far away; element: the corner */
+    TRIRAST_BATCH_NOT_CONVEX = 8,       /* a quad is not strictly convex */
     TRIRAST_BATCH_LEFT_OVER = 9,        /* a vertex or an index is in no draw, or a corner or a ring is in no polygon */
     TRIRAST_BATCH_TOO_MANY_CORNERS = 10, /* polygons have 2^32 corners or more */
     TRIRAST_BATCH_BAD_RING = 11,        /* a ring ends before it begins, or behind the last corner; element: the ring */
@@ -135,7 +136,8 @@ typedef struct trirast_error {
     uint32_t status; /* the trirast_status that the call returned */
     uint32_t cause;  /* a trirast_list_cause or a trirast_batch_cause if the status is one of a list or of a batch, else 0 */
     size_t draw;     /* the index of the draw in which the error is, from 0; TRIRAST_NONE if it is in none */
-    size_t element;  /* of a batch: which one of the draw's own indices, vertices or quads, from 0; TRIRAST_NONE if it is none */
+    size_t element;  /* which one of the draw's indices, vertices or quads it is, from 0; TRIRAST_NONE if it is none. Not yet:
+                      * TRIRAST_NONE always */
 } trirast_error;
 
 /* Returns a string for a status, without a line feed, as "out of memory".
@@ -160,13 +162,14 @@ inline const char *trirast_status_string(trirast_status status) {
     case TRIRAST_STATUS_BAD_TRIANGLE: return "no such triangle";
     case TRIRAST_STATUS_BAD_BATCH: return "wrong batch";
     case TRIRAST_STATUS_BAD_STRIDE: return "wrong stride";
+    case TRIRAST_STATUS_BAD_TILE: return "no such tile";
     }
     return "unknown status";
 }
 
 /* Writes a line that says what went wrong, without a line feed and with a zero byte behind it, or as much of it as
- * fits. So the habits are those of snprintf: "draw 3: index 17 is not less than the number of vertices", "draw 1: list
- * fault 6 BadIndex", "out of memory".
+ * fits: "out of memory", "draw 3: one index is not less than the number of vertices", "list fault 6 BadIndex in draw 1".
+ * So the habits are those of snprintf.
  *
  * @error: what a call wrote; not NULL.
  * @buffer: where the line goes. Bytes behind its zero byte are unchanged.
@@ -313,19 +316,17 @@ typedef struct trirast_draw {
     trirast_blend blend;    /* what the new colour does to the stored one */
 } trirast_draw;
 
-/* Draws with their vertices and indices. With vertices and a vertex_count alone it is one draw of {0}, a triangle for
- * each three. */
+/* Draws with their vertices and indices. If draw_count is 0, they are one draw of {0} with all vertices and indices. */
 typedef struct trirast_batch {
-    uint32_t struct_size;       /* 0 or sizeof(trirast_batch) */
-    uint32_t vertex_stride;     /* bytes from a vertex to the next: 0 for 16, or a multiple of 4 from 16 on */
-    uint32_t index_size;        /* bytes of an index: 0 or 4, or 2 */
-    const trirast_draw *draws;  /* in the order in which they are drawn. If draw_count is 0, there is one draw: that of {0} with all
-                                 * vertices and indices */
+    uint32_t struct_size;   /* 0 or sizeof(trirast_batch) */
+    uint32_t vertex_stride; /* bytes from a vertex to the next: 0 or 16. Not yet: other strides */
+    uint32_t index_size;    /* bytes of an index: 0 or 4. Not yet: 2 */
+    const trirast_draw *draws; /* in the order in which they are drawn */
     size_t draw_count;
-    const void *vertices;       /* trirast_vertex, of all draws, one draw's after another's; aligned to 4 */
+    const void *vertices;   /* trirast_vertex, of all draws, one draw's after another's; aligned to 4 */
     size_t vertex_count;
-    const void *indices;        /* uint32_t or uint16_t, of all draws, one draw's after another's; 0 is the first vertex of the draw. If
-                                 * index_count is 0, each draw has its vertices in their order, as if its indices were 0, 1, 2 .. */
+    const void *indices;    /* uint32_t, of all draws, one draw's after another's; 0 is the first vertex of the draw. Not yet:
+                             * draws without indices, of their vertices in their order */
     size_t index_count;
 } trirast_batch;
 
@@ -379,8 +380,7 @@ uint32_t trirast_canvas_tile_rows(const trirast_canvas *canvas);
 /* Gives a canvas its memory: sets first, end, memory and plane_count, for the whole canvas.
  *
  * @canvas: of which struct_size, width, height, samples, channels and the origin are set.
- * @memory: the samples: aligned to 2; aligned to 64 is faster. Its bytes are not looked at, and may be NULL's: then the
- *     status says so.
+ * @memory: the samples: aligned to 2; aligned to 64 is faster.
  * @size: its bytes: at least trirast_canvas_size(canvas).
  *
  * Returns TRIRAST_STATUS_OK; TRIRAST_STATUS_BAD_CANVAS if there is no such canvas or its struct_size is wrong; or
@@ -399,8 +399,7 @@ inline trirast_status trirast_canvas_init(trirast_canvas *canvas, void *memory, 
 /* Checks of every call on a canvas, of which the first that fails is reported: TRIRAST_STATUS_BAD_STRUCT_SIZE,
  * TRIRAST_STATUS_BAD_CANVAS, TRIRAST_STATUS_BAD_TILE_ROWS if first is greater than end, or end is greater than the
  * number of tile rows, TRIRAST_STATUS_BAD_MEMORY if plane_count is not exactly as great as these tile rows need. Then
- * come those that the call's own text names. `first` may be `end`: then there are no samples, and memory may be NULL.
- * */
+ * come those that the call's own text names. `first` may be `end`: then there are no samples, and memory may be NULL. */
 
 /* Makes a struct for some of the tile rows of another. The piece has no memory of its own: it is a part of the whole's.
  *
@@ -654,6 +653,78 @@ trirast_status trirast_canvas_depths(const trirast_canvas *canvas, uint32_t samp
 
 /* Writes the id of one sample of each pixel: its red + 256 * green + 65536 * blue. The same otherwise. */
 trirast_status trirast_canvas_ids(const trirast_canvas *canvas, uint32_t sample, uint32_t *ids, size_t count, size_t stride);
+
+/* ---- The colours of samples, to be shaded ---- */
+
+/* A caller who draws ids can shade what is seen, and put colours in their place: trirast_canvas_draw_ids, then for each
+ * tile trirast_canvas_tile_ids, colours of the caller's own, and trirast_canvas_tile_store. Depths stay, so more can be
+ * drawn over it, and trirast_canvas_resolve gives the picture. Or the same for one sample index of all pixels at a time,
+ * by trirast_canvas_ids and trirast_canvas_store.
+ *
+ * trirast_canvas_colors and trirast_canvas_tile_ids only read samples, and the other two change them: what the comment
+ * of trirast_canvas says of threads holds for them too. */
+
+/* Writes the colour of one sample of each pixel. Nothing is resolved. Bytes between the rows of pixels are unchanged.
+ *
+ * @canvas: the tile rows.
+ * @sample: the index of the sample: less than the samples of a pixel.
+ * @format: a trirast_format.
+ * @pixels: where the first pixel of the first row of pixels of these tile rows goes.
+ * @size: the bytes that are there. The last row needs no padding behind its pixels.
+ * @stride: the bytes from the beginning of a row to that of the next: at least those of a row of pixels; 0 for just
+ *     these.
+ *
+ * Returns TRIRAST_STATUS_OK; or the first check that fails, then TRIRAST_STATUS_BAD_FORMAT, then
+ * TRIRAST_STATUS_BAD_SAMPLE, then TRIRAST_STATUS_BUFFER_TOO_SMALL if the stride is less than a row of pixels, or the last
+ * row of pixels ends behind size. */
+trirast_status trirast_canvas_colors(const trirast_canvas *canvas, uint32_t sample, trirast_format format, void *pixels,
+                                     size_t size, size_t stride);
+
+/* Makes a picture the colour of one sample of its pixels. Depths and other samples are unchanged, and alpha is not read.
+ * What trirast_canvas_colors then writes are the same colours.
+ *
+ * @canvas, @sample, @format, @size, @stride: as for trirast_canvas_colors.
+ * @pixels: the first pixel of the first row of pixels of these tile rows.
+ *
+ * Returns what trirast_canvas_colors returns. If the status is not TRIRAST_STATUS_OK, no sample is changed. */
+trirast_status trirast_canvas_store(trirast_canvas *canvas, uint32_t sample, trirast_format format, const void *pixels,
+                                    size_t size, size_t stride);
+
+/* The entries of a tile of a canvas with so many samples a pixel (1, not 0): 64 blocks of 8 by 8 pixels, row by row; in
+ * a block sample index by sample index; of each the 64 pixels, row by row. So entry (b * samples + s) * 64 + k is of
+ * sample s of the pixel in column 8 * (b % 8) + k % 8 and row 8 * (b / 8) + k / 8 of the tile. */
+#define TRIRAST_TILE_ENTRIES(samples) (4096 * (size_t)(samples))
+
+/* Writes the ids of all samples of one tile, red + 256 * green + 65536 * blue each, those of pixels beside the picture
+ * too. Of a tile that is unchanged since it was cleared one entry is written, which is the id of all of its samples, and
+ * the others are unchanged.
+ *
+ * @canvas: the tile rows.
+ * @column: of tiles, from 0 at the left: less than width / TRIRAST_TILE_SIZE, rounded up.
+ * @row: the tile row: one of these.
+ * @ids: where they go.
+ * @count: the entries that are there: at least TRIRAST_TILE_ENTRIES(samples), also for a tile of which one is written.
+ * @uniform: 1 if one entry was written, else 0; not NULL.
+ *
+ * Returns TRIRAST_STATUS_OK; or the first check that fails, then TRIRAST_STATUS_BAD_TILE, then
+ * TRIRAST_STATUS_BUFFER_TOO_SMALL. */
+trirast_status trirast_canvas_tile_ids(const trirast_canvas *canvas, uint32_t column, uint32_t row, uint32_t *ids,
+                                       size_t count, uint32_t *uniform);
+
+/* Stores the colours of all samples of one tile, red + 256 * green + 65536 * blue each; the upper byte is not read.
+ * Depths and other tiles are unchanged. Storing what trirast_canvas_tile_ids wrote changes nothing, and what was stored
+ * is what it then writes.
+ *
+ * @canvas, @column, @row: as for trirast_canvas_tile_ids.
+ * @colors: as trirast_canvas_tile_ids writes ids.
+ * @count: TRIRAST_TILE_ENTRIES(samples); or 1, and then all samples of the tile get the one colour, and a tile that is
+ *     unchanged since it was cleared stays so.
+ *
+ * Returns TRIRAST_STATUS_OK; or the first check that fails, then TRIRAST_STATUS_BAD_TILE, then
+ * TRIRAST_STATUS_BUFFER_TOO_SMALL if count is neither of the two. If the status is not TRIRAST_STATUS_OK, no sample is
+ * changed. */
+trirast_status trirast_canvas_tile_store(trirast_canvas *canvas, uint32_t column, uint32_t row, const uint32_t *colors,
+                                         size_t count);
 
 /* ---- Edge functions ---- */
 

@@ -245,7 +245,7 @@ static inline trirast_vertex trirast_clipping_snapped(const trirast_clipping *vi
     const double w = place[3];
     const double right = nearbyint(place[0] / w * view->half[0]), down = nearbyint(-place[1] / w * view->half[1]);
     const double depth = nearbyint((place[2] + view->near_factor * w) / w * view->depth_scale);
-    trirast_vertex found = {0, 0, 0, 0, 0, 0, 0};
+    trirast_vertex found = {0, 0, 0, 0, 0, 0, 0, 0};
     found.x = (int32_t)trirast_clipping_within(right + view->centre[0], -8388608.0, 8388607.0);
     found.y = (int32_t)trirast_clipping_within(down + view->centre[1], -8388608.0, 8388607.0);
     found.depth = (uint16_t)trirast_clipping_within(view->near_depth + depth, view->least_depth, view->greatest_depth);
@@ -445,7 +445,7 @@ static inline int trirast_clipping_add_cut(const trirast_clipping *view, const t
 
 static inline void trirast_clipping_project(const trirast_clipping *view, const trirast_clip_position *positions,
                                             size_t position_count, trirast_clipped *out) {
-    const trirast_vertex none = {0, 0, 0, 0, 0, 0, 0};
+    const trirast_vertex none = {0, 0, 0, 0, 0, 0, 0, 0};
     size_t k;
     for (k = 0; k < position_count; k++) {
         const double place[4] = {positions[k].x, positions[k].y, positions[k].z, positions[k].w};

@@ -6,13 +6,17 @@ PAGE := $(patsubst web/%,web/out/%,$(wildcard web/*.*))
 # At least TRIRAST_STACK of include/trirast.h.
 WEB_STACK := 262144
 
-web: web/out/canvas.wasm web/out/examples.json.gz $(PAGE)
+web: web/out/canvas.wasm.gz web/out/examples.json.gz $(PAGE)
 
 $(PAGE): web/out/%: web/%
 	install -D -m 644 $< $@
 
-web/out/canvas.wasm: lib/wasm64/canvas_c.a
+# Packed without a name and a time, so that the same module makes the same file.
+web/out/canvas.wasm.gz: lib/wasm64/canvas.wasm
 	@mkdir -p $(@D)
+	gzip -9 -n -c $< > $@
+
+lib/wasm64/canvas.wasm: lib/wasm64/canvas_c.a
 	kit="$$(dirname "$$($(RT) doc)")" && "$$kit/bin/rattle-link" --target wasm64-unknown-unknown --toolchain "$$kit/toolchain" \
 	    --stack $(WEB_STACK) -o $@ $<
 

@@ -3,7 +3,7 @@
 from __future__ import annotations
 
 import subprocess
-from typing import NamedTuple, Sequence
+from typing import Any, NamedTuple, Sequence
 
 from tools.reference import renderer
 
@@ -39,3 +39,9 @@ def expected(text: bytes) -> Answer:
         return Answer(0, renderer.render(renderer.read(text)), b"")
     except renderer.ListFault as error:
         return Answer(1, b"", str(error).encode() + b"\n")
+
+
+def line_of(error: Any) -> str:
+    """The line with which the program refuses a list, of the DrawListError that the package in Python raises for it."""
+    place = "" if error.draw is None else f" in draw {error.draw}"
+    return f"trirast: list fault {error.number} {error.name}{place}\n"

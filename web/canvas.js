@@ -1,48 +1,73 @@
-// A canvas of the core, and the batches that are drawn on it. The structs lie in memory as C has them for 64 bits.
+// A canvas of the core, and the batches that are drawn on it.
 
-import { INT32, UINT32, integer, integers } from './numbers.js';
+import { CANVAS, CLEAR, ERROR, BATCH, DRAW, VERTEX } from './structs.js';
+import { INT32, UINT16, UINT32, UINT8, integer, integers } from './numbers.js';
 
-const CANVAS_BYTES = 48;
+const TILE_SIZE = 64;
 const PLANE_BYTES = 320;
-const BATCH_BYTES = 64;
-const STATE_NUMBERS = 13;
-// With the numbers of its vertices and its indices.
-const DRAW_NUMBERS = STATE_NUMBERS + 2;
-const VERTEX_NUMBERS = 7;
+const BAD_BATCH = 15;
 const RGB8 = 0;
 const MAX_SIDE = 4096;
 
 /** The id that a canvas cleared to white has where nothing was drawn. */
 export const NO_ID = 0xffffff;
 
-/** Throws a TypeError or a RangeError if something is no draw of a batch. Whether its numbers make sense is for the core to say. */
+/** Blends a new colour over the stored one by its alpha: TRIRAST_BLEND_OVER. */
+export const BLEND_OVER = [5, 6, 1, 2, 6, 1, 0, 0, 0, 0];
+
+// The members of a draw's state, each of which is 0 if it is left out, with their least and greatest values.
+const STATE = { topology: UINT8, cull: UINT8, depth_test: UINT8, depth_write: UINT8, keep: UINT8, skip_samples: UINT16 };
+// Those that are arrays.
+const ARRAYS = { scissor: [INT32, 4], blend: [UINT8, BLEND_OVER.length] };
+const CORNER = { x: INT32, y: INT32, depth: UINT16, red: UINT8, green: UINT8, blue: UINT8, alpha: UINT8 };
+
+/** Throws a TypeError or a RangeError if something is no state of a draw. Whether its numbers make sense is for the core to say. */
+function checkState(name, state) {
+  if (typeof state !== 'object' || state === null) throw new TypeError(`${name}: an object, and not ${state === null ? 'null' : typeof state}`);
+  for (const [key, value] of Object.entries(state)) {
+    if (key in STATE) integer(`${name}.${key}`, value, STATE[key]);
+    else if (key in ARRAYS) integers(`${name}.${key}`, value, ...ARRAYS[key]);
+    else throw new RangeError(`${name}.${key}: no such member`);
+  }
+}
+
+/** Throws a TypeError or a RangeError if something is no draw of a batch: a state, rows of the seven numbers of a vertex, and indices. */
 function checkDraw(draw, k) {
   const { state, vertices, indices } = Object(draw);
-  integers(`draws[${k}].state`, state, UINT32, STATE_NUMBERS);
-  integers(`draws[${k}].vertices`, vertices, INT32);
-  if (vertices.length % VERTEX_NUMBERS !== 0) {
-    throw new RangeError(`draws[${k}].vertices: ${VERTEX_NUMBERS} integers each, and not ${vertices.length} together`);
+  checkState(`draws[${k}].state`, state);
+  if (!Array.isArray(vertices)) throw new TypeError(`draws[${k}].vertices: an array of rows, and not ${typeof vertices}`);
+  const ranges = Object.values(CORNER);
+  for (const [n, row] of vertices.entries()) {
+    integers(`draws[${k}].vertices[${n}]`, row, INT32, ranges.length);
+    ranges.forEach((range, place) => integer(`draws[${k}].vertices[${n}][${place}]`, row[place], range));
   }
   integers(`draws[${k}].indices`, indices, UINT32);
 }
 
+/** The members of a draw in C. Without any index C would take the vertices in their order, so none is passed then. */
+function membersOf({ state: { scissor, blend, ...numbers }, vertices, indices }, hasIndices) {
+  const [scissor_left, scissor_top, scissor_right, scissor_bottom] = scissor ?? [0, 0, 0, 0];
+  const members = { ...numbers, scissor_enable: Number(Boolean(scissor)), scissor_left, scissor_top, scissor_right, scissor_bottom };
+  return { ...members, vertex_count: hasIndices ? vertices.length : 0, index_count: indices.length, blend: blend ?? [] };
+}
+
 /** Draws with their vertices and indices, in the core's memory. */
 export class Batch {
-  /** Each draw has the arrays of integers `state`, `vertices` and `indices`. Throws a TypeError or a RangeError if one has not. */
+  /** Each draw has an object `state`, rows `vertices` and an array `indices`. Throws a TypeError or a RangeError if one has not. */
   constructor(core, draws) {
     if (!Array.isArray(draws)) throw new TypeError(`draws: an array, and not ${typeof draws}`);
     // Not by forEach, which leaves out what an array lacks.
     for (const [k, draw] of draws.entries()) checkDraw(draw, k);
     this.core = core;
-    const numbers = draws.map(({ state, vertices, indices }) => [vertices.length / VERTEX_NUMBERS, indices.length, ...state]);
-    const parts = [
-      [core.put(Uint32Array, numbers.flat()), draws.length],
-      [core.put(Int32Array, draws.flatMap((draw) => [...draw.vertices])), draws.reduce((sum, draw) => sum + draw.vertices.length / VERTEX_NUMBERS, 0)],
-      [core.put(Uint32Array, draws.flatMap((draw) => [...draw.indices])), draws.reduce((sum, draw) => sum + draw.indices.length, 0)],
-    ];
-    this.address = core.take(BATCH_BYTES);
-    core.view(Uint32Array, this.address, 4).set([BATCH_BYTES, 4 * DRAW_NUMBERS, 4 * VERTEX_NUMBERS, 4]);
-    core.view(BigUint64Array, this.address + 16, 6).set(parts.flat().map(BigInt));
+    const indices = draws.flatMap((draw) => [...draw.indices]);
+    const keys = Object.keys(CORNER);
+    const corners = draws.flatMap((draw) => draw.vertices).map((row) => Object.fromEntries(keys.map((key, place) => [key, row[place]])));
+    const hasIndices = indices.length > 0;
+    this.address = BATCH.put(core, {
+      draws: DRAW.putAll(core, draws.map((draw) => membersOf(draw, hasIndices))), draw_count: draws.length,
+      vertices: VERTEX.putAll(core, corners), vertex_count: hasIndices ? corners.length : 0,
+      indices: core.put(Uint32Array, indices), index_count: indices.length,
+    });
   }
 }
 
@@ -51,36 +76,35 @@ export class Canvas {
   constructor(core, width, height, samples) {
     integer('width', width, [1, MAX_SIDE]);
     integer('height', height, [1, MAX_SIDE]);
-    integer('samples', samples, UINT32);
+    integer('samples', samples, [1, UINT32[1]]);
     Object.assign(this, { core, width, height, samples });
-    const end = core.calls.trirast_canvas_rows(height);
-    const bytes = Number(core.calls.trirast_canvas_bytes(width, height, samples, 0, end));
+    this.address = CANVAS.put(core, { width, height, samples });
+    const bytes = Number(core.calls.trirast_canvas_size(BigInt(this.address)));
     if (bytes === 0) throw new RangeError(`there is no canvas of ${width} by ${height} with ${samples} samples`);
     const memory = core.take(bytes);
-    this.address = core.take(CANVAS_BYTES);
-    core.view(Uint32Array, this.address, 8).set([CANVAS_BYTES, width, height, samples, 0, 0, 0, end]);
-    core.view(BigUint64Array, this.address + 32, 2).set([BigInt(memory), BigInt(bytes / PLANE_BYTES)]);
-    this.error = core.take(16);
+    CANVAS.set(core, this.address, { width, height, samples, end: Math.ceil(height / TILE_SIZE), memory, plane_count: bytes / PLANE_BYTES });
+    this.error = ERROR.put(core, {});
   }
 
   /** Makes each sample one of this colour, three integers from 0 to 255, and depth, 0 to 65535. */
   clear(color, depth) {
-    integers('color', color, [0, 255], 3);
-    integer('depth', depth, [0, 65535]);
+    integers('color', color, UINT8, 3);
+    integer('depth', depth, UINT16);
     const { core } = this;
-    this.#done('clear', core.within(() => core.calls.trirast_canvas_clear(BigInt(this.address), BigInt(core.put(Uint8Array, color)), depth)));
+    const [red, green, blue] = color;
+    this.#done('clear', core.within(() => core.calls.trirast_proved_canvas_clear(BigInt(this.address), BigInt(CLEAR.put(core, { red, green, blue, depth })))));
   }
 
-  /** Draws a batch. Returns `null`, or the error of the list if the batch is refused. */
+  /** Draws a batch. Returns `null`, or the cause and the draw if the batch is refused. */
   draw(batch) {
     this.#own(batch);
-    return this.#error('draw', this.core.calls.trirast_canvas_draw(BigInt(this.address), BigInt(batch.address), BigInt(this.error)));
+    return this.#error('draw', this.core.calls.trirast_proved_canvas_draw(BigInt(this.address), BigInt(batch.address), BigInt(this.error)));
   }
 
   /** Stores the index of each triangle of a batch in place of its colour. */
   drawIds(batch) {
     this.#own(batch);
-    return this.#error('drawIds', this.core.calls.trirast_canvas_draw_ids(BigInt(this.address), BigInt(batch.address), 0, BigInt(this.error)));
+    return this.#error('drawIds', this.core.calls.trirast_proved_canvas_draw_ids(BigInt(this.address), BigInt(batch.address), 0, BigInt(this.error)));
   }
 
   /** Three bytes a pixel: the mean of its samples' colours. */
@@ -88,8 +112,7 @@ export class Canvas {
     const size = 3 * this.width * this.height;
     return this.core.within(() => {
       const pixels = this.core.take(size);
-      const { calls } = this.core;
-      this.#done('colors', calls.trirast_canvas_resolve(BigInt(this.address), RGB8, BigInt(pixels), BigInt(size), BigInt(3 * this.width)));
+      this.#done('colors', this.core.calls.trirast_canvas_resolve(BigInt(this.address), RGB8, BigInt(pixels), BigInt(size), 0n));
       return this.core.view(Uint8Array, pixels, size).slice();
     });
   }
@@ -114,14 +137,13 @@ export class Canvas {
     const count = this.width * this.height;
     return this.core.within(() => {
       const entries = this.core.take(Numbers.BYTES_PER_ELEMENT * count);
-      this.#done(name, call(BigInt(this.address), sample, BigInt(entries), BigInt(count), BigInt(this.width)));
+      this.#done(name, call(BigInt(this.address), sample, BigInt(entries), BigInt(count), 0n));
       return this.core.view(Numbers, entries, count).slice();
     });
   }
 
   #error(name, status) {
-    const [, error, , draw] = this.core.view(Uint32Array, this.error, 4);
-    if (error !== 0) return { error, draw };
+    if (status === BAD_BATCH) return ERROR.get(this.core, this.error);
     this.#done(name, status);
     return null;
   }

@@ -1,6 +1,7 @@
-// The calls of canvas.wasm: the proved canvas, compiled for WebAssembly with 64-bit memory. include/trirast.h says what each does.
+// The calls of canvas.wasm.gz: the proved canvas, compiled for WebAssembly with 64-bit memory. include/trirast.h says what each does.
 
 import { INT32, integer, integers } from './numbers.js';
+import { unpacked } from './packed.js';
 
 const PAGE_BYTES = 65536;
 const ALIGNMENT = 64;
@@ -13,12 +14,12 @@ export class LackingError extends Error {}
 
 /** The module and its memory. */
 export class Core {
-  /** Loads the module. Throws a LackingError if the browser has no 64-bit memory, or there is no such file. */
+  /** Loads the module, gzipped or as it is. Throws a LackingError if the browser has no 64-bit memory, or there is no such file. */
   static async load(url) {
     if (!globalThis.WebAssembly?.validate(MEMORY64)) throw new LackingError('This browser has no 64-bit memory for WebAssembly');
     const file = await fetch(url).catch(() => null);
     if (!file?.ok) throw new LackingError(`The file ${url} cannot be read`);
-    const { instance } = await WebAssembly.instantiate(await file.arrayBuffer(), {});
+    const { instance } = await WebAssembly.instantiate(await (await unpacked(file)).arrayBuffer(), {});
     return new Core(instance.exports);
   }
 
@@ -79,7 +80,7 @@ export class EdgeFunctions {
   at(x, y) {
     integer('x', x, INT32);
     integer('y', y, INT32);
-    const status = this.core.calls.trirast_weights(BigInt(this.corners), x, y, BigInt(this.edges));
+    const status = this.core.calls.trirast_edges_at_point(BigInt(this.corners), x, y, BigInt(this.edges));
     if (status !== 0) throw new RangeError(`no edge functions at (${x}, ${y}): status ${status}`);
     const [a, b, c, area, covers] = this.core.view(BigInt64Array, this.edges, 5);
     return { values: [a, b, c].map(Number), area: Number(area), covers: covers === 1n };

@@ -1,35 +1,36 @@
 // Draw lists (docs/draw-list.md) as the arrays of a batch, and their pictures.
 
-import { Batch, Canvas } from './canvas.js';
+import { BLEND_OVER, Batch, Canvas } from './canvas.js';
 
 const CULLS = ['none', 'front', 'back'];
-const TESTS = ['never', 'less', 'equal', 'less_equal', 'greater', 'not_equal', 'greater_equal', 'always'];
-const BLENDS = ['none', 'over'];
+const TESTS = ['always', 'never', 'less', 'equal', 'less_equal', 'greater', 'not_equal', 'greater_equal'];
 const PRIMITIVES = ['triangles', 'strip', 'quads'];
+const ALL_SAMPLES = 65535;
 
-// Of the errors of lists those that a batch may have.
-const ERRORS = { 4: 'WrongKind', 5: 'OutOfRange', 6: 'BadIndex', 7: 'TooMany', 10: 'NotConvex' };
+// Of the causes for which a batch is refused those that a list may have, with their numbers and names as errors of lists.
+const ERRORS = { 3: '5 OutOfRange', 4: '4 WrongKind', 6: '6 BadIndex', 7: '5 OutOfRange', 8: '10 NotConvex' };
 
 /** An error of a list, in the program's words. */
-export function errorLine({ error, draw }) {
-  return `list fault ${error} ${ERRORS[error]} in draw ${draw}`;
+export function errorLine({ cause, draw }) {
+  return `list fault ${ERRORS[cause]} in draw ${draw}`;
 }
 
-/** The state of a draw as numbers, in the order of C's struct behind its two counts. */
+/** The state of a draw, as a batch has it. */
 function stateOf(draw, primitives) {
   const write = draw.write ?? [true, true, true];
-  return [
-    PRIMITIVES.indexOf(primitives), CULLS.indexOf(draw.cull ?? 'none'), TESTS.indexOf(draw.depth_test ?? 'always'),
-    Number(draw.depth_write ?? false), BLENDS.indexOf(draw.blend ?? 'none'), ...write.map(Number), draw.sample_mask ?? 65535,
-    ...(draw.scissor ?? [0, 0, 4096, 4096]),
-  ];
+  return {
+    topology: PRIMITIVES.indexOf(primitives), cull: CULLS.indexOf(draw.cull ?? 'none'), depth_test: TESTS.indexOf(draw.depth_test ?? 'always'),
+    depth_write: Number(draw.depth_write ?? false), keep: write.reduce((sum, isWritten, channel) => sum + (isWritten ? 0 : 1 << channel), 0),
+    skip_samples: ALL_SAMPLES & ~(draw.sample_mask ?? ALL_SAMPLES), scissor: draw.scissor ?? [0, 0, 4096, 4096],
+    ...(draw.blend === 'over' ? { blend: BLEND_OVER } : {}),
+  };
 }
 
 /** The draws of a list, as a batch has them. */
 export function drawsOf(list) {
   return list.draws.map((draw) => {
     const primitives = PRIMITIVES.find((name) => name in draw);
-    return { state: stateOf(draw, primitives), vertices: draw.vertices.flat(), indices: draw[primitives].flat() };
+    return { state: stateOf(draw, primitives), vertices: draw.vertices, indices: draw[primitives].flat() };
   });
 }
 

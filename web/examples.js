@@ -3,16 +3,7 @@
 import { showList } from './dialog.js';
 import { pixelsOf, trianglesIn } from './draw_list.js';
 import { find, make } from './elements.js';
-
-const GZIP = [0x1f, 0x8b];
-
-/** The lists with their names and what they show. A server may have unpacked the file already. */
-async function load(url) {
-  const bytes = new Uint8Array(await (await fetch(url)).arrayBuffer());
-  const isPacked = GZIP.every((byte, k) => bytes[k] === byte);
-  const stream = new Blob([bytes]).stream();
-  return new Response(isPacked ? stream.pipeThrough(new DecompressionStream('gzip')) : stream).json();
-}
+import { unpacked } from './packed.js';
 
 /** Puts a list's pixels on a canvas element. Of a depth the more significant byte is shown as a grey. */
 function paint(element, list, pixels) {
@@ -40,7 +31,7 @@ export class Examples {
   /** Shows the tab with this example, or the first one. */
   async open(name) {
     try {
-      this.lists ??= await load('examples.json.gz');
+      this.lists ??= await (await unpacked(await fetch('examples.json.gz'))).json();
     } catch {
       find('example-shows').textContent = 'The lists cannot be read.';
       return;

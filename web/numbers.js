@@ -1,5 +1,7 @@
 // The numbers that callers pass. The core takes integers of 8, 16 or 32 bits, and WebAssembly cuts all else to these without a word.
 
+export const UINT8 = [0, 2 ** 8 - 1];
+export const UINT16 = [0, 2 ** 16 - 1];
 export const INT32 = [-(2 ** 31), 2 ** 31 - 1];
 export const UINT32 = [0, 2 ** 32 - 1];
 

@@ -89,7 +89,7 @@ class Page {
 
 try {
   // By this name the check of the page reads what is shown.
-  globalThis.page = new Page(await Core.load('canvas.wasm'));
+  globalThis.page = new Page(await Core.load('canvas.wasm.gz'));
   document.body.dataset.state = 'ready';
 } catch (error) {
   find('why').textContent = error instanceof LackingError ? `${error.message}.` : `${error}.`;

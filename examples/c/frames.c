@@ -93,25 +93,26 @@ typedef struct {
     uint32_t first, end;
     uint8_t *pixels;
     size_t size;
+    trirast_status status;
     trirast_error error;
 } part;
 
 static void *draw_part(void *argument) {
     part *own = argument;
-    trirast_draw_rows(own->list->bytes, own->list->length, TILE_SIZE, own->first, own->end, own->pixels, own->size,
-                      &own->error);
+    own->status = trirast_list_draw_rows(own->list->bytes, own->list->length, TILE_SIZE, own->first, own->end, own->pixels,
+                                         own->size, &own->error);
     return NULL;
 }
 
-static void stop_on(const trirast_error *error) {
-    char line[TRIRAST_ERROR_LINE_SIZE];
-    if (error->status == TRIRAST_STATUS_OK) return;
-    fwrite(line, 1, trirast_error_line(error, line, sizeof line), stderr);
-    exit(1);
+static void stop_on(const part *own) {
+    char message[TRIRAST_ERROR_MESSAGE_SIZE];
+    if (own->status == TRIRAST_STATUS_OK) return;
+    trirast_error_message(&own->error, message, sizeof message);
+    stop(message);
 }
 
 /* Draws the list's pixels by this number of threads, or one for each tile row if these are fewer. The width and the height are
- * the program's own, so it does not call trirast_read_image_info. */
+ * the program's own, so it does not call trirast_list_info. */
 static void draw(const text *list, uint8_t *pixels, int threads) {
     part parts[MAX_THREADS];
     pthread_t ids[MAX_THREADS];
@@ -131,7 +132,7 @@ static void draw(const text *list, uint8_t *pixels, int threads) {
         if (pthread_create(&ids[k], NULL, draw_part, &parts[k])) stop("a thread cannot be started");
     }
     for (int k = 0; k < threads; k++) pthread_join(ids[k], NULL);
-    for (int k = 0; k < threads; k++) stop_on(&parts[k].error);
+    for (int k = 0; k < threads; k++) stop_on(&parts[k]);
 }
 
 /* ---- Frames ---- */
@@ -160,7 +161,7 @@ int main(int count, char **arguments) {
         else if (!strcmp(arguments[k], "--threads")) threads = number(arguments[++k], MAX_THREADS);
         else folder = arguments[k];
     }
-    if (trirast_version() < TRIRAST_VERSION) stop("the library is older than its header");
+    if (trirast_interface() < TRIRAST_INTERFACE) stop("the library is older than its header");
     size_t length = (size_t)3 * WIDTH * HEIGHT;
     uint8_t *pixels = malloc(length);
     if (!pixels) stop("out of memory");

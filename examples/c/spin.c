@@ -8,9 +8,6 @@
  *
  *     cc -O2 spin.c $(pkg-config --cflags --libs trirast sdl2) -pthread -lm
  */
-/* For posix_memalign in C99. */
-#define _POSIX_C_SOURCE 200112L
-
 #include <SDL.h>
 #include <pthread.h>
 
@@ -31,7 +28,7 @@ typedef struct {
     const model *shape;
     int width, height;
     uint32_t picked; /* the triangle that was picked, or NONE */
-    trirast_batch_draw draws[DRAWS];
+    trirast_draw draws[DRAWS];
     trirast_vertex *vertices;
     uint32_t *indices;
     trirast_batch batch;
@@ -46,11 +43,11 @@ static trirast_vertex seen(const frame *made, vector point, vector color, double
     return (trirast_vertex){
         .x = (int32_t)lround(128 * made->width + scale * point.x),
         .y = (int32_t)lround(120 * made->height - scale * up),
-        .depth = (uint32_t)fmin(fmax(depth, 0), FARTHEST - 2),
-        .red = (uint32_t)lround(255 * fmin(fmax(color.x, 0), 1)),
-        .green = (uint32_t)lround(255 * fmin(fmax(color.y, 0), 1)),
-        .blue = (uint32_t)lround(255 * fmin(fmax(color.z, 0), 1)),
-        .alpha = (uint32_t)lround(255 * alpha),
+        .depth = (uint16_t)fmin(fmax(depth, 0), FARTHEST - 2),
+        .red = (uint8_t)lround(255 * fmin(fmax(color.x, 0), 1)),
+        .green = (uint8_t)lround(255 * fmin(fmax(color.y, 0), 1)),
+        .blue = (uint8_t)lround(255 * fmin(fmax(color.z, 0), 1)),
+        .alpha = (uint8_t)lround(255 * alpha),
     };
 }
 
@@ -72,7 +69,7 @@ static void make_surroundings(frame *made) {
     trirast_vertex *corner = made->vertices, *floor = corner + 4;
     for (int k = 0; k < 4; k++) {
         int is_right = k == 1 || k == 2, is_low = k > 1;
-        corner[k] = (trirast_vertex){is_right ? 256 * made->width : 0, is_low ? 256 * made->height : 0, 0, 40, 46, 62, 255};
+        corner[k] = (trirast_vertex){is_right ? 256 * made->width : 0, is_low ? 256 * made->height : 0, 0, 40, 46, 62, 255, 0};
         if (is_low) corner[k].red = 14, corner[k].green = 16, corner[k].blue = 24;
     }
     /* A pool of light that ends in nothing. */
@@ -107,22 +104,22 @@ static void make_frame(frame *made, double turn) {
 
 /* A frame whose vertices are still to be made. */
 static frame new_frame(const model *shape, int width, int height) {
-    const trirast_batch_draw draw = TRIRAST_BATCH_DRAW_INIT;
-    size_t vertices = 4 + RIM + 1 + 2 * shape->point_count + 3, indices = 4 + 3 * RIM + 2 * shape->corner_count + 3;
-    frame made = {.shape = shape, .width = width, .height = height, .picked = NONE, .batch = TRIRAST_BATCH_INIT};
-    made.vertices = calloc(vertices, sizeof *made.vertices), made.indices = calloc(indices, sizeof *made.indices);
+    const size_t points = shape->point_count, corners = shape->corner_count;
+    const trirast_blend over = TRIRAST_BLEND_OVER;
+    frame made = {
+        .shape = shape, .width = width, .height = height, .picked = NONE,
+        .vertices = calloc(4 + RIM + 1 + 2 * points + 3, sizeof *made.vertices),
+        .indices = calloc(4 + 3 * RIM + 2 * corners + 3, sizeof *made.indices),
+        .draws = {
+            [BACKGROUND] = {.vertex_count = 4, .index_count = 4, .topology = TRIRAST_TOPOLOGY_QUADS},
+            [FLOOR] = {.vertex_count = RIM + 1, .index_count = 3 * RIM, .blend = over},
+            [SHADOW] = {.vertex_count = points, .index_count = corners, .blend = over, .depth_test = TRIRAST_DEPTH_LESS, .depth_write = 1},
+            [MODEL] = {.vertex_count = points, .index_count = corners, .cull = TRIRAST_CULL_BACK, .depth_test = TRIRAST_DEPTH_LESS, .depth_write = 1},
+            /* The picked triangle once more, where the model shows it: its depths are the same to the last bit. */
+            [PICKED] = {.vertex_count = 3, .index_count = 3, .depth_test = TRIRAST_DEPTH_EQUAL},
+        },
+    };
     if (!made.vertices || !made.indices) stop("no memory", "out of memory");
-    for (int k = 0; k < DRAWS; k++) made.draws[k] = draw;
-    uint32_t points = (uint32_t)shape->point_count, corners = (uint32_t)shape->corner_count;
-    const uint32_t counts[DRAWS][2] = {{4, 4}, {RIM + 1, 3 * RIM}, {points, corners}, {points, corners}, {3, 3}};
-    for (int k = 0; k < DRAWS; k++) made.draws[k].vertex_count = counts[k][0], made.draws[k].index_count = counts[k][1];
-    made.draws[BACKGROUND].topology = TRIRAST_TOPOLOGY_QUADS;
-    made.draws[FLOOR].blend = made.draws[SHADOW].blend = TRIRAST_BLEND_OVER;
-    made.draws[SHADOW].depth_test = made.draws[MODEL].depth_test = TRIRAST_DEPTH_LESS;
-    made.draws[SHADOW].depth_write = made.draws[MODEL].depth_write = 1;
-    made.draws[MODEL].cull = TRIRAST_CULL_BACK;
-    /* The picked triangle once more, where the model shows it: its depths are the same to the last bit. */
-    made.draws[PICKED].depth_test = TRIRAST_DEPTH_EQUAL;
     uint32_t *index = made.indices;
     for (uint32_t k = 0; k < 4; k++) *index++ = k;
     for (uint32_t k = 0; k < RIM; k++) *index++ = 0, *index++ = k + 1, *index++ = (k + 1) % RIM + 1;
@@ -134,13 +131,9 @@ static frame new_frame(const model *shape, int width, int height) {
 /* ---- Drawing ---- */
 
 static trirast_canvas new_canvas(uint32_t width, uint32_t height, uint32_t samples) {
-    trirast_canvas canvas = TRIRAST_CANVAS_INIT;
-    canvas.width = width, canvas.height = height, canvas.samples = samples;
-    canvas.end = trirast_canvas_rows(height);
-    size_t bytes = trirast_canvas_bytes(width, height, samples, 0, canvas.end);
-    if (!bytes || posix_memalign(&canvas.memory, 64, bytes))
-        stop("no canvas", "a side is not 1 to 4096 pixels, or out of memory");
-    canvas.plane_count = bytes / TRIRAST_PLANE_BYTES;
+    trirast_canvas canvas = {.width = width, .height = height, .samples = samples};
+    const size_t size = trirast_canvas_size(&canvas);
+    if (trirast_canvas_init(&canvas, malloc(size), size)) stop("no canvas", "a side is not 1 to 4096 pixels, or out of memory");
     return canvas;
 }
 
@@ -156,9 +149,8 @@ typedef struct {
 
 static void *draw_share(void *argument) {
     share *own = argument;
-    trirast_error error;
-    own->status = trirast_canvas_clear(&own->rows, (const uint8_t[3]){0, 0, 0}, FARTHEST);
-    if (!own->status) own->status = trirast_canvas_draw(&own->rows, own->batch, &error);
+    own->status = trirast_canvas_clear(&own->rows, NULL);
+    if (!own->status) own->status = trirast_canvas_draw(&own->rows, own->batch, NULL);
     if (!own->status) own->status = trirast_canvas_resolve(&own->rows, own->format, own->pixels, own->size, own->stride);
     return NULL;
 }
@@ -168,12 +160,12 @@ static void draw(const trirast_canvas *canvas, const trirast_batch *batch, int t
                  size_t stride) {
     share shares[MAX_THREADS];
     pthread_t ids[MAX_THREADS];
-    uint32_t rows = canvas->end, count = (uint32_t)threads < rows ? (uint32_t)threads : rows, side = trirast_canvas_row_pixels();
+    uint32_t rows = canvas->end, count = (uint32_t)threads < rows ? (uint32_t)threads : rows, side = TRIRAST_TILE_SIZE;
     for (uint32_t k = 0; k < count; k++) {
         uint32_t first = rows * k / count, end = rows * (k + 1) / count, bottom = end < rows ? end * side : canvas->height;
         shares[k] = (share){.batch = batch, .format = format, .pixels = pixels + first * side * stride, .stride = stride};
         shares[k].size = (bottom - first * side) * stride;
-        if (trirast_canvas_piece(canvas, first, end, &shares[k].rows)) stop("no piece", "tile rows");
+        if (trirast_canvas_split(canvas, first, end, &shares[k].rows)) stop("no piece", "tile rows");
         if (pthread_create(&ids[k], NULL, draw_share, &shares[k])) stop("no thread", "it cannot be started");
     }
     for (uint32_t k = 0; k < count; k++) pthread_join(ids[k], NULL);
@@ -183,17 +175,19 @@ static void draw(const trirast_canvas *canvas, const trirast_batch *batch, int t
 
 /* Picks the triangle of the model at a pixel. The model is drawn by ids on a canvas of this pixel alone, a window on the screen. */
 static void pick(frame *made, int x, int y) {
+    const size_t points = made->shape->point_count, corners = made->shape->corner_count;
+    const trirast_clear none = {.red = 255, .green = 255, .blue = 255, .depth = FARTHEST};
+    const trirast_batch alone = {
+        .draws = &made->draws[MODEL], .draw_count = 1,
+        .vertices = made->vertices + 4 + RIM + 1 + points, .vertex_count = points,
+        .indices = made->indices + 4 + 3 * RIM + corners, .index_count = corners,
+    };
     trirast_canvas canvas = new_canvas(1, 1, 1);
-    trirast_error error;
     uint32_t id = NONE;
     canvas.origin_x = x, canvas.origin_y = y;
-    trirast_batch alone = made->batch;
-    alone.draws += MODEL, alone.draw_count = 1;
-    alone.vertices += 4 + RIM + 1 + made->shape->point_count, alone.vertex_count = made->shape->point_count;
-    alone.indices += 4 + 3 * RIM + made->shape->corner_count, alone.index_count = made->shape->corner_count;
-    trirast_status status = trirast_canvas_clear(&canvas, (const uint8_t[3]){255, 255, 255}, FARTHEST);
-    if (!status) status = trirast_canvas_draw_ids(&canvas, &alone, 0, &error);
-    if (!status) status = trirast_canvas_ids(&canvas, 0, &id, 1, 1);
+    trirast_status status = trirast_canvas_clear(&canvas, &none);
+    if (!status) status = trirast_canvas_draw_ids(&canvas, &alone, 0, NULL);
+    if (!status) status = trirast_canvas_ids(&canvas, 0, &id, 1, 0);
     if (status) stop("a call failed", trirast_status_string(status));
     free(canvas.memory);
     made->picked = id;
@@ -235,21 +229,21 @@ static void write_rows(FILE *file, const char *key, const int64_t *numbers, size
     fprintf(file, "]");
 }
 
-static void write_draw(FILE *file, const trirast_batch_draw *draw, const trirast_vertex *vertices, const uint32_t *indices) {
+static void write_draw(FILE *file, const trirast_draw *draw, const trirast_vertex *vertices, const uint32_t *indices) {
     int is_quads = draw->topology == TRIRAST_TOPOLOGY_QUADS;
     const char *test = draw->depth_test == TRIRAST_DEPTH_ALWAYS ? "always" : draw->depth_test == TRIRAST_DEPTH_LESS ? "less" : "equal";
-    int64_t *numbers = calloc(7 * (size_t)draw->vertex_count + draw->index_count, sizeof *numbers), *number = numbers;
+    int64_t *numbers = calloc(7 * draw->vertex_count + draw->index_count, sizeof *numbers), *number = numbers;
     if (!numbers) stop("no memory", "out of memory");
-    for (uint32_t k = 0; k < draw->vertex_count; k++) {
+    for (size_t k = 0; k < draw->vertex_count; k++) {
         const trirast_vertex *one = vertices + k;
         const int64_t row[7] = {one->x, one->y, one->depth, one->red, one->green, one->blue, one->alpha};
         memcpy(number, row, sizeof row), number += 7;
     }
-    for (uint32_t k = 0; k < draw->index_count; k++) number[k] = indices[k];
+    for (size_t k = 0; k < draw->index_count; k++) number[k] = indices[k];
     fprintf(file, "{\"cull\":\"%s\",\"depth_test\":\"%s\",\"depth_write\":%s,\"blend\":\"%s\"",
             draw->cull == TRIRAST_CULL_BACK ? "back" : "none", test, draw->depth_write ? "true" : "false",
-            draw->blend == TRIRAST_BLEND_OVER ? "over" : "none");
-    write_rows(file, "vertices", numbers, 7 * (size_t)draw->vertex_count, 7);
+            draw->blend.color_source == TRIRAST_FACTOR_SOURCE_ALPHA ? "over" : "none");
+    write_rows(file, "vertices", numbers, 7 * draw->vertex_count, 7);
     write_rows(file, is_quads ? "quads" : "triangles", number, draw->index_count, is_quads ? 4 : 3);
     fprintf(file, "}");
     free(numbers);
@@ -258,8 +252,8 @@ static void write_draw(FILE *file, const trirast_batch_draw *draw, const trirast
 /* Writes the batch as a draw list. */
 static void write_list(const char *path, const frame *made) {
     FILE *file = opened(path, "w");
-    const trirast_vertex *vertices = made->batch.vertices;
-    const uint32_t *indices = made->batch.indices;
+    const trirast_vertex *vertices = made->vertices;
+    const uint32_t *indices = made->indices;
     fprintf(file, "{\"width\":%d,\"height\":%d,\"samples\":%d,\"draws\":[\n", made->width, made->height, SAMPLES);
     for (size_t k = 0; k < made->batch.draw_count; k++) {
         if (k) fprintf(file, ",\n");

@@ -96,12 +96,12 @@ void draw() {
         }
         set_color(seen.vertices[seen.first_cut + k], sum);
     }
-    trirast::Canvas canvas(WIDTH, HEIGHT, 16);
+    trirast::Canvas canvas({WIDTH, HEIGHT, 16});
     canvas.clear({8, 8, 12});
-    trirast_batch_draw state = trirast::new_draw();
-    state.depth_test = TRIRAST_DEPTH_LESS, state.depth_write = 1;
+    trirast::State state;
+    state.depth_test = TRIRAST_DEPTH_LESS, state.depth_write = true;
     canvas.draw(seen.vertices, seen.indices, state);
-    const std::vector<std::uint8_t> pixels = canvas.pixels(TRIRAST_FORMAT_RGB8);
+    const std::vector<std::uint8_t> pixels = canvas.pixels();
     std::cerr << mesh.indices.size() / 3 << " triangles, " << seen.sources.size() << " on the screen, "
               << seen.cuts.size() << " cuts\n";
     std::cout << "P6\n" << WIDTH << ' ' << HEIGHT << "\n255\n";

@@ -10,22 +10,20 @@
 
 #include "trirast.h"
 
-// Throws the line of an error, without its line feed.
-static void check(const trirast_error &error) {
-    if (error.status == TRIRAST_STATUS_OK) return;
-    char line[TRIRAST_ERROR_LINE_SIZE];
-    const std::size_t length = trirast_error_line(&error, line, sizeof line);
-    throw std::runtime_error(std::string(line, line + length - 1));
+// Throws what an error says.
+static void check(trirast_status status, const trirast_error &error) {
+    if (status == TRIRAST_STATUS_OK) return;
+    char message[TRIRAST_ERROR_MESSAGE_SIZE];
+    trirast_error_message(&error, message, sizeof message);
+    throw std::runtime_error(message);
 }
 
 static std::vector<std::uint8_t> draw(const std::string &json) {
     trirast_error error;
     trirast_image_info info;
-    trirast_read_image_info(json.data(), json.size(), &info, &error);
-    check(error);
+    check(trirast_list_info(json.data(), json.size(), &info, &error), error);
     std::vector<std::uint8_t> file(info.file_bytes);
-    trirast_draw(json.data(), json.size(), 32, file.data(), file.size(), &error);
-    check(error);
+    check(trirast_list_draw(json.data(), json.size(), 32, file.data(), file.size(), &error), error);
     return file;
 }
 
@@ -36,7 +34,7 @@ int main() {
         std::cout.write(reinterpret_cast<const char *>(file.data()), static_cast<std::streamsize>(file.size()));
         return std::cout.flush() ? 0 : 1;
     } catch (const std::exception &error) {
-        std::cerr << error.what() << '\n';
+        std::cerr << "trirast: " << error.what() << '\n';
         return 1;
     }
 }

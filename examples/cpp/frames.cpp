@@ -14,7 +14,6 @@
 #include <cstring>
 #include <exception>
 #include <iostream>
-#include <thread>
 #include <vector>
 
 #include "draw_list.hpp"
@@ -28,49 +27,69 @@ struct Options {
 
 // The arrays of a list, and the batches of a frame over them.
 struct Arrays {
-    std::vector<trirast_batch_draw> draws;
+    std::vector<trirast_draw> draws;
     std::vector<trirast_vertex> vertices;
     std::vector<std::uint32_t> indices;
-    std::vector<trirast::Batch> batches;
+    std::vector<trirast_batch> batches;
 };
 
-trirast_batch_draw draw_of(const Draw &draw) {
+trirast_draw draw_of(const Draw &draw) {
     const State &state = draw.state;
-    trirast_batch_draw found = trirast::new_draw();
-    found.vertex_count = static_cast<std::uint32_t>(draw.vertices.size());
-    found.index_count = static_cast<std::uint32_t>(3 * draw.triangles.size());
-    found.cull = static_cast<std::uint32_t>(state.cull), found.depth_test = static_cast<std::uint32_t>(state.test);
-    found.depth_write = state.depth_write, found.blend = state.over;
-    found.write_red = state.write[0], found.write_green = state.write[1], found.write_blue = state.write[2];
-    found.sample_mask = static_cast<std::uint32_t>(state.mask);
-    found.scissor_left = static_cast<std::uint32_t>(state.scissor[0]), found.scissor_top = static_cast<std::uint32_t>(state.scissor[1]);
-    found.scissor_right = static_cast<std::uint32_t>(state.scissor[2]), found.scissor_bottom = static_cast<std::uint32_t>(state.scissor[3]);
+    trirast_draw found = {};
+    found.vertex_count = draw.vertices.size(), found.index_count = 3 * draw.triangles.size();
+    found.cull = static_cast<std::uint8_t>(state.cull);
+    // The numbers of a list's tests begin with never and end with always, which is 0 here.
+    found.depth_test = static_cast<std::uint8_t>((static_cast<int>(state.test) + 1) % 8);
+    found.depth_write = state.depth_write, found.blend = state.over ? trirast::blend_over : trirast::blend_none;
+    for (int channel = 0; channel < 3; channel++)
+        if (!state.write[channel]) found.keep = static_cast<std::uint8_t>(found.keep | TRIRAST_KEEP_RED << channel);
+    found.skip_samples = static_cast<std::uint16_t>(~state.mask), found.scissor_enable = 1;
+    found.scissor_left = state.scissor[0], found.scissor_top = state.scissor[1];
+    found.scissor_right = state.scissor[2], found.scissor_bottom = state.scissor[3];
     return found;
 }
 
+trirast_vertex vertex_of(const Vertex &v) {
+    const auto byte = [&v](int channel) { return static_cast<std::uint8_t>(v.rgba[channel]); };
+    return {v.x, v.y, static_cast<std::uint16_t>(v.z), byte(0), byte(1), byte(2), byte(3), 0};
+}
+
+// A draw without triangles has no vertices either, which would be drawn in their order if no draw had triangles.
 void add(Arrays &arrays, const Draw &draw) {
+    if (draw.triangles.empty()) return;
     arrays.draws.push_back(draw_of(draw));
-    for (const Vertex &v : draw.vertices) arrays.vertices.push_back({v.x, v.y, v.z, v.rgba[0], v.rgba[1], v.rgba[2], v.rgba[3]});
+    for (const Vertex &vertex : draw.vertices) arrays.vertices.push_back(vertex_of(vertex));
     for (const auto &triangle : draw.triangles) arrays.indices.insert(arrays.indices.end(), triangle.begin(), triangle.end());
+}
+
+trirast_batch batch_of(const trirast_draw *draws, std::size_t draw_count, const trirast_vertex *vertices, std::size_t vertex_count,
+                       const std::uint32_t *indices, std::size_t index_count) {
+    trirast_batch batch = {};
+    batch.draws = draws, batch.draw_count = draw_count, batch.vertices = vertices, batch.vertex_count = vertex_count;
+    batch.indices = indices, batch.index_count = index_count;
+    return batch;
 }
 
 // One batch, or one for each `most` triangles of a draw, all over the same arrays.
 void split(Arrays &arrays, std::uint32_t most) {
     if (most == UINT32_MAX) {
-        arrays.batches.push_back({arrays.draws, arrays.vertices, arrays.indices});
+        arrays.batches.push_back(batch_of(arrays.draws.data(), arrays.draws.size(), arrays.vertices.data(), arrays.vertices.size(),
+                                          arrays.indices.data(), arrays.indices.size()));
         return;
     }
-    std::vector<trirast_batch_draw> cut;
-    for (const trirast_batch_draw &draw : arrays.draws)
-        for (std::uint32_t first = 0; first < draw.index_count; first += 3 * most) {
+    const std::size_t each = 3 * std::size_t{most};
+    std::vector<trirast_draw> cut;
+    for (const trirast_draw &draw : arrays.draws)
+        for (std::size_t first = 0; first < draw.index_count; first += each) {
             cut.push_back(draw);
-            cut.back().index_count = std::min(3 * most, draw.index_count - first);
+            cut.back().index_count = std::min(each, draw.index_count - first);
         }
     std::size_t vertex = 0, index = 0, next = 0;
-    for (const trirast_batch_draw &draw : arrays.draws) {
+    for (const trirast_draw &draw : arrays.draws) {
         const std::size_t end = index + draw.index_count;
         for (; index < end; index += cut[next++].index_count)
-            arrays.batches.push_back({{&cut[next], 1}, {&arrays.vertices[vertex], draw.vertex_count}, {&arrays.indices[index], cut[next].index_count}});
+            arrays.batches.push_back(
+                batch_of(&cut[next], 1, &arrays.vertices[vertex], draw.vertex_count, &arrays.indices[index], cut[next].index_count));
         vertex += draw.vertex_count;
     }
     arrays.draws.swap(cut);
@@ -80,41 +99,27 @@ void split(Arrays &arrays, std::uint32_t most) {
 class Picture {
 public:
     Picture(const Scene &scene, std::uint32_t workers)
-        : canvas_(static_cast<std::uint32_t>(scene.width), static_cast<std::uint32_t>(scene.height), static_cast<std::uint32_t>(scene.samples)),
-          parts_(canvas_.split(workers)), failed_(parts_.size()), stride_(3 * std::size_t{canvas_.width()}),
-          pixels_(stride_ * canvas_.height()), clear_{scene.clear.c[0], scene.clear.c[1], scene.clear.c[2]}, depth_(scene.clear.z) {}
+        : canvas_({static_cast<std::uint32_t>(scene.width), static_cast<std::uint32_t>(scene.height), static_cast<std::uint32_t>(scene.samples)}),
+          workers_(workers), stride_(3 * std::size_t{canvas_.width()}), pixels_(stride_ * canvas_.height()),
+          clear_{scene.clear.c[0], scene.clear.c[1], scene.clear.c[2], 255, scene.clear.z} {}
 
-    void draw(const std::vector<trirast::Batch> &batches) {
-        std::vector<std::thread> threads;
-        for (std::size_t k = 1; k < parts_.size(); k++) threads.emplace_back([&, k] { draw_part(k, batches); });
-        draw_part(0, batches);
-        for (std::thread &thread : threads) thread.join();
-        for (const std::exception_ptr &error : failed_)
-            if (error) std::rethrow_exception(error);
+    // Each thread has tile rows of its own, and their pixels.
+    void draw(const std::vector<trirast_batch> &batches) {
+        canvas_.share(workers_, [this, &batches](trirast::TileRows &part) {
+            part.clear(clear_);
+            for (const trirast_batch &batch : batches) part.draw_batch(batch);
+            part.resolve(TRIRAST_FORMAT_RGB8, {pixels_.data() + stride_ * part.top(), stride_ * part.height()});
+        });
     }
 
     const std::vector<std::uint8_t> &pixels() const { return pixels_; }
 
 private:
-    // No other thread uses these tile rows, or their pixels.
-    void draw_part(std::size_t number, const std::vector<trirast::Batch> &batches) {
-        try {
-            trirast::TileRows &part = parts_[number];
-            part.clear(clear_, depth_);
-            for (const trirast::Batch &batch : batches) part.draw(batch);
-            part.resolve(TRIRAST_FORMAT_RGB8, {pixels_.data() + stride_ * part.top(), stride_ * part.height()}, stride_);
-        } catch (...) {
-            failed_[number] = std::current_exception();
-        }
-    }
-
     trirast::Canvas canvas_;
-    std::vector<trirast::TileRows> parts_;
-    std::vector<std::exception_ptr> failed_;
+    std::uint32_t workers_;
     std::size_t stride_;
     std::vector<std::uint8_t> pixels_;
-    trirast::Color clear_;
-    std::uint16_t depth_;
+    trirast::Clear clear_;
 };
 
 bool parse(int count, char **words, Options &options) {
@@ -131,7 +136,7 @@ bool parse(int count, char **words, Options &options) {
     return true;
 }
 
-double milliseconds(Picture &picture, const std::vector<trirast::Batch> &batches) {
+double milliseconds(Picture &picture, const std::vector<trirast_batch> &batches) {
     const auto begun = std::chrono::steady_clock::now();
     picture.draw(batches);
     return std::chrono::duration<double, std::milli>(std::chrono::steady_clock::now() - begun).count();

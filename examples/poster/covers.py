@@ -85,7 +85,8 @@ def windings(edges: Edges, top: int, height: int, width: int, sample: Tuple[int,
 def counting_scene(scene: poster.Scene, triangles: Array, sample: int) -> poster.Scene:
     """The map's triangles of each level, such that each adds one to the pixels whose sample it covers."""
     vertices = np.array(scene.vertices)
-    vertices[:, 3:6], vertices[:, 6] = 255, ALPHA
+    for name, number in (("red", 255), ("green", 255), ("blue", 255), ("alpha", ALPHA)):
+        vertices[name] = number
     draws = [
         {"triangles": int(count), "blend": "over", "sample_mask": 1 << sample, "write": [channel == k for k in range(3)]}
         for count, channel in zip(triangles, CHANNELS)
@@ -111,7 +112,8 @@ def count_covers(path: str, samples: List[int], threads: int, rows: Tuple[int, i
     """Prints the counts of each sample. Returns how many samples are covered too seldom or too often."""
     scene = poster.scene_of(path)
     rings = np.load(os.path.splitext(path)[0] + ".rings.npz")
-    edges = edges_of(scene.vertices[: int(rings["lengths"].sum())][:, :2], rings["lengths"], rings["levels"])
+    corners = scene.vertices[: int(rings["lengths"].sum())]
+    edges = edges_of(np.stack((corners["x"], corners["y"]), 1), rings["lengths"], rings["levels"])
     width, height = scene.sheet.width, scene.sheet.height
     rows = (rows[0], min(rows[1], height))
     wrong = 0

@@ -15,6 +15,7 @@ from typing import Any, Dict, List, Tuple
 
 import numpy as np
 
+import trirast
 from coastlines import FARTHEST, LEVELS, borders, read_rings
 from triangulate import triangulated
 from trirast import poster
@@ -27,11 +28,11 @@ DEGREES, HALF_WIDTH, LINE = 10, 192, (0, 40, 60, 90, 110)
 
 def vertices_of(corners: Any, levels: Any) -> Any:
     """The vertices of land and water: the color of a corner is that of its level."""
-    vertices = np.zeros((len(corners), 7), np.int32)
-    vertices[:, :2] = corners
-    for level in LEVELS:
-        vertices[levels == level, 3:6] = COLORS[level]
-    vertices[:, 6] = 255
+    vertices = np.zeros(len(corners), trirast.VERTEX)
+    vertices["x"], vertices["y"] = corners.T
+    colors = np.array([COLORS[level] for level in LEVELS])[levels - LEVELS[0]]
+    vertices["red"], vertices["green"], vertices["blue"] = colors.T
+    vertices["alpha"] = 255
     return vertices
 
 
@@ -44,7 +45,7 @@ def graticule(width: int, height: int) -> Tuple[Any, Any]:
     for degrees in range(DEGREES, 180, DEGREES):
         y = round(256 * height * degrees / 180)
         places += quad(0, y - HALF_WIDTH, 256 * width, y + HALF_WIDTH)
-    vertices = np.array([(min(x, FARTHEST), min(y, FARTHEST), *LINE) for x, y in places], np.int32)
+    vertices = np.array([(min(x, FARTHEST), min(y, FARTHEST), *LINE, 0) for x, y in places], trirast.VERTEX)
     quads = np.arange(len(vertices), dtype=np.int32).reshape(-1, 4)
     return vertices, quads[:, [0, 1, 2, 2, 3, 0]].reshape(-1, 3)
 

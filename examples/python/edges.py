@@ -14,7 +14,6 @@ import trirast
 # In pixels: the side of a picture, the side of one of its pixels when it is enlarged, the gap between two pictures, and the height
 # of the label above each and the side of the squares of which its letters are made.
 SIDE, ZOOM, GAP, LABEL, DOT = 60, 5, 10, 25, 3
-UNIT = 256
 DARK, LIGHT, WARM = (18, 26, 44), (235, 240, 250), (255, 176, 64)
 PAPER = (255, 255, 255)
 COUNTS = (1, 4, 16)
@@ -35,20 +34,21 @@ def bars() -> List[Bar]:
     return level + upright
 
 
-def quad(start: Tuple[float, float], end: Tuple[float, float], color: Tuple[int, int, int], thickness: float) -> List[List[int]]:
-    """The corners of a bar, which is as thick as this downwards or, if it is upright, to the right."""
+def draw_bar(canvas: trirast.Canvas, bar: Bar, thickness: float) -> None:
+    """Draws a bar, which is as thick as this downwards or, if it is upright, to the right."""
+    start, end, color = bar
     is_level = end[0] - start[0] > end[1] - start[1]
     right, down = (0.0, thickness) if is_level else (thickness, 0.0)
     corners = [start, end, (end[0] + right, end[1] + down), (start[0] + right, start[1] + down)]
-    return [[round(UNIT * x), round(UNIT * y), 0, *color, 255] for x, y in corners]
+    canvas.draw(trirast.snap(corners), quads=[[0, 1, 2, 3]], colors=color)
 
 
 def picture(samples: int) -> "memoryview":
     """The pixels of all bars with this number of samples a pixel."""
     canvas = trirast.Canvas(SIDE, SIDE, samples=samples)
     canvas.clear(DARK)
-    for start, end, color in bars():
-        canvas.draw(quad(start, end, color, 2.0), quads=[[0, 1, 2, 3]])
+    for bar in bars():
+        draw_bar(canvas, bar, 2.0)
     return memoryview(memoryview(canvas.rgb()).tobytes())
 
 
@@ -62,7 +62,7 @@ def label(text: str) -> "memoryview":
         for y, row in enumerate(rows):
             for x in (x for x, square in enumerate(row) if square == "#"):
                 start = left + DOT * x, DOT * (y + 2)
-                canvas.draw(quad(start, (start[0] + DOT, start[1]), DARK, DOT), quads=[[0, 1, 2, 3]])
+                draw_bar(canvas, (start, (start[0] + DOT, start[1]), DARK), DOT)
         left += DOT * (len(rows[0]) + 1)
     return memoryview(memoryview(canvas.rgb()).tobytes())
 

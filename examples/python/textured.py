@@ -3,16 +3,18 @@
 
     PYTHONPATH=python/src python3 examples/python/textured.py textured.ppm [--size 280 240] [--threads 4]
 
-Model and textures are made here. The picture shows, from left to right, the triangles by their ids, the texture coordinates, and the samples
-shaded. This is deferred shading: a canvas knows no textures and no perspective, and need not.
+Model and textures are made here. The picture shows, from left to right, the triangles by their ids, the texture
+coordinates, and the samples shaded. This is deferred shading: a canvas knows no textures and no perspective, and need
+not.
 
 1. The triangles are drawn by ids, so that each sample keeps the id of the triangle that is nearest there.
-2. trirast.edges gives the exact edge functions of a triangle at a point. They are planes on the screen, so three points of a triangle
-   give them at all samples. Each, over the doubled area, is the weight of a corner.
-3. Weighted by 1 / distance these are the weights in space, by which texture coordinates, normals and positions are interpolated.
+2. trirast.edges_at gives the exact edge functions of a triangle at points. They are planes on the screen, so three
+   points of a triangle give them at all samples. Each, over the doubled area, is the weight of a corner.
+3. Weighted by 1 / distance these are the weights in space, by which texture coordinates, normals and positions are
+   interpolated.
 
-The program projects the positions back. It prints how far they lie from their samples, and how far they would lie without step 3. It needs
-numpy (python3-numpy in Debian). After `pip install ./python` no PYTHONPATH is needed.
+The program projects the positions back. It prints how far they lie from their samples, and how far they would lie
+without step 3. It needs numpy (python3-numpy in Debian). After `pip install ./python` no PYTHONPATH is needed.
 """
 
 import argparse
@@ -165,9 +167,9 @@ class Camera:
         """The vertices for a canvas. The depth goes with 1 / distance, and so is a plane on the screen."""
         screen, distance = self.seen(positions)
         depth = (1 / NEAR - 1 / distance) / (1 / NEAR - 1 / FAR)
-        found = np.zeros((len(positions), 7), np.int32)
-        found[:, :2] = trirast.snap(screen)
-        found[:, 2] = np.rint(depth * MAX_DEPTH)
+        found = np.zeros(len(positions), trirast.VERTEX)
+        found["x"], found["y"] = trirast.snap(screen).T
+        found["depth"] = np.rint(depth * MAX_DEPTH)
         return found
 
 
@@ -183,10 +185,10 @@ def planes_of(vertices: Any, triangles: Any, ids: Any) -> Any:
     each id that is seen four rows of three exact integers. The rows of other ids are not specified."""
     found = np.ones((len(triangles), 4, 3), np.int64)
     for number in np.unique(ids):
-        a, b, c = vertices[triangles[number], :2].tolist()
-        *origin, area, _covered = trirast.edges(a, b, c, (0, 0))
-        right, down = (trirast.edges(a, b, c, point)[:3] for point in ((1, 0), (0, 1)))
-        found[number] = (origin, np.subtract(right, origin), np.subtract(down, origin), [area] * 3)
+        a, b, c = vertices[["x", "y"]][triangles[number]].tolist()
+        edges = trirast.edges_at(a, b, c, [(0, 0), (1, 0), (0, 1)])
+        origin, right, down = edges[:, :3]
+        found[number] = (origin, right - origin, down - origin, edges[:, 3])
     return found
 
 
@@ -272,8 +274,8 @@ def main() -> None:
     model, camera, levels = joined(floor(), ring()), Camera(width, height), levels_of([tile_texture(), brick_texture()])
     canvas = trirast.Canvas(width, height, samples=SAMPLES)
     canvas.clear((255, 255, 255), MAX_DEPTH)
-    canvas.draw_ids(
-        camera.vertices(model.positions), model.triangles, depth_test="less", depth_write=True, threads=arguments.threads
+    canvas.draw(
+        camera.vertices(model.positions), model.triangles, depth_test="less", depth_write=True, first_id=0, threads=arguments.threads
     )
     parts = np.zeros((3, height, width, 3))
     off, off_on_screen = [], []

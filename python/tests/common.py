@@ -8,12 +8,13 @@ import sys
 import textwrap
 from typing import Any, List, Sequence
 
+import trirast
+
 VERTICES: List[List[int]] = [
     [128, 128, 0, 255, 255, 255, 255],
     [640, 128, 0, 255, 255, 255, 255],
     [128, 640, 0, 255, 255, 255, 255],
 ]
-NUMBERS = [number for vertex in VERTICES for number in vertex]
 DRAW_LIST: Any = {"width": 3, "height": 3, "draws": [{"vertices": VERTICES, "triangles": [[0, 1, 2]]}]}
 # The other centres of the upper left half lie on the hypotenuse, which is a right edge.
 PIXELS = b"\xff\xff\xff" * 2 + b"\0\0\0" + b"\xff\xff\xff" + b"\0\0\0" * 5
@@ -33,3 +34,11 @@ def run(text: str, under: Sequence[str] = (), **more: str) -> "subprocess.Comple
 
 def bytes_of(buffer: Any) -> bytes:
     return memoryview(buffer).tobytes()
+
+
+def drawn(vertices: Any, triangles: Any = None, **more: Any) -> bytes:
+    """The pixels of 3 by 3 on black."""
+    canvas = trirast.Canvas(3, 3)
+    canvas.clear()
+    canvas.draw(vertices, triangles, **more)
+    return bytes_of(canvas.rgb())

@@ -33,7 +33,8 @@ def as_list(scene: poster.Scene) -> Dict[str, Any]:
     for draw in scene.draws:
         triangles = scene.triangles[first : first + draw.triangles]
         first += draw.triangles
-        draws.append({**draw.state, "vertices": scene.vertices.tolist(), "triangles": triangles.tolist()})
+        vertices = [row[:7] for row in scene.vertices.tolist()]
+        draws.append({**draw.state, "vertices": vertices, "triangles": triangles.tolist()})
     return {"width": scene.sheet.width, "height": scene.sheet.height, "samples": scene.sheet.samples, "draws": draws}
 
 

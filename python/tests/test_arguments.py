@@ -11,7 +11,7 @@ from typing import Any, Callable, List, Tuple, Type
 
 import trirast
 
-from .common import DRAW_LIST, FILE, NUMPY, PIXELS, VERTICES, bytes_of, run
+from .common import DRAW_LIST, FILE, NUMPY, PIXELS, VERTICES, bytes_of, drawn, run
 
 Case = Tuple[Callable[[], Any], Type[Exception], str]
 SNAP = "; use trirast.snap(xy)"
@@ -45,7 +45,7 @@ class Numbers(Refusals):
             (lambda: make(3, 3, origin=(1.9, "-2")), TypeError, "origin: an integer, and not 1.9"),
             (lambda: make(3, 3, origin=(1, "-2")), TypeError, "origin: an integer, and not '-2'"),
             (lambda: make(3, 3, origin=7), TypeError, "origin: 2 values, and not 7"),
-            (lambda: make(3, 3, origin=(1, 1 << 31)), OverflowError, "origin: an integer of 32 bits, and not 2147483648"),
+            (lambda: make(3, 3, origin=(1, 1 << 31)), ValueError, "origin: -2147483648 to 2147483647, and not 2147483648"),
             (lambda: make(3.5, 3), TypeError, "width: an integer, and not 3.5"),
             (lambda: make(3, None), TypeError, "height: an integer, and not None"),
             (lambda: make(3, 3, samples="4"), TypeError, "samples: an integer, and not '4'"),
@@ -59,7 +59,7 @@ class Numbers(Refusals):
             (lambda: canvas.clear(threads=0), ValueError, "threads: at least 1, and not 0"),
             (lambda: canvas.rgb(threads=2.0), TypeError, "threads: an integer, and not 2.0"),
             (lambda: canvas.ids("0"), TypeError, "sample: an integer, and not '0'"),
-            (lambda: canvas.draw_ids(VERTICES, [], first_id=1.5), TypeError, "first_id: an integer, and not 1.5"),
+            (lambda: canvas.draw(VERTICES, [], first_id=1.5), TypeError, "first_id: an integer, and not 1.5"),
             (lambda: canvas.load(bytes(27), format="bgr"), ValueError, "format: one of rgb, rgba, bgra, and not 'bgr'"),
             (lambda: canvas.draw_batch(5), TypeError, "draws: a sequence of trirast.Draw, and not 5"),
             (lambda: canvas.draw_batch([5]), TypeError, "draws: draw 0: a trirast.Draw, and not 5"),
@@ -74,25 +74,36 @@ class Numbers(Refusals):
         self.must_say(
             (with_state(cull=2), ValueError, "cull: one of none, front, back, and not 2"),
             (with_state(depth_write="no"), TypeError, "depth_write: True or False, and not 'no'"),
-            (with_state(write="rgb"), TypeError, "write: True or False, and not 'r'"),
-            (with_state(write=True), TypeError, "write: 3 values, and not True"),
+            (with_state(keep="rx"), ValueError, "keep: some of the letters r, g, b and a, and not 'rx'"),
+            (with_state(keep="rr"), ValueError, "keep: some of the letters r, g, b and a, and not 'rr'"),
+            (with_state(keep=(True, False)), ValueError, "keep: some of the letters r, g, b and a, and not (True, False)"),
+            (with_state(sample_mask=1 << 16), ValueError, "sample_mask: 0 to 65535, and not 65536"),
             (with_state(sample_mask=1.0), TypeError, "sample_mask: an integer, and not 1.0"),
             (with_state(scissor=(0, 0, 1.5, 2)), TypeError, "scissor: an integer, and not 1.5"),
             (with_state(scissor=(0, 0, 1)), ValueError, "scissor: 4 values, and not 3"),
+            (with_state(scissor=(0, 0, 1, 1 << 31)), ValueError, "scissor: -2147483648 to 2147483647, and not 2147483648"),
+            (with_state(blend="ovr"), ValueError, "blend: one of none, over, premultiplied, add, multiply, keep, and not 'ovr'"),
+            (with_state(blend=2), TypeError, "blend: a name or a trirast.Blend, and not 2"),
+            (with_state(blend=trirast.Blend(color_operation="mean")), ValueError,  # type: ignore[arg-type]
+             "blend: color_operation: one of add, subtract, reverse_subtract, min, max, and not 'mean'"),
+            (with_state(blend=trirast.Blend(constant=(0, 0, 0))), ValueError, "blend: constant: 4 values, and not 3"),  # type: ignore[arg-type]
+            (with_state(blend=trirast.Blend(constant=(0, 0, 0, 256))), ValueError, "blend: constant: 0 to 255, and not 256"),
+            (lambda: trirast.Draw(VERTICES, [], strip=[]), ValueError, "a draw has one of triangles, strip and quads"),
         )
 
     def test_of_lists_and_edges(self) -> None:
         draw: Any = trirast.draw
-        edges: Any = trirast.edges
+        edges_at: Any = trirast.edges_at
         why: Any = trirast.why
         self.must_say(
             (lambda: draw(DRAW_LIST, 32.0), TypeError, "tile_size: an integer, and not 32.0"),
             (lambda: draw(DRAW_LIST, threads="4"), TypeError, "threads: an integer, and not '4'"),
             (lambda: why(DRAW_LIST, 1.5, 0), TypeError, "x: an integer, and not 1.5"),
             (lambda: why(DRAW_LIST, 1, 0, all_triangles="yes"), TypeError, "all_triangles: True or False, and not 'yes'"),
-            (lambda: edges((0, 0), (1, 0), (0, 1.5), (0, 0)), TypeError, "c: an integer, and not 1.5"),
-            (lambda: edges((0, 0), (1, 0), (0, 1), (0, 1 << 31)), OverflowError, "point: an integer of 32 bits, and not 2147483648"),
-            (lambda: edges((0, 0), (1, 0, 0), (0, 1), (0, 0)), ValueError, "b: 2 values, and not 3"),
+            (lambda: edges_at((0, 0), (1, 0), (0, 1.5), []), TypeError, "c: an integer, and not 1.5"),
+            (lambda: edges_at((0, 0), (1, 0), (0, 1), [(0, 1 << 31)]), ValueError, "points: row 0, y: -8388608 to 8388607, and not 2147483648"),
+            (lambda: edges_at((0, 0), (1, 0), (0, 1), (0, 0)), TypeError, "points: row 0: 2 values, and not 0"),
+            (lambda: edges_at((0, 0), (1, 0, 0), (0, 1), []), ValueError, "b: 2 values, and not 3"),
             (lambda: draw(DRAW_LIST).pixel(0.0, 1), TypeError, "column: an integer, and not 0.0"),
         )
 
@@ -102,7 +113,7 @@ class Numbers(Refusals):
         self.assertEqual((canvas.width, canvas.height, canvas.samples, canvas.origin), (3, 100, 4, (1, -2)))
         canvas.clear(np.array([24, 24, 32]), np.uint16(9), threads=np.int64(4))
         self.assertEqual((canvas.rgb(threads=np.int64(2))[1, 1].tolist(), canvas.depth(np.int8(3))[2, 2]), ([24, 24, 32], 9))
-        canvas.draw(VERTICES, [[0, 1, 2]], depth_write=np.True_, write=np.array([True, False, True]), scissor=np.array([0, 0, 3, 3]))
+        canvas.draw(VERTICES, [[0, 1, 2]], depth_write=np.True_, depth=np.uint8(7), scissor=np.array([0, 0, 3, 3]))
         self.assertEqual(trirast.draw(DRAW_LIST, np.int64(8), np.int64(2)).bytes, PIXELS)
         with self.assertRaisesRegex(TypeError, r"depth_write: True or False, and not array\(\[ True, +True\]\)"):
             trirast.Draw(VERTICES, [], depth_write=np.array([True, True]))
@@ -116,18 +127,42 @@ class Rows(Refusals):
         self.must_say(
             (draw([[0] * 7, [0, 0.5] + [0] * 5]), TypeError, "vertices: row 1, y: an integer in 1/256 pixel, and not 0.5" + SNAP),
             (draw([[0] * 3 + [0.5] + [0] * 3]), TypeError, "vertices: row 0, red: an integer, and not 0.5"),
-            (draw([[0] * 7, [1 << 31] + [0] * 6]), OverflowError, "vertices: row 1, x: -8388608 to 8388607, and not 2147483648"),
+            (draw([[0] * 7, [1 << 31] + [0] * 6]), ValueError, "vertices: row 1, x: -8388608 to 8388607, and not 2147483648"),
             (draw([[0] * 7, [0] * 6]), ValueError, "vertices: row 1: 7 values, and not 6"),
+            (draw([[0] * 3]), ValueError, "vertices: row 0: 2 or 7 values, and not 3"),
             (draw([[0] * 7, 5]), TypeError, "vertices: row 1: 7 values, and not 5"),
-            (draw(5), TypeError, "vertices: rows of 7 integers, and not 5"),
-            (draw(array("d", [0] * 7)), TypeError, "vertices: integers in 1/256 pixel, and not float64" + SNAP),
-            (draw(array("i", [0] * 6)), ValueError, "vertices: rows of 7 integers, and not the shape (6,)"),
-            (draw(array("I", [0] * 6 + [1 << 31])), OverflowError, "vertices: row 0, alpha: 0 to 255, and not 2147483648"),
-            (draw(b"123"), ValueError, "vertices: rows of 7 integers of 4 bytes, and not 3 bytes"),
+            (draw(5), TypeError, "vertices: rows of 2 or 7 integers, and not 5"),
+            (draw(array("d", [0] * 7)), ValueError, "vertices: rows of 2 or 7 integers, and not the shape (7,)"),
+            (draw(memoryview(array("d", [0, 0])).cast("B").cast("d", shape=[1, 2])), TypeError,
+             "vertices: integers in 1/256 pixel, and not float64" + SNAP),
+            (draw([[0] * 6 + [1 << 31]]), ValueError, "vertices: row 0, alpha: 0 to 255, and not 2147483648"),
+            (draw([[0, 0, -1] + [0] * 4]), ValueError, "vertices: row 0, depth: 0 to 65535, and not -1"),
+            (draw(b"123"), ValueError, "vertices: records of 16 bytes, and not 3 bytes"),
+            (draw(VERTICES, b"123"), ValueError, "triangles: rows of 3 integers of 4 bytes, and not 3 bytes"),
+            (draw(VERTICES, array("I", [0, 1])), ValueError, "triangles: rows of 3 integers, and not the shape (2,)"),
             (draw(VERTICES, [[0, 1, "2"]]), TypeError, "triangles: row 0, index 2: an integer, and not '2'"),
-            (draw(VERTICES, [[0, 1, 2], [0, -1, 2]]), OverflowError, "triangles: row 1, index 1: 0 to 4294967295, and not -1"),
+            (draw(VERTICES, [[0, 1, 2], [0, -1, 2]]), ValueError, "triangles: row 1, index 1: 0 to 4294967295, and not -1"),
             (draw(VERTICES, array("f", [0, 1, 2])), TypeError, "triangles: integers, and not float32"),
             (lambda: trirast.Draw(VERTICES, strip=[0, 1.5, 2]), TypeError, "strip: row 1, index 0: an integer, and not 1.5"),
+        )
+
+    def test_of_colours_and_depths(self) -> None:
+        def draw(**more: Any) -> Callable[[], Any]:
+            return lambda: trirast.Draw([(0, 0)] * 3, **more)
+
+        self.must_say(
+            (draw(colors=(1, 2, 256)), ValueError, "colors: 0 to 255, and not 256"),
+            (draw(colors=(0.5, 1.0, 0.0)), TypeError, "colors: an integer, and not 0.5"),
+            (draw(colors=[(1, 2, 3)] * 2), ValueError, "colors: 3 rows, one for each vertex, and not 2"),
+            (draw(colors=[(1, 2, 3), (1, 2, 3), (1, 2, 300)]), ValueError, "colors: row 2, blue: 0 to 255, and not 300"),
+            (draw(colors=[(1, 2)] * 3), ValueError, "colors: row 0: 3 or 4 values, and not 2"),
+            (draw(colors="red"), ValueError, "colors: row 0: 3 or 4 values, and not 1"),
+            (draw(colors=5), TypeError, "colors: rows of 3 or 4 integers, and not 5"),
+            (draw(depth=65536), ValueError, "depth: 0 to 65535, and not 65536"),
+            (draw(depth=0.5), TypeError, "depth: integers, and not 0.5"),
+            (draw(depth=[1, 2]), ValueError, "depth: 3 rows, one for each vertex, and not 2"),
+            (draw(depth=[1, 2, -1]), ValueError, "depth: row 2, depth: 0 to 65535, and not -1"),
+            (draw(depth=[1, 2, 0.5]), TypeError, "depth: row 2, depth: an integer, and not 0.5"),
         )
 
     def test_of_numpy(self) -> None:
@@ -143,11 +178,20 @@ class Rows(Refusals):
             (draw(np.zeros((3, 7), object)), TypeError, "vertices: integers in 1/256 pixel, and not the format 'O'"),
             (draw(masked), TypeError, "vertices: an array without a mask, and not a masked one; use filled"),
             (draw(VERTICES, np.ma.masked_array([[0, 1, 2]])), TypeError, "triangles: an array without a mask, and not a masked one; use filled"),
-            (draw(np.zeros((7, 3), int)), ValueError, "vertices: rows of 7 integers, and not the shape (7, 3)"),
-            (draw(np.zeros((1, 1, 7), int)), ValueError, "vertices: rows of 7 integers, and not the shape (1, 1, 7)"),
-            (draw(np.array(5)), ValueError, "vertices: rows of 7 integers, and not the shape ()"),
-            (draw(VERTICES, np.array([[0, 1, 2], [0, 1, -2]])), OverflowError, "triangles: row 1, index 2: 0 to 4294967295, and not -2"),
-            (draw(np.array([[0] * 7, [0, 1 << 40] + [0] * 5])), OverflowError,
+            (draw(np.zeros((7, 3), int)), ValueError, "vertices: rows of 2 or 7 integers, and not the shape (7, 3)"),
+            (draw(np.zeros((1, 1, 7), int)), ValueError, "vertices: rows of 2 or 7 integers, and not the shape (1, 1, 7)"),
+            (draw(np.array(5)), ValueError, "vertices: rows of 2 or 7 integers, and not the shape ()"),
+            (draw(np.zeros((3, 2), trirast.VERTEX)), ValueError, "vertices: one dimension, with the fields x and y, and not x, y, depth, red, "
+             "green, blue, alpha, unused of the shape (3, 2)"),
+            (draw(np.zeros(3, [("x", "i4"), ("z", "i4")])), ValueError,
+             "vertices: one dimension, with the fields x and y, and not x, z of the shape (3,)"),
+            (draw(np.zeros(3, [("x", "i4"), ("y", "f4")])), TypeError, "vertices: integers in 1/256 pixel, and not float32" + SNAP),
+            (draw(np.ma.zeros(3, trirast.VERTEX)), TypeError, "vertices: an array without a mask, and not a masked one; use filled"),
+            (draw(np.array([[0] * 7, [0] * 6 + [-1]], np.int8)), ValueError, "vertices: row 1, alpha: 0 to 255, and not -1"),
+            (draw(np.concatenate([np.zeros((5000, 7), int), np.full((1, 7), 70000)])), ValueError,
+             "vertices: row 5000, depth: 0 to 65535, and not 70000"),
+            (draw(VERTICES, np.array([[0, 1, 2], [0, 1, -2]])), ValueError, "triangles: row 1, index 2: 0 to 4294967295, and not -2"),
+            (draw(np.array([[0] * 7, [0, 1 << 40] + [0] * 5])), ValueError,
              "vertices: row 1, y: -8388608 to 8388607, and not 1099511627776"),
         )
 
@@ -158,55 +202,37 @@ class Rows(Refusals):
         flipped = np.array(VERTICES, np.int32)[::-1][::-1]
         frozen = np.array(VERTICES, ">i8")
         frozen.flags.writeable = False
-        for vertices in (wide[::2, 3:17:2], flipped, frozen, np.array(VERTICES).ravel(), np.array(VERTICES, order="F"), memoryview(frozen)):
+        for vertices in (wide[::2, 3:17:2], wide[::2, 3:7:2], flipped, frozen, np.array(VERTICES, order="F"), memoryview(frozen)):
             for triangles in (np.array([[0, 1, 2]], np.uint64), np.array([[0, 9, 1, 9, 2, 9]], np.int16)[:, ::2], np.array([0, 1, 2], ">u2")):
-                self.assertEqual(trirast.draw_scene(3, 3, [trirast.Draw(vertices, triangles)]).bytes, PIXELS)
-
-    def test_that_are_none_draw_nothing(self) -> None:
-        empty: List[Tuple[Any, Any]] = [([], []), (VERTICES, []), (b"", b""), (array("i"), array("I")), (VERTICES, array("d"))]
-        if NUMPY is not None:
-            np = NUMPY
-            empty += [(np.empty((0, 7), np.int32), np.empty((0, 3), np.uint32)), (np.array([]), np.array([])), (VERTICES, np.empty((0, 3), int)),
-                      (VERTICES, np.empty((0, 3)))]
-        for vertices, triangles in empty:
-            canvas = cleared()
-            canvas.draw(vertices, triangles, threads=2)
-            canvas.draw_ids(vertices, triangles)
-            canvas.draw_batch([])
-            self.assertEqual(bytes_of(canvas.rgb()), bytes(27))
-            self.assertEqual(trirast.draw_scene(3, 3, [trirast.Draw(vertices, triangles)]).bytes, bytes(27))
-        if NUMPY is not None:
-            with self.assertRaisesRegex(ValueError, r"rows of 7 integers, and not the shape \(0, 3\)"):
-                trirast.Draw(NUMPY.empty((0, 3), int), [])
+                self.assertEqual(drawn(vertices, triangles), PIXELS)
 
     def test_that_the_library_refuses_are_named(self) -> None:
         far = [row[:] for row in VERTICES]
         far[2][0] = 1 << 23
-        red = [row[:] for row in VERTICES]
-        red[1][3] = 256
-        canvas = cleared()
-        window = cleared(origin=(40000, 0))
-        other = cleared(origin=(-5, 0))
+        canvas, window, other = cleared(), cleared(origin=(40000, 0)), cleared(origin=(-5, 0))
         triangle = [[0, 1, 2]]
-        cases: List[Tuple[Callable[[], Any], str]] = [
-            (lambda: canvas.draw(VERTICES, triangle * 5 + [[0, 3, 2]]), "6 BadIndex in draw 0: triangles: row 5, index 1: one of 3 vertices, and not 3"),
-            (lambda: canvas.draw(VERTICES, array("i", [0, 1, -7])), "6 BadIndex in draw 0: triangles: row 0, index 2: one of 3 vertices, and not -7"),
-            (lambda: canvas.draw(VERTICES, strip=[0, 1, 9]), "6 BadIndex in draw 0: strip: row 2, index 0: one of 3 vertices, and not 9"),
-            (lambda: canvas.draw(far, triangle), "5 OutOfRange in draw 0: vertices: row 2, x: -8388608 to 8388607, and not 8388608"),
-            (lambda: canvas.draw(red, triangle, threads=2), "5 OutOfRange in draw 0: vertices: row 1, red: 0 to 255, and not 256"),
-            (lambda: other.draw(far, triangle), "5 OutOfRange in draw 0: vertices: row 2, x: -8388608 to 8388607, and not 8388608"),
-            (lambda: window.draw(VERTICES, triangle), "5 OutOfRange in draw 0: vertices: row 0, x: -8388608 to 8388607, and not -10239872 "
-             "as seen from the origin (40000, 0)"),
-            (lambda: canvas.draw(VERTICES, [], scissor=(0, 0, 40000, 1)), "5 OutOfRange in draw 0: scissor: 0 to 32768, and not 40000"),
-            (lambda: trirast.draw_scene(3, 3, [trirast.Draw([], []), trirast.Draw(red, [])]),
-             "5 OutOfRange in draw 1: vertices: row 1, red: 0 to 255, and not 256"),
-            (lambda: trirast.draw_scene(5000, 3, []), "5 OutOfRange"),
+        band = "x and y from -8388608 to 8388607"
+        cases: List[Tuple[Callable[[], Any], str, int, Any, str]] = [
+            (lambda: canvas.draw(VERTICES, triangle * 5 + [[0, 3, 2]]), "BadIndex", 0, 16,
+             "triangles: row 5, index 1: one of 3 vertices, and not 3"),
+            (lambda: canvas.draw(VERTICES, strip=[0, 1, 9]), "BadIndex", 0, 2, "strip: row 2, index 0: one of 3 vertices, and not 9"),
+            (lambda: canvas.draw_batch([trirast.Draw(VERTICES, triangle), trirast.Draw(VERTICES, quads=[[0, 1, 2, 7]])]), "BadIndex", 1, 3,
+             "quads: row 0, index 3: one of 3 vertices, and not 7"),
+            (lambda: canvas.draw(far, triangle, threads=2), "BadPosition", 0, 2, f"vertices: row 2: {band}, and not 8388608, 640"),
+            (lambda: canvas.draw(far), "BadPosition", 0, 2, f"vertices: row 2: {band}, and not 8388608, 640"),
+            (lambda: other.draw(far, triangle), "BadPosition", 0, 2,
+             f"vertices: row 2: {band}, also as seen from the origin (-5, 0), and not 8388608, 640"),
+            (lambda: window.draw(VERTICES, triangle), "BadPosition", 0, 0,
+             f"vertices: row 0: {band}, also as seen from the origin (40000, 0), and not 128, 128"),
+            (lambda: canvas.draw(VERTICES + [[0] * 7], quads=[[0, 1, 2, 0]]), "NotConvex", 0, 0, ""),
+            (lambda: canvas.draw(VERTICES[:2]), "NotWhole", 0, None, ""),
         ]
-        for call, line in cases:
-            with self.assertRaises(trirast.DrawListError) as caught:
+        for call, name, draw, element, reason in cases:
+            with self.assertRaises(trirast.BatchError) as caught:
                 call()
-            self.assertEqual(str(caught.exception), f"trirast: list fault {line}")
-            self.assertIn(f" {caught.exception.number} {caught.exception.name}", str(caught.exception))
+            error = caught.exception
+            self.assertEqual((error.name, error.draw, error.element), (name, draw, element))
+            self.assertTrue(str(error).startswith(f"draw {draw}: ") and str(error).endswith(reason), error)
         self.assertEqual(bytes_of(canvas.rgb()), bytes(27))
 
 

@@ -1,10 +1,8 @@
 """Canvases."""
 
-import sys
 import unittest
 from array import array
 from typing import Any, Callable, List
-from unittest import mock
 
 import trirast
 
@@ -23,7 +21,7 @@ def cleared(width: int = 3, height: int = 3, **more: Any) -> trirast.Canvas:
 
 
 class Pictures(unittest.TestCase):
-    def test_a_triangle_is_drawn_as_in_a_scene(self) -> None:
+    def test_a_triangle_is_drawn_as_in_a_list(self) -> None:
         canvas = cleared()
         canvas.draw(VERTICES, [[0, 1, 2]])
         self.assertEqual(bytes_of(canvas.rgb()), PIXELS)
@@ -48,10 +46,9 @@ class Pictures(unittest.TestCase):
             canvas.draw(vertices, [[0, 1, 2]], depth_test="less", depth_write=True, threads=threads)
             pictures.append((bytes_of(canvas.rgb(threads=threads)), bytes_of(canvas.depth(3, threads=threads))))
         self.assertEqual(pictures.count(pictures[0]), 4)
-        scene = trirast.draw_scene(
-            200, 300, [trirast.Draw(vertices, [[0, 1, 2]], depth_test="less", depth_write=True)], samples=4, clear=(1, 2, 3), clear_depth=9
-        )
-        self.assertEqual(pictures[0][0], scene.bytes)
+        draw = {"vertices": vertices, "triangles": [[0, 1, 2]], "depth_test": "less", "depth_write": True}
+        picture = trirast.draw({"width": 200, "height": 300, "samples": 4, "clear": [1, 2, 3], "clear_depth": 9, "draws": [draw]})
+        self.assertEqual(pictures[0][0], picture.bytes)
 
     def test_a_window_shows_a_part_of_the_screen(self) -> None:
         whole = cleared(6, 6)
@@ -61,7 +58,7 @@ class Pictures(unittest.TestCase):
         part.draw(VERTICES, [[0, 1, 2]])
         self.assertEqual(bytes_of(part.rgb()), rows[0][3:9] + rows[1][3:9])
 
-    def test_nothing_is_cut_left_of_the_screen_and_above_it(self) -> None:
+    def test_a_window_may_lie_anywhere(self) -> None:
         def drawn(by: int, x: int, y: int, **state: Any) -> bytes:
             canvas = cleared(40, 70, samples=4, origin=(x + by, y + by))
             corners = ((-30, -5), (30, -5), (-30, 60), (4, 65))
@@ -69,21 +66,17 @@ class Pictures(unittest.TestCase):
             canvas.draw_batch([trirast.Draw(vertices, [[0, 1, 2]]), trirast.Draw(vertices, [[1, 2, 3]], **state)], threads=2)
             return bytes_of(canvas.rgb())
 
-        for numpy in (sys.modules.get("numpy"), None):
-            with mock.patch.dict(sys.modules, {"numpy": numpy}):
-                for x, y in ((-30, -5), (-30, 7), (3, -5)):
-                    self.assertEqual(drawn(0, x, y), drawn(100, x, y))
-                    for scissor in ((0, 0, 9, 50), (2, 1, 32768, 32768)):
-                        right = tuple(min(side + 100, 32768) for side in scissor)
-                        self.assertEqual(drawn(0, x, y, scissor=scissor), drawn(100, x, y, scissor=right))
-                self.assertEqual(set(drawn(0, -30, -5)[:3]), {1, 2, 3})
-                far = cleared(origin=(-30, 0))
-                for place in (8388607, 8388608, -8388609, (1 << 31) - 1):
-                    with self.assertRaises(trirast.DrawListError):
-                        far.draw([[place, 0, 0, 0, 0, 0, 0]], [[0, 0, 0]])
-                with self.assertRaises(trirast.DrawListError):
-                    far.draw(VERTICES, [], scissor=(0, 0, 32769, 1))
-                far.draw([[8388607 - 256 * 30, 0, 0, 0, 0, 0, 0]], [[0, 0, 0]])
+        for x, y in ((-30, -5), (-30, 7), (3, -5)):
+            self.assertEqual(drawn(0, x, y), drawn(100, x, y))
+            for scissor in ((0, 0, 9, 50), (-12, 1, 32768, 32768), (-(1 << 31), -3, 5, (1 << 31) - 101)):
+                moved = tuple(max(min(side + 100, (1 << 31) - 1), -(1 << 31)) for side in scissor)
+                self.assertEqual(drawn(0, x, y, scissor=scissor), drawn(100, x, y, scissor=moved))
+        self.assertEqual(set(drawn(0, -30, -5)[:3]), {1, 2, 3})
+        far = cleared(origin=(-30, 0))
+        for place in (8388607, 8388608, -8388609, (1 << 31) - 1):
+            with self.assertRaises(trirast.BatchError):
+                far.draw([[place, 0]], [[0, 0, 0]])
+        far.draw([[8388607 - 256 * 30, 0]], [[0, 0, 0]])
 
     def test_an_image_is_loaded(self) -> None:
         image = bytes(range(27))
@@ -99,15 +92,30 @@ class Pictures(unittest.TestCase):
     def test_ids_name_triangles(self) -> None:
         canvas = trirast.Canvas(3, 3)
         canvas.clear((255, 255, 255))
-        canvas.draw_ids(VERTICES, [[0, 1, 2]], first_id=70000)
+        canvas.draw(VERTICES, [[0, 1, 2]], first_id=70000)
         ids = array("I", bytes_of(canvas.ids()))
         self.assertEqual(list(ids), [70000, 70000, WHITE_ID, 70000] + 5 * [WHITE_ID])
+
+    def test_colors_of_one_sample_are_stored_and_read(self) -> None:
+        for samples in COUNTS:
+            canvas = trirast.Canvas(3, 70, samples=samples)
+            canvas.clear((1, 2, 3), 9)
+            image = bytes(k * 7 % 256 for k in range(3 * 3 * 70))
+            canvas.store(image, samples - 1, threads=2)
+            for sample in range(samples):
+                found = bytes_of(canvas.colors(sample))
+                self.assertEqual(found, image if sample == samples - 1 else bytes((1, 2, 3)) * 210)
+                self.assertEqual(set(array("H", bytes_of(canvas.depth(sample)))), {9})
+            bgra = bytes_of(canvas.colors(samples - 1, format="bgra"))
+            self.assertEqual((bgra[2::4], bgra[1::4], bgra[0::4], set(bgra[3::4])), (image[0::3], image[1::3], image[2::3], {255}))
+            for refused in (lambda: canvas.colors(samples), lambda: canvas.store(image, samples)):
+                self.assertRaises(trirast.SampleError, refused)
 
     def test_every_sample_of_each_count_is_drawn(self) -> None:
         for samples in COUNTS:
             canvas = trirast.Canvas(3, 70, samples=samples)
             canvas.clear((255, 255, 255), 9)
-            canvas.draw_ids(LARGE, [[0, 1, 2]], first_id=5, scissor=[0, 0, 3, 3], depth_write=True, threads=2)
+            canvas.draw(LARGE, [[0, 1, 2]], first_id=5, scissor=[0, 0, 3, 3], depth_write=True, threads=2)
             for sample in range(samples):
                 self.assertEqual(array("I", bytes_of(canvas.ids(sample))).tolist(), 9 * [5] + 201 * [WHITE_ID])
                 self.assertEqual(array("H", bytes_of(canvas.depth(sample))).tolist(), 9 * [7] + 201 * [9])
@@ -124,8 +132,20 @@ class Pictures(unittest.TestCase):
                 self.assertEqual(set(array("I", bytes_of(canvas.ids(sample)))), {5 if is_drawn else WHITE_ID})
             sums = [each * sum(drawn) + 255 * (samples - sum(drawn)) for each in (5, 0, 0)]
             self.assertEqual(bytes_of(canvas.rgb()), bytes((each + samples // 2) // samples for each in sums) * 9)
-        with self.assertRaises(trirast.DrawListError):
+        with self.assertRaises(ValueError):
             cleared().draw(LARGE, [[0, 1, 2]], sample_mask=0x10000)
+
+    def test_some_channels_are_kept(self) -> None:
+        for keep, wanted in (("", (5, 6, 7)), ("r", (1, 6, 7)), ("gb", (5, 2, 3)), ("bgr", (1, 2, 3)), ("a", (5, 6, 7))):
+            canvas = trirast.Canvas(3, 3, samples=4)
+            canvas.clear((1, 2, 3))
+            canvas.draw(LARGE, [[0, 1, 2]], colors=(5, 6, 7), keep=keep)
+            self.assertEqual(bytes_of(canvas.rgb()), bytes(wanted) * 9)
+
+    def test_there_is_no_stored_alpha_yet(self) -> None:
+        with self.assertRaisesRegex(NotImplementedError, "^alpha: "):
+            trirast.Canvas(3, 3, alpha=True)
+        self.assertEqual(trirast.Canvas(3, 3, 16, alpha=False).samples, 16)
 
     def test_the_memory_is_the_callers(self) -> None:
         memory = bytearray(trirast.Canvas.size(3, 3))
@@ -146,11 +166,12 @@ class Refused(unittest.TestCase):
 
     def test_a_batch_is_refused_whole(self) -> None:
         canvas = cleared()
-        with self.assertRaises(trirast.DrawListError) as caught:
+        with self.assertRaises(trirast.BatchError) as caught:
             canvas.draw(VERTICES, [[0, 1, 2], [0, 1, 3]])
-        self.assertEqual((caught.exception.name, caught.exception.draw), ("BadIndex", 0))
-        with self.assertRaises(trirast.DrawListError):
-            canvas.draw_ids(VERTICES, [[0, 1, 2]], first_id=WHITE_ID + 1)
+        self.assertEqual((caught.exception.name, caught.exception.draw, caught.exception.element), ("BadIndex", 0, 5))
+        with self.assertRaises(trirast.BatchError) as caught:
+            canvas.draw(VERTICES, [[0, 1, 2]], first_id=WHITE_ID + 1)
+        self.assertEqual((caught.exception.name, caught.exception.draw, caught.exception.element), ("TooManyIds", 0, None))
         self.assertEqual(bytes_of(canvas.rgb()), bytes(27))
         with self.assertRaises(trirast.SampleError):
             canvas.ids(1)
@@ -164,7 +185,7 @@ class Refused(unittest.TestCase):
             lambda: canvas.clear((0, 0)),
             lambda: canvas.clear((0, 0, 256)),
             lambda: canvas.clear((0, 0, 0), 65536),
-            lambda: canvas.load(bytes(27), format="bgr"),
+            lambda: canvas.load(bytes(27), format="bgr"),  # type: ignore[arg-type]
         ]
         for call in calls:
             with self.assertRaises(ValueError):
@@ -173,20 +194,26 @@ class Refused(unittest.TestCase):
 
 class Edges(unittest.TestCase):
     def test_edge_functions(self) -> None:
-        found = trirast.edges((0, 0), (2560, 0), (0, 2560), (256, 512))
-        self.assertEqual(found, (2560 * 1792, 256 * 2560, 512 * 2560, 2560 * 2560, True))
-        with self.assertRaises(trirast.PositionError):
-            trirast.edges((0, 0), (1, 0), (0, 1), (8388608, 0))
+        found = memoryview(trirast.edges_at((0, 0), (2560, 0), (0, 2560), [(256, 512), (2560, 2560)])).tolist()
+        area = 2560 * 2560
+        self.assertEqual(found, [[2560 * 1792, 256 * 2560, 512 * 2560, area, 1], [-area, area, area, area, 0]])
+        for corners in (((0, 0), (1, 0), (0, 8388608), [(0, 0)]), ((0, 0), (1, 0), (0, 1), [(0, 0), (8388608, 0)])):
+            with self.assertRaises(trirast.PositionError):
+                trirast.edges_at(*corners)
 
     def test_a_point_is_covered_where_a_canvas_is_drawn(self) -> None:
         corners = ((300, -400), (2300, 700), (-500, 1900))
+        points = [(256 * (number % 8) + 128, 256 * (number // 8) + 128) for number in range(64)]
         for order in (corners, corners[::-1]):
             canvas = trirast.Canvas(8, 8)
             canvas.clear((255, 255, 255))
-            canvas.draw_ids([[*corner, 0, 0, 0, 0, 255] for corner in order], [[0, 1, 2]])
+            canvas.draw(order, [[0, 1, 2]], first_id=0)
             ids = array("I", bytes_of(canvas.ids()))
             self.assertEqual(set(ids), {0, WHITE_ID})
-            for number, found in enumerate(ids):
-                a, b, c, doubled_area, covered = trirast.edges(*order, (256 * (number % 8) + 128, 256 * (number // 8) + 128))
-                self.assertEqual(covered, found == 0)
-                self.assertEqual(a + b + c, doubled_area)
+            rows: Any = memoryview(trirast.edges_at(*order, points)).tolist()
+            for number, (a, b, c, doubled_area, covered) in zip(ids, rows):
+                self.assertEqual((covered, a + b + c), (int(number == 0), doubled_area))
+
+
+if __name__ == "__main__":
+    unittest.main()

@@ -28,7 +28,8 @@ class Worked(unittest.TestCase):
     def test_the_near_plane_cuts_at_three_quarters(self) -> None:
         seen = trirast.clip([[0, 0, 3, 4], [8, 0, -1, 0], [0, 8, -1, 0]], [[0, 1, 2]], (0, 0, 256, 256))
         self.assertEqual(seen.triangles.tolist(), [[0, 3, 4]])
-        self.assertEqual(seen.vertices[[0, 3, 4], :3].tolist(), [[32768, 32768, 49151], [229376, 32768, 0], [32768, -163840, 0]])
+        places = seen.vertices[["x", "y", "depth"]][[0, 3, 4]].tolist()
+        self.assertEqual(places, [(32768, 32768, 49151), (229376, 32768, 0), (32768, -163840, 0)])
         self.assertEqual((seen.w[3:].tolist(), seen.cuts.tolist(), seen.folded), ([1, 1], [0, 0], 0))
         self.assertEqual(seen.weights.tolist(), [[0.25, 0.75, 0], [0.25, 0, 0.75]])
 
@@ -36,7 +37,7 @@ class Worked(unittest.TestCase):
         positions = np.array([[0, 0, 0.5, 1], [0.5, 0, 0.5, 1], [0, 0.5, 0.5, 1]], np.float32)
         seen = trirast.clip(positions, [[2, 0, 1]], VIEWPORT, depths=(100, 200))
         self.assertEqual((seen.triangles.tolist(), seen.sources.tolist(), len(seen.cuts)), ([[2, 0, 1]], [0], 0))
-        self.assertEqual(seen.vertices[0].tolist(), [128 * SIZE, 128 * SIZE, 150, 0, 0, 0, 0])
+        self.assertEqual(seen.vertices[0].tolist(), (128 * SIZE, 128 * SIZE, 150, 0, 0, 0, 0, 0))
 
     def test_attributes_of_cuts_are_weighted_sums(self) -> None:
         seen = trirast.clip([[0, 0, 3, 4], [8, 0, -1, 0], [0, 8, -1, 0]], [[0, 1, 2]], (0, 0, 256, 256))
@@ -98,7 +99,7 @@ def layers(seen: trirast.Clipped) -> Any:
     for triangles in (seen.triangles, seen.triangles[::-1]):
         canvas = trirast.Canvas(SIZE, SIZE, samples=4)
         canvas.clear((255, 255, 255))
-        canvas.draw_ids(seen.vertices, triangles)
+        canvas.draw(seen.vertices, triangles, first_id=0)
         found.append(np.array([canvas.ids(sample) for sample in range(4)]))
     last, first = found
     return last != WHITE_ID, first == len(seen.triangles) - 1 - last.astype(int)
@@ -155,7 +156,8 @@ class NoCracks(unittest.TestCase):
         # Where w falls by a factor of more than 100,000 rounding errors of doubles may show.
         plain = w > 0.01
         wanted = 128 * SIZE * np.array([1 + x[plain] / w[plain], 1 - y[plain] / w[plain]])
-        self.assertTrue((abs(seen.vertices[4:, :2][plain].T - wanted) < 0.501).all())
+        found = np.array([seen.vertices["x"], seen.vertices["y"]])[:, 4:]
+        self.assertTrue((abs(found[:, plain] - wanted) < 0.501).all())
         self.assertTrue((abs(seen.w[4:][plain] - w[plain]) <= 1e-6 * w[plain]).all())
 
 

@@ -87,13 +87,16 @@ class Others(unittest.TestCase):
 
     def test_draws_are_drawn_alike(self) -> None:
         for copied in COPIES:
-            draw = copied(trirast.Draw(VERTICES, TRIANGLE, cull="none", scissor=(0, 0, 3, 3)))
-            self.assertEqual(trirast.draw_scene(3, 3, [draw]).bytes, PIXELS)
+            draw = copied(trirast.Draw(VERTICES, TRIANGLE, cull="none", blend="over", scissor=(0, 0, 3, 3)))
+            canvas = trirast.Canvas(3, 3)
+            canvas.clear()
+            canvas.draw_batch([draw])
+            self.assertEqual(bytes_of(canvas.rgb()), PIXELS)
 
     def test_errors_say_the_same(self) -> None:
         calls: List[Callable[[], Any]] = [
             lambda: trirast.draw("{}"),
-            lambda: trirast.draw_scene(3, 3, [trirast.Draw(VERTICES, [[0, 1, 3]])]),
+            lambda: drawn().draw(VERTICES, [[0, 1, 3]]),
             lambda: trirast.Canvas(0, 1),
             lambda: trirast.why(DRAW_LIST, 9, 9),
         ]

@@ -18,8 +18,8 @@ class Errors(unittest.TestCase):
             with self.assertRaises(trirast.DrawListError) as raised:
                 call(refused)
             error = raised.exception
-            self.assertEqual(str(error), "trirast: list fault 6 BadIndex in draw 1")
-            self.assertEqual((error.status, error.number, error.name, error.draw), (1, 6, "BadIndex", 1))
+            self.assertEqual(str(error), "draw 1: list fault 6 BadIndex")
+            self.assertEqual((error.status, error.number, error.name, error.draw, error.element), (1, 6, "BadIndex", 1, None))
         with self.assertRaises(trirast.DrawListError) as raised:
             trirast.draw("{}")
         self.assertEqual((raised.exception.name, raised.exception.draw), ("MissingKey", None))
@@ -27,7 +27,7 @@ class Errors(unittest.TestCase):
     def test_a_list_past_the_limit_is_a_limit_error(self) -> None:
         with self.assertRaises(trirast.LimitError) as raised:
             trirast.image_info(b" " * 67108865)
-        self.assertEqual((str(raised.exception), raised.exception.status), ("trirast: input too long", 2))
+        self.assertEqual((str(raised.exception), raised.exception.status), ("input too long", 2))
 
     def test_a_bad_tile_size_is_a_tile_size_error(self) -> None:
         calls: Tuple[Callable[[Any, int], object], ...] = (trirast.draw, trirast.draw_file)
@@ -39,23 +39,29 @@ class Errors(unittest.TestCase):
             trirast.draw(DRAW_LIST, tile_size=32.0)  # type: ignore[arg-type]
 
     def test_each_status_has_its_exception(self) -> None:
-        lines = {
-            2: "input too long", 3: "out of memory", 4: "buffer too small", 5: "no such tile size", 6: "no such tile rows",
-            7: "no such struct size",
-        }
-        for status, line in lines.items():
-            with self.assertRaises(_errors.BY_STATUS[status]) as raised:
-                _ffi.raise_error(status, None, (_ffi.CError(status, 0, 0, 0),))
-            self.assertEqual(str(raised.exception), f"trirast: {line}")
+        for status, kind in {**_errors.BY_STATUS, **_errors.PLACED}.items():
+            given = _ffi.CError(status, 1, _errors.NONE, _errors.NONE)
+            with self.assertRaises(kind) as raised:
+                _ffi.raise_error(status, None, (given,))
             self.assertIsInstance(raised.exception, trirast.Error)
+            self.assertTrue(str(raised.exception))
+            with self.assertRaises(kind) as raised:
+                _ffi.raise_status(status, None, ())
+            self.assertEqual(str(raised.exception), _ffi.library().trirast_status_string(status).decode())
         self.assertTrue(issubclass(trirast.OutOfMemoryError, MemoryError))
         self.assertTrue(issubclass(trirast.TileSizeError, ValueError))
 
+    def test_each_status_of_the_header_has_one(self) -> None:
+        names = [name for name in dir(trirast) if name.endswith("Error") and name != "Error"]
+        kinds = {*_errors.BY_STATUS.values(), *_errors.PLACED.values()}
+        self.assertEqual(sorted(kind.__name__ for kind in kinds), sorted(names))
+        self.assertEqual(sorted({**_errors.BY_STATUS, **_errors.PLACED}), list(range(1, 17)))
+
     def test_structs_of_other_sizes_are_refused(self) -> None:
-        head = _ffi.CSceneHead(ctypes.sizeof(_ffi.CSceneHead) + 4, 1, 1, 1, 0, 0, 0, 0, 0)
-        batch = _ffi.CBatch(ctypes.sizeof(_ffi.CBatch), 60, 28, 4)
+        canvas = trirast.Canvas(3, 3)
+        batch = _ffi.CBatch(ctypes.sizeof(_ffi.CBatch) + 4)
         with self.assertRaises(trirast.StructSizeError):
-            _ffi.library().trirast_draw_scene(head, batch, 8, None, 0, _ffi.CError())
+            _ffi.library().trirast_canvas_draw(canvas._whole, batch, _ffi.CError())
 
 
 if __name__ == "__main__":

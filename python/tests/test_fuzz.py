@@ -25,6 +25,7 @@ from hypothesis import HealthCheck, Phase, given, settings
 from hypothesis import strategies as st
 
 import trirast
+from trirast._blend import FACTORS, OPERATIONS
 
 from .common import bytes_of
 
@@ -33,7 +34,7 @@ np: Any = numpy
 CALLS = int(os.environ.get("TRIRAST_FUZZ_CALLS", "400"))
 IS_REPEATED = "TRIRAST_FUZZ_CALLS" not in os.environ
 A_SESSION = 12
-ERRORS = (TypeError, ValueError, OverflowError)
+ERRORS = (TypeError, ValueError)
 
 Rows = List[List[int]]
 Data = Any
@@ -76,7 +77,6 @@ NO_INTEGERS = ("f2", "f4", "f8", ">f8", "?", "O", "S4", "M8[s]", "c8")
 LAYOUTS: Dict[str, Callable[[Any], Any]] = {
     "C": lambda rows: rows,
     "F": np.asfortranarray,
-    "flat": lambda rows: rows.ravel(),
     "reversed": lambda rows: rows[::-1].copy()[::-1],
     "every second": lambda rows: np.repeat(np.repeat(rows, 2, 0), 2, 1)[::2, ::2],
     "frozen": lambda rows: np.frombuffer(rows.tobytes(), rows.dtype).reshape(rows.shape),
@@ -100,16 +100,42 @@ def of_numpy(data: Data, rows: Rows, columns: int) -> Any:
 
 def of_array(data: Data, rows: Rows, columns: int) -> Any:
     codes = [code for code in "bBhHiIlLqQ" if fits(rows, code)]
-    return array(data.draw(st.sampled_from(codes)), sum(rows, [])) if codes else rows
+    if not codes or (columns == 7 and not rows):
+        return rows
+    made = array(data.draw(st.sampled_from(codes)), sum(rows, []))
+    return made if columns < 7 else memoryview(made).cast("B").cast(made.typecode, shape=[len(rows), columns])
 
 
 def of_bytes(data: Data, rows: Rows, columns: int) -> Any:
-    code = "i" if columns == 7 else "I"
-    if not fits(rows, code):
-        return rows
-    kind = data.draw(st.sampled_from((bytes, bytearray, memoryview)))
-    made = array(code, sum(rows, []))
-    return memoryview(made) if kind is memoryview else kind(made)
+    """Indices, or records."""
+    kind = data.draw(st.sampled_from((bytes, bytearray)))
+    if columns < 7:
+        return kind(array("I", sum(rows, []))) if fits(rows, "I") else rows
+    return kind(own_records(rows)) if are_records(rows) else rows
+
+
+def are_records(rows: Rows) -> bool:
+    """Whether rows fit records."""
+    limits = [np.iinfo(kind) for _name, kind in trirast.VERTEX]
+    return all(limit.min <= value <= limit.max for row in rows for limit, value in zip(limits, row))
+
+
+def own_records(rows: Rows) -> Any:
+    return np.array([(*row, 77) for row in rows], trirast.VERTEX)
+
+
+def of_records(data: Data, rows: Rows, columns: int) -> Any:
+    """An array with fields."""
+    if columns < 7 or not are_records(rows):
+        return of_numpy(data, rows, columns)
+    own, other = own_records(rows), np.zeros(len(rows), [(name, "i8") for name, _kind in trirast.VERTEX[::-1]])
+    for name, _kind in trirast.VERTEX:
+        other[name] = own[name]
+    forms: List[Callable[[], Any]] = [
+        lambda: own, lambda: np.repeat(own, 2)[::2], lambda: other, lambda: np.frombuffer(own.tobytes(), own.dtype),
+        lambda: np.frombuffer(b"12" + own.tobytes(), np.uint8)[2:].view(own.dtype),
+    ]
+    return data.draw(st.sampled_from(forms))()
 
 
 def of_ctypes(data: Data, rows: Rows, columns: int) -> Any:
@@ -126,7 +152,7 @@ def of_sequences(data: Data, rows: Rows, columns: int) -> Any:
     return outer(inner(row) for row in rows)
 
 
-FORMS = (of_numpy, of_numpy, of_array, of_bytes, of_ctypes, of_sequences)
+FORMS = (of_numpy, of_records, of_array, of_bytes, of_ctypes, of_sequences)
 
 
 def in_a_form(data: Data, rows: Rows, columns: int) -> Any:
@@ -179,19 +205,36 @@ def indices_of(data: Data, count: int, columns: int) -> Rows:
     return rows
 
 
+def blends(data: Data) -> Any:
+    """A name, or any blend."""
+    factors, operations = st.sampled_from(sorted(FACTORS)), st.sampled_from(sorted(OPERATIONS))
+    some = st.builds(trirast.Blend, factors, factors, operations, factors, factors, operations, st.tuples(BYTES, BYTES, BYTES, BYTES))
+    return data.draw(st.sampled_from(sorted(trirast.BLENDS)) | some)
+
+
 def state_of(data: Data) -> Dict[str, Any]:
-    side = st.sampled_from((0, 1, 5, 30, 64, 4096, 32768))
+    side = st.sampled_from((-(1 << 31), -50, 0, 1, 5, 30, 64, 4096, (1 << 31) - 1))
     state = {
         "cull": st.sampled_from(("none", "front", "back")),
         "depth_test": st.sampled_from(("never", "less", "equal", "less_equal", "greater", "not_equal", "greater_equal", "always")),
         "depth_write": st.booleans(),
-        "blend": st.sampled_from(("none", "over")),
-        "write": st.tuples(st.booleans(), st.booleans(), st.booleans()),
+        "keep": st.sets(st.sampled_from("rgba")).map("".join),
         "sample_mask": st.integers(0, 15) | st.integers(0, 65535),
         "scissor": st.none() | st.tuples(side, side, side, side),
     }
     chosen = data.draw(st.sets(st.sampled_from(sorted(state))))
-    return {key: data.draw(state[key]) for key in sorted(chosen)}
+    return {**{key: data.draw(state[key]) for key in sorted(chosen)}, "blend": blends(data)}
+
+
+def given_to_draw(data: Data, rows: Rows) -> Dict[str, Any]:
+    """Vertices in a form, or their positions, with colours and depths in forms of their own."""
+    if data.draw(st.booleans()):
+        return {"vertices": in_a_form(data, rows, 7)}
+    places, depths, colors = [row[:2] for row in rows], [row[2:3] for row in rows], [row[3:] for row in rows]
+    form = of_numpy if rows else of_sequences
+    depth: Any = form(data, depths, 1)
+    depth = depth.ravel() if isinstance(depth, np.ndarray) else [value for row in depths for value in row]
+    return {"vertices": form(data, places, 2), "colors": form(data, colors, 4), "depth": depth}
 
 
 # ---- Sessions
@@ -263,18 +306,17 @@ class Session:
         columns = {"triangles": 3, "strip": 1, "quads": 4}[name]
         vertices, state, threads = vertices_of(data), state_of(data), self.threads
         indices = indices_of(data, len(vertices), columns)
-        rows, primitives = in_a_form(data, vertices, 7), in_a_form(data, indices, columns)
+        rows, primitives = given_to_draw(data, vertices), in_a_form(data, indices, columns)
         flat: Any = [index for row in indices for index in row] if name == "strip" else indices
         primitives = flat if name == "strip" and primitives is indices else primitives
         if name == "strip" and isinstance(primitives, (list, tuple)):
             primitives = flat
         by_ids = data.draw(st.booleans())
 
-        def draw_on(canvas: trirast.Canvas, *given: Any, **more: Any) -> None:
-            call: Any = canvas.draw_ids if by_ids else canvas.draw
-            call(given[0], **{name: given[1]}, **more, **state)
+        def draw_on(canvas: trirast.Canvas, primitives: Any, **more: Any) -> None:
+            canvas.draw(**{name: primitives}, **more, **state, first_id=5 if by_ids else None)
 
-        self.both(lambda: draw_on(self.canvas, rows, primitives, threads=threads), lambda: draw_on(self.plain, vertices, flat))
+        self.both(lambda: draw_on(self.canvas, primitives, threads=threads, **rows), lambda: draw_on(self.plain, flat, vertices=vertices))
 
     def draw_several(self) -> None:
         lists = [(vertices_of(self.data), state_of(self.data)) for _ in range(self.data.draw(st.integers(0, 3)))]
@@ -361,19 +403,23 @@ class Session:
         """Draws of arrays and of a list have one picture, of any number of threads."""
         vertices, state = vertices_of(self.data), state_of(self.data)
         triangles = indices_of(self.data, len(vertices), 3)
-        # What a list cannot say is left out.
-        state = {key: value for key, value in state.items() if key not in ("scissor", "sample_mask")}
+        # What a list cannot say is left out, and what it says in another way.
+        state = {key: value for key, value in state.items() if key in ("cull", "depth_test", "depth_write")}
+        state["blend"], keep = self.data.draw(st.sampled_from(("none", "over"))), self.data.draw(st.sets(st.sampled_from("rgb")))
         samples = self.data.draw(st.sampled_from((1, 4)))
         draw_list = {
-            "width": 40, "height": 130, "samples": samples, "draws": [{"vertices": vertices, "triangles": triangles, **state}],
+            "width": 40, "height": 130, "samples": samples,
+            "draws": [{"vertices": vertices, "triangles": triangles, "write": [letter not in keep for letter in "rgb"], **state}],
         }
         found: List[bytes] = []
         error = refused(lambda: found.append(trirast.draw(draw_list, 16, self.threads).bytes))
         rows, indices = in_a_form(self.data, vertices, 7), in_a_form(self.data, triangles, 3)
-        other = refused(
-            lambda: found.append(trirast.draw_scene(40, 130, [trirast.Draw(rows, indices, **state)], samples=samples).bytes)
-        )
-        if (error is None) != (other is None) or len(set(found)) > 1:
+        canvas = trirast.Canvas(40, 130, samples)
+        canvas.clear()
+        other = refused(lambda: canvas.draw(rows, indices, keep="".join(keep), **state))
+        found += [bytes_of(canvas.rgb())] if other is None else []
+        # A list looks at vertices that no index names, too.
+        if (error is None and other is not None) or (error is None and len(set(found)) > 1):
             raise AssertionError(f"{error!r}, {other!r}, {len(found)} pictures")
 
 

@@ -86,7 +86,7 @@ class History(unittest.TestCase):
         with self.assertRaises(trirast.DrawListError) as raised:
             trirast.why(refused, 0, 0)
         error = raised.exception
-        self.assertEqual((str(error), error.number, error.draw), ("trirast: list fault 6 BadIndex in draw 0", 6, 0))
+        self.assertEqual((str(error), error.number, error.draw), ("draw 0: list fault 6 BadIndex", 6, 0))
 
 
 if __name__ == "__main__":

@@ -47,7 +47,7 @@ class Library(unittest.TestCase):
 
     def test_has_the_interface_of_the_header(self) -> None:
         header = text_of("include", "trirast.h")
-        self.assertEqual(re.findall(r"^#define TRIRAST_VERSION (\S+)$", header, re.MULTILINE), [str(_version.INTERFACE)])
+        self.assertEqual(re.findall(r"^#define TRIRAST_INTERFACE (\S+)$", header, re.MULTILINE), [str(_version.INTERFACE)])
 
 
 if __name__ == "__main__":

@@ -97,7 +97,7 @@ class Arrays(Files):
 class Windows(unittest.TestCase):
     def test_index_has_the_triangles_whose_bounds_meet_a_tile_row(self) -> None:
         scene = random_scene(2, triangles=1000, reach=300)
-        corners = scene.vertices[:, :2][scene.triangles].astype(np.int64)
+        corners = np.stack([scene.vertices[axis] for axis in "xy"], -1)[scene.triangles].astype(np.int64)
         low, high = corners.min(1), corners.max(1)
         has_sample = np.zeros(1000, bool)
         for place in ((96, 32), (224, 96), (32, 160), (160, 224)):
@@ -396,7 +396,7 @@ class Command(Files):
 
     def test_names_errors(self) -> None:
         name = self.write("a.json", list_of(width=0))
-        self.assertEqual(self.run_command(name, "-o", self.path("a.ppm")), (1, "poster: DrawListError: trirast: list fault 5 OutOfRange\n"))
+        self.assertEqual(self.run_command(name, "-o", self.path("a.ppm")), (1, "poster: DrawListError: list fault 5 OutOfRange\n"))
         status, line = self.run_command(self.path("none.json"), "-o", self.path("a.ppm"))
         self.assertTrue(status == 1 and line.startswith("poster: FileNotFoundError: "), line)
         with self.assertRaises(SystemExit), redirect_stderr(io.StringIO()):

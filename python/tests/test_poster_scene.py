@@ -27,6 +27,11 @@ def sheet_of(**more: Any) -> poster.Sheet:
     return poster.Sheet(**given)
 
 
+def records_of(rows: Any) -> Any:
+    """Vertices as records."""
+    return np.array([(*row, 0) for row in rows], trirast.VERTEX)
+
+
 def scene_of(vertices: Any = np.array(VERTICES), triangles: Any = TRIANGLE, draws: Any = ONE, **more: Any) -> poster.Scene:
     return poster.Scene(SHEET, vertices, triangles, draws, **more)
 
@@ -101,12 +106,12 @@ class Scenes(Files):
             vertices[:], triangles[:] = 1 << 30, 1 << 30
             for array in (scene.vertices, scene.triangles):
                 with self.assertRaises(ValueError):
-                    array[0, 0] = 7
+                    array[0] = array[1:2]
             poster.draw_poster(scene, self.path("a.ppm"))
             self.assertEqual(self.content("a.ppm"), FILE)
 
     def test_without_a_copy_arrays_are_the_callers(self) -> None:
-        vertices, triangles = np.array(VERTICES, np.int32), TRIANGLE.astype(np.int32)
+        vertices, triangles = records_of(VERTICES), TRIANGLE.astype(np.int32)
         scene = scene_of(vertices, triangles, copy=False)
         self.assertTrue(np.shares_memory(scene.vertices, vertices) and np.shares_memory(scene.triangles, triangles))
         self.assertFalse(scene.vertices.flags.writeable)
@@ -122,7 +127,8 @@ class Scenes(Files):
             count, side = 9000, 256
             pick = np.random.default_rng(1)
             places = pick.integers(0, 256 * side, (3 * count, 2))
-            vertices = np.concatenate((places, pick.integers(0, 256, (3 * count, 5))), 1).astype(np.int32)
+            vertices = np.zeros(3 * count, trirast.VERTEX)
+            vertices["x"], vertices["y"] = places.T
             triangles = np.arange(3 * count, dtype=np.int32).reshape(-1, 3)
             scene = poster.scene_of_arrays(
                 vertices, triangles, {{"width": side, "height": side, "samples": 4, "draws": [{{"triangles": count}}]}}, copy=False
@@ -141,7 +147,7 @@ class Scenes(Files):
             while time.monotonic() < end or not ended:
                 try:
                     poster.draw_poster(scene, os.environ["OUT"], window=64, workers=3)
-                except (trirast.DrawListError, trirast.CanvasError, poster.PosterError, IndexError):
+                except (trirast.BatchError, trirast.CanvasError, poster.PosterError, IndexError):
                     pass
                 ended += 1
             is_over = True
@@ -152,19 +158,19 @@ class Scenes(Files):
 
     def test_arrays_that_another_thread_changes(self) -> None:
         self.must_not_crash(
-            "vertices[k, 0] = 0x7fffffff; vertices[k, 0] = -0x80000000; vertices[k, 0] = 9; vertices[k, 2:] = -1; vertices[k, 2:] = 7;"
+            "vertices['x'][k] = 0x7fffffff; vertices['x'][k] = -0x80000000; vertices['x'][k] = 9; vertices['depth'][k] = 65535;"
             "triangles[k, 1] = 0x7fffffff; triangles[k, 1] = -5; triangles[k, 1] = 2"
         )
 
     def test_windows_of_arrays_that_others_have_are_copies(self) -> None:
-        vertices, triangles = np.array(VERTICES, np.int32), TRIANGLE.astype(np.int32)
+        vertices, triangles = records_of(VERTICES), TRIANGLE.astype(np.int32)
         windows = _windows.Windows(SHEET, 64)
         for copy in (False, True):
             scene = scene_of(vertices, triangles, copy=copy)
             part = _part.part_of(scene, _index.Index.of(scene, windows), windows.span(0, 0, 1))
             for array in (part.vertices, part.triangles):
                 self.assertFalse(np.shares_memory(array, vertices) or np.shares_memory(array, triangles))
-            self.assertEqual(part.vertices[part.triangles].tolist(), [VERTICES])
+            self.assertEqual(part.vertices[part.triangles].tolist(), [records_of(VERTICES).tolist()])
             # Arrays that are the scene's own are copied once.
             self.assertEqual(np.shares_memory(part.vertices, scene.vertices), copy)
         index = _index.Index.of(scene_of(vertices, triangles), windows)

@@ -14,7 +14,7 @@ from .common import DRAW_LIST, NUMPY, VERTICES, bytes_of, run
 
 # `interrupted` makes a call, and interrupts it after some milliseconds, and then every 4 ms as long as it runs.
 INTERRUPTS = """
-import signal, trirast
+import signal, struct, trirast
 from array import array
 armed = False
 
@@ -38,8 +38,8 @@ def interrupted(call, seconds):
 
 # A batch that takes some hundred milliseconds, in more memory than is kept when it is freed.
 rows = 1_300_000
-corners = [0, 0, 0, 9, 9, 9, 5, 130000, 0, 0, 9, 9, 9, 5, 0, 130000, 0, 9, 9, 9, 5]
-vertices = array("i", bytes(28 * (rows - 3))) + array("i", corners)
+corners = b"".join(struct.pack("=iiHBBBB2x", x, y, 0, 9, 9, 9, 5) for x, y in ((0, 0), (130000, 0), (0, 130000)))
+vertices = bytearray(16 * (rows - 3)) + corners
 indices = array("I", [rows - 3, rows - 2, rows - 1])
 """
 
@@ -143,11 +143,11 @@ class Arrays(unittest.TestCase):
 
     def must_not_crash(self, change: str, threads: int) -> None:
         done = run(f"""
-            import threading, time, trirast
+            import struct, threading, time, trirast
             from array import array
             count = 20000
-            vertices = array("i", [n for k in range(3) for n in (256 * k * k, 2560 * k, 0, 1, 2, 3, 255)])
-            indices = array("I", [0, 1, 2] * count)
+            vertices = bytearray().join(struct.pack("=iiHBBBB2x", 256 * k * k, 2560 * k, 0, 1, 2, 3, 255) for k in range(3))
+            numbers, indices = memoryview(vertices).cast("i"), array("I", [0, 1, 2] * count)
             canvas = trirast.Canvas(64, 256)
             canvas.clear()
             is_over = False
@@ -163,8 +163,8 @@ class Arrays(unittest.TestCase):
             while time.monotonic() < end:
                 try:
                     canvas.draw(vertices, indices, threads={threads})
-                except trirast.DrawListError as error:
-                    assert error.name in ("BadIndex", "OutOfRange"), error
+                except trirast.BatchError as error:
+                    assert error.name in ("BadIndex", "BadPosition"), error
             is_over = True
             flipping.join()
             print("ended")
@@ -177,16 +177,7 @@ class Arrays(unittest.TestCase):
 
     def test_of_positions(self) -> None:
         for threads in (1, 3):
-            self.must_not_crash("vertices[14] = 0x7fffffff; vertices[14] = 1024", threads)
-
-    def test_a_draw_has_a_copy(self) -> None:
-        vertices, indices = array("i", sum(VERTICES, [])), array("I", [0, 1, 2])
-        draw = trirast.Draw(vertices, indices)
-        wanted = trirast.draw_scene(3, 3, [draw]).bytes
-        vertices[0], indices[1] = 99999, 77
-        self.assertEqual(trirast.draw_scene(3, 3, [draw]).bytes, wanted)
-        vertices.append(1)
-        indices.append(1)
+            self.must_not_crash("numbers[8] = 0x7fffffff; numbers[8] = 1024", threads)
 
 
 class Errors(unittest.TestCase):
@@ -215,6 +206,23 @@ class Errors(unittest.TestCase):
                     kept += [error] if is_kept else []
                 short.append(1)
 
+    def test_leave_rows_to_their_owner(self) -> None:
+        kept: List[Exception] = []
+        wrong: List[Any] = [array("h", [0, 1, -1]), array("d", [0.0]), array("I", [0, 1]), array("q", [1 << 40] * 3)]
+        for indices in wrong:
+            try:
+                trirast.Draw([(0, 0)] * 2, indices)
+            except (TypeError, ValueError) as error:
+                kept.append(error)
+            indices.append(1)
+        for depths in (array("q", [1, 70000]), array("q", [1])):
+            try:
+                trirast.Draw([(0, 0)] * 2, depth=depths)
+            except ValueError as error:
+                kept.append(error)
+            depths.append(1)
+        self.assertEqual(len(kept), 6)
+
     def test_of_a_list_leave_the_buffer_to_its_owner(self) -> None:
         high = {**DRAW_LIST, "height": 200}
         for threads in (1, 3):
@@ -224,7 +232,7 @@ class Errors(unittest.TestCase):
             except trirast.TileSizeError as error:
                 kept = error
             out.append(1)
-            self.assertEqual(str(kept), "trirast: no such tile size")
+            self.assertEqual(str(kept), "no such tile size")
 
     def test_are_those_of_the_first_part(self) -> None:
         def part(number: int) -> None:
@@ -284,10 +292,17 @@ class Starting(unittest.TestCase):
                 import threading, trirast
                 from trirast import _stack
                 vertices = [[256 * x, 256 * y, 9, 1, 2, 3, 200] for x in range(0, 512, 8) for y in range(0, 512, 8)]
-                draw = trirast.Draw(vertices, [[k, k + 1, k + 70] for k in range(len(vertices) - 70)])
+                triangles = [[k, k + 1, k + 70] for k in range(len(vertices) - 70)]
+
+                def of_canvas():
+                    canvas = trirast.Canvas(512, 512)
+                    canvas.clear()
+                    canvas.draw(vertices, triangles)
+                    return memoryview(canvas.rgb()).tobytes()
+
                 small, large = {DRAW_LIST}, {{**{DRAW_LIST}, "height": 512}}
                 calls = [
-                    lambda: trirast.draw_scene(512, 512, [draw]).bytes, lambda: trirast.draw_file(large), lambda: trirast.draw(large).bytes,
+                    of_canvas, lambda: trirast.draw_file(large), lambda: trirast.draw(large).bytes,
                     lambda: trirast.draw(large, threads=3).bytes, lambda: trirast.image_info(small), lambda: trirast.why(small, 1, 1),
                     lambda: trirast.triangle_samples(small, 0, 0),
                 ]

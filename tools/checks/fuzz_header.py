@@ -2,7 +2,7 @@
 
     python3 -m tools.checks.fuzz_header [--seconds 60] [--seed N]
 
-Each picture is compared with the one that trirast_draw_scene draws. It needs the library of `make library`, and clang++ or g++ with
+Each picture is compared with the one that trirast_list_draw draws, where a draw list can have the scene. It needs the library of `make library`, and clang++ or g++ with
 their sanitizers. Prints how many scenes there were. Exit status 1 if one was wrong; the line that says so has its seed.
 """
 

@@ -145,7 +145,7 @@ class Names(unittest.TestCase):
 
     def test_number_of_mutants(self) -> None:
         self.assertIn(f"that {len(mutants.MUTANTS)} wrong rules", text_of("docs/tested.md"))
-        self.assertIn(f"finds {len(canvas_mutants.MUTANTS)} wrong rules", text_of("docs/tested.md"))
+        self.assertIn(f"finds {len(canvas_mutants.MUTANTS) + len(canvas_mutants.BLENDING)} wrong rules", text_of("docs/tested.md"))
 
     def test_sample_patterns(self) -> None:
         table = text_of("docs/rules.md").split("## Sample positions")[1].split("\n\n")[2]

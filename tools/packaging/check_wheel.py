@@ -40,8 +40,8 @@ LOADS = """\
 #include <trirast.h>
 int main(int count, char **arguments) {
     void *library = count == 2 ? dlopen(arguments[1], RTLD_NOW) : 0;
-    uint32_t (*version)(void) = library ? (uint32_t (*)(void))dlsym(library, "trirast_version") : 0;
-    return version && version() == TRIRAST_VERSION ? 0 : 1;
+    uint32_t (*number)(void) = library ? (uint32_t (*)(void))dlsym(library, "trirast_interface") : 0;
+    return number && number() == TRIRAST_INTERFACE ? 0 : 1;
 }
 """
 

@@ -2,9 +2,10 @@
 
     python3 -m tools.reference.canvas_mutants [--lists 200] [--seed 1]
 
-The wrong rules are planted in tools/reference/renderer.py one at a time. For each some list of tools/reference/generated_lists.py must have another
-pixel, or a sample another colour or depth, than on a canvas of the library. Each list is drawn once with each number of samples a
-pixel. Exit status 1 if no list finds a mutant, or if the reference as it stands differs.
+The wrong rules are planted in tools/reference/renderer.py and blending.py one at a time. For each some list of
+tools/reference/generated_lists.py must have another pixel, or a sample another colour or depth, than on a canvas of the
+library. Each list is drawn once with each number of samples a pixel. Exit status 1 if no list finds a mutant, or if the
+reference as it stands differs.
 """
 
 from __future__ import annotations
@@ -13,7 +14,7 @@ import argparse
 import random
 import sys
 from dataclasses import replace
-from typing import Any, Sequence
+from typing import Any, Iterator, Sequence
 
 from tools.reference import generated_lists, renderer
 from tools.reference.compare_canvas import Readings, an_origin, drawn, of_canvas, of_reference, run_with_package
@@ -60,6 +61,34 @@ MUTANTS: list[tuple[str, Sequence[int], str, str]] = [
 ]
 
 
+# Those of tools/reference/blending.py.
+BLENDING: list[tuple[str, str, str]] = [
+    ("two factors in each other's place", "s * FACTORS[equation.color_source]", "s * FACTORS[equation.color_stored]"),
+    ("an inverse taken from 256", "k: 255 - a,", "k: 256 - a,"),
+    ("the inverse of a colour taken from 256", "k: 255 - d,", "k: 256 - d,"),
+    ("the rounding dropped", "(x + 127) // 255", "x // 255"),
+    ("halves rounded up", "(x + 127) // 255", "(x + 128) // 255"),
+    ("rounding towards zero", "q = (x + 127) // 255", "q = int((x + 127) / 255) if x >= -127 else 1"),
+    ("the upper clamp left out", "min(max(q, 0), 255)", "max(q, 0) % 256"),
+    ("the lower clamp left out", "min(max(q, 0), 255)", "min(q % 256 if q < 0 else q, 255)"),
+    ("stored alpha taken as 0", "e: int = 255) -> int", "e: int = 0) -> int"),
+    ("the alpha of the constant for its channels", "equation.constant[channel]", "equation.constant[3]"),
+    ("red and blue of the constant in each other's place", "equation.constant[channel]", "equation.constant[2 - channel]"),
+    ("the inverse of the constant forgotten", "k: 255 - k,", "k: k,"),
+    ("the new colour subtracted from the stored one", '"subtract": lambda f, g: f - g', '"subtract": lambda f, g: g - f'),
+    ("the difference without a sign", '"reverse_subtract": lambda f, g: g - f', '"reverse_subtract": lambda f, g: abs(g - f)'),
+    ("the lesser for the greater", '"max": max', '"max": min'),
+    ("min with factors", "[equation.color_operation](s, d)", "[equation.color_operation](s, d) * equation.constant[channel] // 255"),
+    ("a saturated alpha that is not", "min(a, 255 - e)", "a"),
+    ("multiply by the new colour", '"multiply": Equation("stored_color"', '"multiply": Equation("source_color"'),
+    ("add without alpha", '"add": Equation("source_alpha"', '"add": Equation("one"'),
+    ("premultiplied as over", '"premultiplied": Equation("one"', '"premultiplied": Equation("source_alpha"'),
+    ("keep as none", '"keep": Equation("zero", "one"', '"keep": Equation("one", "zero"'),
+    ("alpha's equation for colours", "FACTORS[equation.color_stored]", "FACTORS[equation.alpha_stored]"),
+    ("alpha's operation for colours", "x = OPERATIONS[equation.color_operation]", "x = OPERATIONS.get(equation.alpha_operation, max)"),
+]
+
+
 class Canvases:
     """What the library makes of each generated list, which it is asked for once: every second list at a window of the screen."""
 
@@ -88,17 +117,28 @@ class Canvases:
         return None
 
 
-def try_mutants(lists: int, seed: int) -> int:
-    canvases, source = Canvases(seed), text_of("tools", "reference", "renderer.py")
-    survivors = 0
+def mutants() -> Iterator[tuple[str, Sequence[int], Any]]:
+    """The names of all mutants, the numbers of samples that can show them, and their rules."""
+    source, blending = (text_of("tools", "reference", name) for name in ("renderer.py", "blending.py"))
     for name, counts, old, new in MUTANTS:
-        found = canvases.first_difference(planted(source, old, new), counts, lists)
+        yield name, counts, planted(source, old, new)
+    for name, old, new in BLENDING:
+        wrong = planted(blending, old, new)
+        rules = planted(source, PATTERN, PATTERN)
+        rules.blending = wrong
+        yield name, (1, 4), rules
+
+
+def try_mutants(lists: int, seed: int) -> int:
+    canvases, survivors = Canvases(seed), 0
+    for name, counts, rules in mutants():
+        found = canvases.first_difference(rules, counts, lists)
         print(f"{name}: " + ("found by no list" if found is None else f"found by list {found}"), flush=True)
         survivors += found is None
     wrong = canvases.first_difference(renderer, renderer.CANVAS.counts, lists)
     if wrong is not None:
         print(f"the reference as it stands differs from a canvas at list {wrong}")
-    print(f"{len(MUTANTS)} mutants, {survivors} found by no list")
+    print(f"{len(MUTANTS) + len(BLENDING)} mutants, {survivors} found by no list")
     return 1 if survivors or wrong is not None else 0
 
 

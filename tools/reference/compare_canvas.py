@@ -2,10 +2,12 @@
 
     python3 -m tools.reference.compare_canvas [--lists 1000] [--seed 1] [--samples 1 2 4 8 16]
 
-Each list of tools/reference/generated_lists.py has one of these numbers of samples a pixel, and masks of 16 bits. It is split at random into
-batches, one triangle a batch among them, and drawn on a canvas by some threads, with and without a window. Every pixel, and of every
-sample the colour, the depth and the id of the last triangle that passes there, is compared with the reference's; with one or four
-samples every pixel and depth also with the program's. Exit status 1 on any difference; the list is then left in out/compare/.
+Each list of tools/reference/generated_lists.py has one of these numbers of samples a pixel, masks of 16 bits and any
+blend equations (tools/reference/blending.py). It is split at random into batches, one triangle a batch among them, and
+drawn on a canvas by some threads, with and without a window. Every pixel, and of every sample the colour, the depth and
+the id of the last triangle that passes there, is compared with the reference's; with one or four samples, and no other
+blending than a list has, every pixel and depth also with the program's. Exit status 1 on any difference; the list is
+then left in out/compare/.
 """
 
 from __future__ import annotations
@@ -95,13 +97,23 @@ def drawn(
     canvas.clear(colour, scene.get("clear_depth", 65535), threads=threads)
     before = 0
     for batch in batches:
-        made = [trirast.Draw(draw["vertices"], **{k: v for k, v in draw.items() if k != "vertices"}) for draw in batch]
         try:
-            canvas.draw_batch(made, first_id=before if by_ids else None, threads=threads)
+            canvas.draw_batch([draw_of(draw) for draw in batch], first_id=before if by_ids else None, threads=threads)
         except trirast.Error as error:
             raise Difference(f"a canvas at {origin} refuses a batch: {error}") from error
         before += count_of(batch)
     return canvas
+
+
+def draw_of(draw: Draw) -> Any:
+    """A draw of a canvas."""
+    import trirast
+
+    given = {key: value for key, value in draw.items() if key != "write"}
+    if isinstance(draw.get("blend"), dict):
+        given["blend"] = trirast.Blend(**draw["blend"])
+    keep = "".join(letter for letter, is_written in zip("rgb", draw.get("write", ())) if not is_written)
+    return trirast.Draw(keep=keep, **given)
 
 
 def of_canvas(canvas: Any, threads: int) -> Readings:
@@ -179,6 +191,14 @@ def same(what: str, wanted: bytes, found: bytes, size: tuple[int, int], part: tu
     return compared
 
 
+def is_of_list(scene: DrawList) -> bool:
+    """Whether a draw list can say what is drawn."""
+    sides = [side for draw in scene["draws"] for side in draw.get("scissor", ())]
+    least, greatest = renderer.LIST.edges
+    is_blended = all(draw.get("blend", "none") in ("none", "over") for draw in scene["draws"])
+    return is_blended and all(least <= side <= greatest for side in sides)
+
+
 def compare_with_program(scene: DrawList, canvas: Any) -> int:
     """Compares the pixels and the first depths of a canvas of a list with those of the program."""
     size, part = (scene["width"], scene["height"]), (canvas.width, canvas.height)
@@ -202,7 +222,7 @@ def compare(scene: DrawList, pick: random.Random) -> int:
         canvas = drawn(scene, batches, part, origin, pick.randint(1, 4))
         found = of_canvas(canvas, pick.randint(1, 3))
         compared += compare_readings(f"a canvas at {origin}", found, of_reference(renderer, seen))
-        if read.samples in renderer.LIST.counts:
+        if read.samples in renderer.LIST.counts and is_of_list(scene):
             compared += compare_with_program(scene, canvas)
         found = of_canvas(drawn(scene, batches, part, origin, pick.randint(1, 4), by_ids=True), 1)
         compared += compare_readings(f"ids of a canvas at {origin}", found, of_reference(renderer, with_ids(seen)))

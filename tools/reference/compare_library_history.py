@@ -3,10 +3,10 @@
     python3 -m tools.reference.compare_library_history [--lists 500] [--samples 20] [--counted 500] [--seed 1]
 
 The lists and the samples are those of tools/reference/compare_history.py, which compares the program's with the reference's. Of each sample
-trirast_history is called for all triangles and for those that cover the sample, by arrays that are large enough, too small and empty.
+trirast_list_history is called for all triangles and for those that cover the sample, by arrays that are large enough, too small and empty.
 Each event has to be the one that the program prints as JSON, the array is unchanged behind the last one, and the edge functions, the
 doubled area and what is written are the reference's. Then trirast.why of the Python package has to be the program's value, and
-trirast_triangle_samples to have the program's counts. Samples and triangles that are not there and lists with a mistake are refused, and
+trirast_list_triangle_samples to have the program's counts. Samples and triangles that are not there and lists with a mistake are refused, and
 nothing is written. Exit status 1 on any difference; the list is then left in out/compare/.
 """
 
@@ -87,11 +87,10 @@ class Library:
     def ask(self, text: bytes, sample: tuple[int, int, int], is_all: bool, capacity: int) -> tuple[Any, Any]:
         """The array of events, and what the library says of the sample."""
         ffi = self.ffi
-        sizes = [ctypes.sizeof(kind) for kind in (ffi.CHistoryRequest, ffi.CEvent, ffi.CSampleInfo)]
         events, info = self.marked(ffi.CEvent * (capacity + 1)), self.marked(ffi.CSampleInfo)
         try:
-            request = ffi.CHistoryRequest(*sizes, *sample, is_all)
-            ffi.library().trirast_history(text, len(text), request, events, capacity, info, ffi.CError())
+            request = ffi.CHistoryRequest(0, 0, 0, *sample, is_all)
+            ffi.library().trirast_list_history(text, len(text), request, events, capacity, info, ffi.CError())
         except self.error:
             must_equal("memory after an error", set(bytes(events) + bytes(info)), set(MARK))
             raise
@@ -102,16 +101,16 @@ class Library:
         try:
             self.ask(text, sample, True, 2)
         except self.error as error:
-            return error.status, f"{error}\n"
+            return error.status, answers.line_of(error) if error.status == BAD_LIST else str(error)
         raise Difference(f"there is a history of {sample}")
 
     def refused_counts(self, text: bytes, place: tuple[int, int]) -> tuple[int, str]:
         counts = self.marked(self.ffi.CSampleCounts)
         try:
-            self.ffi.library().trirast_triangle_samples(text, len(text), *place, counts, self.ffi.CError())
+            self.ffi.library().trirast_list_triangle_samples(text, len(text), *place, counts, self.ffi.CError())
         except self.error as error:
             must_equal("memory after an error", set(bytes(counts)), set(MARK))
-            return error.status, f"{error}\n"
+            return error.status, answers.line_of(error) if error.status == BAD_LIST else str(error)
         raise Difference(f"there are samples of triangle {place}")
 
 

@@ -13,7 +13,7 @@ import json
 import random
 from typing import Any, Iterable, Iterator, Sequence
 
-from tools.reference import renderer
+from tools.reference import blending, renderer
 from tools.draw_list import Draw, DrawList, Vertex
 
 LOW, HIGH = renderer.BAND
@@ -179,6 +179,19 @@ def a_mask(pick: random.Random, limits: renderer.Limits) -> int:
     return mask if limits is renderer.LIST else mask | pick.choice((0, 0, 3, 15, 255, limits.mask))
 
 
+def an_equation(pick: random.Random) -> Any:
+    """A blend equation of a canvas, by its name or by its members. Those of draw lists have names there."""
+    if pick.random() < 0.5:
+        name = pick.choice(list(blending.PRESETS))
+        return blending.PRESETS[name]._asdict() if name in ("none", "over") else name
+    factors, operations = list(blending.FACTORS), [*blending.OPERATIONS, *blending.OPERATIONS, *blending.ENDS]
+    equations = {
+        f"{part}_{term}": pick.choice(operations if term == "operation" else factors)
+        for part in ("color", "alpha") for term in ("source", "stored", "operation")
+    }
+    return {**equations, "constant": [pick.choice((0, 1, 128, 255, pick.randint(0, 255))) for _ in range(4)]}
+
+
 def a_state(pick: random.Random, width: int, height: int, limits: renderer.Limits = renderer.LIST) -> Draw:
     state: Draw = {}
     if pick.random() < 0.4:
@@ -187,7 +200,9 @@ def a_state(pick: random.Random, width: int, height: int, limits: renderer.Limit
         state["depth_test"] = pick.choice(list(renderer.DEPTH_TESTS))
     if pick.random() < 0.6:
         state["depth_write"] = pick.random() < 0.8
-    if pick.random() < 0.6:
+    if limits.has_equations and pick.random() < 0.6:
+        state["blend"] = an_equation(pick)
+    elif pick.random() < 0.6:
         state["blend"] = pick.choice(("none", "over", "over"))
     if pick.random() < 0.3:
         state["write"] = [pick.random() < 0.6 for _ in range(3)]
@@ -196,6 +211,8 @@ def a_state(pick: random.Random, width: int, height: int, limits: renderer.Limit
     if pick.random() < 0.4:
         columns = [pick.choice((0, width, 4096) + (pick.randint(0, width),) * 4) for _ in range(2)]
         rows = [pick.choice((0, height, 4096) + (pick.randint(0, height),) * 4) for _ in range(2)]
+        if limits.edges[0] < 0 and pick.random() < 0.3:
+            columns[0], rows[1] = pick.choice((*limits.edges, -3)), pick.choice((*limits.edges, -3))
         if pick.random() < 0.85:
             columns.sort()
             rows.sort()

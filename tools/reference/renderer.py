@@ -17,6 +17,7 @@ from dataclasses import dataclass
 from typing import Any, Callable, Container, Sequence
 
 from tools.picture_file import PictureFile
+from tools.reference import blending
 
 # The number and the name of a kind of error.
 Kind = tuple[int, str]
@@ -95,18 +96,18 @@ class InputTooLong(Exception):
 
 @dataclass(frozen=True)
 class Limits:
-    """The numbers of samples that a pixel may have, the greatest sample mask and edge of a scissor, and the pixels that are drawn
-    without a scissor."""
+    """The numbers of samples that a pixel may have, the greatest sample mask, the least and the greatest edge of a
+    scissor, and whether there is blending by any equation."""
 
     counts: tuple[int, ...]
     mask: int
-    edge: int
-    uncut: tuple[int, ...]
+    edges: tuple[int, int]
+    has_equations: bool
 
 
 # Those of a draw list, and those of a canvas, which a list's value describes as well. A canvas may begin left of the screen or above it.
-LIST = Limits((1, 4), 15, 4096, (0, 0, 4096, 4096))
-CANVAS = Limits((1, 2, 4, 8, 16), 65535, 32768, (-(2**31), -(2**31), 2**31, 2**31))
+LIST = Limits((1, 4), 15, (0, 4096), False)
+CANVAS = Limits((1, 2, 4, 8, 16), 65535, (-(2**31), 2**31 - 1), True)
 
 
 @dataclass(frozen=True)
@@ -114,7 +115,7 @@ class State:
     cull: str
     depth_test: str
     depth_write: bool
-    blend: str
+    blend: str | blending.Equation
     write: tuple[bool, ...]
     sample_mask: int
     scissor: tuple[int, ...]
@@ -286,15 +287,22 @@ def check_draw_keys(value: Any, draw: int) -> str:
     return named[0]
 
 
+def read_blend(value: Any, draw: int, limits: Limits) -> str | blending.Equation:
+    """A name of a list, or on a canvas also another name or the members of an equation."""
+    if limits.has_equations and type(value) is dict:
+        return blending.Equation(**value)
+    return check_word(value, blending.PRESETS if limits.has_equations else ("none", "over"), draw)
+
+
 def read_state(value: Any, draw: int, limits: Limits) -> State:
     return State(
         cull=check_word(value.get("cull", "none"), ("none", "front", "back"), draw),
         depth_test=check_word(value.get("depth_test", "always"), DEPTH_TESTS, draw),
         depth_write=check_truth(value.get("depth_write", False), draw),
-        blend=check_word(value.get("blend", "none"), ("none", "over"), draw),
+        blend=read_blend(value.get("blend", "none"), draw, limits),
         write=tuple(check_truth(c, draw) for c in check_array(value.get("write", [True] * 3), 3, draw)),
         sample_mask=check_whole(value.get("sample_mask", limits.mask), 0, limits.mask, draw),
-        scissor=check_wholes(value["scissor"], 4, 0, limits.edge, draw) if "scissor" in value else limits.uncut,
+        scissor=check_wholes(value["scissor"], 4, *limits.edges, draw) if "scissor" in value else 2 * limits.edges[:1] + 2 * limits.edges[1:],
     )
 
 
@@ -375,7 +383,10 @@ def shade(triangle: Triangle, weights: tuple[int, int, int], size: int, old: Sam
     for channel in range(3):
         if state.write[channel]:
             source = value(3 + channel)
-            new[channel] = over(source, value(6), old[channel]) if state.blend == "over" else source
+            if state.blend in ("none", "over"):
+                new[channel] = over(source, value(6), old[channel]) if state.blend == "over" else source
+            else:
+                new[channel] = blending.blended(state.blend, channel, source, value(6), old[channel])
     if state.depth_write:
         new[3] = depth
     return tuple(new)

@@ -18,7 +18,7 @@ from tools.sources.public_calls import CRATES, calls_of
 
 # The rows of the table of wrong bodies, and the edits and tests that they name: a wrong body that was named once stays named. Raise them
 # with each new row or name.
-ROWS, NAMES = 89, 244
+ROWS, NAMES = 92, 272
 
 
 def edits() -> list[str]:

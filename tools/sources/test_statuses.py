@@ -1,5 +1,6 @@
 #!/usr/bin/env python3
-"""Tests that the header, the Rust bindings and the Python package have the statuses of crates/c_abi, each with its number and its text.
+"""Tests that the header, the Rust bindings and the Python package have the statuses of crates/c_abi, each with its number, and the header
+each with its text, which the others ask of the library.
 
     python3 -m pytest tools/sources/test_statuses.py
 """
@@ -14,6 +15,8 @@ from tools.places import text_of
 PREFIX = "TRIRAST_STATUS_"
 # Of a call that does not fail.
 OK = {"OK": (0, "ok")}
+# Those whose errors have a cause and a place.
+WITH_CAUSE = ("BAD_LIST", "BAD_BATCH")
 
 
 def statuses() -> dict[str, tuple[int, str]]:
@@ -33,7 +36,7 @@ def named(numbers: list[tuple[str, str]], texts: list[tuple[str, str]]) -> dict[
 
 class Statuses(unittest.TestCase):
     def test_numbers_are_in_order(self) -> None:
-        self.assertEqual([number for number, _text in statuses().values()], list(range(1, 15)))
+        self.assertEqual([number for number, _text in statuses().values()], list(range(1, 18)))
 
     def test_header(self) -> None:
         text = text_of("include", "trirast.h")
@@ -44,18 +47,18 @@ class Statuses(unittest.TestCase):
     def test_rust(self) -> None:
         text = text_of("bindings", "rust", "trirast-sys", "src", "lib.rs")
         numbers = re.findall(rf"^pub const {PREFIX}(\w+): u32 = (\d+);", text, re.MULTILINE)
-        texts = re.findall(rf'{PREFIX}(\w+) => "(.*)",', text)
-        self.assertEqual(named(numbers, texts), {**OK, **statuses()})
+        self.assertEqual({name: int(number) for name, number in numbers}, {name: number for name, (number, _text) in {**OK, **statuses()}.items()})
+        kinds = re.findall(rf"sys::{PREFIX}(\w+) => ErrorKind::", text_of("bindings", "rust", "trirast", "src", "error.rs"))
+        self.assertEqual(set(kinds), set(statuses()))
 
     def test_python(self) -> None:
         text = text_of("python", "src", "trirast", "_errors.py")
-        texts = dict(statuses().values())
         errors = {int(number) for number in re.findall(r"^    (\d+): \w+Error,$", text, re.MULTILINE)}
-        self.assertEqual(errors | {1}, set(texts))
-        lines = re.findall(r'^    (\d+): "trirast: (.*)",$', text, re.MULTILINE)
-        self.assertTrue(lines)
-        for number, line in lines:
-            self.assertEqual(line, texts[int(number)])
+        self.assertEqual(errors | {statuses()[name][0] for name in WITH_CAUSE}, {number for number, _text in statuses().values()})
+
+    def test_browser(self) -> None:
+        text = text_of("web", "canvas.js")
+        self.assertEqual(re.findall(r"^const BAD_BATCH = (\d+);$", text, re.MULTILINE), [str(statuses()["BAD_BATCH"][0])])
 
 
 if __name__ == "__main__":

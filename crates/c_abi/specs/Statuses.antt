@@ -1,7 +1,7 @@
 -- The numbers of statuses.
 use Rattle.std.specs.Prelude.{ℕ}
 use Rattle.c_abi.specs.declared.status.Status.{Status}
-use Rattle.c_abi.specs.declared.status.Status.TheVariants.{BadList, InputTooLong, OutOfMemory, BufferTooSmall, BadTileSize, BadTileRows, BadStructSize, BadCanvas, BadMemory, BadFormat, BadSample, BadPosition, BadPixel, BadTriangle, BadBatch, BadStride}
+use Rattle.c_abi.specs.declared.status.Status.TheVariants.{BadList, InputTooLong, OutOfMemory, BufferTooSmall, BadTileSize, BadTileRows, BadStructSize, BadCanvas, BadMemory, BadFormat, BadSample, BadPosition, BadPixel, BadTriangle, BadBatch, BadStride, BadTile}
 
 -- The number of each status in C. It never changes its meaning.
 abbrev pub number_of : Status → ℕ
@@ -21,3 +21,4 @@ number_of BadPixel = 13
 number_of BadTriangle = 14
 number_of BadBatch = 15
 number_of BadStride = 16
+number_of BadTile = 17

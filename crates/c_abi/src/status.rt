@@ -38,6 +38,8 @@ pub enum Status {
     BadBatch = 15,
     /// A stride is too short or not aligned, or there are no elements of this size.
     BadStride = 16,
+    /// The canvas has no such tile.
+    BadTile = 17,
 }
 
 impl Status {
@@ -70,6 +72,7 @@ impl Status {
             14 => Status::BadTriangle,
             15 => Status::BadBatch,
             16 => Status::BadStride,
+            17 => Status::BadTile,
             _ => return None,
         };
         Some(status)
@@ -96,6 +99,7 @@ impl Status {
             Status::BadTriangle => "no such triangle",
             Status::BadBatch => "wrong batch",
             Status::BadStride => "wrong stride",
+            Status::BadTile => "no such tile",
         }
     }
 }

@@ -14,12 +14,12 @@ use Rattle.canvas.specs.declared.format.Format.{Format}
 use Rattle.canvas.specs.declared.format.Format.TheVariants.{Rgb8, Rgba8, Bgra8}
 use Rattle.canvas.specs.Layout.{IsStoredIn, planes_of_tile, planes_of_row, block_of, place_in_tile, stored, stored_in_tile}
 use Rattle.canvas.specs.Pixels.{pixel_bytes}
-use Rattle.canvas.specs.Loaded.{coloured, AreChanged}
+use Rattle.canvas.specs.Loaded.{coloured, IsIndexIn, AreChanged}
 use Rattle.canvas.proofs.Cut.{put}
 use Rattle.canvas.proofs.Places.{none, tile_of, tile_put, tile_kept, row_of, row_put, row_kept}
 use Rattle.canvas.proofs.TilePlanes.{block_changed}
 
-cases_eq : (a b : ℕ) → (a ≡ b) ⊎ (a ≢ b)
+pub cases_eq : (a b : ℕ) → (a ≡ b) ⊎ (a ≢ b)
 cases_eq a b =
     elim (cases_lt a b) [
       | inl less ↦ inr (λ e. omega (arith, e, less))
@@ -48,17 +48,17 @@ same_sample count state filled i j s i' j' s' h h' e k =
     let blocks : j % 64 / 8 * 8 + i % 64 / 8 ≡ j' % 64 / 8 * 8 + i' % 64 / 8 = omega (arith, block.0, block_changed state i j filled, block_changed state i' j' filled) in
     (omega (arith, blocks, k), omega (arith, blocks, k), block.1)
 
--- the first samples of pixel (i, j) end as f makes them, and all others are unchanged
-pub record IsPixelChanged (count : SampleCount) (i j m : ℕ) (f : Sample → Sample) (old new : List BlockSamples) : Type 0 where
+-- the samples of pixel (i, j) from index `from` to before m end as f makes them, and all others are unchanged
+pub record IsPixelChanged (count : SampleCount) (i j from m : ℕ) (f : Sample → Sample) (old new : List BlockSamples) : Type 0 where
   pub filled : slice_index (slice_index_or new 0 none).r 0 ≢ 1
-  pub pixel : (s : ℕ) → s < count_of count → s < m → stored_in_tile count new i j s ≡ f (stored_in_tile count old i j s)
-  pub others : (column row s : ℕ) → s < count_of count → ((column % 64 ≡ i % 64) → (row % 64 ≡ j % 64) → s < m → ⊥) → stored_in_tile count new column row s ≡ stored_in_tile count old column row s
+  pub pixel : (s : ℕ) → s < count_of count → IsIndexIn from m s → stored_in_tile count new i j s ≡ f (stored_in_tile count old i j s)
+  pub others : (column row s : ℕ) → s < count_of count → ((column % 64 ≡ i % 64) → (row % 64 ≡ j % 64) → IsIndexIn from m s → ⊥) → stored_in_tile count new column row s ≡ stored_in_tile count old column row s
 
-module _ (count : SampleCount) (i j s : ℕ) (h : s < count_of count) (f : Sample → Sample) (old middle : List BlockSamples) (plane : BlockSamples) where
+module _ (count : SampleCount) (i j from s : ℕ) (since : from ≤ s) (h : s < count_of count) (f : Sample → Sample) (old middle : List BlockSamples) (plane : BlockSamples) where
   module _ (room : place_in_tile count (slice_index_or middle 0 none) i j s < length middle)
       (kept : (n : ℕ) → n < 64 → n ≢ pixel_in_block i j → stored_at plane n ≡ stored_at (slice_index_or middle (place_in_tile count (slice_index_or middle 0 none) i j s) none) n)
       (is : stored_at plane (pixel_in_block i j) ≡ f (stored_at (slice_index_or middle (place_in_tile count (slice_index_or middle 0 none) i j s) none) (pixel_in_block i j)))
-      (before : IsPixelChanged count i j s f old middle) where
+      (before : IsPixelChanged count i j from s f old middle) where
     abbrev state : BlockSamples
     state = slice_index_or middle 0 none
 
@@ -76,7 +76,7 @@ module _ (count : SampleCount) (i j s : ℕ) (h : s < count_of count) (f : Sampl
 
     at_sample : stored_in_tile count after i j s ≡ f (stored_in_tile count old i j s)
     at_sample =
-        by_first i j s ∙ ap (λ p. stored_at p (pixel_in_block i j)) (get_or-set_same middle at plane none room) ∙ is ∙ ap f (before.others i j s h (λ _ _ less. omega (arith, less)))
+        by_first i j s ∙ ap (λ p. stored_at p (pixel_in_block i j)) (get_or-set_same middle at plane none room) ∙ is ∙ ap f (before.others i j s h (λ _ _ index. let below = index.below in omega (arith, below)))
 
     at_other : (column row t : ℕ) → t < count_of count → ((column % 64 ≡ i % 64) → (row % 64 ≡ j % 64) → t ≡ s → ⊥) → stored_in_tile count after column row t ≡ stored_in_tile count middle column row t
     at_other column row t l other =
@@ -91,68 +91,68 @@ module _ (count : SampleCount) (i j s : ℕ) (h : s < count_of count) (f : Sampl
               ∙ sym (ap (λ n. stored_at (slice_index_or middle n none) (pixel_in_block column row)) same)
         ]
 
-    pub one_sample_changed : IsPixelChanged count i j (s + 1) f old after
+    pub one_sample_changed : IsPixelChanged count i j from (s + 1) f old after
     one_sample_changed = record {
       filled = λ e. before.filled (sym (ap (λ first. slice_index first.r 0) first_kept) ∙ e);
-      pixel = λ t l less.
+      pixel = λ t l index.
           elim (cases_lt t s) [
-            | inl earlier ↦ at_other i j t l (λ _ _ e. omega (arith, e, earlier)) ∙ before.pixel t l earlier
+            | inl earlier ↦ at_other i j t l (λ _ _ e. omega (arith, e, earlier)) ∙ before.pixel t l (record { from = index.from; below = earlier })
             | inr more ↦
-                let index : s ≡ t = omega (arith, less, more) in
-                subst (λ u. stored_in_tile count after i j u ≡ f (stored_in_tile count old i j u)) index at_sample
+                let here : s ≡ t = (let below = index.below in omega (arith, below, more)) in
+                subst (λ u. stored_in_tile count after i j u ≡ f (stored_in_tile count old i j u)) here at_sample
           ];
       others = λ column row t l other.
-          at_other column row t l (λ a b e. other a b (omega (arith, e))) ∙ before.others column row t l (λ a b less. other a b (omega (arith, less)));
+          at_other column row t l (λ a b e. other a b (record { from = omega (arith, e, since); below = omega (arith, e) }))
+          ∙ before.others column row t l (λ a b index. other a b (let below = index.below in record { from = index.from; below = omega (arith, below) }));
     }
 
 -- the same, by a number that is the sample's place
-pub one_sample_more : (count : SampleCount) (i j s : ℕ) → s < count_of count → (f : Sample → Sample) (old middle : List BlockSamples) (plane : BlockSamples) (place : ℕ) → place ≡ place_in_tile count (slice_index_or middle 0 none) i j s → place < length middle
+pub one_sample_more : (count : SampleCount) (i j from s : ℕ) → from ≤ s → s < count_of count → (f : Sample → Sample) (old middle : List BlockSamples) (plane : BlockSamples) (place : ℕ) → place ≡ place_in_tile count (slice_index_or middle 0 none) i j s → place < length middle
     → ((n : ℕ) → n < 64 → n ≢ pixel_in_block i j → stored_at plane n ≡ stored_at (slice_index_or middle place none) n)
     → stored_at plane (pixel_in_block i j) ≡ f (stored_at (slice_index_or middle place none) (pixel_in_block i j))
-    → IsPixelChanged count i j s f old middle → IsPixelChanged count i j (s + 1) f old (slice_set middle place plane)
-one_sample_more count i j s h f old middle plane place at =
+    → IsPixelChanged count i j from s f old middle → IsPixelChanged count i j from (s + 1) f old (slice_set middle place plane)
+one_sample_more count i j from s since h f old middle plane place at =
     subst
     (λ p. p < length middle
     → ((n : ℕ) → n < 64 → n ≢ pixel_in_block i j → stored_at plane n ≡ stored_at (slice_index_or middle p none) n)
     → stored_at plane (pixel_in_block i j) ≡ f (stored_at (slice_index_or middle p none) (pixel_in_block i j))
-    → IsPixelChanged count i j s f old middle → IsPixelChanged count i j (s + 1) f old (slice_set middle p plane))
+    → IsPixelChanged count i j from s f old middle → IsPixelChanged count i j from (s + 1) f old (slice_set middle p plane))
     (sym at)
-    (λ room kept is before. one_sample_changed count i j s h f old middle plane room kept is before)
+    (λ room kept is before. one_sample_changed count i j from s since h f old middle plane room kept is before)
 
-pub no_sample_changed : (count : SampleCount) (i j : ℕ) (f : Sample → Sample) (old new : List BlockSamples) → slice_index (slice_index_or new 0 none).r 0 ≢ 1
-    → ((column row s : ℕ) → s < count_of count → stored_in_tile count new column row s ≡ stored_in_tile count old column row s) → IsPixelChanged count i j 0 f old new
-no_sample_changed count i j f old new filled same = record { filled = filled; pixel = λ s h less. absurd (omega (arith, less)); others = λ column row s h _. same column row s h }
+pub no_sample_changed : (count : SampleCount) (i j from : ℕ) (f : Sample → Sample) (old new : List BlockSamples) → slice_index (slice_index_or new 0 none).r 0 ≢ 1
+    → ((column row s : ℕ) → s < count_of count → stored_in_tile count new column row s ≡ stored_in_tile count old column row s) → IsPixelChanged count i j from from f old new
+no_sample_changed count i j from f old new filled same =
+    record { filled = filled; pixel = λ s h index. (let since = index.from in let below = index.below in absurd (omega (arith, since, below))); others = λ column row s h _. same column row s h }
 
 -- ---- a part that is put back changed
 module _ (c : Canvas) (xs part : List BlockSamples) (n a : ℕ) (room : a + n ≤ length xs) (long : length part ≡ n) where
-  -- one pixel of a tile
-  pub one_pixel_changed : (i j : ℕ) (f : Sample → Sample) → n ≡ planes_of_tile c.count → a ≡ i / 64 * planes_of_tile c.count
-      → ((s : ℕ) → s < count_of c.count → stored_in_tile c.count part i j s ≡ f (stored_in_tile c.count (take n (drop a xs)) i j s))
-      → ((column row s : ℕ) → s < count_of c.count → ((column % 64 ≡ i % 64) → (row % 64 ≡ j % 64) → ⊥) → stored_in_tile c.count part column row s ≡ stored_in_tile c.count (take n (drop a xs)) column row s)
-      → AreChanged c (j / 64) (j / 64 + 1) (λ column row s. (column ≡ i) × (row ≡ j)) (λ _ _ sample. f sample) xs (put xs part a n)
-  one_pixel_changed i j f many at pixel others =
-      let here : (s : ℕ) → s < count_of c.count → stored c (j / 64) (put xs part a n) i j s ≡ f (stored c (j / 64) xs i j s) =
-      λ s h. tile_put c i j s xs part n a room long (j / 64) refl (i / 64) many at h refl ∙ pixel s h ∙ ap f (tile_of c i j s (j / 64) xs n a refl many at h) in
+  -- some samples of a tile
+  pub one_tile_changed : (column row : ℕ) (V : ℕ → ℕ → ℕ → Type 0) (f : ℕ → ℕ → ℕ → Sample → Sample) → n ≡ planes_of_tile c.count → a ≡ column * planes_of_tile c.count
+      → ((i j s : ℕ) → V i j s → (i / 64 ≡ column) × (j / 64 ≡ row))
+      → ((i j s : ℕ) → s < count_of c.count → i / 64 ≡ column → j / 64 ≡ row → V i j s → stored_in_tile c.count part i j s ≡ f i j s (stored_in_tile c.count (take n (drop a xs)) i j s))
+      → ((i j s : ℕ) → s < count_of c.count → i / 64 ≡ column → j / 64 ≡ row → ¬ V i j s → stored_in_tile c.count part i j s ≡ stored_in_tile c.count (take n (drop a xs)) i j s)
+      → AreChanged c row (row + 1) V f xs (put xs part a n)
+  one_tile_changed column row V f many at in_tile changed kept =
+      let of_tile : (i j s : ℕ) → i / 64 ≡ column → j / 64 ≡ row → s < count_of c.count → stored_in_tile c.count (take n (drop a xs)) i j s ≡ stored c row xs i j s =
+      λ i j s e d h. tile_of c i j s row xs n a d many (at ∙ ap (λ m. m * planes_of_tile c.count) (sym e)) h in
       record {
-        changed = λ i' j' s h p.
-            subst (λ column. stored c (j / 64) (put xs part a n) column j' s ≡ f (stored c (j / 64) xs column j' s)) (sym p.0)
-            (subst (λ row. stored c (j / 64) (put xs part a n) i row s ≡ f (stored c (j / 64) xs i row s)) (sym p.1) (here s h.is_sample));
-        kept = λ i' j' s h other.
+        changed = λ i j s h v.
+            let e : i / 64 ≡ column = (in_tile i j s v).0 in
+            let d : j / 64 ≡ row = (in_tile i j s v).1 in
+            tile_put c i j s xs part n a room long row d column many at h.is_sample e ∙ changed i j s h.is_sample e d v ∙ ap (f i j s) (of_tile i j s e d h.is_sample);
+        kept = λ i j s h other.
             let from = h.from in
             let below = h.below in
-            let row : j' / 64 ≡ j / 64 = omega (arith, from, below) in
-            elim (cases_eq (i' / 64) (i / 64)) [
-              | inl same ↦
-                  let start : a ≡ i' / 64 * planes_of_tile c.count = at ∙ ap (λ m. m * planes_of_tile c.count) (sym same) in
-                  tile_put c i' j' s xs part n a room long (j / 64) row (i / 64) many at h.is_sample same
-                  ∙ others i' j' s h.is_sample (λ e d. other (omega (arith, e, same), omega (arith, d, row)))
-                  ∙ tile_of c i' j' s (j / 64) xs n a row many start h.is_sample
-              | inr apart ↦ tile_kept c i' j' s xs part n a room long (j / 64) row (i / 64) many at h.is_sample apart
+            let d : j / 64 ≡ row = omega (arith, from, below) in
+            elim (cases_eq (i / 64) column) [
+              | inl e ↦ tile_put c i j s xs part n a room long row d column many at h.is_sample e ∙ kept i j s h.is_sample e d other ∙ of_tile i j s e d h.is_sample
+              | inr apart ↦ tile_kept c i j s xs part n a room long row d column many at h.is_sample apart
             ];
       }
 
   -- some samples of a tile row
-  pub one_row_changed : (first end row : ℕ) (V : ℕ → ℕ → ℕ → Type 0) (end_of : ℕ → ℕ → Sample → Sample) → first ≤ row → n ≡ planes_of_row c → a ≡ (row - first) * planes_of_row c
+  pub one_row_changed : (first end row : ℕ) (V : ℕ → ℕ → ℕ → Type 0) (end_of : ℕ → ℕ → ℕ → Sample → Sample) → first ≤ row → n ≡ planes_of_row c → a ≡ (row - first) * planes_of_row c
       → ((i j s : ℕ) → V i j s → j / 64 ≡ row) → AreChanged c row (row + 1) V end_of (take n (drop a xs)) part → AreChanged c first end V end_of xs (put xs part a n)
   one_row_changed first end row V end_of from many at in_row b =
       let here : (i j s : ℕ) → IsStoredIn c first end i j s → j / 64 ≡ row → IsStoredIn c row (row + 1) i j s =
@@ -162,7 +162,7 @@ module _ (c : Canvas) (xs part : List BlockSamples) (n a : ℕ) (room : a + n �
       record {
         changed = λ i j s h v.
             let e : j / 64 ≡ row = in_row i j s v in
-            row_put c i j s xs part n a room long first row many at from h.from h.column h.is_sample e ∙ b.changed i j s (here i j s h e) v ∙ ap (end_of i j) (before i j s h e);
+            row_put c i j s xs part n a room long first row many at from h.from h.column h.is_sample e ∙ b.changed i j s (here i j s h e) v ∙ ap (end_of i j s) (before i j s h e);
         kept = λ i j s h other.
             elim (cases_eq (j / 64) row) [
               | inl e ↦ row_put c i j s xs part n a room long first row many at from h.from h.column h.is_sample e ∙ b.kept i j s (here i j s h e) other ∙ before i j s h e
@@ -171,24 +171,24 @@ module _ (c : Canvas) (xs part : List BlockSamples) (n a : ℕ) (room : a + n �
       }
 
 -- ---- some samples and then others
-module _ (c : Canvas) (first end : ℕ) (V W R : ℕ → ℕ → ℕ → Type 0) (before_of after_of end_of : ℕ → ℕ → Sample → Sample) (old middle new : List BlockSamples) where
+module _ (c : Canvas) (first end : ℕ) (V W R : ℕ → ℕ → ℕ → Type 0) (before_of after_of end_of : ℕ → ℕ → ℕ → Sample → Sample) (old middle new : List BlockSamples) where
   pub joined_changes : AreChanged c first end V before_of old middle → AreChanged c first end W after_of middle new
       → ((i j s : ℕ) → V i j s → W i j s → ⊥) → ((i j s : ℕ) → R i j s → V i j s ⊎ W i j s) → ((i j s : ℕ) → V i j s → R i j s) → ((i j s : ℕ) → W i j s → R i j s)
-      → ((i j s : ℕ) (x : Sample) → V i j s → before_of i j x ≡ end_of i j x) → ((i j s : ℕ) (x : Sample) → W i j s → after_of i j x ≡ end_of i j x)
+      → ((i j s : ℕ) (x : Sample) → V i j s → before_of i j s x ≡ end_of i j s x) → ((i j s : ℕ) (x : Sample) → W i j s → after_of i j s x ≡ end_of i j s x)
       → AreChanged c first end R end_of old new
   joined_changes a b apart from left right as_before as_after = record {
     changed = λ i j s h r.
         elim (from i j s r) [
           | inl v ↦ b.kept i j s h (λ w. apart i j s v w) ∙ a.changed i j s h v ∙ as_before i j s (stored c first old i j s) v
-          | inr w ↦ b.changed i j s h w ∙ ap (after_of i j) (a.kept i j s h (λ v. apart i j s v w)) ∙ as_after i j s (stored c first old i j s) w
+          | inr w ↦ b.changed i j s h w ∙ ap (after_of i j s) (a.kept i j s h (λ v. apart i j s v w)) ∙ as_after i j s (stored c first old i j s) w
         ];
     kept = λ i j s h n. b.kept i j s h (λ w. n (right i j s w)) ∙ a.kept i j s h (λ v. n (left i j s v));
   }
 
-pub no_change : (c : Canvas) (first end : ℕ) (V : ℕ → ℕ → ℕ → Type 0) (end_of : ℕ → ℕ → Sample → Sample) (xs : List BlockSamples) → ((i j s : ℕ) → V i j s → ⊥) → AreChanged c first end V end_of xs xs
+pub no_change : (c : Canvas) (first end : ℕ) (V : ℕ → ℕ → ℕ → Type 0) (end_of : ℕ → ℕ → ℕ → Sample → Sample) (xs : List BlockSamples) → ((i j s : ℕ) → V i j s → ⊥) → AreChanged c first end V end_of xs xs
 no_change c first end V end_of xs none_of = record { changed = λ i j s h v. absurd (none_of i j s v); kept = λ i j s h n. refl }
 
-pub changes_where : (c : Canvas) (first end : ℕ) (V W : ℕ → ℕ → ℕ → Type 0) (end_of : ℕ → ℕ → Sample → Sample) (old new : List BlockSamples)
+pub changes_where : (c : Canvas) (first end : ℕ) (V W : ℕ → ℕ → ℕ → Type 0) (end_of : ℕ → ℕ → ℕ → Sample → Sample) (old new : List BlockSamples)
     → ((i j s : ℕ) → IsStoredIn c first end i j s → W i j s → V i j s) → ((i j s : ℕ) → IsStoredIn c first end i j s → V i j s → W i j s) → AreChanged c first end V end_of old new → AreChanged c first end W end_of old new
 changes_where c first end V W end_of old new from into a = record {
   changed = λ i j s h w. a.changed i j s h (from i j s h w);

@@ -19,3 +19,4 @@ pub mod Moved
 pub mod Windows
 pub mod Listed
 pub mod Sources
+pub mod TileEntries

@@ -1,21 +1,26 @@
 -- The bytes of pixels.
-use Rattle.std.proofs.Common.{◌≡◌, ◌∙◌, ap, subst, ℕ, ◌+◌, ◌*◌, ◌/◌, ◌<◌, ◌≤◌, List, take, slice_index, get_or-take, arith}
+use Rattle.std.proofs.Common.{◌≡◌, ◌∙◌, ap, subst, ℕ, ◌+◌, ◌*◌, ◌/◌, ◌%◌, ◌<◌, ◌≤◌, List, take, slice_index, get_or-take, arith}
+use Rattle.std.specs.Prelude.{slice_index_or}
 use Rattle.std.proofs.Math.Nat.{mul_comm}
 use Rattle.std.proofs.lemmas.Nat.{mul-add-lt}
 use Rattle.grid.specs.Samples.{count_of}
+use Rattle.grid.specs.declared.pixels.TileSide.TheVariants.{T8}
 use Rattle.grid.specs.declared.sample_count.SampleCount.{SampleCount}
+use Rattle.grid.specs.declared.sample_count.SampleCount.TheVariants.{One}
 use Rattle.shade.specs.declared.sample.Sample.{Sample}
 use Rattle.lanes.specs.declared.block_samples.BlockSamples.{BlockSamples}
+use Rattle.lanes.specs.Block.{stored_at}
 use Rattle.shade.specs.Resolve.{IsResolved}
 use Rattle.shade.proofs.Resolved.{resolved_same}
 use Rattle.raster.specs.declared.tile.Tile.{Tile}
-use Rattle.raster.specs.Samples.{stored as in_tile}
+use Rattle.raster.specs.Samples.{place_of, stored as in_tile}
 use Rattle.raster.specs.Colours.{IsColourAt, AreColoursAt}
 use Rattle.canvas.specs.declared.canvas.Canvas.{Canvas}
 use Rattle.canvas.specs.declared.format.Format.{Format}
 use Rattle.canvas.specs.Layout.{stored, stored_in_tile}
-use Rattle.canvas.specs.Pixels.{pixel_bytes}
-use Rattle.canvas.specs.Colours.{IsColourOfPixel, IsColourIn, IsPixelOf, IsPixelIn, IsTilePixel, AreBytesOfColour, AreArranged}
+use Rattle.canvas.specs.Pixels.{pixel_bytes, pixel_of}
+use Rattle.canvas.specs.Colours.{IsColourOfPixel, IsColourIn, IsPixelOf, IsPixelIn, IsTilePixel, IsSampleColour, AreBytesOfColour, AreArranged}
+use Rattle.canvas.proofs.Places.{none}
 
 -- ---- colours of the same samples
 -- from raster's tile to the planes of a tile
@@ -100,3 +105,25 @@ first_pixels tile samples format row column count rgb run few colours arranged i
       omega (arith, below, mul_comm (pixel_bytes format) count)) in
       get_or-take (count * pixel_bytes format) run (i * pixel_bytes format + k) 0 inside ∙ arranged i (omega arith) k small;
 }
+
+-- ---- the colour of one sample
+pub sample_colour_same : (format : Format) (sample : Sample) (f g : ℕ → ℕ) → ((k : ℕ) → k < pixel_bytes format → g k ≡ f k) → IsSampleColour format sample f → IsSampleColour format sample g
+sample_colour_same format sample f g same h = λ k small. same k small ∙ h k small
+
+-- of a block with one sample a pixel it is the pixel's
+pub colour_of_one : (tile : Tile) (part : List BlockSamples) (format : Format) (row column : ℕ) → tile.side ≡ T8 → tile.count ≡ One → row < 8 → column < 8 → (bytes : ℕ → ℕ)
+    → IsTilePixel tile part format row column bytes → IsSampleColour format (stored_at (slice_index_or part 0 none) (8 * row + column)) bytes
+colour_of_one tile part format row column side count high wide bytes p =
+    let sample : Sample = stored_at (slice_index_or part 0 none) (8 * row + column) in
+    let row_0 : row / 8 ≡ 0 = omega (arith, high) in
+    let column_0 : column / 8 ≡ 0 = omega (arith, wide) in
+    let at : place_of tile (row / 8) (column / 8) 0 ≡ 0 = rw (side, count, row_0, column_0) (omega arith) in
+    let k : 8 * (row % 8) + column % 8 ≡ 8 * row + column = omega (arith, high, wide) in
+    let same : in_tile tile part row column 0 ≡ sample = ap (λ q. stored_at (slice_index_or part q none) (8 * (row % 8) + column % 8)) at ∙ ap (λ m. stored_at (slice_index_or part 0 none) m) k in
+    let red : IsResolved One (λ s. (in_tile tile part row column s).r) p.r = subst (λ n. IsResolved n (λ s. (in_tile tile part row column s).r) p.r) count p.colour.red in
+    let green : IsResolved One (λ s. (in_tile tile part row column s).g) p.g = subst (λ n. IsResolved n (λ s. (in_tile tile part row column s).g) p.g) count p.colour.green in
+    let blue : IsResolved One (λ s. (in_tile tile part row column s).b) p.b = subst (λ n. IsResolved n (λ s. (in_tile tile part row column s).b) p.b) count p.colour.blue in
+    λ n small. p.order n small
+    ∙ ap (λ r. slice_index (pixel_of format r p.g p.b) n) (red ∙ ap (λ (x : Sample). x.r) same)
+    ∙ ap (λ g. slice_index (pixel_of format sample.r g p.b) n) (green ∙ ap (λ (x : Sample). x.g) same)
+    ∙ ap (λ b. slice_index (pixel_of format sample.r sample.g b) n) (blue ∙ ap (λ (x : Sample). x.b) same)

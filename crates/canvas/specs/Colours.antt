@@ -77,3 +77,12 @@ AreDepths c first end samples s stride old new = AreEntries (λ sample. sample.z
 -- In these tile rows the entry of each pixel of the picture is the id of its sample s. All other entries are unchanged.
 abbrev pub AreIds : Canvas → ℕ → ℕ → List BlockSamples → ℕ → ℕ → List ℕ → List ℕ → Type 0
 AreIds c first end samples s stride old new = AreEntries id_of c first end samples s stride old new
+
+-- The bytes are the colour of the sample in the format.
+abbrev pub IsSampleColour : Format → Sample → (ℕ → ℕ) → Type 0
+IsSampleColour format sample bytes = AreBytesOfColour format sample.r sample.g sample.b bytes
+
+-- In these tile rows the bytes of each pixel of the picture are the colour of its sample s in the format. All other bytes are unchanged.
+abbrev pub AreColours : Canvas → ℕ → ℕ → List BlockSamples → ℕ → Format → ℕ → List ℕ → List ℕ → Type 0
+AreColours c first end samples s format stride old new =
+    AreWritten c first end (pixel_bytes format) stride (λ i j bytes. IsSampleColour format (stored c first samples i j s) bytes) old new

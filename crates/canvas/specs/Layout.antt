@@ -50,6 +50,12 @@ pub record HasPixel (c : Canvas) (first end : ℕ) (i j : ℕ) : Type 0 where
   pub from : first ≤ j / 64
   pub below : j / 64 < end
 
+-- These tile rows have a tile in a column and a row of tiles.
+pub record HasTile (c : Canvas) (first end : ℕ) (column row : ℕ) : Type 0 where
+  pub wide : column < columns_of c
+  pub from : first ≤ row
+  pub below : row < end
+
 -- The number of the block of pixel (i, j) in its tile, whose first plane this is. While its first red byte is 1, the tile is
 -- unchanged since it was cleared, and block 0 stands for all of its blocks. Else these are numbered from 1 on, row by row.
 abbrev pub block_of : BlockSamples → ℕ → ℕ → ℕ

@@ -9,6 +9,7 @@
 --   planes_of_rows: How many planes the tile rows from `first` to before `end` have.
 --   IsStoredIn: Sample s of pixel (i, j) is in a tile of the tile rows from `first` to before `end`.
 --   HasPixel: Pixel (i, j) is in the picture, and in a tile of the tile rows from `first` to before `end`.
+--   HasTile: These tile rows have a tile in a column and a row of tiles.
 --   block_of: The number of the block of pixel (i, j) in its tile, whose first plane this is.
 --   place_in_tile: The index of the plane of sample s of pixel (i, j) among those of its tile, whose first plane this is.
 --   sample_in: Sample s of pixel (i, j), by the planes of its tile.
@@ -32,7 +33,7 @@
 --   AreWritten: The entries of each pixel of the picture in these tile rows are as `IsPixel` says, and all other entries are unchanged.
 --
 -- Entries.antt
---   FitEntries: Entries fit the tile rows from `first` to before `end`.
+--   FitEntries: Entries, of which a pixel has `unit`, fit the tile rows from `first` to before `end`.
 --   IsEntriesMisfit: What does not fit, if one of the two does not.
 --
 -- Colours.antt
@@ -48,6 +49,8 @@
 --   AreEntries: In these tile rows the entry of each pixel of the picture is what `entry` says of its sample s.
 --   AreDepths: In these tile rows the entry of each pixel of the picture is the depth of its sample s.
 --   AreIds: In these tile rows the entry of each pixel of the picture is the id of its sample s.
+--   IsSampleColour: The bytes are the colour of the sample in the format.
+--   AreColours: In these tile rows the bytes of each pixel of the picture are the colour of its sample s in the format.
 --
 -- Rows.antt
 --   IsMaskOf: A triangle whose bit is not set meets no sample of the tile.
@@ -64,8 +67,27 @@
 --
 -- Loaded.antt
 --   coloured: The sample in the colour of these bytes of a pixel.
+--   IsIndexIn: The sample index s is one of those from `first` to before `end`.
 --   AreChanged: The samples of some pixels in these tile rows end as `end_of` makes them, and all other samples are unchanged.
 --   AreLoaded: All samples of each pixel of the picture in these tile rows have the colour of the pixel's bytes.
+--   AreStored: Sample s of each pixel of the picture in these tile rows has the colour of the pixel's bytes.
+--
+-- Tiles.antt
+--   IsInTile: Pixel (i, j) is in the tile in a column and a row of tiles.
+--   tile_entries: How many entries a tile has: one for each sample.
+--   entry_in_tile: The entry of sample s of pixel (i, j) among those of its tile.
+--   said_of: What the entries say of sample s of pixel (i, j): one entry speaks for all samples of the tile.
+--   FitTile: The entries fit the tile: these tile rows have it, and there is an entry for each of its samples.
+--   FitTileOrOne: The entries fit the tile, or one stands for all of them.
+--   IsTileMisfit: What does not fit, if one of the two does not: the tile first, and then `Fit`.
+--   AreTileIds: The entries are the ids of the samples of a tile.
+--   IsUniformTile: The tile with these planes is unchanged since it was cleared, and all of its samples have one id.
+--   planes_in: The planes of the tile in a column and a row of tiles.
+--   IsUniform: The tile in a column and a row of tiles is unchanged since it was cleared, and all of its samples have one id.
+--   IsWritten: So many ids are written of a tile: one if it is unchanged since it was cleared, else one for each sample.
+--   with_colour: The sample in the colour of this number, red its lowest byte.
+--   AreTileColours: The samples of a tile have the colours that the entries say, and the depths that they had.
+--   HasBytes: The channels of the sample are bytes.
 --
 -- Ids.antt
 --   colour_of_id: An id as red, green, blue and alpha: red is its lowest byte, and alpha is opaque.
@@ -100,6 +122,7 @@ pub mod Colours
 pub mod Rows
 pub mod Hidden
 pub mod Loaded
+pub mod Tiles
 pub mod Ids
 pub mod Indexed
 pub mod Window

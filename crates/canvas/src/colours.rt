@@ -4,9 +4,10 @@ ghost use Rattle.grid.specs.Pixels.{side_of};
 ghost use Rattle.grid.specs.Samples.{count_of};
 ghost use Rattle.grid.specs.declared.sample_count.SampleCount.TheVariants.{One, Four};
 ghost use Rattle.raster.specs.Samples.{planes_of};
-ghost use Rattle.canvas.specs.Layout.{columns_of, rows_of, planes_of_tile, planes_of_row};
+ghost use Rattle.canvas.specs.Layout.{columns_of, rows_of, planes_of_tile, planes_of_row, stored};
 ghost use Rattle.canvas.specs.Pixels.{pixel_bytes, IsLargeEnough};
-ghost use Rattle.canvas.specs.Colours.{IsPixelOf, IsPixelIn, IsTilePixel, AreResolved};
+ghost use Rattle.canvas.specs.Entries.{FitEntries, IsEntriesMisfit};
+ghost use Rattle.canvas.specs.Colours.{IsPixelOf, IsPixelIn, IsTilePixel, IsSampleColour, AreResolved, AreColours};
 
 use crate::canvas::Canvas;
 use crate::format::{Format, arranged};
@@ -163,6 +164,40 @@ impl Canvas {
     }
 }
 
+impl Canvas {
+    /// Writes the colours of the samples `s` of row `j` of pixels, from the samples of its tile row.
+    fn colour_row(&self, j: u32, s: u32, samples: &[BlockSamples], format: Format, bytes: &mut [u8])
+        requires row { j < self.now.height }
+        requires sample { s < count_of self.now.count }
+        requires samples { length samples.now ≡ planes_of_row self.now }
+        requires bytes { length bytes.old ≡ self.now.width * pixel_bytes format }
+        ensures { (i : ℕ) → i < self.now.width → IsSampleColour format (stored self.now (j / 64) samples.now i j s) (λ k. slice_index bytes.new (i * pixel_bytes format + k)) }
+    {
+        // A block of one sample a pixel resolves to that sample.
+        let one = Tile {
+            bx: 0,
+            by: 0,
+            side: TileSide::T8,
+            count: SampleCount::One,
+        };
+        let unit = format.pixel_bytes();
+        for block in 0..(self.width + 7) / 8 {
+            let count = (self.width - 8 * block).min(8);
+            let place = self.place(samples, 8 * block, j, s);
+            let from = 8 * block as usize * unit;
+            resolve_run::<false>(
+                &one,
+                &samples[place..place + 1],
+                j % 8,
+                0,
+                format,
+                count,
+                &mut bytes[from..from + count as usize * unit],
+            );
+        }
+    }
+}
+
 impl View<'_> {
     /// Writes the colour of each pixel of the picture in these tile rows, in the format, with alpha 255: the rows of pixels from
     /// top to bottom, each `stride` bytes behind the one above, the pixels of a row from left to right. The bytes begin with the
@@ -182,6 +217,33 @@ impl View<'_> {
             self.rows
                 .canvas
                 .resolve_row(row.j, planes, format, &mut bytes[row.entries]);
+        }
+        Ok(())
+    }
+
+    /// Writes the colour of sample `s` of each pixel of the picture in these tile rows, in the format, with alpha 255, laid out as by
+    /// `resolve`. Nothing is resolved. Bytes of no pixel are unchanged.
+    pub fn colors(
+        &self,
+        s: u32,
+        bytes: &mut [u8],
+        format: Format,
+        stride: usize,
+    ) -> Result<(), Misfit>
+        ensures fits { IsOk result ↔ FitEntries self.now.rows.canvas self.now.rows.first self.now.rows.end s (pixel_bytes format) stride (length bytes.old) }
+        ensures colours { OnOk result (AreColours self.now.rows.canvas self.now.rows.first self.now.rows.end self.now.planes.now s format stride bytes.old bytes.new) }
+        ensures unfit { OnErr result (bytes.new ≡ bytes.old) }
+        ensures reason { IfErr result (IsEntriesMisfit self.now.rows.canvas self.now.rows.first self.now.rows.end s (pixel_bytes format) stride (length bytes.old)) }
+    {
+        let rows = self
+            .rows
+            .entry_rows(s, format.pixel_bytes(), stride, bytes.len())?;
+        for index in 0..rows.count() {
+            let row = rows.row(index);
+            let planes = &self.planes[row.planes];
+            self.rows
+                .canvas
+                .colour_row(row.j, s, planes, format, &mut bytes[row.entries]);
         }
         Ok(())
     }

@@ -1,24 +1,35 @@
-//! A picture in the caller's memory, loaded as the colours of samples.
+//! A picture in the caller's memory, stored as the colours of samples: of all samples of its pixels, or of those of one index.
 ghost use Rattle.std.specs.Prelude.{◌≡◌, ◌≢◌, ◌↔◌, ◌⊎◌, ℕ, ◌+◌, ◌*◌, ◌/◌, ◌%◌, ◌<◌, ◌≤◌, length, slice_index, IsOk, OnOk, OnErr, IfErr};
 ghost use Rattle.lanes.specs.Block.{stored_at};
 ghost use Rattle.grid.specs.Samples.{count_of};
-ghost use Rattle.canvas.specs.Layout.{planes_of_tile, planes_of_row, planes_of_rows, stored_in_tile};
-ghost use Rattle.canvas.specs.Pixels.{pixel_bytes, IsLargeEnough};
-ghost use Rattle.canvas.specs.Loaded.{coloured, AreChanged, AreLoaded};
+ghost use Rattle.canvas.specs.Layout.{HasPixel, planes_of_tile, planes_of_row, planes_of_rows, stored_in_tile};
+ghost use Rattle.canvas.specs.Pixels.{pixel_bytes, entry_of, IsLargeEnough};
+ghost use Rattle.canvas.specs.Entries.{FitEntries, IsEntriesMisfit};
+ghost use Rattle.canvas.specs.Loaded.{coloured, IsIndexIn, AreChanged, AreLoaded, AreStored};
 
 use crate::canvas::Canvas;
 use crate::format::Format;
 use crate::misfit::Misfit;
 use crate::piece::Piece;
+use crate::pixel_rows::PixelRows;
 use crate::place::place_in_tile;
 use crate::tile_planes::fill_tile;
 use crate::tile_rows::TileRows;
 use grid::SampleCount;
 use lanes::BlockSamples;
 
+/// Some sample indices, one after another: those of which colours are stored.
+#[derive(Clone, Copy, Debug)]
+struct Indices {
+    /// The first of them.
+    first: u32,
+    /// The index behind the last one.
+    end: u32,
+}
+
 /// Stores a colour in place of that of pixel `k` of a block.
 #[inline]
-fn set_colour(plane: &mut BlockSamples, k: usize, r: u8, g: u8, b: u8)
+pub(crate) fn set_colour(plane: &mut BlockSamples, k: usize, r: u8, g: u8, b: u8)
     requires { k < 64 }
     ensures stored { stored_at plane.new k ≡ record { r = r; g = g; b = b; z = (stored_at plane.old k).z } }
     ensures kept { (n : ℕ) → n < 64 → n ≢ k → stored_at plane.new n ≡ stored_at plane.old n }
@@ -43,46 +54,58 @@ fn recolour(plane: &mut BlockSamples, k: usize, format: Format, pixel: &[u8])
     }
 }
 
-/// Stores the colour of these bytes in place of those of all samples of pixel (i, j), in the planes of its tile.
-fn load_pixel(
+/// Stores the colour of these bytes in place of those of some samples of pixel (i, j), in the planes of its tile.
+#[inline(always)]
+fn store_pixel(
     count: SampleCount,
     i: u32,
     j: u32,
+    indices: Indices,
     pixel: &[u8],
     format: Format,
     samples: &mut [BlockSamples],
 )
+    requires indices { (indices.first ≤ indices.end) × (indices.end ≤ count_of count) }
     requires bytes { length pixel.now ≡ pixel_bytes format }
     requires samples { length samples.old ≡ planes_of_tile count }
-    ensures pixel { (s : ℕ) → s < count_of count → stored_in_tile count samples.new i j s ≡ coloured format (λ k. slice_index pixel.now k) (stored_in_tile count samples.old i j s) }
-    ensures others { (column row s : ℕ) → s < count_of count → ((column % 64 ≡ i % 64) → (row % 64 ≡ j % 64) → ⊥) → stored_in_tile count samples.new column row s ≡ stored_in_tile count samples.old column row s }
+    ensures pixel { (s : ℕ) → IsIndexIn indices.first indices.end s → stored_in_tile count samples.new i j s ≡ coloured format (λ k. slice_index pixel.now k) (stored_in_tile count samples.old i j s) }
+    ensures others { (column row s : ℕ) → s < count_of count → ((column % 64 ≡ i % 64) → (row % 64 ≡ j % 64) → IsIndexIn indices.first indices.end s → ⊥) → stored_in_tile count samples.new column row s ≡ stored_in_tile count samples.old column row s }
 {
     fill_tile(count, samples);
     let k = (8 * (j % 8) + i % 8) as usize;
-    for s in 0..count.count() {
+    for s in indices.first..indices.end {
         let place = place_in_tile(&samples[0], count, i, j, s);
         recolour(&mut samples[place], k, format, pixel);
     }
 }
 
 impl Canvas {
-    /// Stores the colours of these bytes in place of those of all samples of row `j` of pixels, in the planes of its tile row.
-    fn load_row(&self, j: u32, bytes: &[u8], format: Format, samples: &mut [BlockSamples])
+    /// Stores the colours of these bytes in place of those of some samples of row `j` of pixels, in the planes of its tile row.
+    fn store_row(
+        &self,
+        j: u32,
+        indices: Indices,
+        bytes: &[u8],
+        format: Format,
+        samples: &mut [BlockSamples],
+    )
         requires row { j < self.now.height }
+        requires indices { (indices.first ≤ indices.end) × (indices.end ≤ count_of self.now.count) }
         requires bytes { length bytes.now ≡ self.now.width * pixel_bytes format }
         requires samples { length samples.old ≡ planes_of_row self.now }
-        ensures { AreChanged self.now (j / 64) (j / 64 + 1) (λ column row s. (column < self.now.width) × (row ≡ j))
-            (λ column row sample. coloured format (λ k. slice_index bytes.now (column * pixel_bytes format + k)) sample) samples.old samples.new }
+        ensures { AreChanged self.now (j / 64) (j / 64 + 1) (λ column row s. (column < self.now.width) × (row ≡ j) × IsIndexIn indices.first indices.end s)
+            (λ column row s sample. coloured format (λ k. slice_index bytes.now (column * pixel_bytes format + k)) sample) samples.old samples.new }
     {
         let each = self.planes_of_tile();
         let unit = format.pixel_bytes();
         for i in 0..self.width {
             let from = (i / 64) as usize * each;
             let at = i as usize * unit;
-            load_pixel(
+            store_pixel(
                 self.count,
                 i,
                 j,
+                indices,
                 &bytes[at..at + unit],
                 format,
                 &mut samples[from..from + each],
@@ -92,7 +115,34 @@ impl Canvas {
 }
 
 impl TileRows {
-    /// Stores a picture in place of the colours, as `Piece::load` does.
+    /// Stores the colours of a picture, whose rows of pixels these are, in place of those of some samples of its pixels.
+    fn store_rows(
+        &self,
+        rows: &PixelRows,
+        indices: Indices,
+        bytes: &[u8],
+        format: Format,
+        samples: &mut [BlockSamples],
+    )
+        requires rows { (rows.now.tile_rows ≡ self.now) × (rows.now.unit ≡ pixel_bytes format) × (rows.now.size ≡ length bytes.now) }
+        requires indices { (indices.first ≤ indices.end) × (indices.end ≤ count_of self.now.canvas.count) }
+        requires samples { length samples.old ≡ planes_of_rows self.now.canvas self.now.first self.now.end }
+        ensures { AreChanged self.now.canvas self.now.first self.now.end (λ i j s. HasPixel self.now.canvas self.now.first self.now.end i j × IsIndexIn indices.first indices.end s)
+            (λ i j s sample. coloured format (λ k. slice_index bytes.now (entry_of self.now.first (pixel_bytes format) rows.now.stride i j + k)) sample) samples.old samples.new }
+    {
+        for index in 0..rows.count() {
+            let row = rows.row(index);
+            self.canvas.store_row(
+                row.j,
+                indices,
+                &bytes[row.entries],
+                format,
+                &mut samples[row.planes],
+            );
+        }
+    }
+
+    /// Stores a picture in place of the colours of all samples, as `Piece::load` does.
     fn load_all(
         &self,
         bytes: &[u8],
@@ -107,10 +157,35 @@ impl TileRows {
         ensures reason { IfErr result (λ misfit. misfit ≡ Misfit.Pixels) }
     {
         let rows = self.pixel_rows(format.pixel_bytes(), stride, bytes.len())?;
-        for index in 0..rows.count() {
-            let row = rows.row(index);
-            self.canvas.load_row(row.j, &bytes[row.entries], format, &mut samples[row.planes]);
-        }
+        let all = Indices {
+            first: 0,
+            end: self.canvas.count.count(),
+        };
+        self.store_rows(&rows, all, bytes, format, samples);
+        Ok(())
+    }
+
+    /// Stores a picture in place of the colours of the samples `s`, as `Piece::store` does.
+    fn store_all(
+        &self,
+        s: u32,
+        bytes: &[u8],
+        format: Format,
+        stride: usize,
+        samples: &mut [BlockSamples],
+    ) -> Result<(), Misfit>
+        requires { length samples.old ≡ planes_of_rows self.now.canvas self.now.first self.now.end }
+        ensures fits { IsOk result ↔ FitEntries self.now.canvas self.now.first self.now.end s (pixel_bytes format) stride (length bytes.now) }
+        ensures stored { OnOk result (AreStored self.now.canvas self.now.first self.now.end s bytes.now format stride samples.old samples.new) }
+        ensures unfit { OnErr result (samples.new ≡ samples.old) }
+        ensures reason { IfErr result (IsEntriesMisfit self.now.canvas self.now.first self.now.end s (pixel_bytes format) stride (length bytes.now)) }
+    {
+        let rows = self.entry_rows(s, format.pixel_bytes(), stride, bytes.len())?;
+        let one = Indices {
+            first: s,
+            end: s + 1,
+        };
+        self.store_rows(&rows, one, bytes, format, samples);
         Ok(())
     }
 }
@@ -127,5 +202,25 @@ impl Piece<'_> {
         ensures same { self.new.planes.ghost_name ≡ self.old.planes.ghost_name }
     {
         self.rows.load_all(bytes, format, stride, self.planes)
+    }
+
+    /// Stores a picture in place of the colours of one sample index: sample `s` of each pixel of the picture in these tile rows has the
+    /// colour of the pixel's bytes, which are laid out as `View::colors` writes them. Depths and all other samples are unchanged, and alpha is
+    /// not read.
+    pub fn store(
+        &mut self,
+        s: u32,
+        bytes: &[u8],
+        format: Format,
+        stride: usize,
+    ) -> Result<(), Misfit>
+        ensures fits { IsOk result ↔ FitEntries self.old.rows.canvas self.old.rows.first self.old.rows.end s (pixel_bytes format) stride (length bytes.now) }
+        ensures stored { OnOk result (AreStored self.old.rows.canvas self.old.rows.first self.old.rows.end s bytes.now format stride self.old.planes.now self.new.planes.now) }
+        ensures unfit { OnErr result (self.new.planes.now ≡ self.old.planes.now) }
+        ensures reason { IfErr result (IsEntriesMisfit self.old.rows.canvas self.old.rows.first self.old.rows.end s (pixel_bytes format) stride (length bytes.now)) }
+        ensures rows { self.new.rows ≡ self.old.rows }
+        ensures same { self.new.planes.ghost_name ≡ self.old.planes.ghost_name }
+    {
+        self.rows.store_all(s, bytes, format, stride, self.planes)
     }
 }

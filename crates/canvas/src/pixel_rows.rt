@@ -109,15 +109,22 @@ impl TileRows {
         })
     }
 
-    /// The same of entries of the samples of index `s`, one for each pixel. Also returns `Sample` if a pixel has no such sample.
-    pub(crate) fn entry_rows(&self, s: u32, stride: usize, size: usize) -> Result<PixelRows, Misfit>
-        ensures fits { IsOk result ↔ FitEntries self.now.canvas self.now.first self.now.end s stride size }
-        ensures rows { IfOk result (λ found. (found.tile_rows ≡ self.now) × (found.unit ≡ 1) × (found.stride ≡ stride) × (found.size ≡ size)) }
-        ensures reason { IfErr result (IsEntriesMisfit self.now.canvas self.now.first self.now.end s stride size) }
+    /// The same of entries of the samples of index `s`. Also returns `Sample` if a pixel has no such sample.
+    pub(crate) fn entry_rows(
+        &self,
+        s: u32,
+        unit: usize,
+        stride: usize,
+        size: usize,
+    ) -> Result<PixelRows, Misfit>
+        requires { unit ≤ 4 }
+        ensures fits { IsOk result ↔ FitEntries self.now.canvas self.now.first self.now.end s unit stride size }
+        ensures rows { IfOk result (λ found. (found.tile_rows ≡ self.now) × (found.unit ≡ unit) × (found.stride ≡ stride) × (found.size ≡ size)) }
+        ensures reason { IfErr result (IsEntriesMisfit self.now.canvas self.now.first self.now.end s unit stride size) }
     {
         if self.canvas.count.count() <= s {
             return Err(Misfit::Sample);
         }
-        self.pixel_rows(1, stride, size)
+        self.pixel_rows(unit, stride, size)
     }
 }

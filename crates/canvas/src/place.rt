@@ -1,8 +1,8 @@
 //! Where a sample is stored.
-ghost use Rattle.std.specs.Prelude.{◌≡◌, ◌↔◌, ◌+◌, ◌*◌, ◌/◌, ◌%◌, ◌<◌, length, IsTrue};
+ghost use Rattle.std.specs.Prelude.{◌≡◌, ◌↔◌, ℕ, ◌+◌, ◌*◌, ◌/◌, ◌%◌, ◌<◌, length, slice_index_or, [], IsTrue};
 ghost use Rattle.grid.specs.Samples.{count_of};
 ghost use Rattle.lanes.specs.Block.{stored_at};
-ghost use Rattle.canvas.specs.Layout.{HasPixel, columns_of, planes_of_tile, planes_of_row, place_in_tile, stored};
+ghost use Rattle.canvas.specs.Layout.{HasPixel, HasTile, columns_of, planes_of_tile, planes_of_row, place_in_tile, stored};
 
 use crate::canvas::Canvas;
 use crate::tile_planes::is_cleared;
@@ -32,23 +32,18 @@ pub(crate) fn place_in_tile(
 }
 
 impl Canvas {
-    /// The plane of sample `s` of pixel (i, j), of those of its tile row.
+    /// The index of the plane of sample `s` of pixel (i, j) among those of its tile row. The pixels to its right in its block have theirs there
+    /// too.
     #[inline]
-    pub(crate) fn plane<'a>(
-        &self,
-        samples: &'a [BlockSamples],
-        i: u32,
-        j: u32,
-        s: u32,
-    ) -> &'a BlockSamples
+    pub(crate) fn place(&self, samples: &[BlockSamples], i: u32, j: u32, s: u32) -> usize
         requires column { i / 64 < columns_of self.now }
         requires sample { s < count_of self.now.count }
         requires samples { length samples.now ≡ planes_of_row self.now }
-        ensures { stored_at result.now (8 * (j % 8) + i % 8) ≡ stored self.now (j / 64) samples.now i j s }
+        ensures within { result < planes_of_row self.now }
+        ensures stored { (k : ℕ) → i % 8 + k < 8 → stored_at (slice_index_or samples.now result (record { z = []; r = []; g = []; b = [] })) (8 * (j % 8) + (i % 8 + k)) ≡ stored self.now (j / 64) samples.now (i + k) j s }
     {
         let first = (i / 64) as usize * self.planes_of_tile();
-        let place = place_in_tile(&samples[first], self.count, i, j, s);
-        &samples[first + place]
+        first + place_in_tile(&samples[first], self.count, i, j, s)
     }
 }
 
@@ -58,5 +53,12 @@ impl TileRows {
         ensures { IsTrue result ↔ HasPixel self.now.canvas self.now.first self.now.end i j }
     {
         i < self.canvas.width && j < self.canvas.height && self.first <= j / 64 && j / 64 < self.end
+    }
+
+    /// Whether these tile rows have a tile in this column and this row of tiles.
+    pub(crate) fn has_tile(&self, column: u32, row: u32) -> bool
+        ensures { IsTrue result ↔ HasTile self.now.canvas self.now.first self.now.end column row }
+    {
+        column < self.canvas.column_count() && self.first <= row && row < self.end
     }
 }

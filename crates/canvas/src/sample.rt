@@ -19,7 +19,8 @@ impl View<'_> {
         }
         let each = canvas.planes_of_row();
         let from = (j / 64 - self.rows.first) as usize * each;
-        let plane = canvas.plane(&self.planes[from..from + each], i, j, s);
-        Some(plane.sample((8 * (j % 8) + i % 8) as usize))
+        let planes = &self.planes[from..from + each];
+        let place = canvas.place(planes, i, j, s);
+        Some(planes[place].sample((8 * (j % 8) + i % 8) as usize))
     }
 }

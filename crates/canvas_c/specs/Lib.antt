@@ -18,6 +18,16 @@
 --   entries_of: The entries from the beginning of a row to that of the next: those of a row if the caller says 0, else those of `stride` bytes.
 --   entries_checks: The samples of one index are read to `size` entries of `entry_bytes` bytes, whose rows begin `stride` bytes behind each other.
 --
+-- Samples.antt
+--   colours_checks: The colours of one sample index are read or written in `size` bytes, whose rows begin `stride` bytes behind each other.
+--   NamesTile: The tile rows that the caller names have a tile in a column and a row of tiles.
+--   entries_in_tile: How many entries a tile of the canvas has.
+--   tile_ids_checks: The samples of a tile are read to `size` entries.
+--   tile_store_checks: Colours are stored in a tile: one for each sample, or one for all of them.
+--   ids_written: How many ids are written of a tile, by what is said of it.
+--   AreIdsOfTile: The ids of a tile's samples are written, or one if the tile is unchanged since it was cleared, which `uniform` says.
+--   status_for: The status of a call for a tile that does not fit.
+--
 -- Arrays.antt
 --   HasStrides: The vertices and the indices have the sizes that this library knows, or 0 for just these.
 --
@@ -52,6 +62,7 @@
 --   shapes_listed: The polygons as they are drawn, in their order.
 
 pub mod Pieces
+pub mod Samples
 pub mod Arrays
 pub mod Batches
 pub mod Weights

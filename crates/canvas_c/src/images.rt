@@ -28,7 +28,7 @@ fn format_of(number: u32) -> Option<Format>
 }
 
 /// The tile rows that the caller names, and the format of this number.
-fn image_rows(
+pub(crate) fn image_rows(
     head: &CanvasHead,
     planes: &[BlockSamples],
     format: u32,
@@ -45,7 +45,7 @@ fn image_rows(
 }
 
 /// The bytes from the beginning of a row of pixels to that of the next: those of a row if the caller says 0.
-fn stride_of(head: &CanvasHead, format: Format, stride: usize) -> usize
+pub(crate) fn stride_of(head: &CanvasHead, format: Format, stride: usize) -> usize
     requires { head.now.width ≤ 4096 }
     ensures { result ≡ row_stride (head.now.width * pixel_bytes format) stride }
 {

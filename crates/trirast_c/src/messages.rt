@@ -74,7 +74,7 @@ fn batch_message(error: &Error) -> Message {
     if error.element != NONE {
         let _ = write!(text, "{element} {} ", error.element);
     } else if !element.is_empty() {
-        let _ = write!(text, "{element} ");
+        let _ = write!(text, "one {element} ");
     }
     let _ = text.try_push_str(words);
     text

@@ -2,34 +2,35 @@
 
     import trirast
 
-    picture = trirast.draw({"width": 64, "height": 64, "draws": [..]}, threads=4)
+    canvas = trirast.Canvas(1024, 768, samples=16)
+    canvas.clear((24, 24, 32))
+    xy = trirast.snap(positions)      # floats in pixels, y downwards
+    canvas.draw(xy, triangles, colors=(230, 60, 50, 128), blend="over", threads=4)
+    canvas.save("picture.png")
+    array = canvas.rgb()
+
+    picture = trirast.draw({"width": 64, "height": 64, "draws": [..]}, threads=4)     # a draw list
     picture.save("picture.ppm")
     array = numpy.asarray(picture)
-
-    picture = trirast.draw_scene(64, 64, [trirast.Draw(vertices, triangles, cull="back")], samples=4)
 
     print(trirast.why(draw_list, 20, 30))
     print(trirast.triangle_samples(draw_list, 0, 5))
 
-    canvas = trirast.Canvas(1024, 768, samples=4)
-    canvas.clear((24, 24, 32))
-    canvas.draw(vertices, triangles, cull="back", threads=4)
-    canvas.rgb()
-
-    vertices[:, :2] = trirast.snap(xy)      # floats in pixels
-
-    seen = trirast.clip(positions, triangles, (0, 0, 1024, 768))
+    seen = trirast.clip(positions, triangles, (0, 0, 1024, 768))      # in clip space
     canvas.draw(seen.vertices, seen.triangles)
 
-docs/draw-list.md says what a draw list is, and docs/library.md where the library is looked for. It is loaded at the first
-call. Python 3.9 or later, standard library alone; numpy's arrays are taken and given if numpy is there.
+docs/canvas.md says what a canvas is, docs/draw-list.md what a draw list is, and docs/library.md where the library is
+looked for. It is loaded at the first call. Python 3.9 or later, standard library alone; numpy's arrays are taken and
+given if numpy is there.
 """
 
-from ._canvas import Canvas, edges
+from ._blend import BLENDS, Blend
+from ._canvas import Canvas, edges_at
 from ._clip import Clipped, clip
-from ._draw import Draw
+from ._draw import Draw, State
 from ._draw_list import DrawList, draw, draw_file, image_info
 from ._errors import (
+    BatchError,
     BufferTooSmallError,
     CanvasError,
     DrawListError,
@@ -41,20 +42,23 @@ from ._errors import (
     PixelError,
     PositionError,
     SampleError,
+    StrideError,
     StructSizeError,
+    TileError,
     TileRowsError,
     TileSizeError,
     TriangleError,
 )
 from ._history import Event, Fragment, PixelHistory, SampleHistory, Stored, TriangleSamples, triangle_samples, why
 from ._picture import ImageInfo, Picture
-from ._scene import draw_scene
 from ._snap import snap
 from ._version import VERSION as __version__
+from ._vertices import VERTEX
 
 __all__ = [
-    "BufferTooSmallError", "Canvas", "CanvasError", "Clipped", "Draw", "DrawList", "DrawListError", "Error", "Event", "FormatError", "Fragment",
-    "ImageInfo", "LimitError", "MemorySizeError", "OutOfMemoryError", "Picture", "PixelError", "PixelHistory", "PositionError",
-    "SampleError", "SampleHistory", "Stored", "StructSizeError", "TileRowsError", "TileSizeError", "TriangleError", "TriangleSamples",
-    "__version__", "clip", "draw", "draw_file", "draw_scene", "edges", "image_info", "snap", "triangle_samples", "why",
+    "BLENDS", "BatchError", "Blend", "BufferTooSmallError", "Canvas", "CanvasError", "Clipped", "Draw", "DrawList", "DrawListError", "Error",
+    "Event", "FormatError", "Fragment", "ImageInfo", "LimitError", "MemorySizeError", "OutOfMemoryError", "Picture", "PixelError",
+    "PixelHistory", "PositionError", "SampleError", "SampleHistory", "State", "Stored", "StrideError", "StructSizeError", "TileError",
+    "TileRowsError", "TileSizeError", "TriangleError", "TriangleSamples", "VERTEX", "__version__", "clip", "draw", "draw_file", "edges_at", "image_info", "snap",
+    "triangle_samples", "why",
 ]

@@ -22,7 +22,7 @@ def facts() -> Iterator[Tuple[str, Any]]:
     """What is printed: a name and a value each."""
     yield "version", VERSION
     yield "library", loaded_path()
-    yield "interface", library().trirast_version()
+    yield "interface", library().trirast_interface()
     yield "processor", level_of(loaded_path(), platform.machine())
 
 
@@ -38,8 +38,7 @@ def first_picture() -> Canvas:
     canvas = Canvas(SIDE, SIDE, samples=16)
     canvas.clear((24, 24, 32))
     places = snap([(SIDE / 2 + RADIUS * x, SIDE / 2 + RADIUS * y) for x, y in HEXAGON])
-    vertices = [(int(x), int(y), 0, *color, 255) for (x, y), color in zip(places, COLORS)]
-    canvas.draw(vertices, [(0, k, k % 6 + 1) for k in range(1, 7)])
+    canvas.draw(places, [(0, k, k % 6 + 1) for k in range(1, 7)], colors=COLORS)
     return canvas
 
 

@@ -8,7 +8,7 @@ import math
 import operator
 import reprlib
 from numbers import Complex, Real
-from typing import Any, Sequence, SupportsIndex, Tuple
+from typing import Any, Collection, Sequence, SupportsIndex, Tuple
 
 NUMBERS = 1 << 32
 LONGEST = 60
@@ -44,11 +44,8 @@ def between(name: str, value: SupportsIndex, least: int, greatest: int) -> int:
 
 
 def signed(name: str, value: SupportsIndex) -> int:
-    """An integer of 32 bits with a sign. Raises OverflowError at any other."""
-    given = integer(name, value)
-    if not -(NUMBERS >> 1) <= given < NUMBERS >> 1:
-        raise OverflowError(f"{name}: an integer of 32 bits, and not {given}")
-    return given
+    """An integer of 32 bits with a sign. Raises ValueError at any other."""
+    return between(name, value, -(NUMBERS >> 1), (NUMBERS >> 1) - 1)
 
 
 def real(name: str, value: Any) -> float:
@@ -86,9 +83,11 @@ def of_length(name: str, values: Any, length: int) -> Sequence[Any]:
     return tuple(values)
 
 
-def color_of(name: str, values: Any) -> Tuple[int, ...]:
-    """Red, green and blue, 0 to 255 each. Raises ValueError at any other."""
-    return tuple(between(name, channel, 0, 255) for channel in of_length(name, values, 3))
+def color_of(name: str, values: Any, *lengths: int) -> Tuple[int, ...]:
+    """As many channels as one of the lengths, the first of which counts in a message: 0 to 255 each. Raises ValueError
+    at any other."""
+    found = next((each for each in lengths if hasattr(values, "__len__") and len(values) == each), lengths[0])
+    return tuple(between(name, channel, 0, 255) for channel in of_length(name, values, found))
 
 
 def flag(name: str, value: Any) -> int:
@@ -100,8 +99,8 @@ def flag(name: str, value: Any) -> int:
     raise TypeError(f"{name}: True or False, and not {shown(value)}")
 
 
-def named(name: str, names: Sequence[str], value: Any) -> int:
+def named(name: str, names: Collection[str], value: Any) -> int:
     """The index of a name among those that there are."""
     if not isinstance(value, str) or value not in names:
         raise ValueError(f"{name}: one of {', '.join(names)}, and not {shown(value)}")
-    return names.index(value)
+    return list(names).index(value)

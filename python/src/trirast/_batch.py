@@ -1,17 +1,18 @@
 """Batches: draws as C has them, in memory that nobody changes while they are drawn."""
 
 import ctypes
-import sys
+import struct
 from array import array
-from typing import Any, List, Tuple
+from typing import Any, List, Sequence, Tuple
 
 from ._arguments import shown
-from ._buffers import HIGH, LOW, Copy
-from ._draw import INDEX_BYTES, VERTEX_BYTES, Draw
-from ._ffi import CBatch, CBatchDraw
+from ._draw import INDEX_BYTES, TOPOLOGIES, Draw
+from ._errors import BatchError
+from ._ffi import CBatch, CDraw
+from ._records import HIGH, LOW
+from ._vertices import VERTEX_BYTES
 
-UNIT = 256
-COLUMNS = VERTEX_BYTES // ctypes.sizeof(ctypes.c_int32)
+BAD_INDEX, BAD_POSITION = 6, 7
 
 
 def draws_of(draws: Any) -> List[Draw]:
@@ -26,45 +27,51 @@ def draws_of(draws: Any) -> List[Draw]:
     return found
 
 
-def batch_of(draws: List[Draw], farthest: int, by: Tuple[int, int] = (0, 0)) -> CBatch:
-    """The draws as a batch, which keeps what it points to, moved by pixels to the right and down. A draw without a scissor is cut to
-    0 to `farthest`."""
-    in_c = (CBatchDraw * len(draws))(*(each._in_c(farthest, by) for each in draws))
-    vertices = moved(joined([each._vertices for each in draws]), by)
-    indices = joined([each._indices for each in draws])
+def batch_of(draws: List[Draw]) -> CBatch:
+    """The draws as a batch, which keeps what it points to."""
+    in_c = (CDraw * len(draws))(*(each._in_c() for each in draws))
+    vertices = joined([each._vertices for each in draws])
+    indices = None if all(each._indices is None for each in draws) else joined([indices_of(each) for each in draws])
     batch = CBatch(
-        ctypes.sizeof(CBatch), ctypes.sizeof(CBatchDraw), VERTEX_BYTES, INDEX_BYTES,
-        ctypes.addressof(in_c), len(draws),
-        address_of(vertices), len(vertices) // VERTEX_BYTES,
-        address_of(indices), len(indices) // INDEX_BYTES,
+        0, VERTEX_BYTES, INDEX_BYTES, ctypes.addressof(in_c), len(draws), address_of(vertices), len(vertices) // VERTEX_BYTES,
+        None if indices is None else address_of(indices), 0 if indices is None else len(indices) // INDEX_BYTES,
     )
     batch.kept = in_c, vertices, indices
     return batch
 
 
-def joined(parts: List[Copy]) -> Copy:
+def indices_of(draw: Draw) -> Any:
+    """The indices of a draw, or if it has none those of its vertices in their order."""
+    return array("I", range(draw._count)).tobytes() if draw._indices is None else draw._indices
+
+
+def joined(parts: Sequence[Any]) -> Any:
     """The parts one after another. A single one is not copied."""
     return parts[0] if len(parts) == 1 else b"".join(parts)
 
 
-def address_of(data: Copy) -> Any:
-    """Where the bytes lie. They stay there, since nobody else has them."""
+def address_of(data: Any) -> Any:
+    """Where the bytes lie. They stay there, since nobody else has them, or as long as an array of numpy is there."""
+    if hasattr(data, "__array_interface__"):
+        return data.__array_interface__["data"][0]
     if isinstance(data, bytes):
         return ctypes.cast(ctypes.c_char_p(data), ctypes.c_void_p).value
     return ctypes.addressof((ctypes.c_uint8 * len(data)).from_buffer(data))
 
 
-def moved(vertices: Copy, by: Tuple[int, int]) -> Copy:
-    """Vertices moved by pixels to the right and down. One that leaves the guard band, or lies outside, is outside afterwards."""
-    if by == (0, 0):
-        return vertices
-    made, numpy = bytearray(vertices), sys.modules.get("numpy")
-    for axis, pixels in enumerate(by):
-        if numpy is not None:
-            column = numpy.frombuffer(made, numpy.int32)[axis::COLUMNS]
-            new = numpy.minimum(column + numpy.int64(UNIT * pixels), HIGH + 1)
-            column[:] = numpy.where((LOW <= column) & (column <= HIGH), new, column)
-            continue
-        column = memoryview(made).cast("i")[axis::COLUMNS]
-        column[:] = array("i", [min(z + UNIT * pixels, HIGH + 1) if LOW <= z <= HIGH else z for z in column])
-    return made
+def explained(error: BatchError, draws: List[Draw], origin: Tuple[int, int]) -> BatchError:
+    """The same error, whose text has the row of the array that was refused, and what stands there."""
+    reason = "" if error.draw is None or error.element is None else reason_of(error.number, draws[error.draw], error.element, origin)
+    return BatchError(error.status, f"{error}{reason}", error.number, error.draw, error.element)
+
+
+def reason_of(number: int, draw: Draw, element: int, origin: Tuple[int, int]) -> str:
+    if number == BAD_INDEX and draw._indices is not None:
+        name, length = TOPOLOGIES[draw._topology]
+        (index,) = struct.unpack_from("I", draw._indices, INDEX_BYTES * element)
+        return f": {name}: row {element // length}, index {element % length}: one of {draw._count} vertices, and not {index}"
+    if number == BAD_POSITION:
+        x, y = struct.unpack_from("ii", draw._vertices, VERTEX_BYTES * element)
+        seen = f", also as seen from the origin {origin}" if origin != (0, 0) else ""
+        return f": vertices: row {element}: x and y from {LOW} to {HIGH}{seen}, and not {x}, {y}"
+    return ""

@@ -1,16 +1,11 @@
-"""What callers pass, as views and as rows of integers. `_arguments` does the same for numbers.
-
-Nothing is rounded, wrapped or guessed. A message has the parameter's name, what is wanted and what was passed.
-"""
+"""What callers pass, as views. `_arguments` does the same for numbers, and `_records` for rows of integers."""
 
 import ctypes
-import operator
 import sys
-from array import array
 from math import prod
-from typing import Any, Iterable, Iterator, List, NamedTuple, Optional, Sequence, Tuple, Union
+from typing import Any, NamedTuple, Optional, Tuple
 
-from ._arguments import NUMBERS, of_length, shown
+from ._arguments import shown
 
 # By the letter of a buffer's format, as the module struct has it.
 FAMILIES = {**dict.fromkeys("bhilqn", "int"), **dict.fromkeys("cBHILQN", "uint"), **dict.fromkeys("efdg", "float"), "?": "bool"}
@@ -59,9 +54,6 @@ def buffer_of(value: Any) -> Optional[memoryview]:
         return memoryview(value)
     except (TypeError, ValueError, BufferError):
         return None
-
-
-# ---- Views
 
 
 class Form(NamedTuple):
@@ -139,143 +131,3 @@ def raw(name: str, value: Any, size: int) -> Buffer:
     if view.readonly or not view.c_contiguous or view.nbytes < size:
         raise refusal(name, wanted, view, True)
     return Buffer(view)
-
-
-# ---- Rows of integers
-
-
-class Column(NamedTuple):
-    """A column of rows: its name, and the range of its integers."""
-
-    name: str
-    least: int
-    greatest: int
-
-    def refused(self, name: str, row: int, value: Any) -> str:
-        """Why there is no such row."""
-        return f"{name}: row {row}, {self.name}: {self.least} to {self.greatest}, and not {shown(value)}"
-
-
-LOW, HIGH = -8388608, 8388607
-SNAP = "use trirast.snap(xy)"
-VERTEX = (
-    Column("x", LOW, HIGH), Column("y", LOW, HIGH), Column("depth", 0, 65535),
-    *(Column(name, 0, 255) for name in ("red", "green", "blue", "alpha")),
-)
-Columns = Sequence[Column]
-# Integers that are looked at and then copied, so that what is copied is still in a processor's cache.
-CHUNK = 1 << 15
-# Memory that nobody else has.
-Copy = Union[bytes, bytearray]
-
-
-def index_columns(count: int) -> Columns:
-    """The columns of rows of indices."""
-    return tuple(Column(f"index {number}", 0, NUMBERS - 1) for number in range(count))
-
-
-def rows_of(name: str, values: Any, columns: Columns) -> Copy:
-    """Rows of integers as C has them, 32 bits each, in a copy that nobody else can change."""
-    if isinstance(values, (bytes, bytearray)):
-        if len(values) % (4 * len(columns)):
-            raise ValueError(f"{name}: rows of {len(columns)} integers of 4 bytes, and not {len(values)} bytes")
-        return bytes(values)
-    refuse_masked(name, values)
-    view = buffer_of(values)
-    if view is None:
-        return of_numbers(name, list(flattened(name, values, columns)), columns)
-    with view:
-        return of_view(name, view, columns)
-
-
-def of_view(name: str, view: memoryview, columns: Columns) -> Copy:
-    """The rows of a buffer."""
-    check_shape(name, view, columns)
-    if 0 in (view.shape or ()):
-        return b""
-    kind, family = kind_of(view), family_of(view)
-    if family not in ("int", "uint"):
-        unit = " in 1/256 pixel" if columns is VERTEX else ""
-        raise TypeError(f"{name}: integers{unit}, and not {kind}" + f"; {SNAP}" * (columns is VERTEX and family == "float"))
-    if view.c_contiguous and (kind == "int32" or (kind == "uint32" and columns is not VERTEX)):
-        return view.tobytes()
-    return converted(name, view, columns)
-
-
-def check_shape(name: str, view: memoryview, columns: Columns) -> None:
-    shape, count = view.shape or (), len(columns)
-    if len(shape) not in (1, 2) or (shape[1] != count if len(shape) == 2 else shape[0] % count):
-        raise ValueError(f"{name}: rows of {count} integers, and not the shape {shape}")
-
-
-def flattened(name: str, values: Any, columns: Columns) -> Iterator[Any]:
-    """The values of a sequence of rows, or of a sequence of integers if a row is one."""
-    try:
-        rows = iter(values)
-    except TypeError:
-        raise TypeError(f"{name}: rows of {len(columns)} integers, and not {shown(values)}") from None
-    if len(columns) == 1:
-        yield from rows
-        return
-    for number, row in enumerate(rows):
-        yield from of_length(f"{name}: row {number}", row, len(columns))
-
-
-def converted(name: str, view: memoryview, columns: Columns) -> Copy:
-    """Integers of another type as integers of 32 bits."""
-    numpy = sys.modules.get("numpy")
-    if numpy is not None:
-        made = narrowed(numpy, view, columns)
-        return of_numbers(name, numpy.asarray(view).ravel().tolist(), columns) if made is None else made
-    try:
-        rows: List[Any] = view.tolist()
-    except NotImplementedError:
-        raise TypeError(f"{name}: integers in the machine's order, and not {kind_of(view)}") from None
-    return of_numbers(name, [each for row in rows for each in row] if view.ndim == 2 else rows, columns)
-
-
-def narrowed(numpy: Any, view: memoryview, columns: Columns) -> Optional[bytearray]:
-    """Integers of another type as integers of 32 bits by numpy, or `None` if one of them does not fit."""
-    integers = numpy.asarray(view)
-    kind = numpy.dtype(code_of(columns))
-    limits = numpy.iinfo(kind)
-    # Indices of 32 bits with a sign are taken as they are: the library refuses those that are negative, and names them.
-    fits = integers.dtype.itemsize == 4 and columns is not VERTEX
-    # New memory costs more than what is written to it, so there is no second copy.
-    made = bytearray(kind.itemsize * integers.size)
-    rows = numpy.frombuffer(made, kind).reshape(integers.shape)
-    step = max(1, CHUNK * len(integers) // max(1, integers.size))
-    for first in range(0, len(integers), step):
-        part = integers[first : first + step]
-        if not (fits or (limits.min <= part.min() and part.max() <= limits.max)):
-            return None
-        rows[first : first + step] = part
-    return made
-
-
-def code_of(columns: Columns) -> str:
-    """The type of 32-bit integers that C has for these columns, as array and numpy name it."""
-    return "i" if columns is VERTEX else "I"
-
-
-def of_numbers(name: str, values: Sequence[Any], columns: Columns) -> bytes:
-    """The bytes of integers. Raises TypeError at what is none, and OverflowError at one that does not fit 32 bits."""
-    try:
-        return array(code_of(columns), map(operator.index, values)).tobytes()
-    except (TypeError, OverflowError):
-        raise refused(name, values, columns) from None
-
-
-def refused(name: str, values: Iterable[Any], columns: Columns) -> Exception:
-    """The error of the first value that is no integer or does not fit 32 bits."""
-    least, greatest = (-(NUMBERS >> 1), (NUMBERS >> 1) - 1) if columns is VERTEX else (0, NUMBERS - 1)
-    for place, value in enumerate(values):
-        row, column = place // len(columns), columns[place % len(columns)]
-        try:
-            if not least <= operator.index(value) <= greatest:
-                return OverflowError(column.refused(name, row, value))
-        except TypeError:
-            is_position = column.name in ("x", "y") and hasattr(value, "__float__")
-            unit, how = (" in 1/256 pixel", f"; {SNAP}") if is_position else ("", "")
-            return TypeError(f"{name}: row {row}, {column.name}: an integer{unit}, and not {shown(value)}{how}")
-    return TypeError(f"{name}: rows of {len(columns)} integers, which no other thread changes")

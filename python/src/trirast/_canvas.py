@@ -3,155 +3,195 @@
 import ctypes
 import struct
 from threading import RLock
-from typing import Any, Callable, Dict, List, Optional, Sequence, SupportsFloat, SupportsIndex, Tuple
+from typing import Any, Callable, Dict, List, Literal, Optional, Sequence, SupportsFloat, SupportsIndex, Tuple, Union
 
-from ._arguments import between, color_of, integer, named, number, of_length, signed, thread_count
-from ._batch import batch_of, draws_of
+from ._arguments import between, color_of, flag, integer, named, number, of_length, signed, thread_count
+from ._batch import batch_of, draws_of, explained
+from ._blend import Blend, Preset
 from ._buffers import Buffer, Form, check_writable, raw, readable
-from ._draw import Draw
-from ._errors import CanvasError, DrawListError
-from ._ffi import PLANE_BYTES, CCanvas, CCorners, CEdges, CError, library
+from ._draw import EVERY_SAMPLE, Cull, DepthTest, Draw
+from ._errors import BatchError, CanvasError
+from ._ffi import CCanvas, CClear, CCorners, CError, library
 from ._picture import Path, Picture
-from ._refused import explained
+from ._records import table_of
 from ._threads import share
 from ._version import INTERFACE
+from ._vertices import PLACE
 
 ALIGNMENT = 64
 FORMATS = {"rgb": (0, 3), "rgba": (1, 4), "bgra": (2, 4)}
-FARTHEST = 32768
-CODES = {"uint8": "B", "uint16": "H", "uint32": "I"}
+CODES = {"uint8": "B", "uint16": "H", "uint32": "I", "int64": "q"}
+# The rows of pixels of a tile.
+TILE_SIZE = 64
+Format = Literal["rgb", "rgba", "bgra"]
 
 
 class Canvas:
     """The samples of `width` by `height` pixels, 1 to 4096 each, with 1, 2, 4, 8 or 16 `samples` a pixel.
 
-    What they begin with is not specified: call `clear`, or `load` and `clear`, first. `origin` is the pixel of the screen at which
-    the upper left pixel of the canvas lies; positions and scissors are those of the screen. `memory` is a buffer of at least
-    Canvas.size(..) bytes that can be written, in which the samples lie; without it the canvas has memory of its own.
+    What they begin with is not specified: call `clear`, or `load` and `clear`, first. `origin` is the pixel of the
+    screen at which the upper left pixel of the canvas lies; positions and scissors are those of the screen. `memory` is
+    a buffer of at least Canvas.size(..) bytes that can be written, in which the samples lie; without it the canvas has
+    memory of its own. A stored `alpha` there is not yet: True raises NotImplementedError.
 
-    Calls of several threads on one canvas wait for each other. `threads` is the number of threads among which a call shares its tile
-    rows. An interrupt, as by Ctrl-C, is raised when the call is done. A copy, by copy or pickle, has memory of its own.
+    Calls of several threads on one canvas wait for each other. `threads` is the number of threads among which a call
+    shares its tile rows. An interrupt, as by Ctrl-C, is raised when the call is done. A copy, by copy or pickle, has
+    memory of its own.
 
-    Each call raises TypeError, ValueError or OverflowError, which names the parameter, at what it does not take.
+    Each call raises TypeError or ValueError, which names the parameter, at what it does not take.
     """
 
     def __init__(
         self,
         width: SupportsIndex,
         height: SupportsIndex,
-        *,
         samples: SupportsIndex = 1,
+        *,
+        alpha: bool = False,
         origin: Sequence[SupportsIndex] = (0, 0),
         memory: Optional[Any] = None,
     ) -> None:
+        if flag("alpha", alpha):
+            raise NotImplementedError("alpha: a canvas has no stored alpha yet, so False")
         x, y = (signed("origin", each) for each in of_length("origin", origin, 2))
-        size = Canvas.size(width, height, samples=samples)
+        size = Canvas.size(width, height, samples)
         sides = integer("width", width), integer("height", height)
-        self._set(sides, integer("samples", samples), (x, y), aligned(size) if memory is None else given(memory, size))
+        self._set(sides, integer("samples", samples), (x, y), aligned(size) if memory is None else given(memory, size), size)
 
-    def _set(self, sides: Tuple[int, int], samples: int, origin: Tuple[int, int], memory: Tuple[Any, int]) -> None:
-        self._width, self._height = sides
-        self._samples, self._origin = samples, origin
+    def _set(self, sides: Tuple[int, int], samples: int, origin: Tuple[int, int], memory: Tuple[Any, int], size: int) -> None:
         self._memory, first = memory
-        self._first = ctypes.addressof(self._memory) + first
-        self._rows = library().trirast_canvas_rows(self._height)
-        self._row_bytes = library().trirast_canvas_bytes(self._width, self._height, samples, 0, 1)
-        self._row_pixels = library().trirast_canvas_row_pixels()
-        # A library's scissor begins at pixel 0 of the screen. So where the canvas begins left of that, or above it, all is drawn as it is
-        # seen from the canvas.
-        self._corner = max(origin[0], 0), max(origin[1], 0)
-        self._moved = self._corner[0] - origin[0], self._corner[1] - origin[1]
+        self._bytes, self._first = size, ctypes.addressof(self._memory) + first
+        self._whole = CCanvas(0, *sides, samples, 0, *origin)
+        library().trirast_canvas_init(self._whole, self._first, size)
         self._lock = RLock()
 
     @property
     def width(self) -> int:
         """The width in pixels."""
-        return self._width
+        found: int = self._whole.width
+        return found
 
     @property
     def height(self) -> int:
         """The height in pixels."""
-        return self._height
+        found: int = self._whole.height
+        return found
 
     @property
     def samples(self) -> int:
         """The samples of a pixel."""
-        return self._samples
+        found: int = self._whole.samples
+        return found
 
     @property
     def origin(self) -> Tuple[int, int]:
         """The pixel of the screen at which the upper left pixel lies."""
-        return self._origin
+        return self._whole.origin_x, self._whole.origin_y
 
     @staticmethod
-    def size(width: SupportsIndex, height: SupportsIndex, *, samples: SupportsIndex = 1) -> int:
+    def size(width: SupportsIndex, height: SupportsIndex, samples: SupportsIndex = 1) -> int:
         """The bytes of the samples of such a canvas, 5.2 a sample in whole tiles of 64 by 64 pixels. Raises CanvasError if there is
         none."""
-        numbers = (number("width", width, 0), number("height", height, 0), number("samples", samples, 0))
-        rows = library().trirast_canvas_rows(numbers[1])
-        size: int = library().trirast_canvas_bytes(*numbers, 0, rows)
+        numbers = (number("width", width, 0), number("height", height, 0), number("samples", samples))
+        # 0 is the default of C.
+        size: int = library().trirast_canvas_size(CCanvas(0, *numbers)) if numbers[2] else 0
         if not size:
             wanted = "a canvas has 1 to 4096 pixels a side and 1, 2, 4, 8 or 16 samples a pixel"
-            raise CanvasError(8, f"trirast: {wanted}, and not {width} by {height} and {samples}; larger: trirast.poster")
+            raise CanvasError(8, f"{wanted}, and not {width} by {height} and {samples}; larger: trirast.poster")
         return size
 
     def clear(
         self, color: Sequence[SupportsIndex] = (0, 0, 0), depth: SupportsIndex = 65535, *, threads: SupportsIndex = 1
     ) -> None:
-        """Makes each sample one of this colour and depth. Raises ValueError if a channel is no byte, or the depth above 65535."""
-        channels = (ctypes.c_uint8 * 3)(*color_of("color", color))
-        stored = between("depth", depth, 0, 65535)
-        self._each(threads, lambda piece, _top: library().trirast_canvas_clear(piece, channels, stored))
+        """Makes each sample one of this colour, red, green and blue of 0 to 255, and of this depth, 0 to 65535. Raises
+        ValueError at any other."""
+        clear = CClear(*color_of("color", color, 3), 0, between("depth", depth, 0, 65535))
+        self._each(threads, lambda piece, _top: library().trirast_canvas_clear(piece, clear))
 
-    def load(self, image: Any, *, format: Optional[str] = None, threads: SupportsIndex = 1) -> None:
+    def load(self, image: Any, *, format: Optional[Format] = None, threads: SupportsIndex = 1) -> None:
         """Makes an image the colour of all samples of its pixels; depths stay. The image is a buffer of bytes of the shape (height,
         width, 3) or (height, width, 4), or of as many bytes without a shape. `format` is "rgb", "rgba" or "bgra"; without it the
         image is "rgb" or "rgba" by its length. Alpha is not read. An image that cannot be written or is not contiguous is copied."""
+        self._stored(library().trirast_canvas_load, image, format, threads)
+
+    def store(
+        self, image: Any, sample: SupportsIndex = 0, *, format: Optional[Format] = None, threads: SupportsIndex = 1
+    ) -> None:
+        """Makes an image the colour of one sample of its pixels; depths and other samples stay. The image is as for `load`."""
+        self._stored(of_sample(library().trirast_canvas_store, number("sample", sample)), image, format, threads)
+
+    def _stored(self, call: Any, image: Any, format: Optional[Format], threads: SupportsIndex) -> None:
         if format is not None:
-            named("format", tuple(FORMATS), format)
+            named("format", FORMATS, format)
         kinds = ("rgb", "rgba") if format is None else (format,)
         forms = [self._form(("uint8",), FORMATS[kind][1]) for kind in kinds]
         found, pixels = readable("image", image, *forms)
         with pixels:
-            self._image("image", pixels, kinds[forms.index(found)], library().trirast_canvas_load, threads)
+            self._rows("image", pixels, call, FORMATS[kinds[forms.index(found)]][0], 1, threads)
 
     def draw(
-        self, vertices: Any, triangles: Optional[Any] = None, *, threads: SupportsIndex = 1, **state: Any
-    ) -> None:
-        """Draws triangles over what is stored. The parameters are those of trirast.Draw; a scissor is of pixels of the screen, 0 to
-        32,768, and without one nothing is cut. Raises DrawListError, and then nothing was drawn."""
-        self.draw_batch([Draw(vertices, triangles, **state)], threads=threads)
-
-    def draw_ids(
         self,
         vertices: Any,
         triangles: Optional[Any] = None,
         *,
-        first_id: SupportsIndex = 0,
+        strip: Optional[Any] = None,
+        quads: Optional[Any] = None,
+        colors: Optional[Any] = None,
+        depth: Optional[Any] = None,
+        blend: Union[Preset, Blend] = "none",
+        cull: Cull = "none",
+        depth_test: DepthTest = "always",
+        depth_write: bool = False,
+        keep: str = "",
+        sample_mask: SupportsIndex = EVERY_SAMPLE,
+        scissor: Optional[Sequence[SupportsIndex]] = None,
+        first_id: Optional[SupportsIndex] = None,
         threads: SupportsIndex = 1,
-        **state: Any,
     ) -> None:
-        """Draws triangles in the same way, each in the colour of its id: `first_id` and its place, at most 16,777,215."""
-        self.draw_batch([Draw(vertices, triangles, **state)], first_id=first_id, threads=threads)
+        """Draws triangles over what is stored, one after another.
+
+        `vertices` are rows of x and y in 1/256 pixel of the screen, x to the right and y downwards: `trirast.snap`
+        makes them of floats in pixels. They may be whole rows too, of x, y, depth, red, green, blue and alpha, or
+        records of VERTEX. `colors` is one colour of 3 or 4 channels, red, green, blue and alpha of 0 to 255, or a row
+        of them for each vertex; white, if there are none. `depth` is one depth, 0 to 65535, or one for each vertex; 0,
+        if there are none.
+
+        One of `triangles`, `strip` and `quads` has rows of 3, 1 and 4 indices of vertices; without any, each three
+        vertices are a triangle. Rows are sequences, or buffers of integers of any type and layout, as arrays of numpy.
+        They are copied, and nothing of them is rounded or wrapped. An array of VERTEX that is contiguous is not copied:
+        nobody may change it meanwhile. bytes and a bytearray have records of 16 bytes, and indices of 32 bits. Without
+        rows nothing is drawn.
+
+        `blend` is one of BLENDS, by its name, or a Blend. `cull` drops front-facing triangles, which run clockwise on
+        the screen, or back-facing ones. A sample is drawn if its new depth passes `depth_test` against the stored one;
+        with `depth_write` the new one is stored. `keep` has the letters of the channels that are not written, of
+        "rgba". Bit s of `sample_mask`, 0 to 65535, says whether sample s of each pixel is drawn. `scissor` is left,
+        top, right and bottom, in pixels of the screen, of which right and bottom are outside. With `first_id` each
+        triangle is drawn in the colour of its id, whatever `blend` and `keep` are: `first_id` and its place, at most
+        16,777,215, as `ids` reads them.
+
+        Raises BatchError, and then nothing was drawn, if an index names no vertex, a vertex that an index names lies
+        outside of -8388608 to 8388607 on the screen or as seen from the canvas, or a quad is not strictly convex;
+        TypeError or ValueError, which name the parameter, row and column, at what is no such value.
+        """
+        draw = Draw(
+            vertices, triangles, strip=strip, quads=quads, colors=colors, depth=depth, blend=blend, cull=cull, depth_test=depth_test,
+            depth_write=depth_write, keep=keep, sample_mask=sample_mask, scissor=scissor,
+        )
+        self.draw_batch([draw], first_id=first_id, threads=threads)
 
     def draw_batch(
         self, draws: Sequence[Draw], *, first_id: Optional[SupportsIndex] = None, threads: SupportsIndex = 1
     ) -> None:
         """Draws several draws, in their colours, or by ids that are counted from `first_id` over all of them."""
         listed = draws_of(draws)
-        batch = batch_of(listed, FARTHEST, self._moved)
-        first = None if first_id is None else number("first_id", first_id)
-
-        def draw_piece(piece: CCanvas, _top: int) -> None:
-            if first is None:
-                library().trirast_canvas_draw(piece, batch, CError())
-            else:
-                library().trirast_canvas_draw_ids(piece, batch, first, CError())
-
+        batch = batch_of(listed)
+        ids = () if first_id is None else (number("first_id", first_id),)
+        call = library().trirast_canvas_draw_ids if ids else library().trirast_canvas_draw
         try:
-            self._each(threads, draw_piece)
-        except DrawListError as error:
-            raise explained(error, listed, FARTHEST, self._origin) from None
+            self._each(threads, lambda piece, _top: call(piece, batch, *ids, CError()))
+        except BatchError as error:
+            raise explained(error, listed, self.origin) from None
 
     def rgb(self, out: Optional[Any] = None, *, threads: SupportsIndex = 1) -> Any:
         """The colours, of the shape (height, width, 3): a numpy array, or without numpy a memoryview; or what `out` is."""
@@ -175,109 +215,118 @@ class Canvas:
         return self._picture(1)._repr_png_()
 
     def _picture(self, threads: SupportsIndex) -> Picture:
-        return Picture(self._width, self._height, False, memoryview(self.rgb(threads=threads)).cast("B"))
+        return Picture(self.width, self.height, False, memoryview(self.rgb(threads=threads)).cast("B"))
 
     def depth(self, sample: SupportsIndex = 0, out: Optional[Any] = None, *, threads: SupportsIndex = 1) -> Any:
         """The depth of one sample of each pixel: 16 bits, of the shape (height, width)."""
-        return self._entries(library().trirast_canvas_depths, ("uint16",), number("sample", sample), out, threads)
+        return self._written(library().trirast_canvas_depths, number("sample", sample), self._form(("uint16",)), out, threads)
 
     def ids(self, sample: SupportsIndex = 0, out: Optional[Any] = None, *, threads: SupportsIndex = 1) -> Any:
         """The id of one sample of each pixel: 32 bits, of the shape (height, width)."""
-        return self._entries(library().trirast_canvas_ids, ("uint32", "int32"), number("sample", sample), out, threads)
+        return self._written(library().trirast_canvas_ids, number("sample", sample), self._form(("uint32", "int32")), out, threads)
+
+    def colors(
+        self, sample: SupportsIndex = 0, out: Optional[Any] = None, *, format: Format = "rgb", threads: SupportsIndex = 1
+    ) -> Any:
+        """The colour of one sample of each pixel, which is not resolved: bytes of the shape (height, width, 3), or 4 with alpha."""
+        named("format", FORMATS, format)
+        code, channels = FORMATS[format]
+        call = of_sample(library().trirast_canvas_colors, number("sample", sample))
+        return self._written(call, code, self._form(("uint8",), channels), out, threads)
 
     # ---- Copies
 
     def __getstate__(self) -> Dict[str, Any]:
         with self._lock:
-            samples = ctypes.string_at(self._first, self._rows * self._row_bytes)
+            samples = ctypes.string_at(self._first, self._bytes)
         state = {name: value for name, value in self.__dict__.items() if name not in OWN}
-        return {**state, "_canvas": (INTERFACE, (self._width, self._height), self._samples, self._origin, samples)}
+        return {**state, "_canvas": (INTERFACE, (self.width, self.height), self.samples, self.origin, samples)}
 
     def __setstate__(self, state: Dict[str, Any]) -> None:
         interface, sides, count, origin, samples = state.pop("_canvas")
-        if interface != INTERFACE or len(samples) != Canvas.size(*sides, samples=count):
+        if interface != INTERFACE or len(samples) != Canvas.size(sides[0], sides[1], count):
             raise ValueError(f"a canvas of interface {interface}, whose samples may lie in another way than those of {INTERFACE}")
         memory, first = aligned(len(samples))
         ctypes.memmove(ctypes.addressof(memory) + first, samples, len(samples))
-        self._set(sides, count, origin, (memory, first))
+        self._set(sides, count, origin, (memory, first), len(samples))
         self.__dict__.update(state)
 
     # ---- Pieces
 
-    def _piece(self, first: int, end: int) -> CCanvas:
-        size = (end - first) * self._row_bytes
-        piece = CCanvas(
-            ctypes.sizeof(CCanvas), self._width, self._height, self._samples, *self._corner, first, end,
-            self._first + first * self._row_bytes, size // PLANE_BYTES,
-        )
-        piece.kept = (self._memory,)
-        return piece
-
     def _pieces(self, count: int) -> List[Tuple[CCanvas, int]]:
         """The canvas in this many pieces, each with its first row of pixels."""
-        ends = [k * self._rows // count for k in range(count + 1)]
-        return [(self._piece(first, end), first * self._row_pixels) for first, end in zip(ends, ends[1:])]
+        rows = self._whole.end
+        ends = [k * rows // count for k in range(count + 1)]
+        found = []
+        for first, end in zip(ends, ends[1:]):
+            piece = CCanvas()
+            library().trirast_canvas_split(self._whole, first, end, piece)
+            piece.kept = (self._memory,)
+            found.append((piece, first * TILE_SIZE))
+        return found
 
     def _each(self, threads: SupportsIndex, call: Callable[[CCanvas, int], Any], *used: Buffer) -> None:
         """Makes the call on pieces of the canvas. ctypes lets Python's lock go meanwhile."""
-        count = min(thread_count(threads), self._rows)
+        count = min(thread_count(threads), self._whole.end)
         with self._lock:
             share(call, self._pieces, count, used)
 
     # ---- Pictures in memory
 
     def _form(self, kinds: Tuple[str, ...], *channels: int) -> Form:
-        return Form(kinds, (self._height, self._width, *channels))
+        return Form(kinds, (self.height, self.width, *channels))
 
     def _check_apart(self, name: str, buffer: Buffer) -> None:
         """Raises ValueError at a buffer in the memory of the samples."""
-        end = self._first + self._rows * self._row_bytes
+        end = self._first + self._bytes
         if buffer.address < end and self._first < buffer.address + buffer.size:
             raise ValueError(f"{name}: memory apart from that of the canvas")
 
-    def _image(self, name: str, pixels: Buffer, kind: str, call: Any, threads: SupportsIndex) -> None:
-        self._check_apart(name, pixels)
-        code, unit = FORMATS[kind]
-        stride, start, size = unit * self._width, pixels.address, pixels.size
-        self._each(threads, lambda piece, top: call(piece, code, start + top * stride, size - top * stride, stride), pixels)
+    def _rows(self, name: str, buffer: Buffer, call: Any, chosen: int, unit: int, threads: SupportsIndex) -> None:
+        """Makes a call on the rows of pixels of a buffer: `chosen` is their format, or a sample, and `unit` the bytes
+        that are counted."""
+        self._check_apart(name, buffer)
+        start, size = buffer.address, buffer.size
+        stride = size // self.height
+        self._each(threads, lambda piece, top: call(piece, chosen, start + top * stride, (size - top * stride) // unit, stride), buffer)
 
     def _resolved(self, kind: str, out: Optional[Any], threads: SupportsIndex) -> Any:
-        form = self._form(("uint8",), FORMATS[kind][1])
+        code, channels = FORMATS[kind]
+        return self._written(library().trirast_canvas_resolve, code, self._form(("uint8",), channels), out, threads)
+
+    def _written(self, call: Any, chosen: int, form: Form, out: Optional[Any], threads: SupportsIndex) -> Any:
         made = new_array(form) if out is None else out
-        with Buffer(check_writable("out", made, form)) as pixels:
-            self._image("out", pixels, kind, library().trirast_canvas_resolve, threads)
+        with Buffer(check_writable("out", made, form)) as buffer:
+            self._rows("out", buffer, call, chosen, struct.calcsize(CODES[form.kinds[0]]), threads)
         return made
 
-    def _entries(self, call: Any, kinds: Tuple[str, ...], sample: int, out: Optional[Any], threads: SupportsIndex) -> Any:
-        form = self._form(kinds)
-        made = new_array(form) if out is None else out
-        with Buffer(check_writable("out", made, form)) as entries:
-            self._check_apart("out", entries)
-            start, unit, width = entries.address, entries.size // form.items, self._width
 
-            def on(piece: CCanvas, top: int) -> None:
-                call(piece, sample, start + top * width * unit, form.items - top * width, width)
-
-            self._each(threads, on, entries)
-        return made
+def of_sample(call: Any, sample: int) -> Any:
+    """A call on the colours of one sample index, as one on those of pixels: with a format before the buffer."""
+    return lambda piece, format, *buffer: call(piece, sample, format, *buffer)
 
 
 # What `_set` makes, which a copy makes anew.
-OWN = frozenset((
-    "_width", "_height", "_samples", "_origin", "_memory", "_first", "_rows", "_row_bytes", "_row_pixels", "_corner", "_moved", "_lock",
-))
+OWN = frozenset(("_memory", "_bytes", "_first", "_whole", "_lock"))
 
 
-def edges(
-    a: Sequence[SupportsIndex], b: Sequence[SupportsIndex], c: Sequence[SupportsIndex], point: Sequence[SupportsIndex]
-) -> Tuple[int, int, int, int, bool]:
-    """The edge functions of the triangle abc at a point, each of the edge across from its corner; the doubled area; and whether the
-    triangle covers the point. Positions are x and y in 1/256 pixel. Raises PositionError outside of -8388608 to 8388607."""
-    positions = (("a", a), ("b", b), ("c", c), ("point", point))
-    *corners, x, y = (signed(name, each) for name, position in positions for each in of_length(name, position, 2))
-    found = CEdges()
-    library().trirast_weights(CCorners(*corners), x, y, found)
-    return found.a, found.b, found.c, found.doubled_area, bool(found.covered)
+def edges_at(
+    a: Sequence[SupportsIndex], b: Sequence[SupportsIndex], c: Sequence[SupportsIndex], points: Any
+) -> Any:
+    """The edge functions of the triangle abc at points, exactly: rows of the edge across from a, from b and from c, in
+    1/65536 square pixel; the doubled area; and 1 if the triangle covers the point by the top-left rule, else 0. Corners
+    are x and y in 1/256 pixel; `points` rows of these, as `Canvas.draw` takes them. Returns 64-bit integers of the
+    shape (n, 5): a numpy array, or without numpy a memoryview.
+
+    For a point inside the edge functions have the sign of the doubled area, and each over that area is the weight of
+    its corner. Raises PositionError outside of -8388608 to 8388607."""
+    corners = (signed(name, each) for name, position in (("a", a), ("b", b), ("c", c)) for each in of_length(name, position, 2))
+    table = table_of("points", points, PLACE)
+    places = table.fill(bytearray(8 * table.count), 8)
+    found = new_array(Form(("int64",), (table.count, 5)))
+    with Buffer(memoryview(places)) as given_points, Buffer(check_writable("points", found, Form(("int64",), (table.count, 5)))) as written:
+        library().trirast_edges_at(CCorners(*corners), given_points.address, 0, table.count, written.address)
+    return found
 
 
 # ---- Memory

@@ -3,9 +3,10 @@
 from typing import Any, List, NamedTuple, Sequence, SupportsIndex, Tuple
 
 from ._arguments import between, named, of_length, shown
-from ._buffers import HIGH, LOW, index_columns, refuse_masked, rows_of
-from ._draw import VERTEX_BYTES
+from ._buffers import refuse_masked
 from ._polygon import MADE, Corner, Ears, Plane, kept
+from ._records import HIGH, LOW, index_columns, indices_of
+from ._vertices import VERTEX
 
 # One of numpy, which the package does without until a call needs it.
 Array = Any
@@ -15,14 +16,13 @@ LARGEST = 16384
 # What a float of C holds.
 GREATEST = 3.4028234663852886e38
 LEAST_W = 2.0**-30
-COLUMNS = VERTEX_BYTES // 4
 
 
 class Clipped(NamedTuple):
     """Triangles on the screen. The first vertices are the projected positions, at their own indices; those that a plane does not keep are
     unspecified. Behind them lie those that cuts made."""
 
-    vertices: Array  # int32, rows of x, y, depth and colours of 0, as Canvas.draw takes them
+    vertices: Array  # of VERTEX, in colours of 0: Canvas.draw takes them with `colors`, or whose fields are set
     w: Array  # float32, of each vertex
     triangles: Array  # uint32, rows of three indices, in the order of the source
     sources: Array  # uint32, of each triangle that of the source of which it is a part
@@ -86,10 +86,10 @@ class View:
         x, y, z, w = places
         right, down = np.rint(x / w * self.scales[0]), np.rint(-y / w * self.scales[1])
         depth = np.rint((z + self.near_factor * w) / w * self.scales[2])
-        found = np.zeros((places.shape[1], COLUMNS), np.int32)
-        found[:, 0] = np.clip(right + self.centre[0], LOW, HIGH)
-        found[:, 1] = np.clip(down + self.centre[1], LOW, HIGH)
-        found[:, 2] = np.clip(self.near_depth + depth, self.least_depth, self.greatest_depth)
+        found = np.zeros(places.shape[1], VERTEX)
+        found["x"] = np.clip(right + self.centre[0], LOW, HIGH)
+        found["y"] = np.clip(down + self.centre[1], LOW, HIGH)
+        found["depth"] = np.clip(self.near_depth + depth, self.least_depth, self.greatest_depth)
         return found
 
 
@@ -128,7 +128,7 @@ class Parts:
         indices = [next(numbers) if corner.vertex == MADE else corner.vertex for corner in corners]
         snapped = iter(self._view.snapped(np.array([corner.place for corner in made]).reshape(-1, 4).T))
         rows = [next(snapped) if corner.vertex == MADE else self._vertices[corner.vertex] for corner in corners]
-        ears = Ears([(int(row[0]), int(row[1])) for row in rows])
+        ears = Ears([(int(row["x"]), int(row["y"])) for row in rows])
         for ear in ears:
             self.triangles.append(tuple(indices[k] for k in ear))
             self.sources.append(source)
@@ -160,10 +160,10 @@ def clip(
 
     view = View(viewport, named("near_plane", NEAR_PLANES, near_plane), named("sides", SIDES, sides), depths)
     places = places_of(positions)
-    rows = np.frombuffer(rows_of("triangles", triangles, index_columns(3)), np.uint32).reshape(-1, 3)
+    rows = np.frombuffer(indices_of("triangles", triangles, index_columns(3)), np.uint32).reshape(-1, 3)
     check_indices(rows, places.shape[1])
     marks = view.marks(places)
-    vertices = np.zeros((places.shape[1], COLUMNS), np.int32)
+    vertices = np.zeros(places.shape[1], VERTEX)
     whole = marks & (view.all_planes | view.not_finite) == 0
     vertices[whole] = view.snapped(places[:, whole])
 

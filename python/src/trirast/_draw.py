@@ -1,34 +1,43 @@
 """Draws: vertices, primitives over them, and the state in which these are drawn."""
 
-import ctypes
-from typing import Any, Optional, Sequence, SupportsIndex, Tuple
+from typing import Any, Literal, Optional, Sequence, SupportsIndex, TypedDict, Union
 
-from ._arguments import NUMBERS, flag, named, number, of_length
-from ._buffers import VERTEX, index_columns, rows_of
-from ._ffi import CBatchDraw, CVertex
+from ._arguments import between, flag, named, of_length, shown, signed
+from ._blend import Blend, Preset, blend_in_c
+from ._ffi import CDraw
+from ._records import Copy, index_columns, indices_of
+from ._vertices import VERTEX_BYTES, vertices_of
 
+Cull = Literal["none", "front", "back"]
+DepthTest = Literal["always", "never", "less", "equal", "less_equal", "greater", "not_equal", "greater_equal"]
+# In the order of their numbers in C.
 CULLS = ("none", "front", "back")
-DEPTH_TESTS = ("never", "less", "equal", "less_equal", "greater", "not_equal", "greater_equal", "always")
-BLENDS = ("none", "over")
+DEPTH_TESTS = ("always", "never", "less", "equal", "less_equal", "greater", "not_equal", "greater_equal")
+CHANNELS = "rgba"
 # The sample mask that has every sample, however many a pixel has.
 EVERY_SAMPLE = 0xFFFF
 # Of each topology, in the order of trirast_topology, its name and the indices of a primitive.
 TOPOLOGIES = (("triangles", 3), ("strip", 1), ("quads", 4))
-INDEX_BYTES = ctypes.sizeof(ctypes.c_uint32)
-VERTEX_BYTES = ctypes.sizeof(CVertex)
+INDEX_BYTES = 4
+
+
+class State(TypedDict, total=False):
+    """The state of a draw by its keywords, for who keeps one: canvas.draw(vertices, triangles, **state)."""
+
+    blend: Union[Preset, Blend]
+    cull: Cull
+    depth_test: DepthTest
+    depth_write: bool
+    keep: str
+    sample_mask: SupportsIndex
+    scissor: Optional[Sequence[SupportsIndex]]
 
 
 class Draw:
-    """A draw of a scene or of a canvas.
+    """A draw of a batch, for `Canvas.draw_batch`. Its parameters are those of `Canvas.draw`.
 
-    `vertices` are rows of x, y, depth, red, green, blue and alpha. One of `triangles`, `strip` and `quads` is given, with rows
-    of 3, 1 and 4 indices of vertices. Each is a buffer of integers, as a numpy array, an array.array or a memoryview, with one
-    row after another or with two dimensions, in any layout; bytes or a bytearray, which hold 32-bit integers in the machine's order;
-    or a sequence of rows. Without rows nothing is drawn. The draw has a copy of its own, so what becomes of the arrays later is not
-    drawn. The other parameters are the keys of docs/draw-list.md, with their values and defaults. `sample_mask` has 16 bits, one for each
-    sample that a pixel of a canvas can have, and without it every sample is drawn.
-
-    Raises TypeError, ValueError or OverflowError at what is no such value. It names the parameter, and in arrays row and column.
+    The draw has copies of what it is made of, so what becomes of arrays later is not drawn; but an array of VERTEX is
+    not copied.
     """
 
     def __init__(
@@ -38,35 +47,45 @@ class Draw:
         *,
         strip: Optional[Any] = None,
         quads: Optional[Any] = None,
-        cull: str = "none",
-        depth_test: str = "always",
+        colors: Optional[Any] = None,
+        depth: Optional[Any] = None,
+        blend: Union[Preset, Blend] = "none",
+        cull: Cull = "none",
+        depth_test: DepthTest = "always",
         depth_write: bool = False,
-        blend: str = "none",
-        write: Sequence[bool] = (True, True, True),
+        keep: str = "",
         sample_mask: SupportsIndex = EVERY_SAMPLE,
         scissor: Optional[Sequence[SupportsIndex]] = None,
     ) -> None:
         given = [(kind, values) for kind, values in enumerate((triangles, strip, quads)) if values is not None]
-        if len(given) != 1:
+        if len(given) > 1:
             raise ValueError("a draw has one of triangles, strip and quads")
-        ((self._topology, indices),) = given
-        name, columns = TOPOLOGIES[self._topology]
-        self._vertices = rows_of("vertices", vertices, VERTEX)
-        self._indices = rows_of(name, indices, index_columns(columns))
+        self._topology, indices = given[0] if given else (0, None)
+        name, length = TOPOLOGIES[self._topology]
+        self._vertices = vertices_of(vertices, colors, depth)
+        self._indices: Optional[Copy] = indices_of(name, indices, index_columns(length)) if given else None
+        if self._indices is not None and not self._indices:
+            self._vertices = b""
         self._state = (
-            named("cull", CULLS, cull), named("depth_test", DEPTH_TESTS, depth_test), flag("depth_write", depth_write),
-            named("blend", BLENDS, blend), *(flag("write", channel) for channel in of_length("write", write, 3)),
-            number("sample_mask", sample_mask),
+            named("cull", CULLS, cull), named("depth_test", DEPTH_TESTS, depth_test), flag("depth_write", depth_write), kept_of(keep),
+            int(scissor is not None), ~between("sample_mask", sample_mask, 0, EVERY_SAMPLE) & EVERY_SAMPLE,
+            *(signed("scissor", side) for side in of_length("scissor", (0, 0, 0, 0) if scissor is None else scissor, 4)),
         )
-        self._scissor: Optional[Tuple[int, ...]] = None
-        if scissor is not None:
-            self._scissor = tuple(number("scissor", side) for side in of_length("scissor", scissor, 4))
+        self._blend = blend_in_c(blend)
 
-    def _in_c(self, farthest: int, by: Tuple[int, int] = (0, 0)) -> CBatchDraw:
-        """The draw as C has it, moved by pixels to the right and down. Without a scissor it is cut to 0 to `farthest`."""
-        counts = (len(self._vertices) // VERTEX_BYTES, len(self._indices) // INDEX_BYTES)
-        scissor: Tuple[int, ...] = (0, 0, farthest, farthest)
-        if self._scissor is not None:
-            # One outside of its range stays there.
-            scissor = tuple(s if s > farthest else min(s + pixels, farthest) for s, pixels in zip(self._scissor, 2 * by))
-        return CBatchDraw(*(min(count, NUMBERS - 1) for count in counts), self._topology, *self._state, *scissor)
+    def _in_c(self) -> CDraw:
+        """The draw as C has it."""
+        indices = self._count if self._indices is None else len(self._indices) // INDEX_BYTES
+        return CDraw(self._count, indices, self._topology, *self._state, self._blend)
+
+    @property
+    def _count(self) -> int:
+        """How many vertices it has."""
+        return len(self._vertices) // VERTEX_BYTES
+
+
+def kept_of(keep: Any) -> int:
+    """The bits of channels that are not written. Raises ValueError at what is no channel, or is one twice."""
+    if not isinstance(keep, str) or not set(keep) <= set(CHANNELS) or len(set(keep)) < len(keep):
+        raise ValueError(f"keep: some of the letters r, g, b and a, and not {shown(keep)}")
+    return sum(1 << CHANNELS.index(letter) for letter in keep)

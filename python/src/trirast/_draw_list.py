@@ -33,7 +33,7 @@ def draw(
 
         def draw_range(first: int, end: int) -> None:
             begin, stop = (min(row * size, info.height) * row_bytes for row in (first, end))
-            library().trirast_draw_rows(data, len(data), size, first, end, start + begin, stop - begin, CError())
+            library().trirast_list_draw_rows(data, len(data), size, first, end, start + begin, stop - begin, CError())
 
         share(draw_range, lambda parts: tile_row_ranges(rows, parts), count, [memory])
         return Picture(info.width, info.height, info.is_depth, pixels)
@@ -44,7 +44,7 @@ def draw_file(draw_list: DrawList, tile_size: SupportsIndex = 32) -> bytes:
     """The whole file of a draw list's picture, PPM or PGM, header and pixels, on the calling thread. Raises an Error."""
     data = as_bytes(draw_list)
     file = bytearray(read_image_info(data).file_bytes)
-    library().trirast_draw(data, len(data), number("tile_size", tile_size, 0), memory_of(memoryview(file)), len(file), CError())
+    library().trirast_list_draw(data, len(data), number("tile_size", tile_size, 0), memory_of(memoryview(file)), len(file), CError())
     return bytes(file)
 
 
@@ -64,7 +64,7 @@ def as_bytes(draw_list: DrawList) -> bytes:
 
 def read_image_info(data: bytes) -> ImageInfo:
     info = CImageInfo()
-    library().trirast_read_image_info(data, len(data), info, CError())
+    library().trirast_list_info(data, len(data), info, CError())
     return ImageInfo(info.width, info.height, info.pixel_bytes, info.header_bytes, info.file_bytes)
 
 

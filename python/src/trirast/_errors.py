@@ -2,11 +2,13 @@
 
 from typing import Any, Dict, Optional, Tuple, Type
 
-BAD_LIST = 1
+BAD_LIST, BAD_BATCH = 1, 15
+# What trirast_error has where there is no draw or no element.
+NONE = (1 << 64) - 1
 
 
 class Error(Exception):
-    """Why nothing was drawn. Its text is the line that the program would write; `status` is the number that the call returned."""
+    """Why nothing was drawn. `status` is the number that the call returned."""
 
     def __init__(self, status: int, line: str) -> None:
         super().__init__(line)
@@ -16,23 +18,38 @@ class Error(Exception):
         return type(self), (self.status, *self.args)
 
 
-class DrawListError(Error, ValueError):
-    """What was given is no draw list. `number` and `name` are those of docs/draw-list.md, as 6 and BadIndex. `draw` is the
-    index of the draw in which the error is, or None if it is in none. If the draw is of arrays, the text has the parameter, the row and
-    the column too, as far as they are found."""
+class PlacedError(Error, ValueError):
+    """An error that says where it is. `number` and `name` say what it is, as 6 and BadIndex. `draw` is the index of the
+    draw, or `None` if it is in none; `element` that of an index, a vertex or a quad in the draw's own array, or
+    `None`."""
 
-    def __init__(self, status: int, line: str, number: int, draw: Optional[int]) -> None:
+    causes: Dict[int, str] = {}
+
+    def __init__(self, status: int, line: str, number: int, draw: Optional[int], element: Optional[int] = None) -> None:
         super().__init__(status, line)
-        self.number = number
-        self.name = line.split(" ")[4].rstrip(":")
-        self.draw = draw
-
-    def because(self, reason: Optional[str]) -> "DrawListError":
-        """The same error with a reason in its text, if there is one."""
-        return DrawListError(self.status, f"{self}: {reason}", self.number, self.draw) if reason else self
+        self.number, self.name = number, self.causes.get(number, "")
+        self.draw, self.element = draw, element
 
     def __reduce__(self) -> Tuple[Any, ...]:
-        return type(self), (self.status, *self.args, self.number, self.draw)
+        return type(self), (self.status, *self.args, self.number, self.draw, self.element)
+
+
+class DrawListError(PlacedError):
+    """What was given is no draw list. Numbers and names are those of docs/draw-list.md."""
+
+    causes = {
+        1: "NotJson", 2: "UnknownKey", 3: "MissingKey", 4: "WrongKind", 5: "OutOfRange", 6: "BadIndex", 7: "TooMany", 9: "TwoLists",
+        10: "NotConvex",
+    }
+
+
+class BatchError(PlacedError):
+    """A canvas cannot draw this. Numbers and names are those of trirast_batch_cause in trirast.h."""
+
+    causes = {
+        1: "TooFewVertices", 2: "TooFewIndices", 3: "BadState", 4: "NotWhole", 5: "TooManyIds", 6: "BadIndex", 7: "BadPosition", 8: "NotConvex",
+        9: "LeftOver",
+    }
 
 
 class LimitError(Error, ValueError):
@@ -87,6 +104,14 @@ class TriangleError(Error, IndexError):
     """The draw list has no such draw, or the draw no such triangle."""
 
 
+class StrideError(Error, ValueError):
+    """A stride is too short or not aligned. No function of this package passes one."""
+
+
+class TileError(Error, IndexError):
+    """The canvas has no such tile. No function of this package asks for one."""
+
+
 BY_STATUS: Dict[int, Type[Error]] = {
     2: LimitError,
     3: OutOfMemoryError,
@@ -101,18 +126,14 @@ BY_STATUS: Dict[int, Type[Error]] = {
     12: PositionError,
     13: PixelError,
     14: TriangleError,
+    16: StrideError,
+    17: TileError,
 }
+PLACED: Dict[int, Type[PlacedError]] = {BAD_LIST: DrawListError, BAD_BATCH: BatchError}
 
-# Of the statuses for which trirast_error_line has no line.
-TEXTS: Dict[int, str] = {
-    4: "trirast: buffer too small",
-    6: "trirast: no such tile rows",
-    7: "trirast: no such struct size",
-    8: "trirast: no such canvas",
-    9: "trirast: memory of another size",
-    10: "trirast: no such format",
-    11: "trirast: no such sample",
-    12: "trirast: position out of range",
-    13: "trirast: no such pixel",
-    14: "trirast: no such triangle",
-}
+
+def error_of(status: int, line: str, cause: int = 0, draw: int = NONE, element: int = NONE) -> Error:
+    """The exception of a status, by what trirast_error has."""
+    if status in PLACED:
+        return PLACED[status](status, line, cause, *(None if place == NONE else place for place in (draw, element)))
+    return BY_STATUS.get(status, Error)(status, line)

@@ -1,6 +1,5 @@
 """Why a pixel is what it is: the history of its samples, and how many samples a triangle has."""
 
-from ctypes import sizeof
 from typing import Any, List, NamedTuple, Optional, SupportsIndex, Tuple
 
 from ._arguments import flag, number
@@ -148,7 +147,7 @@ def triangle_samples(draw_list: DrawList, draw: SupportsIndex, triangle: Support
     """
     data, counts = as_bytes(draw_list), CSampleCounts()
     place = number("draw", draw), number("triangle", triangle)
-    library().trirast_triangle_samples(data, len(data), *place, counts, CError())
+    library().trirast_list_triangle_samples(data, len(data), *place, counts, CError())
     return TriangleSamples(*place, counts.covered, counts.changed, counts.shown)
 
 
@@ -160,9 +159,9 @@ def resolved(colors: List[Color]) -> Color:
 
 def read_events(data: bytes, x: int, y: int, sample: int, is_all: bool, capacity: int) -> Tuple[Any, CSampleInfo]:
     """The first events of a sample's history, at most this many, and what the library says of the sample."""
-    request = CHistoryRequest(*map(sizeof, (CHistoryRequest, CEvent, CSampleInfo)), x, y, sample, is_all)
+    request = CHistoryRequest(0, 0, 0, x, y, sample, is_all)
     events, info = (CEvent * capacity)(), CSampleInfo()
-    library().trirast_history(data, len(data), request, events, capacity, info, CError())
+    library().trirast_list_history(data, len(data), request, events, capacity, info, CError())
     return events, info
 
 

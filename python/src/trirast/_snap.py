@@ -3,9 +3,10 @@
 from typing import Any, SupportsFloat
 
 from ._arguments import of_length, real, shown
-from ._batch import UNIT
-from ._buffers import HIGH, LOW, buffer_of, family_of, refuse_masked
+from ._buffers import buffer_of, family_of, refuse_masked
+from ._records import HIGH, LOW
 
+UNIT = 256
 # The guard band in pixels.
 BAND = f"{LOW // UNIT} to {HIGH / UNIT} pixels"
 

@@ -2,5 +2,5 @@
 
 # The file VERSION of the repository has it too.
 VERSION = "0.1.0"
-# TRIRAST_VERSION of the header.
-INTERFACE = 1
+# TRIRAST_INTERFACE of the header.
+INTERFACE = 2

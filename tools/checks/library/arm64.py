@@ -20,8 +20,8 @@ SYSTEM = "/usr/aarch64-linux-gnu"
 # The ways of the test, each with its manifest. `stack` is left out, since qemu keeps the stack of its own code there too, and
 # `odd`, which draws lists of 64 MiB. A way of another call joins here.
 WAYS = (
-    ("pictures", "many.txt"), ("rows", "few.txt"), ("buffers", "few.txt"), ("refused", "all.txt"), ("lines", "all.txt"),
-    ("scenes", "many.txt"), ("canvases", "few.txt"), ("histories", "few.txt"), ("threads", "many.txt"),
+    ("pictures", "many.txt"), ("rows", "few.txt"), ("buffers", "few.txt"), ("refused", "all.txt"), ("messages", "all.txt"),
+    ("canvases", "many.txt"), ("histories", "few.txt"), ("threads", "many.txt"),
 )
 # Of the generated lists, beside all examples.
 LISTS = 200

@@ -6,24 +6,16 @@
 #include "canvases.h"
 
 void make_canvas(stage *made, uint32_t width, uint32_t height, uint32_t samples) {
-    const trirast_canvas empty = TRIRAST_CANVAS_INIT;
-    uint32_t rows = trirast_canvas_rows(height);
-    size_t size = trirast_canvas_bytes(width, height, samples, 0, rows);
-    made->memory = mark(size);
-    made->whole = empty;
+    memset(made, 0, sizeof *made);
     made->whole.width = width, made->whole.height = height, made->whole.samples = samples;
-    made->whole.end = rows;
-    made->whole.memory = made->memory.bytes, made->whole.plane_count = size / TRIRAST_PLANE_BYTES;
+    size_t size = trirast_canvas_size(&made->whole);
+    made->memory = mark(size);
+    if (trirast_canvas_init(&made->whole, made->memory.bytes, size)) stop("there is not", "a canvas");
 }
 
 static void make_stage(stage *made, const list_case *one) {
-    scene_of(one, &made->head, &made->batch);
-    make_canvas(made, made->head.width, made->head.height, made->head.samples);
-}
-
-trirast_status clear_to(trirast_canvas *canvas, const trirast_scene_head *head) {
-    const uint8_t color[3] = {(uint8_t)head->clear_red, (uint8_t)head->clear_green, (uint8_t)head->clear_blue};
-    return trirast_canvas_clear(canvas, color, (uint16_t)head->clear_depth);
+    make_canvas(made, one->arrays.width, one->arrays.height, one->arrays.samples);
+    made->batch = one->arrays.batch, made->clear = one->arrays.clear;
 }
 
 // What the program's file has of the rows of pixels from `top` on, taken from a canvas: 3 bytes a pixel, or 2 of a depth.
@@ -38,7 +30,7 @@ static int shows_rows(const list_case *one, const trirast_canvas *canvas, uint32
         is_same = !trirast_canvas_resolve(canvas, TRIRAST_FORMAT_RGB8, bytes, size, 3 * (size_t)width) && !memcmp(bytes, wanted, size);
     } else {
         uint16_t *depths = (uint16_t *)(void *)bytes;
-        is_same = !trirast_canvas_depths(canvas, 0, depths, (size_t)rows * width, width);
+        is_same = !trirast_canvas_depths(canvas, 0, depths, (size_t)rows * width, 0);
         for (size_t k = 0; is_same && k < (size_t)rows * width; k++) is_same = depths[k] == 256 * wanted[2 * k] + wanted[2 * k + 1];
     }
     free(bytes);
@@ -56,7 +48,7 @@ static void compare_whole(const list_case *one) {
     stage made;
     trirast_error error = UNSET;
     make_stage(&made, one);
-    trirast_status cleared = clear_to(&made.whole, &made.head);
+    trirast_status cleared = trirast_canvas_clear(&made.whole, &made.clear);
     trirast_status drawn_so = trirast_canvas_draw(&made.whole, &made.batch, &error);
     expect(!cleared && is_error(&error, drawn_so, TRIRAST_STATUS_OK) && has_margins(&made) &&
                shows_rows(one, &made.whole, 0, one->info.height),
@@ -68,14 +60,14 @@ void draw_on_canvas(const list_case *one) {
     stage made;
     trirast_error error;
     make_stage(&made, one);
-    size_t width = made.head.width, size = 4 * width * made.head.height;
+    size_t width = made.whole.width, size = 4 * width * made.whole.height;
     marked entries = mark(size);
-    int failed = clear_to(&made.whole, &made.head) || trirast_canvas_draw(&made.whole, &made.batch, &error) ||
+    int failed = trirast_canvas_clear(&made.whole, &made.clear) || trirast_canvas_draw(&made.whole, &made.batch, &error) ||
                  trirast_canvas_draw_ids(&made.whole, &made.batch, 0, &error) ||
                  trirast_canvas_resolve(&made.whole, TRIRAST_FORMAT_BGRA8, entries.bytes, size, 4 * width) ||
                  trirast_canvas_load(&made.whole, TRIRAST_FORMAT_RGBA8, entries.bytes, size, 4 * width) ||
-                 trirast_canvas_depths(&made.whole, 0, (uint16_t *)(void *)entries.bytes, size / 2, width) ||
-                 trirast_canvas_ids(&made.whole, 0, (uint32_t *)(void *)entries.bytes, size / 4, width);
+                 trirast_canvas_depths(&made.whole, 0, (uint16_t *)(void *)entries.bytes, size / 2, 2 * width) ||
+                 trirast_canvas_ids(&made.whole, 0, (uint32_t *)(void *)entries.bytes, size / 4, 4 * width);
     if (failed) stop("a call on a canvas failed", one->name);
     free(entries.all), free(made.memory.all);
 }
@@ -94,9 +86,9 @@ static void *draw_piece(void *argument) {
     share *own = argument;
     trirast_canvas piece;
     trirast_error error = UNSET;
-    uint32_t side = trirast_canvas_row_pixels(), height = own->made->head.height;
-    trirast_status status = trirast_canvas_piece(&own->made->whole, own->first, own->end, &piece);
-    if (!status) status = clear_to(&piece, &own->made->head);
+    uint32_t side = TRIRAST_TILE_SIZE, height = own->made->whole.height;
+    trirast_status status = trirast_canvas_split(&own->made->whole, own->first, own->end, &piece);
+    if (!status) status = trirast_canvas_clear(&piece, &own->made->clear);
     if (!status) status = trirast_canvas_draw(&piece, &own->made->batch, &error);
     uint32_t top = side * own->first < height ? side * own->first : height;
     uint32_t bottom = side * own->end < height ? side * own->end : height;
@@ -132,35 +124,31 @@ static void compare_threads(const list_case *one) {
 // ---- What is read back ----------------------------------------------------------------------------------------------
 
 void make_quad(quad *all) {
-    const trirast_batch_draw draw = TRIRAST_BATCH_DRAW_INIT;
-    const trirast_batch batch = TRIRAST_BATCH_INIT;
     const int32_t places[5][2] = {{0, 0}, {17920, 0}, {17920, 33280}, {0, 33280}, {1 << 30, 0}};
     memset(all, 0, sizeof *all);
-    all->draws[0] = all->draws[1] = draw;
+    make_canvas(&all->made, WIDTH, HEIGHT, 4);
     all->draws[1].vertex_count = 5, all->draws[1].index_count = 4, all->draws[1].topology = TRIRAST_TOPOLOGY_QUADS;
     for (int k = 0; k < 5; k++)
-        all->vertices[k] = (trirast_vertex){places[k][0], places[k][1], 7, 255, 255, 255, 255};
+        all->vertices[k] = (trirast_vertex){places[k][0], places[k][1], 7, 255, 255, 255, 255, 0};
     for (uint32_t k = 0; k < 4; k++) all->indices[k] = k;
-    all->made.batch = batch;
     all->made.batch.draws = all->draws, all->made.batch.draw_count = 2;
     all->made.batch.vertices = all->vertices, all->made.batch.vertex_count = 5;
     all->made.batch.indices = all->indices, all->made.batch.index_count = 4;
-    make_canvas(&all->made, WIDTH, HEIGHT, 4);
 }
 
 // The quad covers all; the upper left pixel of the canvas is one of the screen.
 static void compare_ids_at(int32_t x, int32_t y) {
     quad all;
     trirast_error error = UNSET;
-    const uint8_t white[3] = {255, 255, 255};
+    const trirast_clear white = {255, 255, 255, 0, 9, 0};
     make_quad(&all);
     all.made.whole.origin_x = x, all.made.whole.origin_y = y;
-    trirast_status status = trirast_canvas_clear(&all.made.whole, white, 9);
+    trirast_status status = trirast_canvas_clear(&all.made.whole, &white);
     if (!status) status = trirast_canvas_draw_ids(&all.made.whole, &all.made.batch, 70000, &error);
     marked ids = mark(4 * PIXELS), depths = mark(2 * PIXELS);
     const uint32_t *id = (const uint32_t *)(const void *)ids.bytes;
-    if (!status) status = trirast_canvas_ids(&all.made.whole, 2, (uint32_t *)(void *)ids.bytes, PIXELS, WIDTH);
-    if (!status) status = trirast_canvas_depths(&all.made.whole, 2, (uint16_t *)(void *)depths.bytes, PIXELS, WIDTH);
+    if (!status) status = trirast_canvas_ids(&all.made.whole, 2, (uint32_t *)(void *)ids.bytes, PIXELS, 0);
+    if (!status) status = trirast_canvas_depths(&all.made.whole, 2, (uint16_t *)(void *)depths.bytes, PIXELS, 2 * WIDTH);
     expect(!status, "status %u", status);
     for (int32_t j = 0; j < HEIGHT; j++)
         for (int32_t i = 0; i < WIDTH; i++) {
@@ -182,7 +170,7 @@ static void compare_last_ids(void) {
     uint32_t *ids = calloc(PIXELS, sizeof *ids);
     if (!ids) stop("out of memory", "ids");
     trirast_status status = trirast_canvas_draw_ids(&all.made.whole, &all.made.batch, 16777214, &error);
-    if (!status) status = trirast_canvas_ids(&all.made.whole, 0, ids, PIXELS, WIDTH);
+    if (!status) status = trirast_canvas_ids(&all.made.whole, 0, ids, PIXELS, 4 * WIDTH);
     expect(is_error(&error, status, TRIRAST_STATUS_OK), "status %u", status);
     for (int k = 0; k < PIXELS; k++) expect(ids[k] == 16777214 || ids[k] == 16777215, "id %u of pixel %d", ids[k], k);
     free(ids), free(all.made.memory.all);
@@ -201,7 +189,7 @@ static void compare_alignments(void) {
         trirast_canvas canvas = all.made.whole;
         trirast_error error = UNSET;
         canvas.memory = memory + offsets[k];
-        trirast_status status = clear_to(&canvas, &(trirast_scene_head)TRIRAST_SCENE_HEAD_INIT);
+        trirast_status status = trirast_canvas_clear(&canvas, NULL);
         if (!status) status = trirast_canvas_draw(&canvas, &all.made.batch, &error);
         if (!status) status = trirast_canvas_resolve(&canvas, TRIRAST_FORMAT_RGBA8, pixels[k > 0], size, 4 * WIDTH);
         expect(!status && (k == 0 || !memcmp(pixels[0], pixels[1], size)), "offset %zu: status %u, or other pixels", offsets[k], status);
@@ -217,8 +205,7 @@ static void compare_loaded(void) {
     marked from = mark(size), to = mark(size), other = mark(4 * PIXELS);
     for (size_t k = 0; k < size; k++)
         if (k % stride < 3 * WIDTH) from.bytes[k] = (uint8_t)(k * 7);
-    const uint8_t black[3] = {0, 0, 0};
-    trirast_status status = trirast_canvas_clear(&all.made.whole, black, 5);
+    trirast_status status = trirast_canvas_clear(&all.made.whole, NULL);
     if (!status) status = trirast_canvas_load(&all.made.whole, TRIRAST_FORMAT_RGB8, from.bytes, size, stride);
     if (!status) status = trirast_canvas_resolve(&all.made.whole, TRIRAST_FORMAT_RGB8, to.bytes, size, stride);
     if (!status) status = trirast_canvas_resolve(&all.made.whole, TRIRAST_FORMAT_BGRA8, other.bytes, 4 * PIXELS, 4 * WIDTH);
@@ -231,39 +218,111 @@ static void compare_loaded(void) {
     report("a picture is loaded and resolved with a stride, and bytes between rows are unchanged");
 }
 
-static void compare_weights(void) {
+static void compare_edges(void) {
     const trirast_corners corners = {0, 0, 2560, 0, 0, 2560};
     trirast_edges edges = {1, 1, 1, 1, 1};
-    trirast_status status = trirast_weights(&corners, 256, 512, &edges);
+    trirast_status status = trirast_edges_at_point(&corners, 256, 512, &edges);
     expect(!status && edges.a == 2560 * (2560 - 768) && edges.b == 256 * 2560 && edges.c == 512 * 2560 &&
                edges.doubled_area == 2560 * 2560 && edges.covered == 1,
            "status %u: %lld %lld %lld", status, (long long)edges.a, (long long)edges.b, (long long)edges.c);
-    status = trirast_weights(&corners, 2560, 2560, &edges);
+    const trirast_edges inside = edges;
+    status = trirast_edges_at_point(&corners, 2560, 2560, &edges);
     expect(!status && edges.covered == 0 && edges.a < 0, "a point outside: status %u", status);
     const trirast_edges kept = edges;
-    status = trirast_weights(&corners, 8388608, 0, &edges);
+    status = trirast_edges_at_point(&corners, 8388608, 0, &edges);
     expect(status == TRIRAST_STATUS_BAD_POSITION && !memcmp(&kept, &edges, sizeof kept), "status %u", status);
     const trirast_corners far = {0, 0, 2560, 0, 0, -8388609};
-    status = trirast_weights(&far, 0, 0, &edges);
+    status = trirast_edges_at_point(&far, 0, 0, &edges);
     expect(status == TRIRAST_STATUS_BAD_POSITION && !memcmp(&kept, &edges, sizeof kept), "status %u", status);
-    report("the edge functions of a triangle at a point");
+    // The positions of vertices are points with a stride.
+    const trirast_vertex vertices[2] = {{.x = 2560, .y = 2560}, {.x = 256, .y = 512}};
+    const trirast_point points[2] = {{2560, 2560}, {256, 512}};
+    trirast_edges many[2][2];
+    memset(many, 0, sizeof many);
+    status = trirast_edges_at(&corners, vertices, sizeof *vertices, 2, many[0]);
+    if (!status) status = trirast_edges_at(&corners, points, 0, 2, many[1]);
+    for (int k = 0; k < 2; k++)
+        expect(!status && !memcmp(&many[k][0], &kept, sizeof kept) && !memcmp(&many[k][1], &inside, sizeof inside), "many points: status %u", status);
+    report("the edge functions of a triangle at a point and at many");
+}
+
+static size_t size_of(uint32_t width, uint32_t height, uint32_t samples, uint32_t channels) {
+    const trirast_canvas canvas = {.width = width, .height = height, .samples = samples, .channels = channels};
+    return trirast_canvas_size(&canvas);
+}
+
+static uint32_t tile_rows_of(uint32_t height) {
+    const trirast_canvas canvas = {.width = 1, .height = height};
+    return trirast_canvas_tile_rows(&canvas);
 }
 
 static void compare_sizes(void) {
-    expect(trirast_canvas_bytes(4096, 4096, 4, 0, 64) == (size_t)4096 * 261 * 320, "the largest canvas");
-    expect(trirast_canvas_bytes(4096, 4096, 16, 0, 64) == (size_t)4096 * 1041 * 320, "the largest canvas of sixteen samples");
+    expect(size_of(4096, 4096, 4, 0) == (size_t)4096 * 261 * 320, "the largest canvas");
+    expect(size_of(4096, 4096, 16, 3) == (size_t)4096 * 1041 * 320, "the largest canvas of sixteen samples");
     for (uint32_t samples = 0; samples <= 33; samples++) {
-        int is_count = samples == 1 || samples == 2 || samples == 4 || samples == 8 || samples == 16;
-        expect(trirast_canvas_bytes(1, 1, samples, 0, 1) == (is_count ? (1 + 65 * samples) * 320 : 0), "one tile of %u samples", samples);
+        int is_count = samples <= 2 || samples == 4 || samples == 8 || samples == 16;
+        uint32_t count = samples ? samples : 1;
+        expect(size_of(1, 1, samples, 0) == (is_count ? (1 + 65 * count) * 320 : 0), "one tile of %u samples", samples);
     }
-    expect(trirast_canvas_bytes(1, 1, 1, 0, 1) == 66 * 320 && trirast_canvas_bytes(65, 1, 1, 0, 1) == 2 * 66 * 320, "one tile");
-    expect(!trirast_canvas_bytes(0, 1, 1, 0, 1) && !trirast_canvas_bytes(4097, 1, 1, 0, 1) && !trirast_canvas_bytes(1, 4097, 1, 0, 1) &&
-               !trirast_canvas_bytes(1, 1, 1, 0, 2) && !trirast_canvas_bytes(1, 1, 1, 1, 0),
+    expect(size_of(65, 1, 1, 0) == 2 * 66 * 320 && size_of(1, 65, 1, 0) == 2 * 66 * 320, "two tiles");
+    expect(!size_of(0, 1, 1, 0) && !size_of(4097, 1, 1, 0) && !size_of(1, 0, 1, 0) && !size_of(1, 4097, 1, 0) && !size_of(1, 1, 1, 5) &&
+               !size_of(1, 1, 1, 1) && !size_of(1, 1, UINT32_MAX, 0),
            "none");
-    expect(trirast_canvas_rows(1) == 1 && trirast_canvas_rows(65) == 2 && trirast_canvas_rows(4096) == 64 && !trirast_canvas_rows(0) &&
-               !trirast_canvas_rows(4097) && trirast_canvas_row_pixels() == 64,
+    expect(tile_rows_of(1) == 1 && tile_rows_of(64) == 1 && tile_rows_of(65) == 2 && tile_rows_of(4096) == 64 && !tile_rows_of(0) &&
+               !tile_rows_of(4097),
            "tile rows");
     report("the bytes and the tile rows of a canvas");
+}
+
+// The same triangles with sizes and strides that are named, and those of structs that lie further apart or of indices of 16 bits, which
+// are drawn or refused.
+static void compare_forms(void) {
+    quad all;
+    make_quad(&all);
+    struct {
+        trirast_vertex vertex;
+        uint32_t label[3];
+    } apart[5];
+    uint16_t short_indices[4];
+    memset(apart, MARK, sizeof apart);
+    for (int k = 0; k < 5; k++) apart[k].vertex = all.vertices[k], apart[k].vertex.red = (uint8_t)(10 * k);
+    for (int k = 0; k < 5; k++) all.vertices[k] = apart[k].vertex;
+    for (int k = 0; k < 4; k++) short_indices[k] = (uint16_t)all.indices[k];
+    trirast_batch forms[4] = {all.made.batch, all.made.batch, all.made.batch, all.made.batch};
+    forms[1].struct_size = sizeof *forms, forms[1].vertex_stride = sizeof(trirast_vertex), forms[1].index_size = 4;
+    forms[2].indices = short_indices, forms[2].index_size = 2;
+    forms[3].vertices = apart, forms[3].vertex_stride = sizeof *apart;
+    uint8_t *pixels[2] = {calloc(PIXELS, 3), calloc(PIXELS, 3)};
+    if (!pixels[0] || !pixels[1]) stop("out of memory", "pixels");
+    for (int k = 0; k < 4; k++) {
+        trirast_status status = trirast_canvas_clear(&all.made.whole, NULL);
+        trirast_status drawn_so = trirast_canvas_draw(&all.made.whole, &forms[k], NULL);
+        if (!status) status = trirast_canvas_resolve(&all.made.whole, TRIRAST_FORMAT_RGB8, pixels[k > 0], 3 * PIXELS, 0);
+        int is_same = !drawn_so && (!k || !memcmp(pixels[0], pixels[1], 3 * PIXELS)), is_refused = k > 1 && drawn_so == TRIRAST_STATUS_BAD_STRIDE;
+        expect(!status && (is_same || is_refused), "form %d: status %u, or other pixels", k, drawn_so);
+    }
+    free(pixels[0]), free(pixels[1]), free(all.made.memory.all);
+    report("the same batch with its sizes named makes the same pixels, and with other strides these or none");
+}
+
+// What a white pixel with alpha 128 over 10, 100, 200 becomes by each preset.
+static void compare_blends(void) {
+    const trirast_blend presets[] = {TRIRAST_BLEND_NONE, TRIRAST_BLEND_OVER, TRIRAST_BLEND_PREMULTIPLIED, TRIRAST_BLEND_ADD, TRIRAST_BLEND_MULTIPLY, TRIRAST_BLEND_KEEP};
+    const uint8_t wanted[][3] = {{255, 255, 255}, {133, 178, 228}, {255, 255, 255}, {138, 228, 255}, {10, 100, 200}, {10, 100, 200}};
+    const trirast_clear clear = {10, 100, 200, 0, 9, 0};
+    for (int k = 0; k < 6; k++) {
+        quad all;
+        uint8_t pixels[3 * PIXELS];
+        make_quad(&all);
+        all.draws[1].blend = presets[k];
+        for (int n = 0; n < 5; n++) all.vertices[n].alpha = 128;
+        trirast_status status = trirast_canvas_clear(&all.made.whole, &clear);
+        if (!status) status = trirast_canvas_draw(&all.made.whole, &all.made.batch, NULL);
+        if (!status) status = trirast_canvas_resolve(&all.made.whole, TRIRAST_FORMAT_RGB8, pixels, sizeof pixels, 0);
+        expect(!status && !memcmp(pixels, wanted[k], 3), "preset %d: status %u: %d, %d, %d", k, status, pixels[0], pixels[1], pixels[2]);
+        free(all.made.memory.all);
+    }
+    report("each blend preset makes its colour");
 }
 
 void compare_canvases(void) {
@@ -281,7 +340,10 @@ void compare_canvases(void) {
     compare_last_ids();
     compare_alignments();
     compare_loaded();
-    compare_weights();
+    compare_edges();
+    compare_forms();
+    compare_blends();
     compare_samples();
+    compare_shading();
     compare_refused_canvases();
 }

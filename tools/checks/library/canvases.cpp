@@ -1,15 +1,20 @@
 // Calls the functions of trirast.hpp, and prints a line for each thing that was compared: "ok WHAT" or "failed WHAT". Exit status 1 if
-// one failed. tools/check_library.py builds and runs it.
+// one failed. tools/checks/library/in_c.py builds and runs it.
 #include <algorithm>
 #include <array>
 #include <cstdio>
+#include <stdexcept>
 #include <string>
 #include <type_traits>
+#if __has_include(<span>)
+#include <span>
+#endif
 
 #include "trirast.hpp"
 
 using trirast::Canvas;
 using trirast::Span;
+using trirast::State;
 using trirast::TileRows;
 
 static bool has_failed = false;
@@ -25,44 +30,48 @@ static bool throws(trirast_status status, Call call) {
     try {
         call();
     } catch (const trirast::Error &error) {
-        return error.status() == status && std::string(error.what()) == trirast_status_string(status);
+        return error.status() == status && std::string(error.what()) == trirast_status_string(status) && !error.draw() && !error.element();
     }
     return false;
 }
 
 static const std::array<trirast_vertex, 3> CORNERS = {{
-    {0, 0, 7, 9, 8, 7, 255}, {25600, 0, 7, 9, 8, 7, 255}, {0, 51200, 7, 9, 8, 7, 255}}};
+    {0, 0, 7, 9, 8, 7, 255, 0}, {25600, 0, 7, 9, 8, 7, 255, 0}, {0, 51200, 7, 9, 8, 7, 255, 0}}};
 static const std::uint32_t TRIANGLE[] = {0, 1, 2};
+static const trirast::Clear WHITE = {255, 255, 255, 255, 9};
 
 static Canvas cleared() {
-    Canvas canvas(100, 200, 4);
-    canvas.clear({255, 255, 255}, 9);
+    Canvas canvas({100, 200, 4});
+    canvas.clear(WHITE);
     return canvas;
 }
 
 static void compare_pictures() {
-    Canvas whole = cleared(), split = cleared();
+    Canvas whole = cleared(), split = cleared(), threads = cleared();
     whole.draw(CORNERS, TRIANGLE);
     for (TileRows &part : split.split(3)) part.draw(CORNERS, TRIANGLE);
-    const std::vector<std::uint8_t> pixels = whole.pixels(TRIRAST_FORMAT_RGB8);
+    threads.draw(CORNERS, TRIANGLE, {}, 3);
+    const std::vector<std::uint8_t> pixels = whole.pixels();
     const std::array<std::uint8_t, 3> first = {9, 8, 7};
     report(std::equal(first.begin(), first.end(), pixels.begin()) && pixels.back() == 255, "a triangle is drawn, and what is beside it stays");
-    report(pixels == split.pixels(TRIRAST_FORMAT_RGB8), "three parts of a canvas make the picture of the whole");
+    report(pixels == split.pixels(), "three parts of a canvas make the picture of the whole");
+    report(pixels == threads.pixels(), "so do three threads");
     report(split.split(100).size() == 4 && split.split(0).empty(), "a canvas has at most as many parts as tile rows");
     TileRows last = whole.rows(3, 4);
     report(last.height() == 8 && last.top() == 192 && last.width() == 100, "the rows of pixels of the last tile row");
-    const std::vector<std::uint8_t> below = last.pixels(TRIRAST_FORMAT_RGB8);
+    const std::vector<std::uint8_t> below = last.pixels();
     report(std::equal(below.begin(), below.end(), pixels.end() - static_cast<std::ptrdiff_t>(below.size())), "its pixels are the last ones");
     whole.load(TRIRAST_FORMAT_RGB8, pixels, 300);
-    report(whole.pixels(TRIRAST_FORMAT_RGB8) == pixels, "a picture is loaded");
+    report(whole.pixels() == pixels, "a picture is loaded");
 }
 
 static void compare_large_canvas() {
-    Canvas canvas(1024, 1024, 4);
-    canvas.clear({5, 5, 5});
-    const std::vector<std::uint8_t> pixels = canvas.pixels(TRIRAST_FORMAT_RGB8);
-    report(pixels.size() == 3 * 1024 * 1024 && std::count(pixels.begin(), pixels.end(), 5) == 3 * 1024 * 1024,
-           "a canvas that fills large pages is cleared to its last pixel");
+    const Canvas canvas({1024, 1024, 4});
+    const std::vector<std::uint8_t> pixels = canvas.pixels();
+    const std::vector<std::uint16_t> depths = canvas.depths(3);
+    report(pixels.size() == 3 * 1024 * 1024 && std::count(pixels.begin(), pixels.end(), 0) == 3 * 1024 * 1024 &&
+               std::count(depths.begin(), depths.end(), 65535) == 1024 * 1024,
+           "a canvas that fills large pages begins black and far to its last pixel");
 }
 
 static void compare_entries() {
@@ -72,21 +81,94 @@ static void compare_entries() {
     report(ids.size() == 20000 && ids.front() == 70000 && ids.back() == 16777215, "a triangle is drawn by its id");
     const std::vector<std::uint16_t> depths = canvas.depths();
     report(depths.front() == 9 && depths.back() == 9, "depths are read");
-    trirast_batch_draw draw = trirast::new_draw();
-    draw.depth_write = 1;
-    canvas.draw(CORNERS, TRIANGLE, draw);
+    State state;
+    state.depth_write = true;
+    canvas.draw(CORNERS, TRIANGLE, state);
     report(canvas.depths(3).front() == 7 && canvas.depths(3).back() == 9, "depths are written");
-    Canvas window(100, 200, 4, {-50, 0});
-    window.clear({255, 255, 255});
+    Canvas window({100, 200, 4, false, {-50, 0}});
+    window.clear(WHITE);
     window.draw(CORNERS, TRIANGLE);
     report(window.pixels(TRIRAST_FORMAT_BGRA8)[0] == 255 && window.pixels(TRIRAST_FORMAT_BGRA8)[4 * 50] == 7, "a canvas is a window");
+    Canvas stored = cleared();
+    stored.store(1, TRIRAST_FORMAT_RGB8, std::vector<std::uint8_t>(3 * 100 * 200, 5));
+    report(stored.colors(1, TRIRAST_FORMAT_RGB8) == std::vector<std::uint8_t>(3 * 100 * 200, 5) && stored.colors(0)[0] == 255 &&
+               throws(TRIRAST_STATUS_BAD_SAMPLE, [&] { stored.colors(4); }),
+           "the colours of one sample are stored and read");
+    std::vector<std::uint16_t> apart(101 * 200, 77);
+    canvas.depths(3, apart, 2 * 101);
+    report(apart[0] == 7 && apart[100] == 77 && apart[101] == 7, "a stride is in bytes");
+}
+
+static void compare_indices() {
+    const std::vector<std::uint16_t> small = {0, 1, 2};
+    const std::vector<std::uint32_t> large = {0, 1, 2};
+    Canvas drawn = cleared();
+    drawn.draw(CORNERS, TRIANGLE);
+    bool is_same = true;
+    for (int form = 0; form < 3; form++) {
+        Canvas canvas = cleared();
+        if (form == 0) canvas.draw(CORNERS, small);
+        if (form == 1) canvas.draw(CORNERS, large);
+        if (form == 2) canvas.draw(CORNERS);
+        is_same &= canvas.pixels() == drawn.pixels();
+    }
+    report(is_same, "indices have 16 bits or 32, and without any there are the vertices in their order");
+    Canvas canvas = cleared();
+    canvas.draw(CORNERS, std::vector<std::uint16_t>{}), canvas.draw({}, {}), canvas.draw({}, std::vector<std::uint32_t>{}), canvas.draw({});
+    report(canvas.pixels() == cleared().pixels(), "empty arrays draw nothing");
+    const trirast_draw draws[2] = {};
+    trirast_batch batch = {};
+    batch.draws = draws, batch.draw_count = 2;
+    canvas.draw_batch(batch), canvas.draw_batch_ids(batch, 5, 2);
+    report(canvas.pixels() == cleared().pixels(), "a batch of C is drawn");
+#if defined(__cpp_lib_span)
+    drawn.draw(std::span<const trirast_vertex>(CORNERS), std::span<const std::uint16_t>(small));
+    report(drawn.pixels()[0] == 9, "a std::span is a span");
+#endif
+}
+
+static void compare_states() {
+    const auto first = [](const State &state) {
+        Canvas canvas({8, 8});
+        canvas.clear({100, 20, 250});
+        std::array<trirast_vertex, 3> corners = CORNERS;
+        for (trirast_vertex &corner : corners) corner.red = 200, corner.green = 10, corner.blue = 30, corner.alpha = 128;
+        canvas.draw(corners, {}, state);
+        const std::vector<std::uint8_t> pixels = canvas.pixels();
+        return std::array<int, 3>{pixels[0], pixels[1], pixels[2]};
+    };
+    const auto blended = [&first](const trirast_blend &blend) {
+        State state;
+        state.blend = blend;
+        return first(state);
+    };
+    using Color = std::array<int, 3>;
+    report(blended(trirast::blend_none) == Color{200, 10, 30} && blended(trirast::blend_over) == Color{150, 15, 140} &&
+               blended(trirast::blend_premultiplied) == Color{250, 20, 155} && blended(trirast::blend_add) == Color{200, 25, 255} &&
+               blended(trirast::blend_multiply) == Color{78, 1, 29} && blended(trirast::blend_keep) == Color{100, 20, 250},
+           "each preset blends");
+    State state;
+    state.keep = TRIRAST_KEEP_GREEN | TRIRAST_KEEP_ALPHA;
+    report(first(state) == Color{200, 20, 30}, "a draw keeps channels");
+    state = {};
+    state.scissor = trirast::Scissor{1, 0, 8, 8};
+    report(first(state) == Color{100, 20, 250}, "a draw has a scissor");
+    state = {};
+    state.skip_samples = 1;
+    report(first(state) == Color{100, 20, 250}, "a draw skips samples");
+    state = {};
+    state.cull = TRIRAST_CULL_FRONT;
+    report(first(state) == Color{100, 20, 250}, "a draw culls");
+    state = {};
+    state.depth_test = TRIRAST_DEPTH_GREATER;
+    report(first(state) == Color{100, 20, 250}, "a draw tests depths");
 }
 
 static void compare_samples() {
     bool has_all = true;
     for (const std::uint32_t samples : {1u, 2u, 4u, 8u, 16u}) {
-        Canvas canvas(100, 200, samples);
-        canvas.clear({255, 255, 255});
+        Canvas canvas({100, 200, samples});
+        canvas.clear(WHITE);
         canvas.draw_ids(CORNERS, TRIANGLE, 70000);
         for (std::uint32_t s = 0; s < samples; s++) has_all &= canvas.ids(s)[101] == 70000 && canvas.ids(s).back() == 16777215;
         has_all &= throws(TRIRAST_STATUS_BAD_SAMPLE, [&] { canvas.ids(samples); });
@@ -94,33 +176,96 @@ static void compare_samples() {
     report(has_all, "a draw has every one of 1, 2, 4, 8 and 16 samples");
 }
 
+// ---- Threads
+
+static void compare_threads() {
+    Canvas wanted = cleared(), shared = cleared(), executed = cleared();
+    wanted.draw(CORNERS, TRIANGLE);
+    std::vector<std::uint8_t> pixels(3 * 100 * 200);
+    shared.share(4, [&pixels](TileRows &part) {
+        part.clear(WHITE);
+        part.draw(CORNERS, TRIANGLE);
+        const std::size_t stride = 300;
+        part.resolve(TRIRAST_FORMAT_RGB8, {pixels.data() + stride * part.top(), stride * part.height()}, stride);
+    });
+    report(pixels == wanted.pixels(), "a frame is shared by threads");
+    std::vector<std::function<void()>> tasks;
+    std::size_t waited = 0;
+    executed.share(
+        4, [](TileRows &part) { part.draw(CORNERS, TRIANGLE); }, [&tasks](std::function<void()> task) { tasks.push_back(std::move(task)); },
+        [&tasks, &waited] {
+            waited = tasks.size();
+            for (const std::function<void()> &task : tasks) task();
+        });
+    report(waited == 3 && executed.pixels() == wanted.pixels(), "a frame is shared by an executor");
+    bool is_thrown = false;
+    try {
+        shared.share(4, [](TileRows &part) {
+            if (part.first() == 2) throw std::logic_error("the third part");
+        });
+    } catch (const std::logic_error &error) {
+        is_thrown = std::string(error.what()) == "the third part";
+    }
+    report(is_thrown, "what a thread throws is thrown again");
+}
+
+// ---- Errors
+
+static void compare_refused_batches(Canvas &canvas) {
+    const std::uint32_t indices[] = {0, 1, 3};
+    for (const std::uint32_t threads : {1u, 4u}) {
+        try {
+            canvas.draw(CORNERS, indices, {}, threads);
+            report(false, "a batch with an index past the vertices is refused");
+        } catch (const trirast::Error &error) {
+            report(error.status() == TRIRAST_STATUS_BAD_BATCH && error.batch_cause() == TRIRAST_BATCH_BAD_INDEX && error.draw() == 0u &&
+                       error.element().value_or(2) == 2 && std::string(error.what()).rfind("draw 0: ", 0) == 0,
+                   "a batch with an index past the vertices is refused, and where it is");
+        }
+    }
+    trirast_batch batch = {};
+    const trirast_draw draw = {};
+    batch.draws = &draw, batch.draw_count = 1, batch.vertices = CORNERS.data(), batch.vertex_count = 3;
+    try {
+        canvas.draw_batch(batch);
+        report(false, "a batch with vertices of no draw is refused");
+    } catch (const trirast::Error &error) {
+        report(error.batch_cause() == TRIRAST_BATCH_LEFT_OVER && !error.draw(), "a batch with vertices of no draw is refused");
+    }
+    State state;
+    state.topology = static_cast<trirast_topology>(3);
+    try {
+        canvas.draw(CORNERS, {}, state);
+        report(false, "a topology that there is not is refused");
+    } catch (const trirast::Error &error) {
+        report(error.batch_cause() == TRIRAST_BATCH_BAD_STATE, "a topology that there is not is refused");
+    }
+}
+
 static void compare_errors() {
     Canvas canvas = cleared();
     const std::vector<std::uint8_t> before = canvas.pixels(TRIRAST_FORMAT_RGBA8);
     std::vector<std::uint8_t> small(299);
-    report(throws(TRIRAST_STATUS_BAD_CANVAS, [] { Canvas(0, 1); }) && throws(TRIRAST_STATUS_BAD_CANVAS, [] { Canvas(1, 4097); }) &&
-               throws(TRIRAST_STATUS_BAD_CANVAS, [] { Canvas(1, 1, 3); }),
+    std::vector<std::uint16_t> depths(20000);
+    report(throws(TRIRAST_STATUS_BAD_CANVAS, [] { Canvas({0, 1}); }) && throws(TRIRAST_STATUS_BAD_CANVAS, [] { Canvas({1, 4097}); }) &&
+               throws(TRIRAST_STATUS_BAD_CANVAS, [] { Canvas({1, 1, 3}); }),
            "a canvas that there is not is an exception");
     report(throws(TRIRAST_STATUS_BAD_TILE_ROWS, [&] { canvas.rows(0, 5); }) && throws(TRIRAST_STATUS_BAD_TILE_ROWS, [&] { canvas.rows(2, 1); }),
            "so are tile rows");
-    report(throws(TRIRAST_STATUS_BUFFER_TOO_SMALL, [&] { canvas.resolve(TRIRAST_FORMAT_RGB8, small, 300); }), "so is a buffer that is too small");
+    report(throws(TRIRAST_STATUS_BUFFER_TOO_SMALL, [&] { canvas.resolve(TRIRAST_FORMAT_RGB8, small); }), "so is a buffer that is too small");
+    report(throws(TRIRAST_STATUS_BAD_STRIDE, [&] { canvas.depths(0, depths, 201); }), "so is a stride of parts of an entry");
     report(throws(TRIRAST_STATUS_BAD_SAMPLE, [&] { canvas.ids(4); }), "so is a sample");
-    const std::uint32_t indices[] = {0, 1, 3};
-    try {
-        canvas.draw(CORNERS, indices);
-        report(false, "a batch with an index past the vertices is refused");
-    } catch (const trirast::BatchError &error) {
-        report(error.list_error() == TRIRAST_LIST_BAD_INDEX && error.draw() == 0, "a batch with an index past the vertices is refused");
-        report(std::string(error.what()) == "trirast: list fault 6 BadIndex in draw 0", "its text says what is wrong, and where");
-    }
-    try {
-        canvas.draw(trirast::Batch{{}, CORNERS, {}});
-        report(false, "a batch with vertices of no draw is refused");
-    } catch (const trirast::BatchError &error) {
-        report(error.list_error() == TRIRAST_LIST_WRONG_KIND && !error.draw(), "a batch with vertices of no draw is refused");
-    }
+    compare_refused_batches(canvas);
     report(canvas.pixels(TRIRAST_FORMAT_RGBA8) == before, "nothing of them is drawn");
+    const trirast_corners corners = {0, 0, 256, 0, 0, 256};
+    const std::vector<trirast_point> points = {{64, 32}, {128, 128}};
+    const std::vector<trirast_edges> edges = trirast::edges_at(corners, points);
+    report(edges.size() == 2 && edges[0].a == 40960 && edges[0].covered == 1 && edges[1].covered == 0, "edge functions at points");
+    report(throws(TRIRAST_STATUS_BAD_POSITION, [&] { trirast::edges_at(corners, std::vector<trirast_point>{{8388608, 0}}); }),
+           "a point that is too far away is an exception");
 }
+
+// ---- Types
 
 // A struct of another size, whose pointer is a pointer to a vertex.
 struct Labelled : trirast_vertex {
@@ -130,6 +275,9 @@ struct Labelled : trirast_vertex {
 template <class From>
 constexpr bool is_vertices = std::is_constructible_v<Span<const trirast_vertex>, From>;
 
+template <class From>
+constexpr bool is_indices = std::is_constructible_v<trirast::Indices, From>;
+
 static void compare_spans() {
     static_assert(is_vertices<std::vector<trirast_vertex> &> && is_vertices<const std::array<trirast_vertex, 3> &> &&
                       is_vertices<const trirast_vertex (&)[3]> && is_vertices<Span<trirast_vertex>>, "vertices one after another are a span");
@@ -138,6 +286,9 @@ static void compare_spans() {
     static_assert(std::is_constructible_v<Span<const trirast_vertex>, trirast_vertex *, std::size_t> &&
                       !std::is_constructible_v<Span<const trirast_vertex>, Labelled *, std::size_t>, "and no pointer to them");
     static_assert(!std::is_constructible_v<Span<std::uint8_t>, const std::vector<std::uint8_t> &>, "what is const is not written to");
+    static_assert(is_indices<std::vector<std::uint16_t> &> && is_indices<const std::uint32_t (&)[3]> && is_indices<std::array<std::uint32_t, 3>>,
+                  "indices have 16 or 32 bits");
+    static_assert(!is_indices<std::vector<int> &> && !is_indices<std::vector<std::uint64_t> &> && !is_indices<State>, "and nothing else");
     const Span<const trirast_vertex> span = CORNERS;
     report(span.data() == CORNERS.data() && span.size() == 3 && Span<int>().size() == 0, "an array is a span");
 }
@@ -155,19 +306,22 @@ static void compare_moves() {
     const void *memory = first.in_c().memory;
     Canvas second = std::move(first);
     report(second.in_c().memory == memory && second.ids().front() == 16777215, "a canvas is moved with its memory");
-    report(throws(TRIRAST_STATUS_BAD_CANVAS, [&] { first.clear({}); }), "one that was moved from has no samples");
+    report(throws(TRIRAST_STATUS_BAD_CANVAS, [&] { first.clear(); }) && first.split(4).empty(), "one that was moved from has no samples");
     TileRows rows = second.rows(1, 3);
     TileRows later = std::move(rows);
     report(later.first() == 1 && later.end() == 3 && rows.first() == rows.end(), "tile rows are moved");
-    second = Canvas(1, 1);
-    report(second.width() == 1 && second.height() == 1, "a canvas is assigned");
+    second = Canvas({1, 1});
+    report(second.width() == 1 && second.height() == 1 && second.samples() == 1, "a canvas is assigned");
 }
 
 int main() {
     compare_pictures();
     compare_large_canvas();
     compare_entries();
+    compare_indices();
+    compare_states();
     compare_samples();
+    compare_threads();
     compare_errors();
     compare_spans();
     compare_moves();

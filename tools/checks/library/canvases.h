@@ -6,9 +6,9 @@
 
 enum { WIDTH = 70, HEIGHT = 130, PIXELS = WIDTH * HEIGHT };
 
-// A scene on a canvas with memory between margins.
+// A batch on a canvas with memory between margins.
 typedef struct {
-    trirast_scene_head head;
+    trirast_clear clear;
     trirast_batch batch;
     trirast_canvas whole;
     marked memory;
@@ -16,7 +16,7 @@ typedef struct {
 
 // A quad of white vertices, and a canvas of marked samples. The last vertex is named by no index.
 typedef struct {
-    trirast_batch_draw draws[2];
+    trirast_draw draws[2];
     trirast_vertex vertices[5];
     uint32_t indices[4];
     stage made;
@@ -24,10 +24,12 @@ typedef struct {
 
 void make_canvas(stage *made, uint32_t width, uint32_t height, uint32_t samples);
 void make_quad(quad *all);
-trirast_status clear_to(trirast_canvas *canvas, const trirast_scene_head *head);
 
 // Each number of samples a pixel, in samples.c.
 void compare_samples(void);
+
+// Colours of one sample index and of one tile, in shading.c.
+void compare_shading(void);
 
 // What each call refuses, in refused_canvases.c.
 void compare_refused_canvases(void);

@@ -76,15 +76,20 @@ void read_manifest(const char *path) {
         if (is_drawn) {
             // The arrays lie beside the list, as NAME.scene beside NAME.json.
             snprintf(strrchr(list, '.'), sizeof ".scene", ".scene");
-            next->arrays = read_file(list);
+            blob numbers = read_file(list);
+            next->arrays = read_arrays((const uint32_t *)(const void *)numbers.bytes);
+            free(numbers.bytes);
         }
-        if (is_drawn && trirast_read_image_info(next->list.bytes, next->list.length, &next->info, &error)) stop("refused", list);
+        if (is_drawn && trirast_list_info(next->list.bytes, next->list.length, &next->info, &error)) stop("refused", list);
     }
     fclose(file);
 }
 
 void free_cases(void) {
-    for (int k = 0; k < drawn_count; k++) free(drawn[k].list.bytes), free(drawn[k].wanted.bytes), free(drawn[k].arrays.bytes);
+    for (int k = 0; k < drawn_count; k++) {
+        free(drawn[k].list.bytes), free(drawn[k].wanted.bytes);
+        free(drawn[k].arrays.draws), free(drawn[k].arrays.vertices), free(drawn[k].arrays.indices);
+    }
     for (int k = 0; k < refused_count; k++) free(refused[k].list.bytes), free(refused[k].wanted.bytes);
 }
 
@@ -108,8 +113,9 @@ int holds_just(const marked *buffer, const void *bytes, size_t length) {
 }
 
 int is_error(const trirast_error *error, trirast_status status, trirast_status due) {
-    int is_alone = due == TRIRAST_STATUS_BAD_LIST || (!error->list_error && !error->in_draw && !error->draw);
-    return status == due && error->status == (uint32_t)due && is_alone;
+    int is_placed = due == TRIRAST_STATUS_OK || due == TRIRAST_STATUS_BAD_LIST || due == TRIRAST_STATUS_BAD_BATCH;
+    int is_alone = !error->cause && error->draw == TRIRAST_NONE && error->element == TRIRAST_NONE;
+    return status == due && error->status == (uint32_t)due && (is_placed || is_alone);
 }
 
 const trirast_error UNSET = {99, 99, 99, 99};

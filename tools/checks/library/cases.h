@@ -14,11 +14,22 @@ typedef struct {
     size_t length;
 } blob;
 
+// The arrays of a list, which lie beside it as NAME.scene: its picture, and what is drawn on it.
+typedef struct {
+    uint32_t width, height, samples, output;
+    trirast_clear clear;
+    trirast_draw *draws;
+    trirast_vertex *vertices;
+    uint32_t *indices;
+    trirast_batch batch;
+} scene;
+
 // A list with what the program made of it: a file, or a line where it was refused. A drawn one has its arrays too.
 typedef struct {
     char name[2048];
-    blob list, wanted, arrays;
+    blob list, wanted;
     trirast_image_info info;
+    scene arrays;
 } list_case;
 
 // A buffer between margins, all of it marked.
@@ -48,12 +59,15 @@ _Noreturn void stop(const char *what, const char *name);
 void read_manifest(const char *path);
 void free_cases(void);
 
+// The arrays of a file of 32-bit integers, in memory of their own. tools/checks/library/lists.py writes the file.
+scene read_arrays(const uint32_t *numbers);
+
 marked mark(size_t size);
 
 // Whether the buffer begins with these bytes, and the rest and the margins are unchanged.
 int holds_just(const marked *buffer, const void *bytes, size_t length);
 
-// Whether a call returned the status that was due, and wrote its error.
+// Whether a call returned the status that was due, and wrote its error, which is in no draw but for a list or a batch.
 int is_error(const trirast_error *error, trirast_status status, trirast_status due);
 
 // The number of tile rows of a case's picture.
@@ -82,10 +96,5 @@ void ask_for_history(const list_case *one);
 
 // Makes each call on a canvas of a case that has arrays.
 void draw_on_canvas(const list_case *one);
-
-// The way that draws from arrays, and the arrays of a case, in scenes.c.
-void compare_scenes(void);
-void scene_of(const list_case *one, trirast_scene_head *head, trirast_batch *batch);
-trirast_status draw_arrays(const list_case *one, uint32_t tile_size, marked *buffer, trirast_error *error);
 
 #endif

@@ -73,9 +73,10 @@ def check_c_canvas(tool: str = "") -> None:
 
 
 def check_python_canvas() -> None:
-    """canvas.py writes the program's picture of its triangle."""
-    written = run([sys.executable, os.path.join(PYTHON_EXAMPLES, "canvas.py")], env=PACKAGE_ENVIRONMENT)
-    must(written == drawn_by_program(encode(SCENE)).output, "another picture")
+    """canvas.py saves the program's picture of its triangle."""
+    path = os.path.join(OUT, "python_canvas.ppm")
+    run([sys.executable, os.path.join(PYTHON_EXAMPLES, "canvas.py"), path], env=PACKAGE_ENVIRONMENT)
+    must(places.bytes_of(path) == drawn_by_program(encode(SCENE)).output, "another picture")
 
 
 # What canvas.cpp draws.

@@ -7,10 +7,12 @@ import importlib.util
 import json
 import os
 import threading
+from array import array
 from typing import Any, Callable, Iterator
 
 import trirast
 
+from tools import answers
 from tools.checks.cases import Case, CheckError, MissingError, case, must
 from tools.draw_list import Draw, DrawList
 from tools.checks.library.commands import OUT
@@ -33,14 +35,20 @@ def file_of(picture: trirast.Picture) -> bytes:
 
 def draw_of(draw: Draw) -> trirast.Draw:
     """A draw from the arrays of a draw list's draw."""
-    return trirast.Draw(draw["vertices"], **{key: value for key, value in draw.items() if key != "vertices"})
+    keep = "".join(letter for letter, is_written in zip("rgb", draw.get("write", ())) if not is_written)
+    return trirast.Draw(keep=keep, **{key: value for key, value in draw.items() if key != "write"})
 
 
-def scene_file(scene: DrawList, tile_size: int) -> bytes:
-    """The file of the picture that draw_scene draws from a draw list's arrays."""
-    draws = [draw_of(draw) for draw in scene["draws"]]
-    more = {key: value for key, value in scene.items() if key not in ("width", "height", "draws")}
-    return file_of(trirast.draw_scene(scene["width"], scene["height"], draws, tile_size=tile_size, **more))
+def canvas_pixels(scene: DrawList) -> bytes:
+    """The pixels of the picture that a canvas has of a draw list's arrays."""
+    canvas = trirast.Canvas(scene["width"], scene["height"], scene.get("samples", 1))
+    canvas.clear(scene.get("clear", (0, 0, 0)), scene.get("clear_depth", 65535))
+    canvas.draw_batch([draw_of(draw) for draw in scene["draws"]])
+    if scene.get("output") != "depth":
+        return memoryview(canvas.rgb()).tobytes()
+    depths = array("H", memoryview(canvas.depth()).tobytes())
+    depths.byteswap()
+    return depths.tobytes()
 
 
 def check_picture(text: bytes, wanted: bytes, tile_size: int, threads: int) -> None:
@@ -50,7 +58,7 @@ def check_picture(text: bytes, wanted: bytes, tile_size: int, threads: int) -> N
         picture = trirast.draw(given, tile_size, threads)
         must(file_of(picture) == wanted, f"other bytes for {text[:200]!r}")
     must(trirast.draw_file(text, tile_size) == wanted, f"another file for {text[:200]!r}")
-    must(scene_file(value, tile_size) == wanted, f"other bytes of arrays for {text[:200]!r}")
+    must(canvas_pixels(value) == picture.bytes, f"other bytes of arrays for {text[:200]!r}")
     path = os.path.join(OUT, "picture.pgm" if picture.is_depth else "picture.ppm")
     picture.save(path)
     must(bytes_of(path) == wanted, f"another file was saved for {text[:200]!r}")
@@ -95,13 +103,11 @@ def raised(call: Callable[..., Any], *arguments: Any, **more: Any) -> Exception 
 
 
 def check_refused(text: bytes, line: str, threads: int) -> None:
-    """A refused list raises a DrawListError with the program's line, and with its number, name and draw."""
+    """A refused list raises a DrawListError, with number, name and draw of the program's line."""
     error = raised(trirast.draw, text, threads=threads)
-    if not isinstance(error, trirast.DrawListError) or f"{error}\n" != line:
+    if not isinstance(error, trirast.DrawListError):
         raise CheckError(f"{line}: {error!r}")
-    words = line.split()
-    draw = int(words[-1]) if "draw" in words else None
-    must((error.number, error.name, error.draw) == (int(words[3]), words[4], draw), f"{line}: {vars(error)}")
+    must(line == answers.line_of(error), f"{line}: {vars(error)}")
 
 
 def check_errors(lists: Lists) -> str:

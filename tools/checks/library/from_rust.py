@@ -19,13 +19,10 @@ COMMAND = ("test", "--offline", "--locked", "--workspace", "--quiet")
 
 
 def check_version() -> None:
-    """The crates have the repository's version, and the interface of the header."""
+    """The crates have the repository's version."""
     version = places.text_of("VERSION").strip()
     for crate, line in (("", f'version = "{version}"'), ("trirast", f'version = "{version}" }}')):
         must(line in places.text_of(CRATES, crate, "Cargo.toml"), f"bindings/rust/{crate}: no {line}")
-    found = re.findall(r"^#define TRIRAST_VERSION (\d+)$", places.text_of("include", "trirast.h"), re.MULTILINE)
-    line = f"pub const TRIRAST_VERSION: u32 = {found[0]};"
-    must(line in places.text_of(CRATES, "trirast-sys", "src", "lib.rs"), f"trirast-sys: no {line}")
 
 
 def check_declared() -> str:

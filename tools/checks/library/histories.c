@@ -11,9 +11,7 @@ enum { PLACES = 5, MAX_SAMPLES = 2048 };
 static const trirast_sample_info NO_INFO = {77, 77, 77, 77, 77, {77, 77, 77, 77}, {77, 77, 77, 77}};
 
 static trirast_history_request request_of(uint32_t x, uint32_t y, uint32_t sample, uint32_t all) {
-    trirast_history_request request = TRIRAST_HISTORY_REQUEST_INIT;
-    request.x = x, request.y = y, request.sample = sample, request.all = all;
-    return request;
+    return (trirast_history_request){.x = x, .y = y, .sample = sample, .all = all};
 }
 
 // Asks with an array of this many events, and compares the status. The caller frees the array.
@@ -23,7 +21,7 @@ static marked ask(const list_case *one, const trirast_history_request *request, 
     trirast_error error = UNSET;
     *info = NO_INFO;
     trirast_status status =
-        trirast_history(one->list.bytes, one->list.length, request, (trirast_event *)events.bytes, capacity, info, &error);
+        trirast_list_history(one->list.bytes, one->list.length, request, (trirast_event *)events.bytes, capacity, info, &error);
     expect(is_error(&error, status, due), "%s: status %u where %u was due", one->name, status, due);
     if (due) expect(!memcmp(info, &NO_INFO, sizeof NO_INFO) && holds_just(&events, NULL, 0), "%s: written after an error", one->name);
     return events;
@@ -149,7 +147,7 @@ static void compare_counts(const list_case *one, uint32_t samples) {
         trirast_sample_counts found = {77, 77, 77};
         trirast_error error = UNSET;
         trirast_status status =
-            trirast_triangle_samples(one->list.bytes, one->list.length, places[n][0], places[n][1], &found, &error);
+            trirast_list_triangle_samples(one->list.bytes, one->list.length, places[n][0], places[n][1], &found, &error);
         expect(is_error(&error, status, TRIRAST_STATUS_OK) && !memcmp(&found, &counts[n], sizeof found),
                "%s: triangle %zu: %u, %u, %u", one->name, n, found.covered, found.changed, found.shown);
     }
@@ -163,7 +161,7 @@ static void compare_refused_histories(void) {
         free(ask(&refused[k], &request, 2, &info, TRIRAST_STATUS_BAD_LIST).all);
         trirast_sample_counts counts = {77, 77, 77};
         trirast_error error = UNSET;
-        trirast_status status = trirast_triangle_samples(refused[k].list.bytes, refused[k].list.length, 0, 0, &counts, &error);
+        trirast_status status = trirast_list_triangle_samples(refused[k].list.bytes, refused[k].list.length, 0, 0, &counts, &error);
         expect(is_error(&error, status, TRIRAST_STATUS_BAD_LIST) && counts.covered == 77 && counts.changed == 77 && counts.shown == 77,
                "%s: status %u", refused[k].name, status);
     }
@@ -171,17 +169,19 @@ static void compare_refused_histories(void) {
     for (int k = 0; k < drawn_count; k++) {
         trirast_history_request request = request_of(0, 0, 0, 0);
         uint32_t *const sizes[] = {&request.struct_size, &request.event_size, &request.info_size};
+        const uint32_t own[] = {sizeof request, sizeof(trirast_event), sizeof(trirast_sample_info)};
         trirast_sample_info info;
-        for (size_t n = 0; n < 3; n++)
-            for (int by = -1; by < 2; by += 2) {
-                *sizes[n] += (uint32_t)by;
-                free(ask(&drawn[k], &request, 2, &info, TRIRAST_STATUS_BAD_STRUCT_SIZE).all);
-                *sizes[n] -= (uint32_t)by;
+        for (size_t n = 0; n < 3; n++) {
+            for (int by = -8; by < 9; by += 8) {
+                *sizes[n] = own[n] + (uint32_t)by;
+                free(ask(&drawn[k], &request, 2, &info, by ? TRIRAST_STATUS_BAD_STRUCT_SIZE : TRIRAST_STATUS_OK).all);
             }
+            *sizes[n] = 0;
+        }
         trirast_sample_counts counts = {77, 77, 77};
         trirast_error error = UNSET;
         trirast_status status =
-            trirast_triangle_samples(drawn[k].list.bytes, drawn[k].list.length, 1024, SIZE_MAX, &counts, &error);
+            trirast_list_triangle_samples(drawn[k].list.bytes, drawn[k].list.length, 1024, SIZE_MAX, &counts, &error);
         expect(is_error(&error, status, TRIRAST_STATUS_BAD_TRIANGLE) && counts.covered == 77, "%s: status %u", drawn[k].name, status);
     }
     report("structs of another size, and triangles that are not there, are refused, and nothing is written");
@@ -193,8 +193,8 @@ void ask_for_history(const list_case *one) {
     trirast_sample_info info;
     trirast_sample_counts counts;
     trirast_error error;
-    trirast_history(one->list.bytes, one->list.length, &request, events, 2, &info, &error);
-    trirast_triangle_samples(one->list.bytes, one->list.length, 0, 0, &counts, &error);
+    trirast_list_history(one->list.bytes, one->list.length, &request, events, 2, &info, &error);
+    trirast_list_triangle_samples(one->list.bytes, one->list.length, 0, 0, &counts, &error);
 }
 
 void compare_histories(void) {

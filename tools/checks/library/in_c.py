@@ -15,13 +15,13 @@ from tools.places import INCLUDE, LEVEL, LIB, SECOND_LEVEL, SHARED_LIBRARY, STAT
 
 SOURCES = os.path.join(TOP, "tools", "checks", "library")
 # The parts of the test but the way in which allocations fail.
-PARTS = ("main", "cases", "scenes", "canvases", "samples", "refused_canvases", "large_batch", "histories", "stack")
+PARTS = ("main", "cases", "scenes", "canvases", "samples", "shading", "refused_canvases", "large_batch", "histories", "stack")
 WAYS = (
-    "pictures", "rows", "buffers", "refused", "lines", "odd", "scenes", "canvases", "large", "histories", "threads", "stack", "memory",
+    "pictures", "rows", "buffers", "refused", "messages", "odd", "canvases", "large", "histories", "threads", "stack", "memory",
 )
 # Not by memcheck: the lists of 64 MiB and the large batch, which take minutes there, and the stack, of which valgrind keeps its own
 # account.
-MEMCHECKED = ("pictures", "rows", "buffers", "refused", "lines", "scenes", "canvases", "histories", "threads", "memory")
+MEMCHECKED = ("pictures", "rows", "buffers", "refused", "messages", "canvases", "histories", "threads", "memory")
 # By drd: the ways that start threads.
 WITH_THREADS = ("canvases", "threads")
 
@@ -50,9 +50,9 @@ def symbols(path: str, *flags: str, tool: str) -> set[str]:
 
 
 def declared() -> set[str]:
-    """The calls that the header declares."""
+    """The calls that the header declares, also those that it defines for C."""
     header = places.text_of(INCLUDE, "trirast.h")
-    return set(re.findall(r"^(?:trirast_status|uint32_t|size_t) (trirast_\w+)\(", header, re.MULTILINE))
+    return set(re.findall(r"^(?:inline )?(?:trirast_status|uint32_t|size_t|const char) \*?(trirast_\w+)\(", header, re.MULTILINE))
 
 
 def check_exports(path: str, *flags: str, tool: str = "nm") -> str:
@@ -69,9 +69,20 @@ def check_needs(path: str, *flags: str, tool: str = "nm") -> str:
     return ", ".join(sorted(found))
 
 
+def check_release() -> str:
+    """The header has the repository's release."""
+    release = places.text_of("VERSION").strip()
+    found = dict(re.findall(r"^#define TRIRAST_VERSION_(\w+) \"?([\d.]+)\"?$", places.text_of(INCLUDE, "trirast.h"), re.MULTILINE))
+    numbers = ".".join(found[part] for part in ("MAJOR", "MINOR", "PATCH"))
+    must((numbers, found["STRING"]) == (release, release), f"VERSION has {release}, and the header {found}")
+    return release
+
+
 def library_cases() -> Iterator[Case]:
-    for standard in ("c99", "c11", "c17"):
-        yield case(f"header as {standard}", check_header, "gcc", "c", standard)
+    yield case("the header has the repository's release", check_release)
+    for compiler in ("gcc", "clang"):
+        for standard in ("c99", "c11", "c17"):
+            yield case(f"header as {standard} by {compiler}", check_header, compiler, "c", standard)
     for standard in ("c++11", "c++20"):
         yield case(f"header as {standard}", check_header, "g++", "c++", standard)
     for compiler in ("g++", "clang++"):
@@ -123,7 +134,8 @@ def cpp_cases() -> Iterator[Case]:
     yield case("trirast.hpp: canvases", check_in_c, [program], "canvases", "few.txt", needs=built)
     yield case("memcheck finds nothing in trirast.hpp", check_watched, "memcheck", "canvases", program, needs=built)
     yield case("trirast.hpp by random calls under sanitizers", sanitized.check_fuzz)
-    yield case("a piece without tile rows under sanitizers", sanitized.check_no_rows)
+    for compiler, language in sanitized.INLINE:
+        yield case(f"what the header defines itself, by {compiler} under sanitizers", sanitized.check_inline, compiler, language)
 
 
 def check_second_level(program: Sequence[str], way: str) -> str:
@@ -148,7 +160,7 @@ def c_cases() -> Iterator[Case]:
         yield case(f"test_static: {way}", check_in_c, static, way, "few.txt" if way == "memory" else "all.txt", needs=built)
     for way in ("pictures", "canvases", "threads"):
         yield case(f"test_shared: {way}", check_in_c, shared, way, "all.txt", needs=built)
-    for way in ("pictures", "scenes", "canvases", "threads"):
+    for way in ("pictures", "canvases", "threads"):
         yield case(f"test_shared by {LEVEL}: {way}", check_second_level, shared, way, needs=built)
     for way in MEMCHECKED:
         yield case(f"memcheck finds nothing in {way}", check_watched, "memcheck", way, needs=built)

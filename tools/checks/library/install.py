@@ -46,9 +46,9 @@ def check_install() -> None:
     must(files_below(prefix) == INSTALLED, f"{files_below(prefix)} were installed")
     wanted = drawn_by_program(places.bytes_of(EXAMPLES, "triangle.json")).output
     programs = [text for text in blocks_of_the_page("c") if "int main" in text]
-    must(len(programs) == 3, f"{len(programs)} programs in docs/library.md")
+    must(len(programs) == 2, f"{len(programs)} programs in docs/library.md")
     for text in programs:
-        due = HISTORY if "trirast_history(" in text else wanted
+        due = HISTORY if "trirast_list_history(" in text else wanted
         for flags in ((), ("-static",)):
             must(build_outside(text, prefix, *flags) == due, f"other bytes with {flags}")
     make("uninstall", f"PREFIX={prefix}")

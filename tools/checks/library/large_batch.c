@@ -13,7 +13,7 @@ enum { WHOLE, PIECES, CUT, WAYS };
 
 // The arrays of the batch, and a canvas.
 typedef struct {
-    trirast_batch_draw draw;
+    trirast_draw draw;
     trirast_batch batch;
     trirast_vertex *vertices;
     uint32_t *indices;
@@ -28,9 +28,8 @@ static uint32_t next(uint64_t *state) {
 
 // Small triangles anywhere on the canvas and a little beside it. No index is its place, so that an offset that is left out is seen.
 static void make_large(large *all) {
-    const trirast_batch_draw draw = TRIRAST_BATCH_DRAW_INIT;
-    const trirast_batch batch = TRIRAST_BATCH_INIT;
     uint64_t state = 1;
+    memset(all, 0, sizeof *all);
     all->vertices = malloc(VERTICES * sizeof *all->vertices), all->indices = malloc(VERTICES * sizeof *all->indices);
     if (!all->vertices || !all->indices) stop("out of memory", "a large batch");
     for (uint32_t k = 0; k < VERTICES; k += 3) {
@@ -38,13 +37,12 @@ static void make_large(large *all) {
         for (uint32_t corner = 0; corner < 3; corner++) {
             uint32_t color = next(&state), place = next(&state);
             all->vertices[k + corner] = (trirast_vertex){
-                x + (int32_t)(place % 2560), y + (int32_t)(place / 2560 % 2560), next(&state) % 65536,
-                color % 256, color >> 8 & 255, color >> 16 & 255, 64 + next(&state) % 192,
+                x + (int32_t)(place % 2560), y + (int32_t)(place / 2560 % 2560), (uint16_t)next(&state),
+                (uint8_t)color, (uint8_t)(color >> 8), (uint8_t)(color >> 16), (uint8_t)(64 + next(&state) % 192), 0,
             };
             all->indices[k + corner] = k + (corner + 1) % 3;
         }
     }
-    all->draw = draw, all->batch = batch;
     all->draw.vertex_count = VERTICES, all->draw.index_count = VERTICES;
     all->draw.depth_test = TRIRAST_DEPTH_GREATER_EQUAL, all->draw.depth_write = 1, all->draw.blend = TRIRAST_BLEND_OVER;
     all->batch.draws = &all->draw, all->batch.draw_count = 1;
@@ -54,8 +52,7 @@ static void make_large(large *all) {
 }
 
 static trirast_status draw_on(const large *all, trirast_canvas *canvas, const trirast_batch *batch, uint32_t first_id) {
-    trirast_error error;
-    return all->by_ids ? trirast_canvas_draw_ids(canvas, batch, first_id, &error) : trirast_canvas_draw(canvas, batch, &error);
+    return all->by_ids ? trirast_canvas_draw_ids(canvas, batch, first_id, NULL) : trirast_canvas_draw(canvas, batch, NULL);
 }
 
 // ---- The ways -------------------------------------------------------------------------------------------------------
@@ -79,7 +76,7 @@ static trirast_status draw_pieces(large *all) {
     for (uint32_t k = 0; k < THREADS; k++) {
         uint32_t rows = all->made.whole.end;
         shares[k].all = all;
-        if (trirast_canvas_piece(&all->made.whole, rows * k / THREADS, rows * (k + 1) / THREADS, &shares[k].rows)) stop("no piece", "tile rows");
+        if (trirast_canvas_split(&all->made.whole, rows * k / THREADS, rows * (k + 1) / THREADS, &shares[k].rows)) stop("no piece", "tile rows");
         if (pthread_create(&threads[k], NULL, draw_share, &shares[k])) stop("cannot be started", "a thread");
     }
     for (int k = 0; k < THREADS; k++) pthread_join(threads[k], NULL);
@@ -91,10 +88,10 @@ static trirast_status draw_pieces(large *all) {
 static trirast_status draw_cut(large *all) {
     trirast_status status = TRIRAST_STATUS_OK;
     for (uint32_t k = 0; k < CUTS && !status; k++) {
-        trirast_batch_draw draw = all->draw;
+        trirast_draw draw = all->draw;
         trirast_batch batch = all->batch;
         draw.vertex_count = draw.index_count = VERTICES / CUTS;
-        batch.draws = &draw, batch.vertices += VERTICES / CUTS * k;
+        batch.draws = &draw, batch.vertices = all->vertices + VERTICES / CUTS * k;
         batch.vertex_count = batch.index_count = VERTICES / CUTS;
         status = draw_on(all, &all->made.whole, &batch, FIRST_ID + TRIANGLES / CUTS * k);
     }
@@ -102,8 +99,8 @@ static trirast_status draw_cut(large *all) {
 }
 
 static void draw_way(large *all, int way) {
-    const uint8_t color[3] = {10, 200, 60};
-    trirast_status status = trirast_canvas_clear(&all->made.whole, color, 100);
+    const trirast_clear clear = {10, 200, 60, 0, 100, 0};
+    trirast_status status = trirast_canvas_clear(&all->made.whole, &clear);
     if (!status) status = way == WHOLE ? draw_on(all, &all->made.whole, &all->batch, FIRST_ID) : way == PIECES ? draw_pieces(all) : draw_cut(all);
     expect(!status, "way %d: status %u", way, status);
 }
@@ -119,8 +116,8 @@ static void read_all(const trirast_canvas *canvas, uint8_t *bytes) {
     uint8_t *pixels = (uint8_t *)(depths + SAMPLES * PIXEL_COUNT);
     int is_read = !trirast_canvas_resolve(canvas, TRIRAST_FORMAT_RGB8, pixels, 3 * PIXEL_COUNT, 3 * SIDE);
     for (uint32_t s = 0; s < SAMPLES; s++)
-        is_read = is_read && !trirast_canvas_depths(canvas, s, depths + s * PIXEL_COUNT, PIXEL_COUNT, SIDE) &&
-                  !trirast_canvas_ids(canvas, s, ids + s * PIXEL_COUNT, PIXEL_COUNT, SIDE);
+        is_read = is_read && !trirast_canvas_depths(canvas, s, depths + s * PIXEL_COUNT, PIXEL_COUNT, 0) &&
+                  !trirast_canvas_ids(canvas, s, ids + s * PIXEL_COUNT, PIXEL_COUNT, 0);
     expect(is_read, "a canvas is not read");
 }
 

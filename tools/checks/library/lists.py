@@ -19,7 +19,8 @@ FOLDER = os.path.join(OUT, "lists")
 SMALL_LIST = 20000
 
 CULLS = ("none", "front", "back")
-DEPTH_TESTS = ("never", "less", "equal", "less_equal", "greater", "not_equal", "greater_equal", "always")
+DEPTH_TESTS = ("always", "never", "less", "equal", "less_equal", "greater", "not_equal", "greater_equal")
+ALL_SAMPLES = 15
 TOPOLOGIES = ("triangles", "strip", "quads")
 
 
@@ -73,17 +74,19 @@ def indices_of(draw: Draw) -> list[int]:
 
 
 def integers_of(draw: Draw, size: Sequence[int]) -> list[int]:
-    """The members of trirast_batch_draw, in their order."""
+    """The numbers of a draw: the members of trirast_draw in their order, but whether it is blended over what is stored before those that
+    it keeps, and the scissor, which is always looked at, without a word for that."""
+    kept = sum(1 << channel for channel, is_written in enumerate(draw.get("write", (True, True, True))) if not is_written)
     return [
         len(draw["vertices"]), len(indices_of(draw)), topology_of(draw),
         CULLS.index(draw.get("cull", "none")), DEPTH_TESTS.index(draw.get("depth_test", "always")),
         int(draw.get("depth_write", False)), int(draw.get("blend") == "over"),
-        *map(int, draw.get("write", (1, 1, 1))), draw.get("sample_mask", 15), *draw.get("scissor", (0, 0, *size)),
+        kept, ALL_SAMPLES & ~draw.get("sample_mask", ALL_SAMPLES), *draw.get("scissor", (0, 0, *size)),
     ]
 
 
 def arrays_of(scene: DrawList) -> bytes:
-    """An accepted list as the arrays of trirast_draw_scene: how many draws, vertices and indices, the head, and then these."""
+    """An accepted list as arrays: how many draws, vertices and indices, the head, and then these, as 32-bit integers."""
     size = (scene["width"], scene["height"])
     head = [*size, scene.get("samples", 1), int(scene.get("output") == "depth")]
     head += [*scene.get("clear", (0, 0, 0)), scene.get("clear_depth", 65535)]

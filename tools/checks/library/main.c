@@ -1,7 +1,7 @@
 // Calls libtrirast in one of several ways, and prints a line for each thing that was compared: "ok WHAT" or
 // "failed WHAT: WHY". tools/checks/library/in_c.py builds it, makes the cases with the program, and runs it:
 //
-//     library_test pictures|rows|buffers|refused|lines|odd|scenes|canvases|large|histories|threads|stack|memory MANIFEST
+//     library_test pictures|rows|buffers|refused|messages|odd|canvases|large|histories|threads|stack|memory MANIFEST
 //
 // A line of the manifest is `drawn LIST FILE`, where FILE is what the program writes for LIST, or `refused LIST LINE`,
 // where LINE is what it writes to the standard error. `memory` is there with -DWRAPPED, for the static library alone: see memory.c.
@@ -23,7 +23,7 @@ static const uint32_t TILE_SIZES[] = {8, 16, 32, 64};
 static void draw_case(const list_case *one, uint32_t tile_size, size_t size, trirast_status due) {
     marked buffer = mark(size);
     trirast_error error = UNSET;
-    trirast_status status = trirast_draw(one->list.bytes, one->list.length, tile_size, buffer.bytes, size, &error);
+    trirast_status status = trirast_list_draw(one->list.bytes, one->list.length, tile_size, buffer.bytes, size, &error);
     size_t length = due ? 0 : one->wanted.length;
     expect(is_error(&error, status, due) && holds_just(&buffer, one->wanted.bytes, length),
            "%s, tile size %u, buffer size %zu: status %u where %u was due, or other bytes", one->name, tile_size, size, status,
@@ -42,7 +42,7 @@ static void draw_rows_case(const list_case *one, uint32_t tile_size, uint32_t fi
     marked buffer = mark(length - less);
     trirast_error error = UNSET;
     trirast_status status =
-        trirast_draw_rows(one->list.bytes, one->list.length, tile_size, first, end, buffer.bytes, buffer.size, &error);
+        trirast_list_draw_rows(one->list.bytes, one->list.length, tile_size, first, end, buffer.bytes, buffer.size, &error);
     const char *wanted = one->wanted.bytes + one->info.header_bytes + begin;
     expect(is_error(&error, status, due) && holds_just(&buffer, wanted, due ? 0 : length),
            "%s, tile size %u, rows %u to %u, buffer size %zu: status %u where %u was due, or other bytes", one->name, tile_size,
@@ -53,8 +53,11 @@ static void draw_rows_case(const list_case *one, uint32_t tile_size, uint32_t fi
 // ---- The ways -----------------------------------------------------------------------------------------------------
 
 static void compare_pictures(void) {
-    expect(trirast_version() == TRIRAST_VERSION, "version %u", trirast_version());
-    report("the version is the header's");
+    char release[64];
+    snprintf(release, sizeof release, "%d.%d.%d", TRIRAST_VERSION_MAJOR, TRIRAST_VERSION_MINOR, TRIRAST_VERSION_PATCH);
+    expect(trirast_interface() == TRIRAST_INTERFACE, "interface %u", trirast_interface());
+    expect(!strcmp(trirast_version_string(), TRIRAST_VERSION_STRING) && !strcmp(release, TRIRAST_VERSION_STRING), "release %s", trirast_version_string());
+    report("release and interface are the header's");
     for (int k = 0; k < drawn_count; k++) {
         const trirast_image_info *info = &drawn[k].info;
         char header[64];
@@ -65,10 +68,10 @@ static void compare_pictures(void) {
                    (uint32_t)count == info->header_bytes && !memcmp(header, drawn[k].wanted.bytes, info->header_bytes),
                "%s", drawn[k].name);
     }
-    report("trirast_read_image_info gives the header, the pixels and the length of the program's file");
+    report("trirast_list_info gives the header, the pixels and the length of the program's file");
     for (int k = 0; k < drawn_count; k++)
         for (int s = 0; s < 4; s++) draw_case(&drawn[k], TILE_SIZES[s], drawn[k].wanted.length, TRIRAST_STATUS_OK);
-    report("trirast_draw writes the program's file, with each tile size");
+    report("trirast_list_draw writes the program's file, with each tile size");
 }
 
 static void compare_rows(void) {
@@ -80,7 +83,7 @@ static void compare_rows(void) {
                     if (rows <= 5 || end - first == 1 || end - first == rows)
                         draw_rows_case(&drawn[k], TILE_SIZES[s], first, end, 0, TRIRAST_STATUS_OK);
         }
-    report("trirast_draw_rows writes the pixels of its tile rows and nothing else");
+    report("trirast_list_draw_rows writes the pixels of its tile rows and nothing else");
     for (int k = 0; k < drawn_count; k++) {
         uint32_t rows = rows_of(&drawn[k], 32);
         draw_rows_case(&drawn[k], 32, 0, rows + 1, 0, TRIRAST_STATUS_BAD_TILE_ROWS);
@@ -121,11 +124,12 @@ static void compare_buffers(void) {
     draw_case(&drawn[0], UINT32_MAX, drawn[0].wanted.length, TRIRAST_STATUS_BAD_TILE_SIZE);
     report("a tile size that there is not is refused");
     trirast_error error = UNSET;
-    trirast_status status = trirast_draw(drawn[0].list.bytes, drawn[0].list.length, 32, NULL, 0, &error);
+    trirast_status status = trirast_list_draw(drawn[0].list.bytes, drawn[0].list.length, 32, NULL, 0, &error);
     expect(is_error(&error, status, TRIRAST_STATUS_BUFFER_TOO_SMALL), "status %u", status);
-    status = trirast_draw_rows(drawn[0].list.bytes, drawn[0].list.length, 32, 0, 1, NULL, 0, &error);
+    status = trirast_list_draw_rows(drawn[0].list.bytes, drawn[0].list.length, 32, 0, 1, NULL, 0, &error);
     expect(is_error(&error, status, TRIRAST_STATUS_BUFFER_TOO_SMALL), "rows: status %u", status);
-    expect(trirast_error_line(&error, NULL, 0) > 0, "no line");
+    expect(trirast_error_message(&error, NULL, 0) > 0, "no message");
+    expect(trirast_list_draw(drawn[0].list.bytes, drawn[0].list.length, 32, NULL, 0, NULL) == TRIRAST_STATUS_BUFFER_TOO_SMALL, "without an error");
     report("no buffer, NULL and 0, is too small");
 }
 
@@ -134,67 +138,74 @@ static trirast_status call_refused(int call, const blob *list, marked *buffer, t
     uint8_t *bytes = buffer->bytes;
     trirast_image_info info;
     memset(&info, MARK, sizeof info);
-    if (call == 1) return trirast_draw(list->bytes, list->length, 32, bytes, buffer->size, error);
-    if (call == 2) return trirast_draw_rows(list->bytes, list->length, 32, 0, 1, bytes, buffer->size, error);
-    trirast_status status = trirast_read_image_info(list->bytes, list->length, &info, error);
+    if (call == 1) return trirast_list_draw(list->bytes, list->length, 32, bytes, buffer->size, error);
+    if (call == 2) return trirast_list_draw_rows(list->bytes, list->length, 32, 0, 1, bytes, buffer->size, error);
+    trirast_status status = trirast_list_info(list->bytes, list->length, &info, error);
     for (size_t k = 0; k < sizeof info; k++) expect(((uint8_t *)&info)[k] == MARK, "an image info was written");
     return status;
+}
+
+// What trirast_error_message says where the program writes this line: the same without "trirast: " and the line feed.
+static void message_of(const blob *line, char *message, size_t size) {
+    const size_t before = strlen("trirast: ");
+    snprintf(message, size, "%.*s", (int)(line->length - before - 1), line->bytes + before);
 }
 
 static void compare_refused(void) {
     for (int k = 0; k < refused_count; k++)
         for (int call = 0; call < 3; call++) {
-            marked buffer = mark(4096), line = mark(256);
+            marked buffer = mark(4096), line = mark(TRIRAST_ERROR_MESSAGE_SIZE);
             trirast_error error = UNSET;
+            char wanted[512];
             trirast_status status = call_refused(call, &refused[k].list, &buffer, &error);
-            size_t length = refused[k].wanted.length;
-            expect(is_error(&error, status, TRIRAST_STATUS_BAD_LIST) && holds_just(&buffer, NULL, 0), "%s: status %u",
-                   refused[k].name, status);
-            expect(trirast_error_line(&error, (char *)line.bytes, line.size) == length &&
-                       holds_just(&line, refused[k].wanted.bytes, length),
+            message_of(&refused[k].wanted, wanted, sizeof wanted);
+            expect(is_error(&error, status, TRIRAST_STATUS_BAD_LIST) && error.element == TRIRAST_NONE && holds_just(&buffer, NULL, 0),
+                   "%s: status %u", refused[k].name, status);
+            expect(trirast_error_message(&error, (char *)line.bytes, line.size) == strlen(wanted) &&
+                       holds_just(&line, wanted, strlen(wanted) + 1),
                    "%s: %.*s", refused[k].name, 100, (const char *)line.bytes);
-            free(buffer.all);
-            free(line.all);
+            expect(call_refused(call, &refused[k].list, &buffer, NULL) == TRIRAST_STATUS_BAD_LIST && holds_just(&buffer, NULL, 0),
+                   "%s: without an error", refused[k].name);
+            free(buffer.all), free(line.all);
         }
-    report("a refused list gives the program's line, and leaves the buffer unchanged");
+    report("a refused list gives the program's words, and leaves the buffer unchanged");
 }
 
-static void compare_lines(void) {
-    for (size_t size = 0; size < 64; size++) {
-        trirast_error error = {TRIRAST_STATUS_BAD_LIST, TRIRAST_LIST_BAD_INDEX, 1, 4294967295u};
-        const char *wanted = "trirast: list fault 6 BadIndex in draw 4294967295\n";
+static void compare_messages(void) {
+    const trirast_error long_one = {TRIRAST_STATUS_BAD_BATCH, TRIRAST_BATCH_BAD_INDEX, SIZE_MAX - 1, SIZE_MAX - 1};
+    char whole[256];
+    size_t length = trirast_error_message(&long_one, whole, sizeof whole);
+    expect(length == strlen(whole) && length < TRIRAST_ERROR_MESSAGE_SIZE && strstr(whole, "18446744073709551614"), "%s", whole);
+    for (size_t size = 0; size < sizeof whole; size++) {
         marked line = mark(size);
-        size_t length = strlen(wanted);
-        expect(trirast_error_line(&error, (char *)line.bytes, size) == length &&
-                   holds_just(&line, wanted, size < length ? size : length),
+        char cut[256];
+        size_t fits = size ? (size <= length ? size - 1 : length) : 0;
+        memcpy(cut, whole, fits), cut[fits] = '\0';
+        expect(trirast_error_message(&long_one, (char *)line.bytes, size) == length && holds_just(&line, cut, size ? fits + 1 : 0),
                "a buffer of %zu bytes", size);
         free(line.all);
     }
-    report("as much of a line is written as fits");
-    for (uint32_t number = 0; number < 20; number++) {
-        trirast_error error = {number, number ? 0 : TRIRAST_LIST_BAD_INDEX, 0, 0};
-        marked line = mark(TRIRAST_ERROR_LINE_SIZE);
-        size_t length = trirast_error_line(&error, (char *)line.bytes, line.size);
-        int has_line = number >= TRIRAST_STATUS_INPUT_TOO_LONG && number <= TRIRAST_STATUS_BAD_STRUCT_SIZE;
-        int is_right = has_line ? length > 10 && length <= TRIRAST_ERROR_LINE_SIZE && line.bytes[length - 1] == '\n'
-                                : !length && holds_just(&line, NULL, 0);
-        expect(is_right, "status %u: a line of %zu bytes", number, length);
-        // Behind the program's name the line is the status's string.
+    report("as much of a message is written as fits, with a zero byte");
+    for (uint32_t number = 0; number < 40; number++) {
+        const trirast_error error = {number, 0, TRIRAST_NONE, TRIRAST_NONE};
         const char *name = trirast_status_string((trirast_status)number);
-        if (has_line)
-            expect(length == strlen("trirast: ") + strlen(name) + 1 && !memcmp(line.bytes + 9, name, strlen(name)),
-                   "status %u: %s", number, name);
-        free(line.all);
+        int is_placed = number == TRIRAST_STATUS_BAD_LIST || number == TRIRAST_STATUS_BAD_BATCH;
+        length = trirast_error_message(&error, whole, sizeof whole);
+        expect(length == strlen(whole) && length < TRIRAST_ERROR_MESSAGE_SIZE && (is_placed || !strcmp(whole, name)), "status %u: %s", number, whole);
+        int is_known = number <= TRIRAST_STATUS_BAD_TILE;
+        for (uint32_t other = 0; other < number && is_known; other++)
+            expect(strcmp(name, trirast_status_string((trirast_status)other)), "%u and %u: %s", other, number, name);
+        expect(is_known == !!strcmp(name, "unknown status"), "%u: %s", number, name);
     }
-    report("an error that no call reports has no line");
-    for (int number = 0; number < 16; number++) {
-        const char *name = trirast_status_string((trirast_status)number);
-        int is_known = number <= TRIRAST_STATUS_BAD_TRIANGLE;
-        for (int other = 0; other < number && is_known; other++)
-            expect(strcmp(name, trirast_status_string((trirast_status)other)), "%d and %d: %s", other, number, name);
-        expect(is_known == !!strcmp(name, "unknown status"), "%d: %s", number, name);
-    }
-    report("each status has a string of its own");
+    report("each status has a string of its own, which is its message");
+    for (uint32_t cause = 1; cause <= TRIRAST_BATCH_LEFT_OVER; cause++)
+        for (uint32_t other = 1; other < cause; other++) {
+            const trirast_error one = {TRIRAST_STATUS_BAD_BATCH, cause, 7, 9}, two = {TRIRAST_STATUS_BAD_BATCH, other, 7, 9};
+            char words[256];
+            trirast_error_message(&one, whole, sizeof whole), trirast_error_message(&two, words, sizeof words);
+            expect(strcmp(whole, words) && !strncmp(whole, "draw 7: ", 8), "causes %u and %u: %s", cause, other, whole);
+        }
+    report("each cause of a batch has words of its own, behind its draw");
 }
 
 static void compare_odd_lists(void) {
@@ -205,7 +216,7 @@ static void compare_odd_lists(void) {
         const char *what;
         blob list;
         trirast_status due;
-        uint32_t list_error;
+        uint32_t cause;
     } lists[] = {
         {"a list of no bytes is no JSON", {long_list, 0}, TRIRAST_STATUS_BAD_LIST, TRIRAST_LIST_NOT_JSON},
         {"no list, NULL and 0, has the same error", {NULL, 0}, TRIRAST_STATUS_BAD_LIST, TRIRAST_LIST_NOT_JSON},
@@ -217,9 +228,9 @@ static void compare_odd_lists(void) {
             marked buffer = mark(4096);
             trirast_error error = UNSET;
             trirast_status status = call_refused(call, &lists[k].list, &buffer, &error);
-            expect(is_error(&error, status, lists[k].due) && error.list_error == lists[k].list_error && !error.in_draw &&
+            expect(is_error(&error, status, lists[k].due) && error.cause == lists[k].cause && error.draw == TRIRAST_NONE &&
                        holds_just(&buffer, NULL, 0),
-                   "status %u, list error %u", status, error.list_error);
+                   "status %u, cause %u", status, error.cause);
             free(buffer.all);
         }
         report(lists[k].what);
@@ -254,7 +265,7 @@ static void *draw_share(void *argument) {
     size_t begin = offset_of(own->one, 8, first), stop_at = offset_of(own->one, 8, end);
     own->error.status = TRIRAST_STATUS_OK;
     if (first < end)
-        trirast_draw_rows(own->one->list.bytes, own->one->list.length, 8, first, end, own->pixels + begin, stop_at - begin,
+        trirast_list_draw_rows(own->one->list.bytes, own->one->list.length, 8, first, end, own->pixels + begin, stop_at - begin,
                           &own->error);
     return NULL;
 }
@@ -289,8 +300,8 @@ int main(int count, char **arguments) {
         void (*compare)(void);
     } ways[] = {
         {"pictures", compare_pictures}, {"rows", compare_rows},       {"buffers", compare_buffers},
-        {"refused", compare_refused},   {"odd", compare_odd_lists},   {"lines", compare_lines},   {"threads", compare_threads},
-        {"stack", compare_stack},       {"scenes", compare_scenes},   {"canvases", compare_canvases}, {"large", compare_large_batches},
+        {"refused", compare_refused},   {"odd", compare_odd_lists},   {"messages", compare_messages},   {"threads", compare_threads},
+        {"stack", compare_stack},       {"canvases", compare_canvases}, {"large", compare_large_batches},
         {"histories", compare_histories},
 #ifdef WRAPPED
         {"memory", compare_memory},

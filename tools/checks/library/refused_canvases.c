@@ -4,22 +4,23 @@
 
 #include "canvases.h"
 
-enum { CALLS = 7, BROKEN = 24, BROKEN_PIECES = 8, SHORT = 26, BROKEN_BATCHES = 28, BY_IDS = 3 };
+enum { CALLS = 7, BROKEN = 26, BROKEN_PIECES = 8, SHORT = 30, BROKEN_BATCHES = 44, BY_IDS = 3, WRONG_SIZES = 8 };
 
 // ---- Canvases -------------------------------------------------------------------------------------------------------
 
 // One member of the canvas is another. Returns the status that is due.
 static trirast_status break_canvas(trirast_canvas *canvas, int change) {
     switch (change) {
-    case 0: canvas->struct_size -= 4, canvas->width = 0; return TRIRAST_STATUS_BAD_STRUCT_SIZE;
-    case 1: canvas->struct_size = 0; return TRIRAST_STATUS_BAD_STRUCT_SIZE;
+    // The size of another release.
+    case 0: canvas->struct_size = sizeof *canvas - 8, canvas->width = 0; return TRIRAST_STATUS_BAD_STRUCT_SIZE;
+    case 1: canvas->struct_size = sizeof *canvas + 8; return TRIRAST_STATUS_BAD_STRUCT_SIZE;
     case 2: canvas->width = 0; return TRIRAST_STATUS_BAD_CANVAS;
     case 3: canvas->width = 4097; return TRIRAST_STATUS_BAD_CANVAS;
     case 4: canvas->width = UINT32_MAX; return TRIRAST_STATUS_BAD_CANVAS;
     case 5: canvas->height = 0; return TRIRAST_STATUS_BAD_CANVAS;
     case 6: canvas->height = 4097; return TRIRAST_STATUS_BAD_CANVAS;
     case 7: canvas->samples = 3; return TRIRAST_STATUS_BAD_CANVAS;
-    case 8: canvas->samples = 0; return TRIRAST_STATUS_BAD_CANVAS;
+    case 8: canvas->channels = 5; return TRIRAST_STATUS_BAD_CANVAS;
     case 9: canvas->samples = 17; return TRIRAST_STATUS_BAD_CANVAS;
     case 10: canvas->end++; return TRIRAST_STATUS_BAD_TILE_ROWS;
     case 11: canvas->first = canvas->end + 1; return TRIRAST_STATUS_BAD_TILE_ROWS;
@@ -35,22 +36,25 @@ static trirast_status break_canvas(trirast_canvas *canvas, int change) {
     case 20: canvas->samples = UINT32_MAX; return TRIRAST_STATUS_BAD_CANVAS;
     case 21: canvas->samples = 2; return TRIRAST_STATUS_BAD_MEMORY;
     case 22: canvas->samples = 16; return TRIRAST_STATUS_BAD_MEMORY;
+    // One sample.
+    case 23: canvas->samples = 0; return TRIRAST_STATUS_BAD_MEMORY;
+    case 24: canvas->channels = 1; return TRIRAST_STATUS_BAD_CANVAS;
     default: canvas->memory = NULL, canvas->plane_count = 0; return TRIRAST_STATUS_BAD_MEMORY;
     }
 }
 
 // Each call on tile rows, by its number, with a buffer for what it reads or writes.
 static trirast_status call_on(int call, trirast_canvas *canvas, const quad *all, const marked *buffer, trirast_error *error) {
-    static const uint8_t color[3] = {1, 2, 3};
+    static const trirast_clear clear = {1, 2, 3, 4, 9, 0};
     void *bytes = buffer->bytes;
     switch (call) {
-    case 0: return trirast_canvas_clear(canvas, color, 9);
+    case 0: return trirast_canvas_clear(canvas, &clear);
     case 1: return trirast_canvas_load(canvas, TRIRAST_FORMAT_RGBA8, bytes, buffer->size, 4 * WIDTH);
     case 2: return trirast_canvas_draw(canvas, &all->made.batch, error);
     case 3: return trirast_canvas_draw_ids(canvas, &all->made.batch, 0, error);
     case 4: return trirast_canvas_resolve(canvas, TRIRAST_FORMAT_BGRA8, bytes, buffer->size, 4 * WIDTH);
-    case 5: return trirast_canvas_depths(canvas, 3, bytes, buffer->size / 4, WIDTH);
-    default: return trirast_canvas_ids(canvas, 3, bytes, buffer->size / 4, WIDTH);
+    case 5: return trirast_canvas_depths(canvas, 3, bytes, buffer->size / 4, 2 * WIDTH);
+    default: return trirast_canvas_ids(canvas, 3, bytes, buffer->size / 4, 4 * WIDTH);
     }
 }
 
@@ -110,7 +114,8 @@ static trirast_status break_piece(trirast_canvas *whole, int change, uint32_t *f
     case 7: whole->memory = (uint8_t *)whole->memory + 63; return TRIRAST_STATUS_BAD_MEMORY;
     default: due = break_canvas(whole, change);
     }
-    // Of two errors that of the tile rows comes first.
+    // Which size a struct has is a part of which canvas there is. Of two errors that of the tile rows comes first.
+    if (due == TRIRAST_STATUS_BAD_STRUCT_SIZE) due = TRIRAST_STATUS_BAD_CANVAS;
     if (due == TRIRAST_STATUS_BAD_MEMORY && (*first < whole->first || *end > whole->end)) due = TRIRAST_STATUS_BAD_TILE_ROWS;
     return due;
 }
@@ -125,7 +130,7 @@ static void compare_broken_pieces(void) {
         memcpy(&kept, &piece, sizeof piece);
         trirast_canvas whole = all.made.whole;
         trirast_status due = break_piece(&whole, change, &first, &end);
-        trirast_status status = trirast_canvas_piece(&whole, first, end, &piece);
+        trirast_status status = trirast_canvas_split(&whole, first, end, &piece);
         expect(status == due && !memcmp(&piece, &kept, sizeof piece), "change %d: status %u where %u was due, or a change", change, status, due);
         free(all.made.memory.all);
     }
@@ -136,9 +141,9 @@ static void compare_pieces_of_pieces(void) {
     quad all;
     trirast_canvas piece, same;
     make_quad(&all);
-    int is_made = !trirast_canvas_piece(&all.made.whole, 1, 3, &piece) && !trirast_canvas_piece(&piece, 2, 2, &same);
+    int is_made = !trirast_canvas_split(&all.made.whole, 1, 3, &piece) && !trirast_canvas_split(&piece, 2, 2, &same);
     expect(is_made && piece.plane_count == all.made.whole.plane_count / 3 * 2 && same.plane_count == 0, "other sizes");
-    expect(trirast_canvas_piece(&piece, 0, 1, &same) == TRIRAST_STATUS_BAD_TILE_ROWS, "a piece has tile rows of the whole");
+    expect(trirast_canvas_split(&piece, 0, 1, &same) == TRIRAST_STATUS_BAD_TILE_ROWS, "a piece has tile rows of the whole");
     marked buffer = mark(4 * PIXELS);
     trirast_error error;
     for (int call = 0; call < CALLS; call++)
@@ -160,34 +165,41 @@ static void compare_pieces_of_pieces(void) {
 static trirast_status call_short(int change, trirast_canvas *canvas, void *bytes, trirast_status *due) {
     enum { LAST = 4 * PIXELS };
     const trirast_format rgb = TRIRAST_FORMAT_RGB8, rgba = TRIRAST_FORMAT_RGBA8, bgra = TRIRAST_FORMAT_BGRA8;
-    *due = change < 18 ? TRIRAST_STATUS_BUFFER_TOO_SMALL : change < 22 ? TRIRAST_STATUS_BAD_FORMAT : TRIRAST_STATUS_BAD_SAMPLE;
+    *due = change < 18   ? TRIRAST_STATUS_BUFFER_TOO_SMALL
+           : change < 22 ? TRIRAST_STATUS_BAD_FORMAT
+           : change < 26 ? TRIRAST_STATUS_BAD_SAMPLE
+                         : TRIRAST_STATUS_BAD_STRIDE;
     switch (change) {
     case 0: return trirast_canvas_load(canvas, rgba, bytes, LAST - 1, 4 * WIDTH);
     case 1: return trirast_canvas_load(canvas, rgb, bytes, LAST, 3 * WIDTH - 1);
-    case 2: return trirast_canvas_load(canvas, bgra, bytes, LAST, 0);
+    case 2: return trirast_canvas_load(canvas, bgra, bytes, LAST - 1, 0);
     case 3: return trirast_canvas_load(canvas, rgb, bytes, LAST, SIZE_MAX);
     case 4: return trirast_canvas_load(canvas, rgb, NULL, 0, 3 * WIDTH);
     case 5: return trirast_canvas_resolve(canvas, rgba, bytes, LAST - 1, 4 * WIDTH);
     case 6: return trirast_canvas_resolve(canvas, rgb, bytes, LAST, 3 * WIDTH - 1);
-    case 7: return trirast_canvas_resolve(canvas, bgra, bytes, LAST, 0);
+    case 7: return trirast_canvas_resolve(canvas, bgra, bytes, LAST - 1, 0);
     case 8: return trirast_canvas_resolve(canvas, rgb, bytes, LAST, SIZE_MAX);
-    case 9: return trirast_canvas_resolve(canvas, rgb, NULL, 0, 3 * WIDTH);
-    case 10: return trirast_canvas_depths(canvas, 0, bytes, PIXELS - 1, WIDTH);
-    case 11: return trirast_canvas_depths(canvas, 0, bytes, PIXELS, WIDTH - 1);
-    case 12: return trirast_canvas_depths(canvas, 0, bytes, PIXELS, SIZE_MAX);
-    case 13: return trirast_canvas_depths(canvas, 0, NULL, 0, WIDTH);
-    case 14: return trirast_canvas_ids(canvas, 0, bytes, PIXELS - 1, WIDTH);
-    case 15: return trirast_canvas_ids(canvas, 0, bytes, PIXELS, WIDTH - 1);
-    case 16: return trirast_canvas_ids(canvas, 0, bytes, PIXELS, SIZE_MAX);
-    case 17: return trirast_canvas_ids(canvas, 0, NULL, 0, WIDTH);
-    case 18: return trirast_canvas_load(canvas, (trirast_format)3, bytes, LAST, 4 * WIDTH);
+    case 9: return trirast_canvas_resolve(canvas, rgb, NULL, 0, 0);
+    case 10: return trirast_canvas_depths(canvas, 0, bytes, PIXELS - 1, 2 * WIDTH);
+    case 11: return trirast_canvas_depths(canvas, 0, bytes, PIXELS, 2 * WIDTH - 2);
+    case 12: return trirast_canvas_depths(canvas, 0, bytes, PIXELS, SIZE_MAX - 1);
+    case 13: return trirast_canvas_depths(canvas, 0, NULL, 0, 0);
+    case 14: return trirast_canvas_ids(canvas, 0, bytes, PIXELS - 1, 0);
+    case 15: return trirast_canvas_ids(canvas, 0, bytes, PIXELS, 4 * WIDTH - 4);
+    case 16: return trirast_canvas_ids(canvas, 0, bytes, PIXELS, SIZE_MAX - 3);
+    case 17: return trirast_canvas_ids(canvas, 0, NULL, 0, 4 * WIDTH);
+    case 18: return trirast_canvas_load(canvas, (trirast_format)99, bytes, LAST, 4 * WIDTH);
     case 19: return trirast_canvas_load(canvas, (trirast_format)UINT32_MAX, bytes, LAST, 4 * WIDTH);
-    case 20: return trirast_canvas_resolve(canvas, (trirast_format)3, bytes, 0, 0);
+    case 20: return trirast_canvas_resolve(canvas, (trirast_format)99, bytes, 0, 0);
     case 21: return trirast_canvas_resolve(canvas, (trirast_format)UINT32_MAX, bytes, LAST, 4 * WIDTH);
     case 22: return trirast_canvas_depths(canvas, 4, bytes, 0, 0);
-    case 23: return trirast_canvas_depths(canvas, UINT32_MAX, bytes, PIXELS, WIDTH);
+    case 23: return trirast_canvas_depths(canvas, UINT32_MAX, bytes, PIXELS, 2 * WIDTH);
     case 24: return trirast_canvas_ids(canvas, 4, bytes, 0, 0);
-    default: return trirast_canvas_ids(canvas, UINT32_MAX, bytes, PIXELS, WIDTH);
+    case 25: return trirast_canvas_ids(canvas, UINT32_MAX, bytes, PIXELS, 4 * WIDTH);
+    case 26: return trirast_canvas_depths(canvas, 0, bytes, PIXELS, 2 * WIDTH + 1);
+    case 27: return trirast_canvas_depths(canvas, 0, bytes, PIXELS, SIZE_MAX);
+    case 28: return trirast_canvas_ids(canvas, 0, bytes, PIXELS, 4 * WIDTH + 2);
+    default: return trirast_canvas_ids(canvas, 0, bytes, PIXELS, 15);
     }
 }
 
@@ -201,48 +213,77 @@ static void compare_short_buffers(void) {
         expect(status == due && is_unchanged(&all, &buffer), "change %d: status %u where %u was due, or a change", change, status, due);
         free(buffer.all), free(all.made.memory.all);
     }
-    report("a buffer or a stride that is too small, no buffer, a format and a sample that there is not are refused");
+    report("a buffer or a stride that is too small, no buffer, a format and a sample that there is not, and a stride of parts of an entry are refused");
 }
 
 // ---- Batches --------------------------------------------------------------------------------------------------------
 
-// One thing of the batch is another. Returns the error that is due, and its draw, or -1.
-static uint32_t break_batch(quad *all, int change, int *draw, uint32_t *first_id) {
+// What is due: a cause, the draw in which it is, and the element, which are TRIRAST_NONE if it is in none.
+typedef struct {
+    trirast_batch_cause cause;
+    size_t draw, element;
+} place;
+
+// One number of a draw is outside of its range.
+static void break_state(quad *all, int change) {
+    trirast_draw *last = &all->draws[1];
+    switch (change) {
+    case 0: all->draws[0].cull = 3; return;
+    case 1: last->topology = 3; return;
+    case 2: last->topology = 255; return;
+    case 3: last->cull = 255; return;
+    case 4: last->depth_test = 8; return;
+    case 5: last->depth_test = 255; return;
+    case 6: last->depth_write = 2; return;
+    case 7: last->keep = 16; return;
+    case 8: last->keep = 255; return;
+    case 9: last->scissor_enable = 2; return;
+    case 10: last->blend.color_source = 12; return;
+    case 11: last->blend.color_source = 13; return;
+    case 12: last->blend.color_source = 16; return;
+    case 13: last->blend.color_stored = 12; return;
+    case 14: last->blend.color_stored = 255; return;
+    case 15: last->blend.color_operation = 6; return;
+    case 16: last->blend.alpha_source = 13; return;
+    case 17: last->blend.alpha_stored = 16; return;
+    default: last->blend.alpha_operation = 255; return;
+    }
+}
+
+// One thing of the batch is another. Returns what is due.
+static place break_batch(quad *all, int change, uint32_t *first_id) {
     trirast_batch *batch = &all->made.batch;
-    trirast_batch_draw *last = &all->draws[1];
-    *draw = 1;
+    trirast_draw *last = &all->draws[1];
     switch (change) {
     // By ids alone.
-    case 0: *first_id = 16777215; return TRIRAST_LIST_TOO_MANY;
-    case 1: *first_id = 16777216; return TRIRAST_LIST_TOO_MANY;
-    case 2: *first_id = UINT32_MAX, *draw = 0; return TRIRAST_LIST_TOO_MANY;
-    case 3: all->indices[3] = 5; return TRIRAST_LIST_BAD_INDEX;
-    case 4: all->indices[0] = UINT32_MAX; return TRIRAST_LIST_BAD_INDEX;
-    case 5: last->vertex_count = 0, batch->vertices = NULL, batch->vertex_count = 0; return TRIRAST_LIST_BAD_INDEX;
-    case 6: last->index_count = 3, batch->index_count = 3; return TRIRAST_LIST_WRONG_KIND;
-    case 7: last->vertex_count = 6; return TRIRAST_LIST_WRONG_KIND;
-    case 8: last->index_count = 8; return TRIRAST_LIST_WRONG_KIND;
-    case 9: batch->indices = NULL, batch->index_count = 0; return TRIRAST_LIST_WRONG_KIND;
-    case 10: batch->vertices = NULL, batch->vertex_count = 0; return TRIRAST_LIST_WRONG_KIND;
-    case 11: batch->draw_count = 1, *draw = -1; return TRIRAST_LIST_WRONG_KIND;
-    case 12: batch->draws = NULL, batch->draw_count = 0, *draw = -1; return TRIRAST_LIST_WRONG_KIND;
-    case 13: all->vertices[2].x = all->vertices[2].y = 128; return TRIRAST_LIST_NOT_CONVEX;
-    case 14: all->draws[0].cull = 3, *draw = 0; break;
-    case 15: last->topology = 3; break;
-    case 16: last->depth_test = 8; break;
-    case 17: last->depth_write = 2; break;
-    case 18: last->blend = 2; break;
-    case 19: last->write_green = 2; break;
-    case 20: last->sample_mask = 65536; break;
-    case 21: last->scissor_right = 32769; break;
-    case 22: all->indices[3] = 4; break;
-    case 23: all->vertices[3].alpha = 256; break;
-    case 24: all->vertices[2].depth = 65536; break;
-    case 25: all->vertices[0].y = -8388609; break;
-    case 26: all->made.whole.origin_x = 40000; break;
-    default: all->made.whole.origin_y = INT32_MIN; break;
+    case 0: *first_id = 16777215; return (place){TRIRAST_BATCH_TOO_MANY_IDS, 1, TRIRAST_NONE};
+    case 1: *first_id = 16777216; return (place){TRIRAST_BATCH_TOO_MANY_IDS, 1, TRIRAST_NONE};
+    case 2: *first_id = UINT32_MAX; return (place){TRIRAST_BATCH_TOO_MANY_IDS, 0, TRIRAST_NONE};
+    case 3: all->indices[3] = 5; return (place){TRIRAST_BATCH_BAD_INDEX, 1, 3};
+    case 4: all->indices[0] = UINT32_MAX; return (place){TRIRAST_BATCH_BAD_INDEX, 1, 0};
+    case 5: last->vertex_count = 0, batch->vertices = NULL, batch->vertex_count = 0; return (place){TRIRAST_BATCH_BAD_INDEX, 1, 0};
+    case 6: last->index_count = 3, batch->index_count = 3; return (place){TRIRAST_BATCH_NOT_WHOLE, 1, TRIRAST_NONE};
+    case 7: last->vertex_count = 6; return (place){TRIRAST_BATCH_TOO_FEW_VERTICES, 1, TRIRAST_NONE};
+    case 8: last->vertex_count = SIZE_MAX; return (place){TRIRAST_BATCH_TOO_FEW_VERTICES, 1, TRIRAST_NONE};
+    case 9: last->index_count = 8; return (place){TRIRAST_BATCH_TOO_FEW_INDICES, 1, TRIRAST_NONE};
+    case 10: last->index_count = SIZE_MAX; return (place){TRIRAST_BATCH_TOO_FEW_INDICES, 1, TRIRAST_NONE};
+    case 11: batch->indices = NULL, batch->index_count = 0; return (place){TRIRAST_BATCH_TOO_FEW_INDICES, 1, TRIRAST_NONE};
+    case 12: batch->vertices = NULL, batch->vertex_count = 0; return (place){TRIRAST_BATCH_TOO_FEW_VERTICES, 1, TRIRAST_NONE};
+    case 13: batch->draw_count = 1; return (place){TRIRAST_BATCH_LEFT_OVER, TRIRAST_NONE, TRIRAST_NONE};
+    case 14: batch->index_count = 5; return (place){TRIRAST_BATCH_LEFT_OVER, TRIRAST_NONE, TRIRAST_NONE};
+    // The draw of {0} is of triangles.
+    case 15: batch->draws = NULL, batch->draw_count = 0; return (place){TRIRAST_BATCH_NOT_WHOLE, 0, TRIRAST_NONE};
+    case 16: all->vertices[2].x = all->vertices[2].y = 128; return (place){TRIRAST_BATCH_NOT_CONVEX, 1, 0};
+    case 17: all->indices[3] = 4; return (place){TRIRAST_BATCH_BAD_POSITION, 1, 4};
+    case 18: all->vertices[0].y = -8388609; return (place){TRIRAST_BATCH_BAD_POSITION, 1, 0};
+    case 19: all->vertices[1].x = INT32_MIN; return (place){TRIRAST_BATCH_BAD_POSITION, 1, 1};
+    case 20: all->made.whole.origin_x = 40000; return (place){TRIRAST_BATCH_BAD_POSITION, 1, 0};
+    case 21: all->made.whole.origin_y = INT32_MIN; return (place){TRIRAST_BATCH_BAD_POSITION, 1, 0};
+    case 22: batch->vertex_count = 6; return (place){TRIRAST_BATCH_LEFT_OVER, TRIRAST_NONE, TRIRAST_NONE};
+    case 23: batch->vertex_count = 4; return (place){TRIRAST_BATCH_TOO_FEW_VERTICES, 1, TRIRAST_NONE};
+    case 24: batch->index_count = 3; return (place){TRIRAST_BATCH_TOO_FEW_INDICES, 1, TRIRAST_NONE};
+    default: break_state(all, change - 25); return (place){TRIRAST_BATCH_BAD_STATE, change == 25 ? 0 : 1, TRIRAST_NONE};
     }
-    return TRIRAST_LIST_OUT_OF_RANGE;
 }
 
 static void compare_broken_batches(void) {
@@ -250,36 +291,53 @@ static void compare_broken_batches(void) {
         for (int by_ids = change < BY_IDS; by_ids < 2; by_ids++) {
             quad all;
             trirast_error error = UNSET;
-            int draw;
             uint32_t first_id = 0;
             make_quad(&all);
-            uint32_t due = break_batch(&all, change, &draw, &first_id);
+            const place due = break_batch(&all, change, &first_id);
             trirast_status status = by_ids ? trirast_canvas_draw_ids(&all.made.whole, &all.made.batch, first_id, &error)
                                            : trirast_canvas_draw(&all.made.whole, &all.made.batch, &error);
-            int is_there = draw < 0 ? !error.in_draw && !error.draw : error.in_draw == 1 && error.draw == (uint32_t)draw;
-            expect(is_error(&error, status, TRIRAST_STATUS_BAD_LIST) && error.list_error == due && is_there &&
-                       holds_just(&all.made.memory, NULL, 0),
-                   "change %d: status %u, list error %u in draw %u, or a change", change, status, error.list_error, error.draw);
+            // The library need not say which element it is.
+            int is_there = error.cause == (uint32_t)due.cause && error.draw == due.draw &&
+                           (error.element == due.element || error.element == TRIRAST_NONE);
+            expect(is_error(&error, status, TRIRAST_STATUS_BAD_BATCH) && is_there && holds_just(&all.made.memory, NULL, 0),
+                   "change %d: status %u, cause %u in draw %zu at %zu, or a change", change, status, error.cause, error.draw, error.element);
+            // Nobody has to want the error.
+            status = by_ids ? trirast_canvas_draw_ids(&all.made.whole, &all.made.batch, first_id, NULL)
+                            : trirast_canvas_draw(&all.made.whole, &all.made.batch, NULL);
+            expect(status == TRIRAST_STATUS_BAD_BATCH && holds_just(&all.made.memory, NULL, 0), "change %d: status %u without an error", change, status);
             free(all.made.memory.all);
         }
     report("a batch with a number out of range, or of other lengths than its draws say, is refused, and nothing is drawn");
 }
 
-static void compare_batch_sizes(void) {
-    for (int member = 0; member < 4; member++)
+// A size or a stride of the batch that there is not.
+static trirast_status break_size(trirast_batch *batch, int change) {
+    switch (change) {
+    case 0: batch->struct_size = sizeof *batch + 8; return TRIRAST_STATUS_BAD_STRUCT_SIZE;
+    case 1: batch->struct_size = sizeof *batch - 8; return TRIRAST_STATUS_BAD_STRUCT_SIZE;
+    case 2: batch->vertex_stride = 15; return TRIRAST_STATUS_BAD_STRIDE;
+    case 3: batch->vertex_stride = 12; return TRIRAST_STATUS_BAD_STRIDE;
+    case 4: batch->vertex_stride = 18; return TRIRAST_STATUS_BAD_STRIDE;
+    case 5: batch->index_size = 3; return TRIRAST_STATUS_BAD_STRIDE;
+    case 6: batch->index_size = 1; return TRIRAST_STATUS_BAD_STRIDE;
+    default: batch->index_size = 8; return TRIRAST_STATUS_BAD_STRIDE;
+    }
+}
+
+static void compare_wrong_sizes(void) {
+    for (int change = 0; change < WRONG_SIZES; change++)
         for (int by_ids = 0; by_ids < 2; by_ids++) {
             quad all;
             trirast_error error = UNSET;
             make_quad(&all);
             trirast_batch *batch = &all.made.batch;
-            uint32_t *sizes[] = {&batch->struct_size, &batch->draw_size, &batch->vertex_size, &batch->index_size};
-            *sizes[member] += 4;
+            trirast_status due = break_size(batch, change);
             trirast_status status = by_ids ? trirast_canvas_draw_ids(&all.made.whole, batch, 0, &error)
                                            : trirast_canvas_draw(&all.made.whole, batch, &error);
-            expect(is_error(&error, status, TRIRAST_STATUS_BAD_STRUCT_SIZE) && holds_just(&all.made.memory, NULL, 0), "size %d", member);
+            expect(is_error(&error, status, due) && holds_just(&all.made.memory, NULL, 0), "change %d: status %u where %u was due", change, status, due);
             free(all.made.memory.all);
         }
-    report("a struct or an element of another size is refused by a canvas");
+    report("a struct of another release, a stride of 15 and indices of 3 bytes are refused");
 }
 
 void compare_refused_canvases(void) {
@@ -289,5 +347,5 @@ void compare_refused_canvases(void) {
     compare_pieces_of_pieces();
     compare_short_buffers();
     compare_broken_batches();
-    compare_batch_sizes();
+    compare_wrong_sizes();
 }

@@ -1,4 +1,4 @@
-// Canvases with each number of samples a pixel: four threads draw a quad by a sample mask, and each sample is read back.
+// Canvases with each number of samples a pixel: four threads draw a quad without the samples that it skips, and each sample is read back.
 #include <pthread.h>
 #include <stdlib.h>
 
@@ -14,12 +14,12 @@ typedef struct {
 } share;
 
 static void *draw_row(void *argument) {
-    static const uint8_t white[3] = {255, 255, 255};
+    static const trirast_clear white = {255, 255, 255, 0, CLEAR_DEPTH, 0};
     share *own = argument;
     trirast_canvas piece;
     trirast_error error;
-    own->status = trirast_canvas_piece(&own->all->made.whole, own->row, own->row + 1, &piece);
-    if (!own->status) own->status = trirast_canvas_clear(&piece, white, CLEAR_DEPTH);
+    own->status = trirast_canvas_split(&own->all->made.whole, own->row, own->row + 1, &piece);
+    if (!own->status) own->status = trirast_canvas_clear(&piece, &white);
     if (!own->status) own->status = trirast_canvas_draw(&piece, &own->all->made.batch, &error);
     return NULL;
 }
@@ -42,7 +42,7 @@ static void compare_sample(const quad *all, uint32_t mask, uint32_t s) {
     uint32_t *ids = calloc(ALL, sizeof *ids);
     uint16_t *depths = calloc(ALL, sizeof *depths);
     if (!ids || !depths) stop("out of memory", "a sample");
-    int failed = trirast_canvas_ids(&all->made.whole, s, ids, ALL, WIDTH) || trirast_canvas_depths(&all->made.whole, s, depths, ALL, WIDTH);
+    int failed = trirast_canvas_ids(&all->made.whole, s, ids, ALL, 4 * WIDTH) || trirast_canvas_depths(&all->made.whole, s, depths, ALL, 0);
     for (int k = 0; k < ALL; k++) {
         int is_drawn = k < PIXELS && mask >> s & 1;
         expect(!failed && ids[k] == (is_drawn ? RED : WHITE) && depths[k] == (is_drawn ? DEPTH : CLEAR_DEPTH),
@@ -73,10 +73,12 @@ static void compare_colors(const quad *all, uint32_t mask, uint32_t samples) {
 
 static void compare_mask(uint32_t samples, uint32_t mask) {
     quad all;
+    stage tall;
     make_quad(&all);
+    make_canvas(&tall, WIDTH, TALL, samples);
     free(all.made.memory.all);
-    make_canvas(&all.made, WIDTH, TALL, samples);
-    all.draws[1].sample_mask = mask, all.draws[1].depth_write = 1;
+    all.made.whole = tall.whole, all.made.memory = tall.memory;
+    all.draws[1].skip_samples = (uint16_t)~mask, all.draws[1].depth_write = 1;
     for (int k = 0; k < 5; k++) all.vertices[k].red = RED, all.vertices[k].green = all.vertices[k].blue = 0;
     draw_by_threads(&all);
     for (uint32_t s = 0; s < samples; s++) compare_sample(&all, mask, s);
@@ -85,9 +87,8 @@ static void compare_mask(uint32_t samples, uint32_t mask) {
 }
 
 void compare_samples(void) {
-    const trirast_batch_draw draw = TRIRAST_BATCH_DRAW_INIT;
     for (uint32_t samples = 1; samples <= 16; samples *= 2) {
-        compare_mask(samples, draw.sample_mask);
+        compare_mask(samples, 0xFFFFu);
         compare_mask(samples, 1u << (samples - 1));
         // Bits of samples that there are not.
         compare_mask(samples, 0xFFFFu & ~0u << samples);
@@ -97,5 +98,5 @@ void compare_samples(void) {
     compare_mask(16, 1u << 15);
     compare_mask(16, 0xFFFFu ^ 1u << 8 ^ 1u << 15);
     compare_mask(8, 1u << 8 | 1u << 7);
-    report("the bits 8 and 15 of a sample mask are those of samples 8 and 15");
+    report("the bits 8 and 15 of the samples that are skipped are those of samples 8 and 15");
 }

@@ -1,4 +1,4 @@
-"""The headers under the sanitizers of compilers: random calls of trirast.hpp, and a piece without tile rows."""
+"""The headers under the sanitizers of compilers: random calls of trirast.hpp, and what trirast.h defines itself."""
 
 from __future__ import annotations
 
@@ -14,22 +14,18 @@ SANITIZERS = ("-fsanitize=address,undefined", "-fno-sanitize-recover=all")
 FUZZ = os.path.join(TOP, "tools", "checks", "library", "fuzz.cpp")
 # Seconds of the check that CI makes, and what a run may take longer than it is told to.
 SECONDS, MARGIN = 5, 120
-# A canvas without tile rows has no memory, and neither has a piece of it.
-NO_ROWS = b"""\
-#include <trirast.h>
-int main(void) {
-    trirast_canvas whole = TRIRAST_CANVAS_INIT, piece;
-    whole.width = whole.height = 1;
-    return trirast_canvas_piece(&whole, 0, 0, &piece) != TRIRAST_STATUS_OK || piece.memory || piece.plane_count;
-}
-"""
+# The test of the functions that trirast.h defines itself, the compilers that build it, and the flags of its language. In C these
+# functions are made the program's own, so that the sanitizers see them and not those of the library.
+INLINE_TEST = os.path.join(TOP, "tools", "checks", "library", "inline.c")
+IN_C, IN_CPP = ("-std=c99", "-Dinline=static inline", "-x", "c"), ("-std=c++17", "-x", "c++")
+INLINE = (("gcc", IN_C), ("clang", IN_C), ("g++", IN_CPP), ("clang++", IN_CPP))
 
 
-def check_no_rows() -> None:
-    """Nothing is added to a pointer that is NULL. Of these compilers clang alone sees it."""
-    program = os.path.join(OUT, "no_rows")
-    flags = ["-std=c99", *SANITIZERS, "-I", INCLUDE]
-    run([need("clang"), *flags, "-x", "c", "-", "-x", "none", STATIC_LIBRARY, "-o", program], input=NO_ROWS)
+def check_inline(compiler: str, language: tuple[str, ...]) -> None:
+    """The functions that trirast.h defines end as it says, also where a pointer is NULL, and the sanitizers find nothing."""
+    program = os.path.join(OUT, f"inline-{compiler}")
+    flags = ["-g", *WARNINGS, *SANITIZERS, "-I", INCLUDE]
+    run([need(compiler), *flags, *language, INLINE_TEST, "-x", "none", STATIC_LIBRARY, "-o", program])
     run([program])
 
 

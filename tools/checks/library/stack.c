@@ -21,48 +21,42 @@ static void do_nothing(task *own) { (void)own; }
 static void read_info(task *own) {
     trirast_image_info info;
     trirast_error error;
-    trirast_read_image_info(own->one->list.bytes, own->one->list.length, &info, &error);
+    trirast_list_info(own->one->list.bytes, own->one->list.length, &info, &error);
 }
 
 static void draw_file(task *own) {
     trirast_error error;
-    trirast_draw(own->one->list.bytes, own->one->list.length, 64, own->buffer.bytes, own->buffer.size, &error);
+    trirast_list_draw(own->one->list.bytes, own->one->list.length, 64, own->buffer.bytes, own->buffer.size, &error);
 }
 
 static void draw_row(task *own) {
     trirast_error error;
-    trirast_draw_rows(own->one->list.bytes, own->one->list.length, 64, 0, 1, own->buffer.bytes, own->buffer.size, &error);
+    trirast_list_draw_rows(own->one->list.bytes, own->one->list.length, 64, 0, 1, own->buffer.bytes, own->buffer.size, &error);
 }
 
 static void ask_why(task *own) { ask_for_history(own->one); }
 
-static void draw_scene(task *own) {
-    trirast_error error;
-    if (own->one->arrays.bytes) draw_arrays(own->one, 64, &own->buffer, &error);
-}
-
 static void use_canvas(task *own) {
-    if (own->one->arrays.bytes) draw_on_canvas(own->one);
+    if (own->one->arrays.draws) draw_on_canvas(own->one);
 }
 
-static void write_line(task *own) {
-    const trirast_error error = {.status = TRIRAST_STATUS_BAD_LIST, .list_error = 5, .in_draw = 1, .draw = 1023};
-    trirast_error_line(&error, (char *)own->buffer.bytes, own->buffer.size);
+static void write_message(task *own) {
+    const trirast_error error = {TRIRAST_STATUS_BAD_BATCH, TRIRAST_BATCH_BAD_INDEX, SIZE_MAX - 1, SIZE_MAX - 1};
+    trirast_error_message(&error, (char *)own->buffer.bytes, own->buffer.size);
 }
 
-// Each call by its name in the header, with the bytes of stack that docs/library.md says are enough.
+// Each call by its name in the header, with the bytes of stack that it says are enough.
 static const struct {
     const char *name;
     void (*call)(task *own);
     size_t enough;
 } CALLS[] = {
     {"no call", do_nothing, 16384},
-    {"trirast_error_line", write_line, 16384},
-    {"trirast_read_image_info", read_info, TRIRAST_STACK_TEXT},
-    {"trirast_draw", draw_file, TRIRAST_STACK_TEXT},
-    {"trirast_draw_rows", draw_row, TRIRAST_STACK_TEXT},
-    {"trirast_history and trirast_triangle_samples", ask_why, TRIRAST_STACK_TEXT},
-    {"trirast_draw_scene", draw_scene, TRIRAST_STACK_SCENE},
+    {"trirast_error_message", write_message, 16384},
+    {"trirast_list_info", read_info, TRIRAST_STACK_TEXT},
+    {"trirast_list_draw", draw_file, TRIRAST_STACK_TEXT},
+    {"trirast_list_draw_rows", draw_row, TRIRAST_STACK_TEXT},
+    {"trirast_list_history and trirast_list_triangle_samples", ask_why, TRIRAST_STACK_TEXT},
     {"trirast_canvas_*", use_canvas, TRIRAST_STACK},
 };
 enum { CALL_COUNT = sizeof CALLS / sizeof *CALLS };

@@ -6,17 +6,18 @@ A call is given what the header allows and what it refuses. What it may not chan
 from __future__ import annotations
 
 import ctypes
-from functools import lru_cache
 from typing import Any, Sequence, Tuple, Union
 
 import pytest
 
 from tests.acceptance.lists import CORNER, TRIANGLE
 from tests.acceptance.program import TILE_SIZES, check_written, colour_file
-from trirast import _ffi
+from tools import places
+from tools.checks.library.c_types import address, library, number, struct
 
-# An error's status, the number of the list's error, whether it lies in a draw, and that draw.
-Error = Tuple[int, int, int, int]
+# An error's status, its cause, the draw in which it is and the element, of which each may be none.
+Error = Tuple[int, int, Union[int, None], Union[int, None]]
+Numbers = Tuple[int, ...]
 
 FILE = colour_file(3, 3, CORNER)
 
@@ -29,38 +30,40 @@ LAST_ROW = (
 
 def alone(status: int) -> Error:
     """The error that this status describes completely; no error with status 0."""
-    return (status, 0, 0, 0)
+    return (status, 0, None, None)
 
 
-def in_list(number: int) -> Error:
-    """An error of the list with this number, outside of its draws."""
-    return (1, number, 0, 0)
+def in_list(cause: int, draw: int | None = None) -> Error:
+    """An error of a list with this cause, in this draw or outside of its draws."""
+    return (1, cause, draw, None)
 
 
-def in_draw(number: int, draw: int) -> Error:
-    """An error of the list with this number, in this draw."""
-    return (1, number, 1, draw)
+def in_batch(cause: int, draw: int | None = None) -> Error:
+    """An error of a batch with this cause, in this draw."""
+    return (15, cause, draw, None)
 
 
 DONE = alone(0)
+NONE = 2**64 - 1
 
 
-@lru_cache(maxsize=None)
-def library() -> Any:
-    """The library with the types of its calls, which return their status here and raise nothing."""
-    loaded = ctypes.CDLL(_ffi.library_path())
-    for name, takes, gives in _ffi.PROTOTYPES:
-        call = getattr(loaded, name)
-        call.argtypes, call.restype = takes, gives
-    return loaded
+def error_of(error: Any) -> Error:
+    if error.status == 0:
+        return DONE
+    assert error.element == NONE or error.status == 15
+    # The library need not say which element it is.
+    return (error.status, error.cause, None if error.draw == NONE else error.draw, None)
 
 
 def ended(name: str, *arguments: Any) -> Error:
-    """The error that a call writes behind these arguments. Its status is the one that is returned."""
-    error = _ffi.CError(77, 77, 77, 77)
-    status = getattr(library(), name)(*arguments, error)
+    """The error that a call writes behind these arguments. Its status is the one that is returned; a call that is refused is refused
+    too if nobody wants the error."""
+    error = struct("trirast_error")(77, 77, 77, 77)
+    given = [address(argument) for argument in arguments]
+    status = getattr(library(), name)(*given, ctypes.addressof(error))
     assert status == error.status, name
-    return (error.status, error.list_error, error.in_draw, error.draw)
+    assert status == 0 or getattr(library(), name)(*given, None) == status, name
+    return error_of(error)
 
 
 def buffer_of(size: int) -> Any:
@@ -73,15 +76,15 @@ def text_and_length(text: Union[str, bytes]) -> Tuple[bytes, int]:
 
 
 def drawn(text: Union[str, bytes], tile_size: int, size: int) -> Tuple[Error, bytes]:
-    """How `trirast_draw` ends, and what its buffer of this size then holds."""
+    """How `trirast_list_draw` ends, and what its buffer of this size then holds."""
     buffer = buffer_of(size)
-    return ended("trirast_draw", *text_and_length(text), tile_size, buffer, size), bytes(buffer)
+    return ended("trirast_list_draw", *text_and_length(text), tile_size, buffer, size), bytes(buffer)
 
 
 def drawn_rows(text: str, tile_size: int, first: int, end: int, size: int) -> Tuple[Error, bytes]:
-    """The same of `trirast_draw_rows`."""
+    """The same of `trirast_list_draw_rows`."""
     buffer = buffer_of(size)
-    return ended("trirast_draw_rows", *text_and_length(text), tile_size, first, end, buffer, size), bytes(buffer)
+    return ended("trirast_list_draw_rows", *text_and_length(text), tile_size, first, end, buffer, size), bytes(buffer)
 
 
 def fields(struct: Any) -> Tuple[int, ...]:
@@ -96,20 +99,21 @@ def fields(struct: Any) -> Tuple[int, ...]:
 # ---- Lists
 
 
-def test_has_the_version_of_the_header() -> None:
-    assert library().trirast_version() == 1
+def test_has_the_release_and_the_interface_of_the_header() -> None:
+    assert library().trirast_interface() == number("TRIRAST_INTERFACE") == 2
+    assert library().trirast_version_string().decode() == places.text_of("VERSION").strip()
 
 
 @pytest.mark.parametrize(("text", "info"), [(TRIANGLE, (3, 3, 3, 11, 38)), (LAST_ROW, (2, 9, 2, 13, 49))])
 def test_reads_the_info_of_pictures_of_colours_and_of_depths(text: str, info: Sequence[int]) -> None:
-    found = _ffi.CImageInfo(0, 0, 0, 0, 0)
-    assert ended("trirast_read_image_info", *text_and_length(text), found) == DONE
+    found = struct("trirast_image_info")(0, 0, 0, 0, 0)
+    assert ended("trirast_list_info", *text_and_length(text), found) == DONE
     assert fields(found) == info
 
 
 def test_keeps_the_info_of_a_list_that_is_refused() -> None:
-    found = _ffi.CImageInfo(7, 7, 7, 7, 7)
-    assert ended("trirast_read_image_info", b"{}", 2, found) == in_list(3)
+    found = struct("trirast_image_info")(7, 7, 7, 7, 7)
+    assert ended("trirast_list_info", b"{}", 2, found) == in_list(3)
     assert fields(found) == (7, 7, 7, 7, 7)
 
 
@@ -167,9 +171,9 @@ def test_rows_make_the_picture_wherever_it_is_split(text: str, length: int, head
         ("{}", in_list(3)),
         ("[]", in_list(4)),
         ('{"width":0,"height":1,"draws":[]}', in_list(5)),
-        ('{"width":1,"height":1,"draws":[{"vertices":[],"strip":[]},{"vertices":[],"strip":[0]}]}', in_draw(6, 1)),
-        ('{"width":1,"height":1,"draws":[{"vertices":[],"strip":[],"quads":[]}]}', in_draw(9, 0)),
-        ('{"width":1,"height":1,"draws":[{"vertices":[[0,0,0,0,0,0,0]],"quads":[[0,0,0,0]]}]}', in_draw(10, 0)),
+        ('{"width":1,"height":1,"draws":[{"vertices":[],"strip":[]},{"vertices":[],"strip":[0]}]}', in_list(6, 1)),
+        ('{"width":1,"height":1,"draws":[{"vertices":[],"strip":[],"quads":[]}]}', in_list(9, 0)),
+        ('{"width":1,"height":1,"draws":[{"vertices":[[0,0,0,0,0,0,0]],"quads":[[0,0,0,0]]}]}', in_list(10, 0)),
     ],
 )
 def test_numbers_the_errors_of_lists_as_the_header(text: str, error: Error) -> None:
@@ -197,200 +201,207 @@ def test_numbers_the_errors_of_calls_as_the_header() -> None:
     assert drawn(b" " * 67_108_865, 8, 0) == (alone(2), b"")
 
 
-# ---- Scenes
+# ---- Batches
 
-Numbers = Tuple[int, ...]
-
-# The triangle of the list as arrays: the head without its size, a draw, and its vertices.
-HEAD: Numbers = (3, 3, 1, 0, 0, 0, 0, 65_535)
-DRAW: Numbers = (3, 3, 0, 0, 7, 0, 0, 1, 1, 1, 15, 0, 0, 3, 3)
 WHITE: Numbers = (0, 255, 255, 255, 255)
 VERTICES: Sequence[Numbers] = ((128, 128, *WHITE), (640, 128, *WHITE), (128, 640, *WHITE))
-# The members of a draw by their place.
-VERTEX_COUNT, INDEX_COUNT, TOPOLOGY, CULL, DEPTH_TEST, BLEND, SAMPLE_MASK, SCISSOR_RIGHT = 0, 1, 2, 3, 4, 6, 10, 13
-WHOLE = (64, 60, 28, 4)
+OVER: Numbers = (5, 6, 1, 2, 6, 1)
+# The picture of the triangle: its first two pixels, and the first one of the second row.
+WHITE_CORNER = FILE[11:]
 
 
-def changed(numbers: Numbers, place: int, value: int) -> Numbers:
-    return (*numbers[:place], value, *numbers[place + 1 :])
+def array_of(kind: Any, elements: Sequence[Any]) -> Any:
+    """The address of an array, and the array, which has to stay. One of no elements is NULL."""
+    array = (kind * len(elements))(*elements)
+    return (ctypes.addressof(array) if elements else None, array)
 
 
-def array_of(kind: Any, elements: Sequence[Numbers]) -> Any:
-    return (kind * len(elements))(*(kind(*each) for each in elements)) if elements else None
+def draw_of(vertex_count: int = 3, index_count: int = 3, blend: Numbers = (), constant: Numbers = (), **members: int) -> Any:
+    """A draw of {0} but for these members."""
+    draw = struct("trirast_draw")(vertex_count=vertex_count, index_count=index_count, **members)
+    draw.blend = struct("trirast_blend")(*blend)
+    for channel, value in enumerate(constant):
+        draw.blend.constant[channel] = value
+    return draw
 
 
-def drawn_scene(
-    head: Numbers, draws: Sequence[Numbers], vertices: Sequence[Numbers], indices: Sequence[int], size: int = 0, tile_size: int = 8,
-    sizes: Numbers = WHOLE, head_size: int = 36,
+def canvas_of(width: int = 3, height: int = 3, **members: int) -> Any:
+    """A canvas, and its memory, each byte of which is 7."""
+    canvas = struct("trirast_canvas")(width=width, height=height, **members)
+    size = library().trirast_canvas_size(ctypes.addressof(canvas))
+    memory = ctypes.create_string_buffer(b"\7" * size, size)
+    assert library().trirast_canvas_init(ctypes.addressof(canvas), ctypes.addressof(memory), size) == 0
+    return canvas, memory
+
+
+def drawn_batch(
+    draws: Sequence[Any], vertices: Sequence[Numbers] = VERTICES, indices: Sequence[int] = (0, 1, 2), canvas: Any = None, first_id: int | None = None,
+    clear: Numbers = (0, 0, 0, 0, 65_535), **members: int,
 ) -> Tuple[Error, bytes]:
-    """How `trirast_draw_scene` ends, and what its buffer of this size then holds. An array of no elements is NULL."""
-    arrays = (
-        array_of(_ffi.CBatchDraw, draws), array_of(_ffi.CVertex, vertices),
-        (ctypes.c_uint32 * len(indices))(*indices) if indices else None,
-    )
-    counts = (len(draws), len(vertices), len(indices))
-    places = (place for each in zip((array and ctypes.addressof(array) for array in arrays), counts) for place in each)
-    buffer = buffer_of(size)
-    error = ended(
-        "trirast_draw_scene", _ffi.CSceneHead(head_size, *head), _ffi.CBatch(*sizes, *places), tile_size, buffer, size,
-    )
-    return error, bytes(buffer)
+    """How a batch is drawn on a canvas that is cleared, and the colours of its pixels."""
+    whole, memory = canvas or canvas_of()
+    index = ctypes.c_uint16 if members.get("index_size") == 2 else ctypes.c_uint32
+    kept = [array_of(struct("trirast_draw"), draws), array_of(struct("trirast_vertex"), [struct("trirast_vertex")(*row) for row in vertices])]
+    kept.append(array_of(index, indices))
+    batch = struct("trirast_batch")(**members)
+    batch.draws, batch.vertices, batch.indices = (found for found, _ in kept)
+    batch.draw_count, batch.vertex_count, batch.index_count = len(draws), len(vertices), len(indices)
+    place = ctypes.addressof(whole)
+    assert library().trirast_canvas_clear(place, ctypes.addressof(struct("trirast_clear")(*clear))) == 0
+    before = bytes(memory)
+    if first_id is None:
+        error = ended("trirast_canvas_draw", whole, batch)
+    else:
+        error = ended("trirast_canvas_draw_ids", whole, batch, first_id)
+    assert error == DONE or bytes(memory) == before
+    size = 3 * whole.width * whole.height
+    pixels = buffer_of(size)
+    assert library().trirast_canvas_resolve(place, 0, ctypes.addressof(pixels), size, 0) == 0
+    return error, bytes(pixels)
 
 
-def test_draws_a_scene_as_its_list() -> None:
-    assert drawn_scene(HEAD, [DRAW], VERTICES, [0, 1, 2], size=38, tile_size=32) == (DONE, FILE)
+def test_draws_a_batch_as_its_list() -> None:
+    assert drawn_batch([draw_of()]) == (DONE, WHITE_CORNER)
+    assert drawn_batch([]) == (DONE, WHITE_CORNER)
 
 
-def check_sizes_refused(sizes: Numbers, head_size: int = 36) -> None:
-    """Also with a tile size that there is not."""
-    for tile_size in (8, 12):
-        found = drawn_scene(HEAD, [DRAW], VERTICES, [0, 1, 2], 40, tile_size, sizes, head_size)
-        assert found == (alone(7), b"\7" * 40), (sizes, head_size)
+def test_takes_a_batch_of_nothing() -> None:
+    assert drawn_batch([], (), ()) == (DONE, bytes(27))
+    assert drawn_batch([draw_of(0, 0), draw_of(0, 0)], (), ()) == (DONE, bytes(27))
 
 
-def test_refuses_structs_and_elements_of_other_sizes() -> None:
-    """A struct of another version of the header has another size."""
-    for size in (0, 32, 35, 37, 40, 64):
-        check_sizes_refused(WHOLE, size)
-    for size in (0, 1, 3, 5, 27, 29, 59, 61, 63, 65):
-        for place in range(4):
-            check_sizes_refused(changed(WHOLE, place, size))
+def test_refuses_structs_of_other_releases_and_strides() -> None:
+    sizes: dict[str, Any] = {"struct_size": ctypes.sizeof(struct("trirast_batch"))}
+    assert drawn_batch([draw_of()], **sizes, vertex_stride=16, index_size=4) == (DONE, WHITE_CORNER)
+    for size in (1, 8, sizes["struct_size"] - 8, sizes["struct_size"] + 8, 2**32 - 1):
+        assert drawn_batch([draw_of()], struct_size=size, vertex_stride=15) == (alone(7), bytes(27))
+    for stride in (1, 4, 8, 12, 15, 17, 18, 2**32 - 1):
+        assert drawn_batch([draw_of()], vertex_stride=stride) == (alone(16), bytes(27))
+    for size in (1, 3, 5, 8, 2**32 - 1):
+        assert drawn_batch([draw_of()], index_size=size) == (alone(16), bytes(27))
+
+
+@pytest.mark.parametrize("members", [
+    {"topology": 3}, {"cull": 3}, {"depth_test": 8}, {"depth_write": 2}, {"keep": 16}, {"scissor_enable": 2}, {"topology": 255}, {"keep": 255},
+    {"blend": (12,)}, {"blend": (13,)}, {"blend": (16,)}, {"blend": (0, 12)}, {"blend": (0, 0, 6)}, {"blend": (0, 0, 0, 13)},
+    {"blend": (0, 0, 0, 0, 255)}, {"blend": (0, 0, 0, 0, 0, 6)},
+])
+def test_refuses_draws_with_bad_numbers(members: Any) -> None:
+    assert drawn_batch([draw_of(0, 0), draw_of(**members)]) == (in_batch(3, 1), bytes(27))
 
 
 @pytest.mark.parametrize(
-    ("place", "value", "number"),
+    ("draws", "vertices", "indices", "error"),
     [
-        (TOPOLOGY, 3, 5),
-        (CULL, 3, 5),
-        (DEPTH_TEST, 8, 5),
-        (BLEND, 2, 5),
-        (SAMPLE_MASK, 65_536, 5),
-        (SCISSOR_RIGHT, 4097, 5),
-        (VERTEX_COUNT, 4, 4),
-        (TOPOLOGY, 2, 4),
-        (VERTEX_COUNT, 2, 6),
+        ([draw_of(4)], VERTICES, (0, 1, 2), in_batch(1, 0)),
+        ([draw_of(2**64 - 1)], VERTICES, (0, 1, 2), in_batch(1, 0)),
+        ([draw_of(), draw_of(0, 1)], VERTICES, (0, 1, 2), in_batch(2, 1)),
+        ([draw_of(3, 2)], VERTICES, (0, 1, 2), in_batch(4, 0)),
+        ([draw_of(3, 3, topology=2)], VERTICES, (0, 1, 2), in_batch(4, 0)),
+        ([draw_of(0, 0), draw_of(2)], VERTICES[:2], (0, 1, 2), in_batch(6, 1)),
+        ([draw_of()], VERTICES, (0, 1, 2**32 - 1), in_batch(6, 0)),
+        ([draw_of()], (*VERTICES[:2], (8_388_608, 0, *WHITE)), (0, 1, 2), in_batch(7, 0)),
+        ([draw_of()], ((0, -8_388_609, *WHITE), *VERTICES[1:]), (2, 1, 0), in_batch(7, 0)),
+        ([draw_of(3, 4, topology=2)], VERTICES, (0, 1, 2, 0), in_batch(8, 0)),
+        ([draw_of()], (*VERTICES, VERTICES[0]), (0, 1, 2), in_batch(9)),
+        ([draw_of()], VERTICES, (0, 1, 2, 0), in_batch(9)),
+        ([], VERTICES, (0, 1, 2, 0), in_batch(4, 0)),
     ],
 )
-def test_refuses_draws_with_bad_numbers(place: int, value: int, number: int) -> None:
-    draw = changed(DRAW, place, value)
-    assert drawn_scene(HEAD, [draw], VERTICES, [0, 1, 2]) == (in_draw(number, 0), b"")
+def test_reports_the_errors_of_batches(draws: Any, vertices: Any, indices: Any, error: Error) -> None:
+    assert drawn_batch(draws, vertices, indices) == (error, bytes(27))
 
 
-def test_refuses_scenes_with_bad_numbers() -> None:
-    outside = (*VERTICES[:2], (8_388_608, 0, *WHITE))
-    assert drawn_scene(changed(HEAD, 2, 2), [DRAW], VERTICES, [0, 1, 2]) == (in_list(5), b"")
-    assert drawn_scene(HEAD, [DRAW], outside, [0, 1, 2]) == (in_draw(5, 0), b"")
-    assert drawn_scene(HEAD, [DRAW], VERTICES, [0, 1, 2, 0]) == (in_list(4), b"")
-    assert drawn_scene(HEAD, [DRAW] * 1025, VERTICES, [0, 1, 2]) == (in_list(7), b"")
+def test_looks_only_at_vertices_that_an_index_names() -> None:
+    assert drawn_batch([draw_of(4)], (*VERTICES, (2**31 - 1, 0, *WHITE))) == (DONE, WHITE_CORNER)
 
 
-def test_takes_a_scene_of_nothing() -> None:
-    assert drawn_scene(HEAD, [], [], []) == (alone(4), b"")
-    assert drawn_scene(HEAD, [], [], [], size=38) == (DONE, FILE[:11] + bytes(27))
+@pytest.mark.parametrize(("first_id", "error"), [(16_777_215, DONE), (16_777_216, in_batch(5, 0)), (2**32 - 1, in_batch(5, 0)), (0x010203, DONE)])
+def test_draws_ids_up_to_the_greatest(first_id: int, error: Error) -> None:
+    found, pixels = drawn_batch([draw_of()], first_id=first_id)
+    assert (found, pixels[:3]) == (error, b"\0\0\0" if error != DONE else first_id.to_bytes(3, "little"))
 
 
-# A picture of 9 by 6 pixels by three draws, as arrays: two triangles in a state unlike that of the others in each number, a strip in the
-# state that a draw has by default, and a quad. The numbers of vertex k behind its position are 10 * (k + 1) and the next four.
-LARGE_HEAD: Numbers = (9, 6, 4, 1, 1, 2, 3, 40_000)
-TRIANGLES: Numbers = (3, 6, 0, 2, 3, 1, 1, 1, 0, 1, 6, 1, 2, 7, 4096)
-STRIP: Numbers = (4, 4, 1, 0, 7, 0, 0, 1, 1, 1, 15, 0, 0, 9, 6)
-QUAD: Numbers = (4, 4, 2, 1, 4, 0, 0, 1, 1, 0, 15, 0, 0, 9, 6)
-PLACES = (
-    (-8_388_608, 128), (640, 8_388_607), (128, 640), (0, 0), (256, 0), (0, 256), (256, 256), (0, 0), (512, 0), (512, 512), (0, 512),
-)
-MANY = tuple((x, y, *range(10 * k, 10 * k + 5)) for k, (x, y) in enumerate(PLACES, 1))
-INDICES = (0, 1, 2, 2, 1, 0, 0, 1, 2, 3, 3, 2, 1, 0)
-TEXT = """{"width":9,"height":6,"samples":4,"output":"OUTPUT","clear":[1,2,3],"clear_depth":40000,"draws":[
-{"cull":"back","depth_test":"less_equal","depth_write":true,"blend":"over","write":[true,false,true],"sample_mask":6,
-"scissor":[1,2,7,4096],
-"vertices":[[-8388608,128,10,11,12,13,14],[640,8388607,20,21,22,23,24],[128,640,30,31,32,33,34]],
-"triangles":[[0,1,2],[2,1,0]]},
-{"vertices":[[0,0,40,41,42,43,44],[256,0,50,51,52,53,54],[0,256,60,61,62,63,64],[256,256,70,71,72,73,74]],
-"strip":[0,1,2,3]},
-{"cull":"front","depth_test":"greater","write":[true,true,false],
-"vertices":[[0,0,80,81,82,83,84],[512,0,90,91,92,93,94],[512,512,100,101,102,103,104],[0,512,110,111,112,113,114]],
-"quads":[[3,2,1,0]]}]}"""
-
-
-@pytest.mark.parametrize(("output", "name", "length"), [(0, "color", 11 + 162), (1, "depth", 13 + 108)])
-def test_makes_the_list_of_a_text(output: int, name: str, length: int) -> None:
-    error, file = drawn(TEXT.replace("OUTPUT", name), 8, length)
-    assert error == DONE
-    head = changed(LARGE_HEAD, 3, output)
-    assert drawn_scene(head, [TRIANGLES, STRIP, QUAD], MANY, INDICES, length) == (DONE, file)
-
-
+# A white or grey corner over a blue picture.
 @pytest.mark.parametrize(
-    ("head", "draws", "indices", "error"),
+    ("blend", "constant", "wanted"),
     [
-        (changed(LARGE_HEAD, 0, 0), (TRIANGLES, STRIP, QUAD), INDICES, in_list(5)),
-        (changed(LARGE_HEAD, 2, 2), (TRIANGLES, STRIP, QUAD), INDICES, in_list(5)),
-        (LARGE_HEAD, (STRIP,) * 1025, INDICES, in_list(7)),
-        (LARGE_HEAD, (TRIANGLES, STRIP), INDICES, in_list(4)),
-        (LARGE_HEAD, (TRIANGLES, STRIP, changed(QUAD, VERTEX_COUNT, 5)), INDICES, in_draw(4, 2)),
-        (LARGE_HEAD, (TRIANGLES, STRIP, changed(QUAD, TOPOLOGY, 3)), INDICES, in_draw(5, 2)),
-        (LARGE_HEAD, (changed(TRIANGLES, INDEX_COUNT, 5), STRIP, QUAD), INDICES, in_draw(4, 0)),
-        (LARGE_HEAD, (TRIANGLES, STRIP, QUAD), (3,) * 14, in_draw(6, 0)),
-        (LARGE_HEAD, (TRIANGLES, STRIP, QUAD), (0,) * 14, in_draw(10, 2)),
+        ((), (), (200, 40, 90)),
+        (OVER, (), (108, 25, 146)),
+        # 255 q <= 255 s +- 255 d + 127: sums, clamped; d - s; s - d.
+        ((2, 2, 1), (), (220, 50, 255)),
+        ((2, 2, 3), (), (0, 0, 110)),
+        ((2, 2, 2), (), (180, 30, 0)),
+        ((0, 0, 4), (), (20, 10, 90)),
+        ((0, 0, 5), (), (200, 40, 200)),
+        # The constant times the new colour, and the rest of it times the stored one.
+        ((14, 15, 1), (255, 0, 51, 0), (200, 10, 178)),
+        # The alpha of a canvas without alpha is 255, so that nothing is left of it to saturate.
+        ((11, 2, 1), (), (20, 10, 200)),
+        ((7, 8, 1), (), (200, 40, 90)),
+        ((9, 1, 1), (), (16, 2, 71)),
+        ((1, 3, 1), (), (16, 2, 71)),
+        ((1, 4, 1), (), (4, 8, 129)),
+        ((10, 0, 1), (), (184, 38, 19)),
     ],
 )
-def test_reports_the_errors_of_arrays(head: Numbers, draws: Sequence[Numbers], indices: Sequence[int], error: Error) -> None:
-    assert drawn_scene(head, draws, MANY, indices) == (error, b"")
+def test_blends_by_the_equation(blend: Numbers, constant: Numbers, wanted: Numbers) -> None:
+    vertices = [(x, y, 0, 200, 40, 90, 125) for x, y in ((0, 0), (2048, 0), (0, 2048))]
+    error, pixels = drawn_batch([draw_of(blend=blend, constant=constant)], vertices, clear=(20, 10, 200, 0, 9))
+    assert (error, tuple(pixels[:3])) == (DONE, wanted)
 
 
-def test_keeps_to_the_ends_of_a_depth_and_of_a_sample_mask() -> None:
-    deep = [(0, 0, 65_536, *range(65_537, 65_541))] * 4
-    assert drawn_scene(LARGE_HEAD, [QUAD], deep, [0] * 4) == (in_draw(5, 0), b"")
-    strip = MANY[3:7]
-    _error, file = drawn_scene(LARGE_HEAD, [STRIP], strip, [0, 1, 2, 3], 121)
-    masks = [(most, drawn_scene(LARGE_HEAD, [changed(STRIP, SAMPLE_MASK, most)], strip, [0, 1, 2, 3], 121)) for most in (65_535, 65_536)]
-    assert masks == [(65_535, (DONE, file)), (65_536, (in_draw(5, 0), b"\7" * 121))]
+def test_keeps_channels_and_skips_samples() -> None:
+    for keep in range(16):
+        wanted = bytes(0 if keep >> channel & 1 else 255 for channel in range(3))
+        assert drawn_batch([draw_of(keep=keep)])[1][:3] == wanted
+    assert drawn_batch([draw_of(skip_samples=1)]) == (DONE, bytes(27))
+    assert drawn_batch([draw_of(skip_samples=0xFFFE)]) == (DONE, WHITE_CORNER)
 
 
-# ---- Lines
+def test_cuts_at_the_scissor_if_it_is_enabled() -> None:
+    edges: dict[str, Any] = {"scissor_left": -5, "scissor_top": -(2**31), "scissor_right": 1, "scissor_bottom": 2**31 - 1}
+    assert drawn_batch([draw_of(**edges)]) == (DONE, WHITE_CORNER)
+    assert drawn_batch([draw_of(scissor_enable=1, **edges)])[1] == b"\xff\xff\xff" + bytes(6) + b"\xff\xff\xff" + bytes(15)
+
+
+@pytest.mark.parametrize(("test", "passes"), [(0, "lem"), (1, ""), (2, "l"), (3, "e"), (4, "le"), (5, "m"), (6, "lm"), (7, "em")])
+def test_tests_depths(test: int, passes: str) -> None:
+    """Of a triangle of depth 0 that is less, of one that is equal and of one that is more than what is stored."""
+    for name, depth in (("l", 99), ("e", 100), ("m", 101)):
+        vertices = [(x, y, depth, 255, 255, 255, 255) for x, y, *_ in VERTICES]
+        error, pixels = drawn_batch([draw_of(depth_test=test)], vertices, clear=(0, 0, 0, 0, 100))
+        assert (error, pixels[0]) == (DONE, 255 if name in passes else 0), (test, name)
+
+
+# ---- Messages
 
 
 @pytest.mark.parametrize(
-    ("error", "line"),
+    ("error", "message"),
     [
         (in_list(1), "list fault 1 NotJson"),
-        (in_list(2), "list fault 2 UnknownKey"),
-        (in_list(3), "list fault 3 MissingKey"),
-        (in_list(4), "list fault 4 WrongKind"),
         (in_list(5), "list fault 5 OutOfRange"),
-        (in_draw(6, 1), "list fault 6 BadIndex in draw 1"),
-        (in_draw(7, 0), "list fault 7 TooMany in draw 0"),
-        (in_draw(9, 0), "list fault 9 TwoLists in draw 0"),
-        (in_draw(10, 1023), "list fault 10 NotConvex in draw 1023"),
+        (in_list(6, 1), "list fault 6 BadIndex in draw 1"),
+        (in_list(7, 0), "list fault 7 TooMany in draw 0"),
+        (in_list(10, 1023), "list fault 10 NotConvex in draw 1023"),
+        ((15, 6, 3, 17), "draw 3: index 17 is not less than the number of vertices"),
+        ((15, 4, 0, None), "draw 0: the indices make no whole triangles or quads"),
+        ((15, 9, None, None), "a vertex or an index is in no draw"),
         (alone(2), "input too long"),
         (alone(3), "out of memory"),
         (alone(4), "buffer too small"),
-        (alone(5), "no such tile size"),
-        (alone(6), "no such tile rows"),
-        (alone(7), "no such struct size"),
+        (alone(7), "wrong struct size"),
+        (alone(16), "wrong stride"),
     ],
 )
-def test_has_the_line_of_each_error(error: Error, line: str) -> None:
-    whole = f"trirast: {line}\n".encode()
-    buffer = buffer_of(96)
-    assert library().trirast_error_line(_ffi.CError(*error), buffer, 96) == len(whole)
-    assert bytes(buffer) == whole + b"\7" * (96 - len(whole))
-
-
-def test_cuts_a_line_to_its_buffer() -> None:
-    buffer = buffer_of(9)
-    assert library().trirast_error_line(_ffi.CError(*alone(3)), buffer, 9) == 23
-    assert bytes(buffer) == b"trirast: "
-    assert library().trirast_error_line(_ffi.CError(*alone(3)), None, 0) == 23
-
-
-@pytest.mark.parametrize(
-    "error", [alone(0), alone(8), alone(1), in_list(0), in_list(11), (1, 6, 2, 1), (1, 6, 0, 1), (3, 6, 0, 0)],
-)
-def test_has_no_line_of_what_no_call_reports(error: Error) -> None:
-    buffer = buffer_of(96)
-    assert library().trirast_error_line(_ffi.CError(*error), buffer, 96) == 0
-    assert bytes(buffer) == b"\7" * 96
+def test_has_the_message_of_each_error(error: Error, message: str) -> None:
+    made = struct("trirast_error")(*(NONE if member is None else member for member in error))
+    for size in (0, 1, 9, len(message), len(message) + 1, 96):
+        buffer = buffer_of(size)
+        assert library().trirast_error_message(ctypes.addressof(made), ctypes.addressof(buffer), size) == len(message)
+        written = message.encode()[: size - 1] + b"\0" if size else b""
+        assert bytes(buffer) == written + b"\7" * (size - len(written))
 
 
 # ---- Histories
@@ -411,14 +422,14 @@ EVENT_SIZE = 136
 
 
 def history(text: str, place: Numbers, capacity: int, event_size: int = EVENT_SIZE) -> Tuple[Error, Any, Numbers]:
-    """How `trirast_history` ends for this column, row and sample, and whether all events are asked for; the events and the info."""
-    events = (_ffi.CEvent * capacity)()
+    """How `trirast_list_history` ends for this column, row and sample, and whether all events are asked for; the events and the info."""
+    events = (struct("trirast_event") * capacity)()
     for event in events:
         fill(event)
-    info = _ffi.CSampleInfo()
+    info = struct("trirast_sample_info")()
     fill(info)
-    request = _ffi.CHistoryRequest(28, event_size, 56, *place)
-    error = ended("trirast_history", *text_and_length(text), request, events, capacity, info)
+    request = struct("trirast_history_request")(28, event_size, 0, *place)
+    error = ended("trirast_list_history", *text_and_length(text), request, events, capacity, info)
     return error, [fields(event) for event in events], fields(info)
 
 
@@ -478,6 +489,6 @@ def test_reports_the_first_error_of_a_history(text: str, place: Numbers, event_s
     ],
 )
 def test_counts_the_samples_of_a_triangle(text: str, triangle: int, error: Error, counts: Numbers) -> None:
-    found = _ffi.CSampleCounts(77, 77, 77)
-    assert ended("trirast_triangle_samples", *text_and_length(text), 0, triangle, found) == error
+    found = struct("trirast_sample_counts")(77, 77, 77)
+    assert ended("trirast_list_triangle_samples", *text_and_length(text), 0, triangle, found) == error
     assert fields(found) == counts

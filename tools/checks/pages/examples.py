@@ -34,11 +34,18 @@ POSTER_SCENE: DrawList = {
 
 
 def array(vertices: list[list[int]]) -> str:
-    """Vertices as an initializer in C and C++."""
-    return "{" + ", ".join("{" + ", ".join(map(str, vertex)) + "}" for vertex in vertices) + "}"
+    """Vertices as an initializer in C and C++, with the member that is not read."""
+    return "{" + ", ".join("{" + ", ".join(map(str, (*vertex, 0))) + "}" for vertex in vertices) + "}"
 
 
-RUST_VERTEX = "Vertex {{ x: {}, y: {}, depth: {}, red: {}, green: {}, blue: {}, alpha: {} }}"
+RUST_VERTEX = "Vertex::new({}, {}, [{}, {}, {}, {}]).at_depth({})"
+
+
+def vertex_in_rust(vertex: list[int]) -> str:
+    x, y, depth, *color = vertex
+    return RUST_VERTEX.format(x, y, *color, depth)
+
+
 CPP_HEAD = "#include <cstdio>\n#include <trirast.hpp>\nint main() {{\nconst trirast_vertex vertices[] = {};\nconst std::uint32_t indices[] = {{0, 1, 2}};\n"
 CPP_END = "std::fwrite(pixels.data(), 1, pixels.size(), stdout);\n}\n"
 
@@ -49,18 +56,14 @@ static uint8_t pixels[480 * 640 * 3];
 int main(void) {{
     const trirast_vertex vertices[] = {array(VERTICES)};
     const uint32_t indices[] = {{0, 1, 2}};
-    trirast_batch_draw draw = TRIRAST_BATCH_DRAW_INIT;
-    draw.vertex_count = draw.index_count = 3;
-    trirast_batch batch = TRIRAST_BATCH_INIT;
-    batch.draws = &draw, batch.draw_count = 1, batch.vertices = vertices, batch.indices = indices;
-    batch.vertex_count = batch.index_count = 3;
-    trirast_canvas canvas = TRIRAST_CANVAS_INIT;
-    canvas.width = 640, canvas.height = 480, canvas.samples = 4, canvas.end = trirast_canvas_rows(480);
-    const size_t bytes = trirast_canvas_bytes(640, 480, 4, 0, canvas.end);
-    canvas.memory = malloc(bytes), canvas.plane_count = bytes / TRIRAST_PLANE_BYTES;
+    const trirast_batch batch = {{.vertices = vertices, .vertex_count = 3, .indices = indices, .index_count = 3}};
+    trirast_canvas canvas = {{.width = 640, .height = 480, .samples = 4}};
+    const size_t size = trirast_canvas_size(&canvas);
+    void *memory = malloc(size);
+    if (trirast_canvas_init(&canvas, memory, size)) return 1;
     for (uint32_t k = 0; k < 3; k++)
         if (draw_piece(&canvas, &batch, k, 3, pixels, sizeof pixels)) return 1;
-    free(canvas.memory);
+    free(memory);
     return fwrite(pixels, 1, sizeof pixels, stdout) != sizeof pixels;
 }}
 """
@@ -80,7 +83,7 @@ AROUND = {
     (CANVAS, "rust"): Around(
         SCENE,
         "use std::io::Write;\nuse trirast::Vertex;\nfn main() -> Result<(), Box<dyn std::error::Error>> {\n"
-        f"let vertices = [{', '.join(RUST_VERTEX.format(*vertex) for vertex in VERTICES)}];\n",
+        f"let vertices = [{', '.join(map(vertex_in_rust, VERTICES))}];\n",
         "assert!(ids.iter().all(|&id| id == 0 || id == 16_777_215) && ids.contains(&0) && depths.len() == 640 * 480);\n"
         "Ok(std::io::stdout().write_all(&pixels)?)\n}\n",
     ),
@@ -91,11 +94,7 @@ AROUND = {
         "int main(void) {\n"
         f"const trirast_vertex vertices[] = {array(POSTER_VERTICES)};\n"
         "const uint32_t indices[] = {0, 1, 2};\n"
-        "trirast_batch_draw draw = TRIRAST_BATCH_DRAW_INIT;\n"
-        "draw.vertex_count = draw.index_count = 3, draw.scissor_right = 1300, draw.scissor_bottom = 600;\n"
-        "trirast_batch batch = TRIRAST_BATCH_INIT;\n"
-        "batch.draws = &draw, batch.draw_count = 1, batch.vertices = vertices, batch.indices = indices;\n"
-        "batch.vertex_count = batch.index_count = 3;\n"
+        "const trirast_batch batch = {.vertices = vertices, .vertex_count = 3, .indices = indices, .index_count = 3};\n"
         "if (draw_poster(&batch, 1300, 600, picture)) return 1;\n"
         "return fwrite(picture, 1, sizeof picture, stdout) != sizeof picture;\n"
         "}\n",
@@ -119,7 +118,9 @@ void part(const char *json, size_t json_len, uint32_t width, uint32_t height, si
           uint32_t threads, uint8_t *pixels, trirast_error error);
 void part(const char *json, size_t json_len, uint32_t width, uint32_t height, size_t pixel_bytes, uint32_t tile_size, uint32_t k,
           uint32_t threads, uint8_t *pixels, trirast_error error) {{
+{{
 {}
+}}
 }}
 """
 COMPILERS = {"c": ("gcc", "-std=c99"), "cpp": ("g++", "-std=c++17")}
@@ -158,11 +159,19 @@ def program_of(page: str, language: str) -> str:
     return "".join([around.before, *blocks, around.behind])
 
 
+def reds_of(picture: picture_file.PictureFile) -> str:
+    """The red of each pixel, as README.md shows it."""
+    return " ".join(str(pixel[0]) for pixel in picture.pixels()) + "\n"
+
+
 def check(page: str, language: str) -> None:
     """The examples of a page in a language, one after another, draw the program's picture: its file or its pixels."""
     name = f"page_{os.path.basename(page).split('.')[0].lower()}_{language}"
     draw_list = encode(AROUND[page, language].scene)
     written = written_by(name, language, program_of(page, language), draw_list)
     wanted = drawn_by_program(draw_list).output
-    pixels = picture_file.decode(wanted).pixel_data
-    must(written in (wanted, pixels), "another picture")
+    picture = picture_file.decode(wanted)
+    if page == README:
+        must(written.decode() == reds_of(picture) and f"```text\n{reds_of(picture)}```" in places.text_of(page), "another picture")
+    else:
+        must(written in (wanted, picture.pixel_data), "another picture")

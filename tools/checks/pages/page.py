@@ -10,7 +10,7 @@ from tools import places
 PAGES = ("README.md", *(
     f"docs/{name}.md" for name in (
         "canvas", "canvas_proved", "conformance", "draw-list", "gallery", "library", "matplotlib", "performance", "posters", "proofs",
-        "rules", "tested", "web",
+        "python", "rules", "tested", "web",
     )
 ))
 FENCE = re.compile(r"^```(\w*)\n(.*?)^```$", re.MULTILINE | re.DOTALL)

@@ -22,13 +22,14 @@ from tools.places import OUT, PROGRAM, PYTHON_SOURCES, TOP
 
 # What the commands and examples of a page need of Python and of the system, beside a compiler.
 NEEDS: dict[str, tuple[str, ...]] = {
-    "docs/canvas.md": ("numpy",), "docs/gallery.md": ("numpy", "matplotlib"), "docs/matplotlib.md": ("numpy", "matplotlib"),
-    "docs/posters.md": ("numpy", "distributed"), "docs/rules.md": ("matplotlib",),
+    "docs/gallery.md": ("numpy", "matplotlib"), "docs/matplotlib.md": ("numpy", "matplotlib"),
+    "docs/posters.md": ("numpy", "distributed"), "docs/python.md": ("numpy",), "docs/rules.md": ("matplotlib",),
 }
 # Pictures that a page's commands leave, and the pictures of the documents that have to be the same: whole, or in the colours of their shapes.
 PICTURES = {
     "docs/canvas.md": (("canvas.png", "docs/canvas.png", ""),),
     "docs/gallery.md": (("inspect.svg", "docs/inspect.svg", ""),),
+    "docs/python.md": (("discs.png", "docs/python.png", ""),),
     "docs/rules.md": tuple((f"docs/{name}.svg", f"docs/{name}.svg", r"fill: #\w+") for name in ("first_list", "shared_edge", "top_left")),
 }
 

@@ -4,13 +4,22 @@
 
 use std::os::raw::{c_char, c_void};
 
+/// The release that these declarations describe.
+pub const TRIRAST_VERSION_MAJOR: u32 = 0;
+pub const TRIRAST_VERSION_MINOR: u32 = 1;
+pub const TRIRAST_VERSION_PATCH: u32 = 0;
 /// The interface that these declarations describe: a library of a greater number has all of it, in the same form.
-pub const TRIRAST_VERSION: u32 = 1;
+pub const TRIRAST_INTERFACE: u32 = 2;
 /// Bytes of stack that are enough for each call.
 pub const TRIRAST_STACK: usize = 262_144;
-/// Bytes that are enough for each line of [`trirast_error_line`].
-pub const TRIRAST_ERROR_LINE_SIZE: usize = 96;
+/// The same for a call that reads a draw list.
+pub const TRIRAST_STACK_TEXT: usize = 196_608;
+/// No index: what an error names is in no draw, or is no element.
+pub const TRIRAST_NONE: usize = usize::MAX;
+/// Bytes that are enough for each message of [`trirast_error_message`] with its zero byte.
+pub const TRIRAST_ERROR_MESSAGE_SIZE: usize = 96;
 
+// What a call returns.
 pub const TRIRAST_STATUS_OK: u32 = 0;
 pub const TRIRAST_STATUS_BAD_LIST: u32 = 1;
 pub const TRIRAST_STATUS_INPUT_TOO_LONG: u32 = 2;
@@ -26,11 +35,102 @@ pub const TRIRAST_STATUS_BAD_SAMPLE: u32 = 11;
 pub const TRIRAST_STATUS_BAD_POSITION: u32 = 12;
 pub const TRIRAST_STATUS_BAD_PIXEL: u32 = 13;
 pub const TRIRAST_STATUS_BAD_TRIANGLE: u32 = 14;
+pub const TRIRAST_STATUS_BAD_BATCH: u32 = 15;
+pub const TRIRAST_STATUS_BAD_STRIDE: u32 = 16;
+pub const TRIRAST_STATUS_BAD_TILE: u32 = 17;
 
+// Why a text is no draw list: the numbers and names of docs/draw-list.md.
+pub const TRIRAST_LIST_NOT_JSON: u32 = 1;
+pub const TRIRAST_LIST_UNKNOWN_KEY: u32 = 2;
+pub const TRIRAST_LIST_MISSING_KEY: u32 = 3;
+pub const TRIRAST_LIST_WRONG_KIND: u32 = 4;
+pub const TRIRAST_LIST_OUT_OF_RANGE: u32 = 5;
+pub const TRIRAST_LIST_BAD_INDEX: u32 = 6;
+pub const TRIRAST_LIST_TOO_MANY: u32 = 7;
+pub const TRIRAST_LIST_TWO_LISTS: u32 = 9;
+pub const TRIRAST_LIST_NOT_CONVEX: u32 = 10;
+
+// Why a batch cannot be drawn.
+pub const TRIRAST_BATCH_TOO_FEW_VERTICES: u32 = 1;
+pub const TRIRAST_BATCH_TOO_FEW_INDICES: u32 = 2;
+pub const TRIRAST_BATCH_BAD_STATE: u32 = 3;
+pub const TRIRAST_BATCH_NOT_WHOLE: u32 = 4;
+pub const TRIRAST_BATCH_TOO_MANY_IDS: u32 = 5;
+pub const TRIRAST_BATCH_BAD_INDEX: u32 = 6;
+pub const TRIRAST_BATCH_BAD_POSITION: u32 = 7;
+pub const TRIRAST_BATCH_NOT_CONVEX: u32 = 8;
+pub const TRIRAST_BATCH_LEFT_OVER: u32 = 9;
+
+// What the indices of a draw are.
+pub const TRIRAST_TOPOLOGY_TRIANGLES: u32 = 0;
+pub const TRIRAST_TOPOLOGY_STRIP: u32 = 1;
+pub const TRIRAST_TOPOLOGY_QUADS: u32 = 2;
+
+// Which triangles are dropped.
+pub const TRIRAST_CULL_NONE: u32 = 0;
+pub const TRIRAST_CULL_FRONT: u32 = 1;
+pub const TRIRAST_CULL_BACK: u32 = 2;
+
+// When the new depth passes its test against the stored one: the numbers of D3D11_COMPARISON_FUNC, but 0 in place of 8.
+pub const TRIRAST_DEPTH_ALWAYS: u32 = 0;
+pub const TRIRAST_DEPTH_NEVER: u32 = 1;
+pub const TRIRAST_DEPTH_LESS: u32 = 2;
+pub const TRIRAST_DEPTH_EQUAL: u32 = 3;
+pub const TRIRAST_DEPTH_LESS_EQUAL: u32 = 4;
+pub const TRIRAST_DEPTH_GREATER: u32 = 5;
+pub const TRIRAST_DEPTH_NOT_EQUAL: u32 = 6;
+pub const TRIRAST_DEPTH_GREATER_EQUAL: u32 = 7;
+
+// Channels that a draw keeps as they are stored.
+pub const TRIRAST_KEEP_RED: u32 = 1;
+pub const TRIRAST_KEEP_GREEN: u32 = 2;
+pub const TRIRAST_KEEP_BLUE: u32 = 4;
+pub const TRIRAST_KEEP_ALPHA: u32 = 8;
+
+// What a blend equation multiplies a term by: the numbers of D3D11_BLEND.
+pub const TRIRAST_FACTOR_DEFAULT: u32 = 0;
+pub const TRIRAST_FACTOR_ZERO: u32 = 1;
+pub const TRIRAST_FACTOR_ONE: u32 = 2;
+pub const TRIRAST_FACTOR_SOURCE_COLOR: u32 = 3;
+pub const TRIRAST_FACTOR_INVERSE_SOURCE_COLOR: u32 = 4;
+pub const TRIRAST_FACTOR_SOURCE_ALPHA: u32 = 5;
+pub const TRIRAST_FACTOR_INVERSE_SOURCE_ALPHA: u32 = 6;
+pub const TRIRAST_FACTOR_STORED_ALPHA: u32 = 7;
+pub const TRIRAST_FACTOR_INVERSE_STORED_ALPHA: u32 = 8;
+pub const TRIRAST_FACTOR_STORED_COLOR: u32 = 9;
+pub const TRIRAST_FACTOR_INVERSE_STORED_COLOR: u32 = 10;
+pub const TRIRAST_FACTOR_SOURCE_ALPHA_SATURATED: u32 = 11;
+pub const TRIRAST_FACTOR_CONSTANT: u32 = 14;
+pub const TRIRAST_FACTOR_INVERSE_CONSTANT: u32 = 15;
+
+// How a blend equation combines its terms, f = s by its factor and g = d by its factor: the numbers of D3D11_BLEND_OP, and 0 for ADD.
+pub const TRIRAST_OPERATION_DEFAULT: u32 = 0;
+pub const TRIRAST_OPERATION_ADD: u32 = 1;
+pub const TRIRAST_OPERATION_SUBTRACT: u32 = 2;
+pub const TRIRAST_OPERATION_REVERSE_SUBTRACT: u32 = 3;
+pub const TRIRAST_OPERATION_MIN: u32 = 4;
+pub const TRIRAST_OPERATION_MAX: u32 = 5;
+
+/// The width and height of a tile of a canvas, in pixels.
+pub const TRIRAST_TILE_SIZE: u32 = 64;
+/// Bytes of the samples of one index of a block of 8 by 8 pixels: the unit of a canvas's memory.
+pub const TRIRAST_PLANE_BYTES: usize = 320;
+
+// How the colour of a pixel lies in bytes, in the order of the name.
+pub const TRIRAST_FORMAT_RGB8: u32 = 0;
+pub const TRIRAST_FORMAT_RGBA8: u32 = 1;
+pub const TRIRAST_FORMAT_BGRA8: u32 = 2;
+
+// What a picture shows.
+pub const TRIRAST_OUTPUT_COLOR: u32 = 0;
+pub const TRIRAST_OUTPUT_DEPTH: u32 = 1;
+
+// What a triangle did to a sample.
 pub const TRIRAST_RESULT_MISSED: u32 = 0;
 pub const TRIRAST_RESULT_DEPTH_FAILED: u32 = 1;
 pub const TRIRAST_RESULT_DRAWN: u32 = 2;
 
+// Why a triangle is not drawn at a sample.
 pub const TRIRAST_REASON_CULLED: u32 = 1;
 pub const TRIRAST_REASON_ZERO_AREA: u32 = 2;
 pub const TRIRAST_REASON_NOT_COVERED: u32 = 4;
@@ -38,30 +138,163 @@ pub const TRIRAST_REASON_OUTSIDE_SCISSOR: u32 = 8;
 pub const TRIRAST_REASON_MASKED: u32 = 16;
 pub const TRIRAST_REASON_DEPTH_FAILED: u32 = 32;
 
+// How a sample fails the top-left rule at an edge.
 pub const TRIRAST_FAILURE_NONE: u32 = 0;
 pub const TRIRAST_FAILURE_OUTSIDE: u32 = 1;
 pub const TRIRAST_FAILURE_ON_EDGE: u32 = 2;
 
+// What a draw writes.
 pub const TRIRAST_WRITE_RED: u32 = 1;
 pub const TRIRAST_WRITE_GREEN: u32 = 2;
 pub const TRIRAST_WRITE_BLUE: u32 = 4;
 pub const TRIRAST_WRITE_DEPTH: u32 = 8;
-
-/// Bytes of the samples of one index of a block of 8 by 8 pixels: the unit of a canvas's memory.
-pub const TRIRAST_PLANE_BYTES: usize = 320;
-
-pub const TRIRAST_FORMAT_RGB8: u32 = 0;
-pub const TRIRAST_FORMAT_RGBA8: u32 = 1;
-pub const TRIRAST_FORMAT_BGRA8: u32 = 2;
 
 /// Why a call failed.
 #[repr(C)]
 #[derive(Clone, Copy, Debug, Default, PartialEq, Eq)]
 pub struct trirast_error {
     pub status: u32,
-    pub list_error: u32,
-    pub in_draw: u32,
-    pub draw: u32,
+    pub cause: u32,
+    pub draw: usize,
+    pub element: usize,
+}
+
+/// What the new colour does to the stored one.
+#[repr(C)]
+#[derive(Clone, Copy, Debug, Default, PartialEq, Eq)]
+pub struct trirast_blend {
+    pub color_source: u8,
+    pub color_stored: u8,
+    pub color_operation: u8,
+    pub alpha_source: u8,
+    pub alpha_stored: u8,
+    pub alpha_operation: u8,
+    pub constant: [u8; 4],
+}
+
+/// A vertex: 16 bytes.
+#[repr(C)]
+#[derive(Clone, Copy, Debug, Default, PartialEq, Eq)]
+pub struct trirast_vertex {
+    pub x: i32,
+    pub y: i32,
+    pub depth: u16,
+    pub red: u8,
+    pub green: u8,
+    pub blue: u8,
+    pub alpha: u8,
+    pub unused: u16,
+}
+
+/// One draw of a batch.
+#[repr(C)]
+#[derive(Clone, Copy, Debug, Default, PartialEq, Eq)]
+pub struct trirast_draw {
+    pub vertex_count: usize,
+    pub index_count: usize,
+    pub topology: u8,
+    pub cull: u8,
+    pub depth_test: u8,
+    pub depth_write: u8,
+    pub keep: u8,
+    pub scissor_enable: u8,
+    pub skip_samples: u16,
+    pub scissor_left: i32,
+    pub scissor_top: i32,
+    pub scissor_right: i32,
+    pub scissor_bottom: i32,
+    pub blend: trirast_blend,
+}
+
+/// Draws with their vertices and indices.
+#[repr(C)]
+#[derive(Clone, Copy, Debug)]
+pub struct trirast_batch {
+    pub struct_size: u32,
+    pub vertex_stride: u32,
+    pub index_size: u32,
+    pub draws: *const trirast_draw,
+    pub draw_count: usize,
+    pub vertices: *const c_void,
+    pub vertex_count: usize,
+    pub indices: *const c_void,
+    pub index_count: usize,
+}
+
+impl Default for trirast_batch {
+    /// All zeros.
+    fn default() -> trirast_batch {
+        // SAFETY: numbers and raw pointers may be zeros.
+        unsafe { std::mem::zeroed() }
+    }
+}
+
+/// The tile rows of a canvas, or some of them, with the memory of their samples.
+#[repr(C)]
+#[derive(Clone, Copy, Debug)]
+pub struct trirast_canvas {
+    pub struct_size: u32,
+    pub width: u32,
+    pub height: u32,
+    pub samples: u32,
+    pub channels: u32,
+    pub origin_x: i32,
+    pub origin_y: i32,
+    pub first: u32,
+    pub end: u32,
+    pub memory: *mut c_void,
+    pub plane_count: usize,
+}
+
+impl Default for trirast_canvas {
+    /// All zeros.
+    fn default() -> trirast_canvas {
+        // SAFETY: numbers and raw pointers may be zeros.
+        unsafe { std::mem::zeroed() }
+    }
+}
+
+/// What samples are made by trirast_canvas_clear.
+#[repr(C)]
+#[derive(Clone, Copy, Debug, Default, PartialEq, Eq)]
+pub struct trirast_clear {
+    pub red: u8,
+    pub green: u8,
+    pub blue: u8,
+    pub alpha: u8,
+    pub depth: u16,
+    pub unused: u16,
+}
+
+/// The corners of a triangle, in 1/256 pixel: -8388608 to 8388607 each.
+#[repr(C)]
+#[derive(Clone, Copy, Debug, Default, PartialEq, Eq)]
+pub struct trirast_corners {
+    pub ax: i32,
+    pub ay: i32,
+    pub bx: i32,
+    pub by: i32,
+    pub cx: i32,
+    pub cy: i32,
+}
+
+/// A point, in 1/256 pixel: -8388608 to 8388607.
+#[repr(C)]
+#[derive(Clone, Copy, Debug, Default, PartialEq, Eq)]
+pub struct trirast_point {
+    pub x: i32,
+    pub y: i32,
+}
+
+/// The edge functions of a triangle at a point, in 1/65536 square pixel.
+#[repr(C)]
+#[derive(Clone, Copy, Debug, Default, PartialEq, Eq)]
+pub struct trirast_edges {
+    pub a: i64,
+    pub b: i64,
+    pub c: i64,
+    pub doubled_area: i64,
+    pub covered: u64,
 }
 
 /// The size of a picture and of its file.
@@ -73,75 +306,6 @@ pub struct trirast_image_info {
     pub pixel_bytes: u32,
     pub header_bytes: u32,
     pub file_bytes: u64,
-}
-
-/// The picture of a scene.
-#[repr(C)]
-#[derive(Clone, Copy, Debug, Default, PartialEq, Eq)]
-pub struct trirast_scene_head {
-    pub struct_size: u32,
-    pub width: u32,
-    pub height: u32,
-    pub samples: u32,
-    pub output: u32,
-    pub clear_red: u32,
-    pub clear_green: u32,
-    pub clear_blue: u32,
-    pub clear_depth: u32,
-}
-
-/// A vertex.
-#[repr(C)]
-#[derive(Clone, Copy, Debug, Default, PartialEq, Eq)]
-pub struct trirast_vertex {
-    /// To the right, in 1/256 pixel: -8388608 to 8388607.
-    pub x: i32,
-    /// Downwards, in 1/256 pixel: -8388608 to 8388607.
-    pub y: i32,
-    /// 0 to 65535.
-    pub depth: u32,
-    /// 0 to 255, as the next three.
-    pub red: u32,
-    pub green: u32,
-    pub blue: u32,
-    pub alpha: u32,
-}
-
-/// One draw of a batch.
-#[repr(C)]
-#[derive(Clone, Copy, Debug, Default, PartialEq, Eq)]
-pub struct trirast_batch_draw {
-    pub vertex_count: u32,
-    pub index_count: u32,
-    pub topology: u32,
-    pub cull: u32,
-    pub depth_test: u32,
-    pub depth_write: u32,
-    pub blend: u32,
-    pub write_red: u32,
-    pub write_green: u32,
-    pub write_blue: u32,
-    pub sample_mask: u32,
-    pub scissor_left: u32,
-    pub scissor_top: u32,
-    pub scissor_right: u32,
-    pub scissor_bottom: u32,
-}
-
-/// The draws of a scene with their vertices and indices.
-#[repr(C)]
-#[derive(Clone, Copy, Debug)]
-pub struct trirast_batch {
-    pub struct_size: u32,
-    pub draw_size: u32,
-    pub vertex_size: u32,
-    pub index_size: u32,
-    pub draws: *const trirast_batch_draw,
-    pub draw_count: usize,
-    pub vertices: *const trirast_vertex,
-    pub vertex_count: usize,
-    pub indices: *const u32,
-    pub index_count: usize,
 }
 
 /// What a sample stores.
@@ -223,101 +387,16 @@ pub struct trirast_sample_counts {
     pub shown: u32,
 }
 
-/// The tile rows of a canvas, or some of them, with the memory of their samples.
-#[repr(C)]
-#[derive(Clone, Copy, Debug)]
-pub struct trirast_canvas {
-    pub struct_size: u32,
-    pub width: u32,
-    pub height: u32,
-    pub samples: u32,
-    pub origin_x: i32,
-    pub origin_y: i32,
-    pub first: u32,
-    pub end: u32,
-    pub memory: *mut c_void,
-    pub plane_count: usize,
-}
-
-/// The corners of a triangle, in 1/256 pixel: -8388608 to 8388607 each.
-#[repr(C)]
-#[derive(Clone, Copy, Debug, Default, PartialEq, Eq)]
-pub struct trirast_corners {
-    pub ax: i32,
-    pub ay: i32,
-    pub bx: i32,
-    pub by: i32,
-    pub cx: i32,
-    pub cy: i32,
-}
-
-/// The edge functions of a triangle at a point, in 1/65536 square pixel.
-#[repr(C)]
-#[derive(Clone, Copy, Debug, Default, PartialEq, Eq)]
-pub struct trirast_edges {
-    pub a: i64,
-    pub b: i64,
-    pub c: i64,
-    pub doubled_area: i64,
-    pub covered: u64,
-}
-
 extern "C" {
-    pub fn trirast_version() -> u32;
-    pub fn trirast_error_line(error: *const trirast_error, buffer: *mut c_char, buffer_size: usize) -> usize;
-    pub fn trirast_read_image_info(
-        json: *const c_char,
-        json_len: usize,
-        info: *mut trirast_image_info,
-        error: *mut trirast_error,
-    ) -> u32;
-    pub fn trirast_draw(
-        json: *const c_char,
-        json_len: usize,
-        tile_size: u32,
-        buffer: *mut u8,
-        buffer_size: usize,
-        error: *mut trirast_error,
-    ) -> u32;
-    pub fn trirast_draw_rows(
-        json: *const c_char,
-        json_len: usize,
-        tile_size: u32,
-        first: u32,
-        end: u32,
-        buffer: *mut u8,
-        buffer_size: usize,
-        error: *mut trirast_error,
-    ) -> u32;
-    pub fn trirast_draw_scene(
-        head: *const trirast_scene_head,
-        batch: *const trirast_batch,
-        tile_size: u32,
-        buffer: *mut u8,
-        buffer_size: usize,
-        error: *mut trirast_error,
-    ) -> u32;
-    pub fn trirast_history(
-        json: *const c_char,
-        json_len: usize,
-        request: *const trirast_history_request,
-        events: *mut trirast_event,
-        capacity: usize,
-        info: *mut trirast_sample_info,
-        error: *mut trirast_error,
-    ) -> u32;
-    pub fn trirast_triangle_samples(
-        json: *const c_char,
-        json_len: usize,
-        draw: usize,
-        triangle: usize,
-        counts: *mut trirast_sample_counts,
-        error: *mut trirast_error,
-    ) -> u32;
-    pub fn trirast_canvas_bytes(width: u32, height: u32, samples: u32, first: u32, end: u32) -> usize;
-    pub fn trirast_canvas_rows(height: u32) -> u32;
-    pub fn trirast_canvas_row_pixels() -> u32;
-    pub fn trirast_canvas_clear(canvas: *mut trirast_canvas, color: *const u8, depth: u16) -> u32;
+    pub fn trirast_version_string() -> *const c_char;
+    pub fn trirast_interface() -> u32;
+    pub fn trirast_status_string(status: u32) -> *const c_char;
+    pub fn trirast_error_message(error: *const trirast_error, buffer: *mut c_char, size: usize) -> usize;
+    pub fn trirast_canvas_size(canvas: *const trirast_canvas) -> usize;
+    pub fn trirast_canvas_tile_rows(canvas: *const trirast_canvas) -> u32;
+    pub fn trirast_canvas_init(canvas: *mut trirast_canvas, memory: *mut c_void, size: usize) -> u32;
+    pub fn trirast_canvas_split(whole: *const trirast_canvas, first: u32, end: u32, piece: *mut trirast_canvas) -> u32;
+    pub fn trirast_canvas_clear(canvas: *mut trirast_canvas, clear: *const trirast_clear) -> u32;
     pub fn trirast_canvas_load(
         canvas: *mut trirast_canvas,
         format: u32,
@@ -347,60 +426,84 @@ extern "C" {
         stride: usize,
     ) -> u32;
     pub fn trirast_canvas_ids(canvas: *const trirast_canvas, sample: u32, ids: *mut u32, count: usize, stride: usize) -> u32;
-    pub fn trirast_weights(corners: *const trirast_corners, x: i32, y: i32, edges: *mut trirast_edges) -> u32;
-}
-
-// The two calls that the header defines itself, so that no library has them.
-
-/// Returns a string for a status, as "out of memory". For any other number it is "unknown status".
-pub fn trirast_status_string(status: u32) -> &'static str {
-    match status {
-        TRIRAST_STATUS_OK => "ok",
-        TRIRAST_STATUS_BAD_LIST => "not a draw list",
-        TRIRAST_STATUS_INPUT_TOO_LONG => "input too long",
-        TRIRAST_STATUS_OUT_OF_MEMORY => "out of memory",
-        TRIRAST_STATUS_BUFFER_TOO_SMALL => "buffer too small",
-        TRIRAST_STATUS_BAD_TILE_SIZE => "no such tile size",
-        TRIRAST_STATUS_BAD_TILE_ROWS => "no such tile rows",
-        TRIRAST_STATUS_BAD_STRUCT_SIZE => "no such struct size",
-        TRIRAST_STATUS_BAD_CANVAS => "no such canvas",
-        TRIRAST_STATUS_BAD_MEMORY => "memory of another size",
-        TRIRAST_STATUS_BAD_FORMAT => "no such format",
-        TRIRAST_STATUS_BAD_SAMPLE => "no such sample",
-        TRIRAST_STATUS_BAD_POSITION => "position out of range",
-        TRIRAST_STATUS_BAD_PIXEL => "no such pixel",
-        TRIRAST_STATUS_BAD_TRIANGLE => "no such triangle",
-        _ => "unknown status",
-    }
-}
-
-/// Makes a struct for some of the tile rows of another. The piece is a part of the whole's memory.
-///
-/// # Safety
-///
-/// `whole` points to a struct whose memory has as many planes as it says, and `piece` to memory for a struct.
-pub unsafe fn trirast_canvas_piece(whole: *const trirast_canvas, first: u32, end: u32, piece: *mut trirast_canvas) -> u32 {
-    let whole = &*whole;
-    if whole.struct_size as usize != std::mem::size_of::<trirast_canvas>() {
-        return TRIRAST_STATUS_BAD_STRUCT_SIZE;
-    }
-    let row = trirast_canvas_bytes(whole.width, whole.height, whole.samples, 0, 1);
-    if row == 0 {
-        return TRIRAST_STATUS_BAD_CANVAS;
-    }
-    if first < whole.first || first > end || end > whole.end || whole.end > trirast_canvas_rows(whole.height) {
-        return TRIRAST_STATUS_BAD_TILE_ROWS;
-    }
-    let planes = row / TRIRAST_PLANE_BYTES;
-    if whole.plane_count != (whole.end - whole.first) as usize * planes {
-        return TRIRAST_STATUS_BAD_MEMORY;
-    }
-    if whole.plane_count != 0 && (whole.memory.is_null() || whole.memory as usize % 2 != 0) {
-        return TRIRAST_STATUS_BAD_MEMORY;
-    }
-    // Without tile rows the memory may be null, to which nothing is added.
-    let above = (first - whole.first) as usize * row;
-    let memory = if above == 0 { whole.memory } else { whole.memory.cast::<u8>().add(above).cast() };
-    *piece = trirast_canvas { first, end, memory, plane_count: (end - first) as usize * planes, ..*whole };
-    TRIRAST_STATUS_OK
+    pub fn trirast_canvas_colors(
+        canvas: *const trirast_canvas,
+        sample: u32,
+        format: u32,
+        pixels: *mut c_void,
+        size: usize,
+        stride: usize,
+    ) -> u32;
+    pub fn trirast_canvas_store(
+        canvas: *mut trirast_canvas,
+        sample: u32,
+        format: u32,
+        pixels: *const c_void,
+        size: usize,
+        stride: usize,
+    ) -> u32;
+    pub fn trirast_canvas_tile_ids(
+        canvas: *const trirast_canvas,
+        column: u32,
+        row: u32,
+        ids: *mut u32,
+        count: usize,
+        uniform: *mut u32,
+    ) -> u32;
+    pub fn trirast_canvas_tile_store(
+        canvas: *mut trirast_canvas,
+        column: u32,
+        row: u32,
+        colors: *const u32,
+        count: usize,
+    ) -> u32;
+    pub fn trirast_edges_at_point(corners: *const trirast_corners, x: i32, y: i32, edges: *mut trirast_edges) -> u32;
+    pub fn trirast_edges_at(
+        corners: *const trirast_corners,
+        points: *const c_void,
+        stride: usize,
+        count: usize,
+        edges: *mut trirast_edges,
+    ) -> u32;
+    pub fn trirast_list_info(
+        json: *const c_char,
+        json_len: usize,
+        info: *mut trirast_image_info,
+        error: *mut trirast_error,
+    ) -> u32;
+    pub fn trirast_list_draw(
+        json: *const c_char,
+        json_len: usize,
+        tile_size: u32,
+        buffer: *mut u8,
+        buffer_size: usize,
+        error: *mut trirast_error,
+    ) -> u32;
+    pub fn trirast_list_draw_rows(
+        json: *const c_char,
+        json_len: usize,
+        tile_size: u32,
+        first: u32,
+        end: u32,
+        buffer: *mut u8,
+        buffer_size: usize,
+        error: *mut trirast_error,
+    ) -> u32;
+    pub fn trirast_list_history(
+        json: *const c_char,
+        json_len: usize,
+        request: *const trirast_history_request,
+        events: *mut trirast_event,
+        capacity: usize,
+        info: *mut trirast_sample_info,
+        error: *mut trirast_error,
+    ) -> u32;
+    pub fn trirast_list_triangle_samples(
+        json: *const c_char,
+        json_len: usize,
+        draw: usize,
+        triangle: usize,
+        counts: *mut trirast_sample_counts,
+        error: *mut trirast_error,
+    ) -> u32;
 }

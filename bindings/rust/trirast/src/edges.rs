@@ -1,4 +1,6 @@
-//! The edge functions of a triangle at a point.
+//! The edge functions of a triangle at points.
+
+use std::mem::size_of;
 
 use trirast_sys as sys;
 
@@ -10,7 +12,8 @@ pub type Position = [i32; 2];
 
 /// The edge functions of a triangle at a point, in 1/65536 square pixel. For a point inside they have the sign of the doubled
 /// area, and `a / doubled_area` is the weight of the corner a there.
-#[derive(Clone, Copy, Debug, PartialEq, Eq)]
+#[derive(Clone, Copy, Debug, PartialEq, Eq, Hash)]
+#[non_exhaustive]
 pub struct Edges {
     /// Of the edge across from the corner a.
     pub a: i64,
@@ -24,17 +27,43 @@ pub struct Edges {
     pub covered: bool,
 }
 
-/// Returns the edge functions of the triangle abc at a point. They are exact.
+/// Returns the edge functions of a triangle of three corners at a point. They are exact.
 ///
 /// # Errors
 ///
 /// `BadPosition` if a coordinate is out of range.
-pub fn edges(a: Position, b: Position, c: Position, point: Position) -> Result<Edges, Error> {
-    let ([ax, ay], [bx, by], [cx, cy]) = (a, b, c);
-    let corners = sys::trirast_corners { ax, ay, bx, by, cx, cy };
+pub fn edges(corners: [Position; 3], point: Position) -> Result<Edges, Error> {
     let mut found = sys::trirast_edges::default();
-    // SAFETY: both pointers are valid for the call, and the library keeps neither.
-    done(unsafe { sys::trirast_weights(&corners, point[0], point[1], &mut found) })?;
-    let sys::trirast_edges { a, b, c, doubled_area, covered } = found;
-    Ok(Edges { a, b, c, doubled_area, covered: covered == 1 })
+    write_edges(corners, std::slice::from_ref(&point), std::slice::from_mut(&mut found))?;
+    Ok(Edges::of(found))
+}
+
+/// Returns the edge functions of a triangle at many points.
+///
+/// # Errors
+///
+/// `BadPosition` if a coordinate is out of range, or `OutOfMemory`.
+pub fn edges_at(corners: [Position; 3], points: &[Position]) -> Result<Vec<Edges>, Error> {
+    let mut found = crate::picture::zeros::<sys::trirast_edges>(points.len())?;
+    write_edges(corners, points, &mut found)?;
+    let mut all = Vec::new();
+    all.try_reserve_exact(found.len()).map_err(|_| Error::out_of_memory())?;
+    all.extend(found.into_iter().map(Edges::of));
+    Ok(all)
+}
+
+impl Edges {
+    fn of(raw: sys::trirast_edges) -> Edges {
+        let sys::trirast_edges { a, b, c, doubled_area, covered } = raw;
+        Edges { a, b, c, doubled_area, covered: covered == 1 }
+    }
+}
+
+/// Writes those of as many points as there are entries.
+fn write_edges(corners: [Position; 3], points: &[Position], found: &mut [sys::trirast_edges]) -> Result<(), Error> {
+    let [[ax, ay], [bx, by], [cx, cy]] = corners;
+    let corners = sys::trirast_corners { ax, ay, bx, by, cx, cy };
+    let (stride, count) = (size_of::<Position>(), points.len().min(found.len()));
+    // SAFETY: both arrays have as many elements, all pointers are valid for the call, and the library keeps none of them.
+    done(unsafe { sys::trirast_edges_at(&corners, points.as_ptr().cast(), stride, count, found.as_mut_ptr()) })
 }

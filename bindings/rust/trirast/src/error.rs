@@ -5,19 +5,20 @@ use std::os::raw::c_char;
 
 use trirast_sys as sys;
 
-/// Why a call failed. Its text is the line that the program `trirast` writes for it, or one of the same form for a call that
-/// the program does not make.
+/// Why a call failed, and where. Its text is one line, as "draw 3: the indices make no whole triangles or quads".
 #[derive(Clone, Copy, Debug, PartialEq, Eq)]
 pub struct Error {
     raw: sys::trirast_error,
 }
 
 /// What kind of error it is.
-#[derive(Clone, Copy, Debug, PartialEq, Eq)]
+#[derive(Clone, Copy, Debug, PartialEq, Eq, Hash)]
 #[non_exhaustive]
 pub enum ErrorKind {
-    /// No draw list was given, and why.
-    BadList(ListError),
+    /// The text is no draw list, and why.
+    BadList(ListCause),
+    /// A batch cannot be drawn, and why.
+    BadBatch(BatchCause),
     /// The draw list has more than 67,108,864 bytes.
     InputTooLong,
     /// An allocation failed.
@@ -30,7 +31,7 @@ pub enum ErrorKind {
     BadTileSize,
     /// The library has structs of other sizes than this crate: it is of another version.
     BadStructSize,
-    /// A side of the canvas is not 1 to 4096 pixels.
+    /// A side of the canvas is not 1 to 4096 pixels, or it has no such number of samples.
     BadCanvas,
     /// The memory of the samples has another size. No function of this crate passes such memory.
     BadMemory,
@@ -44,14 +45,18 @@ pub enum ErrorKind {
     BadPixel,
     /// The list has no such draw, or the draw no such triangle.
     BadTriangle,
+    /// A stride is no multiple of an element's bytes.
+    BadStride,
+    /// The canvas has no such tile. No function of this crate asks for one.
+    BadTile,
     /// A status that this crate does not know: the library is a later one.
     Other(u32),
 }
 
-/// Why there is no draw list: the numbers and names of `docs/draw-list.md`.
-#[derive(Clone, Copy, Debug, PartialEq, Eq)]
+/// Why a text is no draw list: the numbers and names of `docs/draw-list.md`.
+#[derive(Clone, Copy, Debug, PartialEq, Eq, Hash)]
 #[non_exhaustive]
-pub enum ListError {
+pub enum ListCause {
     NotJson,
     UnknownKey,
     MissingKey,
@@ -65,27 +70,70 @@ pub enum ListError {
     Other(u32),
 }
 
-impl ListError {
-    fn of_number(number: u32) -> ListError {
+impl ListCause {
+    fn of_number(number: u32) -> ListCause {
         match number {
-            1 => ListError::NotJson,
-            2 => ListError::UnknownKey,
-            3 => ListError::MissingKey,
-            4 => ListError::WrongKind,
-            5 => ListError::OutOfRange,
-            6 => ListError::BadIndex,
-            7 => ListError::TooMany,
-            9 => ListError::TwoLists,
-            10 => ListError::NotConvex,
-            other => ListError::Other(other),
+            sys::TRIRAST_LIST_NOT_JSON => ListCause::NotJson,
+            sys::TRIRAST_LIST_UNKNOWN_KEY => ListCause::UnknownKey,
+            sys::TRIRAST_LIST_MISSING_KEY => ListCause::MissingKey,
+            sys::TRIRAST_LIST_WRONG_KIND => ListCause::WrongKind,
+            sys::TRIRAST_LIST_OUT_OF_RANGE => ListCause::OutOfRange,
+            sys::TRIRAST_LIST_BAD_INDEX => ListCause::BadIndex,
+            sys::TRIRAST_LIST_TOO_MANY => ListCause::TooMany,
+            sys::TRIRAST_LIST_TWO_LISTS => ListCause::TwoLists,
+            sys::TRIRAST_LIST_NOT_CONVEX => ListCause::NotConvex,
+            other => ListCause::Other(other),
+        }
+    }
+}
+
+/// Why a batch cannot be drawn.
+#[derive(Clone, Copy, Debug, PartialEq, Eq, Hash)]
+#[non_exhaustive]
+pub enum BatchCause {
+    /// Fewer vertices are left than the draw has. No function of this crate passes such a batch.
+    TooFewVertices,
+    /// Fewer indices are left than the draw has. No function of this crate passes such a batch.
+    TooFewIndices,
+    /// A number of the state is outside of its range. No function of this crate passes such a state.
+    BadState,
+    /// The indices make no whole triangles or quads.
+    NotWhole,
+    /// The id of a triangle would be greater than 16,777,215.
+    TooManyIds,
+    /// An index is not less than the number of the draw's vertices.
+    BadIndex,
+    /// A vertex that an index names is too far away, also as seen from the origin of the canvas.
+    BadPosition,
+    /// A quad is not strictly convex.
+    NotConvex,
+    /// A vertex or an index is in no draw. No function of this crate passes such a batch.
+    LeftOver,
+    /// A number that this crate does not know: the library is a later one.
+    Other(u32),
+}
+
+impl BatchCause {
+    fn of_number(number: u32) -> BatchCause {
+        match number {
+            sys::TRIRAST_BATCH_TOO_FEW_VERTICES => BatchCause::TooFewVertices,
+            sys::TRIRAST_BATCH_TOO_FEW_INDICES => BatchCause::TooFewIndices,
+            sys::TRIRAST_BATCH_BAD_STATE => BatchCause::BadState,
+            sys::TRIRAST_BATCH_NOT_WHOLE => BatchCause::NotWhole,
+            sys::TRIRAST_BATCH_TOO_MANY_IDS => BatchCause::TooManyIds,
+            sys::TRIRAST_BATCH_BAD_INDEX => BatchCause::BadIndex,
+            sys::TRIRAST_BATCH_BAD_POSITION => BatchCause::BadPosition,
+            sys::TRIRAST_BATCH_NOT_CONVEX => BatchCause::NotConvex,
+            sys::TRIRAST_BATCH_LEFT_OVER => BatchCause::LeftOver,
+            other => BatchCause::Other(other),
         }
     }
 }
 
 impl Error {
-    /// The error of a status that is of no draw list.
+    /// The error of a status that is in no draw.
     pub(crate) fn of_status(status: u32) -> Error {
-        Error { raw: sys::trirast_error { status, ..Default::default() } }
+        Error { raw: sys::trirast_error { status, cause: 0, draw: sys::TRIRAST_NONE, element: sys::TRIRAST_NONE } }
     }
 
     /// The error of memory that this crate could not allocate.
@@ -96,7 +144,8 @@ impl Error {
     /// Returns what kind of error it is.
     pub fn kind(&self) -> ErrorKind {
         match self.raw.status {
-            sys::TRIRAST_STATUS_BAD_LIST => ErrorKind::BadList(ListError::of_number(self.raw.list_error)),
+            sys::TRIRAST_STATUS_BAD_LIST => ErrorKind::BadList(ListCause::of_number(self.raw.cause)),
+            sys::TRIRAST_STATUS_BAD_BATCH => ErrorKind::BadBatch(BatchCause::of_number(self.raw.cause)),
             sys::TRIRAST_STATUS_INPUT_TOO_LONG => ErrorKind::InputTooLong,
             sys::TRIRAST_STATUS_OUT_OF_MEMORY => ErrorKind::OutOfMemory,
             sys::TRIRAST_STATUS_BUFFER_TOO_SMALL => ErrorKind::BufferTooSmall,
@@ -110,27 +159,36 @@ impl Error {
             sys::TRIRAST_STATUS_BAD_POSITION => ErrorKind::BadPosition,
             sys::TRIRAST_STATUS_BAD_PIXEL => ErrorKind::BadPixel,
             sys::TRIRAST_STATUS_BAD_TRIANGLE => ErrorKind::BadTriangle,
+            sys::TRIRAST_STATUS_BAD_STRIDE => ErrorKind::BadStride,
+            sys::TRIRAST_STATUS_BAD_TILE => ErrorKind::BadTile,
             other => ErrorKind::Other(other),
         }
     }
 
-    /// Returns the index of the draw in which the error of the list is, from 0. Returns `None` if it is in no draw.
-    pub fn draw(&self) -> Option<u32> {
-        (self.raw.in_draw == 1).then_some(self.raw.draw)
+    /// Returns the index of the draw in which the error is, from 0. Returns `None` if it is in no draw.
+    pub fn draw(&self) -> Option<usize> {
+        index(self.raw.draw)
     }
+
+    /// Returns which one of the draw's own vertices, indices or quads is wrong, from 0. Returns `None` if it is none, or if the library does not say which.
+    pub fn element(&self) -> Option<usize> {
+        index(self.raw.element)
+    }
+}
+
+fn index(number: usize) -> Option<usize> {
+    (number != sys::TRIRAST_NONE).then_some(number)
 }
 
 impl fmt::Display for Error {
     fn fmt(&self, formatter: &mut fmt::Formatter<'_>) -> fmt::Result {
-        let mut line = [0u8; sys::TRIRAST_ERROR_LINE_SIZE];
+        let mut line = [0u8; sys::TRIRAST_ERROR_MESSAGE_SIZE];
         let buffer = line.as_mut_ptr().cast::<c_char>();
         // SAFETY: the buffer has the length that is passed, and the library keeps no pointer.
-        let length = unsafe { sys::trirast_error_line(&self.raw, buffer, line.len()) };
-        let written = line.get(..length).unwrap_or_default();
-        match std::str::from_utf8(written) {
-            Ok("") | Err(_) => write!(formatter, "trirast: {}", sys::trirast_status_string(self.raw.status)),
-            Ok(text) => formatter.write_str(text.trim_end()),
-        }
+        let length = unsafe { sys::trirast_error_message(&self.raw, buffer, line.len()) };
+        // The last byte is the zero behind the text.
+        let written = &line[..length.min(line.len() - 1)];
+        formatter.write_str(std::str::from_utf8(written).unwrap_or_default())
     }
 }
 
@@ -155,19 +213,28 @@ pub(crate) fn done(status: u32) -> Result<(), Error> {
 
 #[cfg(test)]
 mod tests {
+    use std::ffi::CStr;
+
     use super::{Error, ErrorKind};
     use trirast_sys as sys;
 
     /// Each status that has a string has a kind, and no two have one.
     #[test]
     fn each_status_has_a_kind_of_its_own() {
-        let statuses = (1..1000).filter(|&status| sys::trirast_status_string(status) != "unknown status");
+        // SAFETY: the call takes a number, and returns a string that stays.
+        let text = |status| unsafe { CStr::from_ptr(sys::trirast_status_string(status)) };
+        let statuses = (1..1000).filter(|&status| text(status).to_bytes() != b"unknown status");
         let kinds: Vec<ErrorKind> = statuses.map(|status| Error::of_status(status).kind()).collect();
-        assert!(kinds.len() >= 14);
+        assert!(kinds.len() >= 15);
         for (number, kind) in kinds.iter().enumerate() {
             assert!(!matches!(kind, ErrorKind::Other(_)), "{kind:?}");
             assert!(!kinds[..number].contains(kind), "{kind:?} twice");
         }
         assert_eq!(Error::of_status(999).kind(), ErrorKind::Other(999));
+    }
+
+    #[test]
+    fn is_in_no_draw_by_itself() {
+        assert_eq!((Error::out_of_memory().draw(), Error::out_of_memory().element()), (None, None));
     }
 }

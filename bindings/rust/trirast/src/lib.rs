@@ -1,4 +1,19 @@
-//! Draws lists of triangles by libtrirast: the same bytes as the program `trirast` writes.
+//! Draws triangles by libtrirast: the same bytes on any number of threads.
+//!
+//! A [`Canvas`] keeps its samples, so that batch after batch is drawn over them: `docs/canvas.md` of the repository.
+//!
+//! ```
+//! use trirast::{Blend, Canvas, Format, State, Vertex};
+//!
+//! let corners = [(128, 128), (640, 128), (128, 640)].map(|(x, y)| Vertex::new(x, y, [255, 255, 255, 128]));
+//! let mut canvas = Canvas::builder(3, 3).samples(16).build()?;
+//! canvas.draw(&corners, &[0u16, 1, 2], State::new().blend(Blend::OVER))?;
+//! let pixels = canvas.pixels(Format::Rgb8)?;
+//! # assert_eq!(pixels.len(), 27);
+//! # Ok::<(), trirast::Error>(())
+//! ```
+//!
+//! [`draw`] and its like draw a list, a JSON text, as the program `trirast` does: `docs/draw-list.md`.
 //!
 //! ```
 //! let list = r#"{"width": 3, "height": 3, "draws": [{
@@ -9,23 +24,24 @@
 //! assert_eq!(picture.pixels()[..3], [255, 255, 255]);
 //! # Ok::<(), trirast::Error>(())
 //! ```
-//!
-//! `docs/draw-list.md` of the repository says what a draw list is. [`draw_scene`] draws from arrays, without a text. A
-//! [`Canvas`] keeps its samples, so that batch after batch is drawn over them: `docs/canvas.md`.
 
 mod batch;
+mod blend;
 mod canvas;
 mod edges;
 mod error;
 mod list;
 mod memory;
+mod parts;
 mod picture;
-mod scene;
+mod read;
+mod state;
 
-pub use batch::{Blend, Cull, DepthTest, Draw, State, Topology, Vertex};
-pub use canvas::{Canvas, Format, Origin, Sample, TileRows};
-pub use edges::{edges, Edges, Position};
-pub use error::{Error, ErrorKind, ListError};
+pub use batch::{Draw, Indices, Vertex};
+pub use blend::{Blend, Equation, Factor, Operation};
+pub use canvas::{Canvas, CanvasBuilder, Clear, Format, Origin, Sample, TileRows};
+pub use edges::{edges, edges_at, Edges, Position};
+pub use error::{BatchCause, Error, ErrorKind, ListCause};
 pub use list::{draw, draw_by_threads, draw_into, draw_rows_into, image_info};
 pub use picture::{ImageInfo, Picture, TileSize};
-pub use scene::{draw_scene, Head, Output, Samples};
+pub use state::{Channels, Cull, DepthTest, State, Topology};

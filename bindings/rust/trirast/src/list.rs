@@ -2,11 +2,11 @@
 
 use std::ops::Range;
 use std::os::raw::c_char;
-use std::thread;
 
 use trirast_sys as sys;
 
 use crate::error::checked;
+use crate::parts::by_threads;
 use crate::picture::zeros;
 use crate::{Error, ImageInfo, Picture, TileSize};
 
@@ -19,7 +19,7 @@ pub fn image_info(list: impl AsRef<[u8]>) -> Result<ImageInfo, Error> {
     let list = list.as_ref();
     let mut info = sys::trirast_image_info::default();
     // SAFETY: the pointers are valid for the call, and the library keeps none of them.
-    checked(|error| unsafe { sys::trirast_read_image_info(text(list), list.len(), &mut info, error) })?;
+    checked(|error| unsafe { sys::trirast_list_info(text(list), list.len(), &mut info, error) })?;
     Ok(ImageInfo {
         width: info.width,
         height: info.height,
@@ -51,7 +51,7 @@ pub fn draw_into(list: impl AsRef<[u8]>, tile_size: TileSize, buffer: &mut [u8])
     let list = list.as_ref();
     // SAFETY: list and buffer are valid for their lengths, do not overlap, and the library keeps neither.
     checked(|error| unsafe {
-        sys::trirast_draw(text(list), list.len(), tile_size.pixels(), buffer.as_mut_ptr(), buffer.len(), error)
+        sys::trirast_list_draw(text(list), list.len(), tile_size.pixels(), buffer.as_mut_ptr(), buffer.len(), error)
     })
 }
 
@@ -67,20 +67,16 @@ pub fn draw_rows_into(list: impl AsRef<[u8]>, tile_size: TileSize, rows: Range<u
     let (bytes, size) = (buffer.as_mut_ptr(), buffer.len());
     // SAFETY: list and buffer are valid for their lengths, do not overlap, and the library keeps neither.
     checked(|error| unsafe {
-        sys::trirast_draw_rows(text(list), list.len(), tile_size.pixels(), rows.start, rows.end, bytes, size, error)
+        sys::trirast_list_draw_rows(text(list), list.len(), tile_size.pixels(), rows.start, rows.end, bytes, size, error)
     })
 }
 
-/// Draws the picture of a draw list on several threads, which share its tile rows; the calling thread waits for them. At least
-/// one is started, and at most one a tile row. The picture is the same for every number of threads.
+/// Draws the picture of a draw list on several threads, which share its tile rows: at least one, and at most one a tile row. The
+/// calling thread is one of them, and waits for the others. The picture is the same for every number of threads.
 ///
 /// # Errors
 ///
 /// `InputTooLong`, `BadList` or `OutOfMemory`.
-///
-/// # Panics
-///
-/// If a thread cannot be started.
 pub fn draw_by_threads(list: impl AsRef<[u8]>, tile_size: TileSize, threads: u32) -> Result<Picture, Error> {
     let list = list.as_ref();
     let info = image_info(list)?;
@@ -89,14 +85,9 @@ pub fn draw_by_threads(list: impl AsRef<[u8]>, tile_size: TileSize, threads: u32
     let rows = info.tile_rows(tile_size);
     let each = rows / threads.clamp(1, rows) + u32::from(rows % threads.clamp(1, rows) != 0);
     let part_bytes = (each * tile_size.pixels()) as usize * info.row_bytes();
-    let parts = file[info.header_bytes..].chunks_mut(part_bytes).zip(0..);
-    thread::scope(|scope| {
-        let start = |(part, number): (_, u32)| {
-            let range = number * each..rows.min((number + 1) * each);
-            scope.spawn(move || draw_rows_into(list, tile_size, range, part))
-        };
-        let started: Vec<_> = parts.map(start).collect();
-        started.into_iter().try_for_each(|one| one.join().expect("drawing does not panic"))
+    let parts = file[info.header_bytes..].chunks_mut(part_bytes).zip(0..).collect();
+    by_threads(parts, |(part, number): (&mut [u8], u32)| {
+        draw_rows_into(list, tile_size, number * each..rows.min((number + 1) * each), part)
     })?;
     Ok(Picture::new(info, file))
 }

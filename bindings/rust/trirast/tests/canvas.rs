@@ -1,4 +1,4 @@
-//! Canvases: the pictures of scenes and lists by every way, what is read back, and what is refused.
+//! Canvases: pictures of scenes and lists by every way, what is read back, and what is refused.
 
 mod common;
 #[path = "common/scenes.rs"]
@@ -8,25 +8,35 @@ use std::thread;
 
 use scenes::{Pick, Scene};
 use trirast::{
-    edges, Canvas, Draw, Error, ErrorKind, Format, ListError, Origin, Output, Sample, Samples, State, Topology, Vertex,
+    edges, edges_at, BatchCause, Blend, Canvas, Channels, Clear, DepthTest, Draw, Equation, Error, ErrorKind, Factor, Format,
+    Indices, Operation, Origin, State, Topology, Vertex,
 };
 
 const FORMATS: [Format; 3] = [Format::Rgb8, Format::Rgba8, Format::Bgra8];
 /// More threads than a canvas here has tile rows are among them.
 const THREADS: [u32; 4] = [1, 2, 3, 100];
+const WHITE: u32 = 16_777_215;
 
 fn canvas_of(scene: &Scene) -> Canvas {
-    let mut canvas = Canvas::new(scene.head.width, scene.head.height, scene.head.samples).unwrap();
-    canvas.clear(scene.head.clear, scene.head.clear_depth).unwrap();
+    let mut canvas = Canvas::builder(scene.width, scene.height).samples(scene.samples).build().unwrap();
+    canvas.clear(scene.clear).unwrap();
     canvas
 }
 
 /// The pixels of a canvas in the form of its list's picture.
-fn shown(canvas: &Canvas, output: Output) -> Vec<u8> {
-    match output {
-        Output::Color => canvas.pixels(Format::Rgb8).unwrap(),
-        Output::Depth => canvas.depths(0).unwrap().into_iter().flat_map(u16::to_be_bytes).collect(),
+fn shown(canvas: &Canvas, is_depth: bool) -> Vec<u8> {
+    if is_depth {
+        canvas.depths(0).unwrap().into_iter().flat_map(u16::to_be_bytes).collect()
+    } else {
+        canvas.pixels(Format::Rgb8).unwrap()
     }
+}
+
+/// The pixels of a scene that is drawn as a whole on the calling thread.
+fn pixels_of(scene: &Scene) -> Vec<u8> {
+    let mut canvas = canvas_of(scene);
+    canvas.draw_batch(&scene.draws()).unwrap();
+    shown(&canvas, scene.is_depth)
 }
 
 /// Draws a scene on canvases: in two batches by several threads, by the parts of a canvas, and as a window on a part of the
@@ -36,37 +46,37 @@ fn compare(scene: &Scene, wanted: &[u8], number: usize, name: &str) {
     let (before, behind) = draws.split_at(number % (draws.len() + 1));
     let mut canvas = canvas_of(scene);
     canvas.set_threads(THREADS[number % 4]);
-    canvas.draw(before).unwrap();
-    canvas.draw(behind).unwrap();
-    assert_eq!(shown(&canvas, scene.head.output), wanted, "{name}: in two batches");
+    canvas.draw_batch(before).unwrap();
+    canvas.draw_batch(behind).unwrap();
+    assert_eq!(shown(&canvas, scene.is_depth), wanted, "{name}: in two batches");
     let mut canvas = canvas_of(scene);
     thread::scope(|scope| {
         for mut part in canvas.split(THREADS[number / 4 % 4]) {
             let draws = &draws;
-            scope.spawn(move || part.draw(draws).unwrap());
+            scope.spawn(move || part.draw_batch(draws).unwrap());
         }
     });
-    assert_eq!(shown(&canvas, scene.head.output), wanted, "{name}: by parts");
+    assert_eq!(shown(&canvas, scene.is_depth), wanted, "{name}: by parts");
     compare_window(scene, wanted, name);
 }
 
 fn compare_window(scene: &Scene, wanted: &[u8], name: &str) {
-    let head = scene.head;
-    let (left, top) = (head.width / 3, head.height / 3);
-    let (width, height) = ((head.width - left).min(70), (head.height - top).min(70));
-    let origin = Origin { x: left as i32, y: top as i32 };
-    let mut window = Canvas::new(width, height, head.samples).unwrap().with_origin(origin);
-    window.clear(head.clear, head.clear_depth).unwrap();
-    let drawn = window.draw(&scene.draws());
-    if scene.vertices().any(|vertex| vertex.x - 256 * origin.x < -8_388_608 || vertex.y - 256 * origin.y < -8_388_608) {
-        assert_eq!(refused(drawn).0, ErrorKind::BadList(ListError::OutOfRange), "{name}: a window");
+    let (left, top) = (scene.width / 3, scene.height / 3);
+    let (width, height) = ((scene.width - left).min(70), (scene.height - top).min(70));
+    let builder = Canvas::builder(width, height).samples(scene.samples);
+    let mut window = builder.origin(left as i32, top as i32).build().unwrap();
+    window.clear(scene.clear).unwrap();
+    let drawn = window.draw_batch(&scene.draws());
+    let is_far = |place: i32, first: u32| place - 256 * (first as i32) < -8_388_608;
+    if scene.vertices().any(|vertex| is_far(vertex.x, left) || is_far(vertex.y, top)) {
+        assert_eq!(refused(drawn).0, ErrorKind::BadBatch(BatchCause::BadPosition), "{name}: a window");
         return;
     }
     drawn.unwrap();
-    let pixel = if head.output == Output::Color { 3 } else { 2 };
-    let rows = wanted.chunks(head.width as usize * pixel).skip(top as usize).take(height as usize);
+    let pixel = if scene.is_depth { 2 } else { 3 };
+    let rows = wanted.chunks(scene.width as usize * pixel).skip(top as usize).take(height as usize);
     let part: Vec<_> = rows.flat_map(|row| &row[left as usize * pixel..][..width as usize * pixel]).copied().collect();
-    assert_eq!(shown(&window, head.output), part, "{name}: a window");
+    assert_eq!(shown(&window, scene.is_depth), part, "{name}: a window");
 }
 
 #[test]
@@ -74,9 +84,9 @@ fn draws_generated_scenes() {
     let mut pick = Pick::new(1);
     for number in 0..150 {
         let mut scene = pick.scene();
-        for output in [Output::Color, Output::Depth] {
-            scene.head.output = output;
-            compare(&scene, &scene.pixels(), number, &format!("scene {number}"));
+        for is_depth in [false, true] {
+            scene.is_depth = is_depth;
+            compare(&scene, &pixels_of(&scene), number, &format!("scene {number}"));
         }
     }
 }
@@ -85,21 +95,168 @@ fn draws_generated_scenes() {
 fn draws_what_the_program_draws() {
     for (number, one) in common::manifest().into_iter().filter(|one| one.is_drawn).enumerate() {
         let scene = scenes::read(&one.list);
-        let pixel = if scene.head.output == Output::Color { 3 } else { 2 };
-        let pixels = scene.head.width as usize * scene.head.height as usize * pixel;
+        let pixel = if scene.is_depth { 2 } else { 3 };
+        let pixels = scene.width as usize * scene.height as usize * pixel;
         compare(&scene, &one.written[one.written.len() - pixels..], number, &one.list.display().to_string());
     }
+}
+
+// ---- What is drawn
+
+/// A right triangle over the upper left half of a square of `side` pixels, in the colour that is the number of its id.
+fn triangle(id: u32, depth: u16, side: i32) -> [Vertex; 3] {
+    let [red, green, blue, _] = id.to_le_bytes();
+    [(0, 0), (side, 0), (0, side)].map(|(x, y)| Vertex::new(256 * x, 256 * y, [red, green, blue, 255]).at_depth(depth))
+}
+
+#[test]
+fn takes_indices_of_each_size_and_none() {
+    let vertices = triangle(5, 0, 40);
+    let first = |indices: Indices<'_>| {
+        let mut canvas = Canvas::builder(50, 50).build().unwrap();
+        canvas.clear([255; 3]).unwrap();
+        canvas.draw(&vertices, indices, State::new()).unwrap();
+        canvas.ids(0).unwrap()[0]
+    };
+    let (short, long) = (vec![0u16, 1, 2], vec![0u32, 1, 2]);
+    for indices in [Indices::from(&short), Indices::from(&long), Indices::from(&long[..]), Indices::InOrder] {
+        assert_eq!(first(indices), 5);
+    }
+    // Empty arrays draw nothing.
+    for indices in [Indices::from(&[0u16; 0]), Indices::from(&[0u32; 0])] {
+        assert_eq!(first(indices), WHITE);
+    }
+    let mut canvas = Canvas::builder(50, 50).build().unwrap();
+    canvas.draw(&[], Indices::InOrder, State::new()).unwrap();
+    canvas.draw_batch(&[]).unwrap();
+    canvas.draw_batch(&[Draw::new(&vertices, &[0u16; 0]), Draw::new(&vertices, &[0u32; 0])]).unwrap();
+    assert!(canvas.ids(0).unwrap().iter().all(|&id| id == 0));
+    // Draws of both sizes are one batch.
+    let other = triangle(9, 0, 10);
+    canvas
+        .draw_batch(&[Draw::new(&vertices, &short), Draw::new(&other, Indices::InOrder), Draw::new(&vertices, &[0u32; 0])])
+        .unwrap();
+    assert_eq!((canvas.ids(0).unwrap()[0], canvas.ids(0).unwrap()[20]), (9, 5));
+}
+
+/// The colour of a pixel of 100, 20, 250 over which a triangle of 200, 10, 30 with alpha 128 is drawn.
+fn blended(state: State) -> [u8; 3] {
+    let vertices = triangle(0, 0, 64).map(|vertex| Vertex { red: 200, green: 10, blue: 30, alpha: 128, ..vertex });
+    let mut canvas = Canvas::builder(8, 8).build().unwrap();
+    canvas.clear([100, 20, 250]).unwrap();
+    canvas.draw(&vertices, Indices::InOrder, state).unwrap();
+    let pixels = canvas.pixels(Format::Rgb8).unwrap();
+    [pixels[0], pixels[1], pixels[2]]
+}
+
+#[test]
+fn blends_by_each_preset() {
+    let cases = [
+        (Blend::NONE, [200, 10, 30]),
+        (Blend::OVER, [150, 15, 140]),
+        (Blend::PREMULTIPLIED, [250, 20, 155]),
+        (Blend::ADD, [200, 25, 255]),
+        (Blend::MULTIPLY, [78, 1, 29]),
+        (Blend::KEEP, [100, 20, 250]),
+    ];
+    for (blend, wanted) in cases {
+        assert_eq!(blended(State::new().blend(blend)), wanted, "{blend:?}");
+    }
+    assert_eq!(blended(State::default()), [200, 10, 30]);
+}
+
+#[test]
+fn blends_by_an_equation() {
+    let with = |source, stored, operation| Equation { source, stored, operation };
+    let alpha = Equation::add(Factor::One, Factor::Zero);
+    let cases = [
+        (with(Factor::One, Factor::One, Operation::Subtract), [100, 0, 0]),
+        (with(Factor::One, Factor::One, Operation::ReverseSubtract), [0, 10, 220]),
+        (with(Factor::Zero, Factor::Zero, Operation::Min), [100, 10, 30]),
+        (with(Factor::Zero, Factor::Zero, Operation::Max), [200, 20, 250]),
+        (with(Factor::Constant, Factor::InverseConstant, Operation::Add), [100, 10, 250]),
+    ];
+    for (color, wanted) in cases {
+        let blend = Blend::new(color, alpha).with_constant([0, 255, 0, 9]);
+        assert_eq!(blended(State::new().blend(blend)), wanted, "{color:?}");
+    }
+}
+
+#[test]
+fn keeps_channels() {
+    assert_eq!(blended(State::new().keep(Channels::GREEN | Channels::ALPHA)), [200, 20, 30]);
+    assert_eq!(blended(State::new().keep(Channels::ALL)), [100, 20, 250]);
+    assert!(Channels::ALL.contains(Channels::RED) && !Channels::RED.contains(Channels::ALL));
+}
+
+#[test]
+fn draws_ids() {
+    const FIRST: u32 = 70_000;
+    let state = State::new().skip_samples(!5);
+    let large = [triangle(FIRST, 9, 200), triangle(FIRST + 1, 9, 50)].concat();
+    let small = triangle(FIRST + 2, 9, 20);
+    let draws = [Draw::new(&large, &[0u16, 1, 2, 3, 4, 5]).state(state), Draw::new(&small, Indices::InOrder)];
+    let [mut ids, mut colours] = [0; 2].map(|_| {
+        let mut canvas = Canvas::builder(150, 190).samples(4).threads(2).build().unwrap();
+        canvas.clear([255; 3]).unwrap();
+        canvas
+    });
+    ids.draw_ids(&draws, FIRST).unwrap();
+    colours.draw_batch(&draws).unwrap();
+    for sample in 0..4 {
+        let found = ids.ids(sample).unwrap();
+        assert_eq!(found, colours.ids(sample).unwrap());
+        assert_eq!((found[0], found[150 * 190 - 1]), (FIRST + 2, WHITE));
+        assert_eq!(found[30], if sample % 2 == 0 { FIRST + 1 } else { WHITE });
+    }
+    let refused = ids.draw_ids(&draws, 16_777_214).unwrap_err();
+    assert_eq!((refused.kind(), refused.draw()), (ErrorKind::BadBatch(BatchCause::TooManyIds), Some(1)));
+}
+
+#[test]
+fn draws_every_sample_of_each_count() {
+    for samples in [1, 2, 4, 8, 16] {
+        let mut canvas = Canvas::builder(70, 130).samples(samples).threads(2).build().unwrap();
+        canvas.clear([255; 3]).unwrap();
+        canvas.draw_ids(&[Draw::new(&triangle(5, 0, 300), Indices::InOrder)], 5).unwrap();
+        for sample in 0..samples {
+            assert!(canvas.ids(sample).unwrap().iter().all(|&id| id == 5));
+        }
+        assert_eq!(canvas.ids(samples).unwrap_err().kind(), ErrorKind::BadSample);
+        assert_eq!((canvas.samples(), canvas.split(2)[1].samples()), (samples, samples));
+    }
+}
+
+#[test]
+fn skips_samples_of_sixteen() {
+    let mut canvas = Canvas::builder(70, 130).samples(16).build().unwrap();
+    canvas.clear([255; 3]).unwrap();
+    let state = State::new().skip_samples(!(1 << 8 | 1 << 15));
+    canvas.draw(&triangle(5, 0, 300), &[0u32, 1, 2], state).unwrap();
+    for sample in 0..16 {
+        let wanted = if sample == 8 || sample == 15 { 5 } else { WHITE };
+        assert!(canvas.ids(sample).unwrap().iter().all(|&id| id == wanted));
+    }
+    // Of sixteen samples 14 are white, and 2 have red 5, green 0 and blue 0.
+    assert_eq!(canvas.pixels(Format::Rgb8).unwrap(), [224, 223, 223].repeat(70 * 130));
 }
 
 // ---- What is read back
 
 #[test]
+fn begins_black_and_far() {
+    let canvas = Canvas::builder(70, 130).samples(2).build().unwrap();
+    assert!(canvas.pixels(Format::Rgb8).unwrap().iter().all(|&byte| byte == 0));
+    assert!(canvas.depths(1).unwrap().iter().all(|&depth| depth == 65_535));
+}
+
+#[test]
 fn resolves_and_loads_each_format_with_a_stride() {
     let scene = Pick::new(7).scene();
-    let (width, height) = (scene.head.width as usize, scene.head.height as usize);
+    let (width, height) = (scene.width as usize, scene.height as usize);
     let mut canvas = canvas_of(&scene);
-    canvas.draw(&scene.draws()).unwrap();
-    let wanted = scene.pixels();
+    canvas.draw_batch(&scene.draws()).unwrap();
+    let wanted = shown(&canvas, false);
     for (format, threads) in FORMATS.into_iter().zip(THREADS) {
         let (pixel, stride) = (format.pixel_bytes(), width * format.pixel_bytes() + 5);
         let mut bytes = vec![9; stride * height - 5];
@@ -114,176 +271,103 @@ fn resolves_and_loads_each_format_with_a_stride() {
                 assert_eq!(*found, all[format as usize][..pixel]);
             }
         }
-        let mut loaded = Canvas::new(scene.head.width, scene.head.height, Samples::Four).unwrap();
-        loaded.set_threads(threads);
-        loaded.clear([1, 2, 3], 77).unwrap();
+        let mut loaded = Canvas::builder(scene.width, scene.height).samples(4).threads(threads).build().unwrap();
+        loaded.clear(Clear { color: [1, 2, 3, 4], depth: 77 }).unwrap();
         loaded.load(format, &bytes, stride).unwrap();
         assert_eq!(loaded.pixels(Format::Rgb8).unwrap(), wanted);
         assert!(loaded.depths(3).unwrap().iter().all(|&depth| depth == 77));
+        // Without a stride there is no gap.
+        loaded.load(Format::Rgb8, &wanted, 0).unwrap();
+        assert_eq!(loaded.pixels(Format::Rgb8).unwrap(), wanted);
     }
-}
-
-/// A right triangle over the upper left half of a square of 200 pixels, in the colour that is the number of its id.
-fn triangle(id: u32, depth: u32, side: i32) -> [Vertex; 3] {
-    let [red, green, blue, _] = id.to_le_bytes().map(u32::from);
-    let vertex = |x, y| Vertex { x: 256 * x, y: 256 * y, depth, red, green, blue, alpha: 255 };
-    [vertex(0, 0), vertex(side, 0), vertex(0, side)]
-}
-
-#[test]
-fn draws_ids() {
-    const FIRST: u32 = 70_000;
-    let state = State { sample_mask: 5, ..State::default() };
-    let large = [triangle(FIRST, 9, 200), triangle(FIRST + 1, 9, 50)].concat();
-    let small = triangle(FIRST + 2, 9, 20);
-    let draws = [
-        Draw { vertices: &large, indices: &[0, 1, 2, 3, 4, 5], state },
-        Draw { vertices: &small, indices: &[0, 1, 2], state: State::default() },
-    ];
-    let [mut ids, mut colours] = [0; 2].map(|_| {
-        let mut canvas = Canvas::new(150, 190, Samples::Four).unwrap();
-        canvas.set_threads(2);
-        canvas.clear([255; 3], 9).unwrap();
-        canvas
-    });
-    ids.draw_ids(&draws, FIRST).unwrap();
-    colours.draw(&draws).unwrap();
-    for sample in 0..4 {
-        let found = ids.ids(sample).unwrap();
-        assert_eq!(found, colours.ids(sample).unwrap());
-        assert_eq!((found[0], found[150 * 190 - 1]), (FIRST + 2, 16_777_215));
-        assert_eq!(found[30], if sample % 2 == 0 { FIRST + 1 } else { 16_777_215 });
-    }
-    let refused = ids.draw_ids(&draws, 16_777_214).unwrap_err();
-    assert_eq!((refused.kind(), refused.draw()), (ErrorKind::BadList(ListError::TooMany), Some(1)));
-}
-
-#[test]
-fn draws_every_sample_of_each_count() {
-    for samples in [Samples::One, Samples::Two, Samples::Four, Samples::Eight, Samples::Sixteen] {
-        let mut canvas = Canvas::new(70, 130, samples).unwrap();
-        canvas.set_threads(2);
-        canvas.clear([255; 3], 9).unwrap();
-        canvas.draw_ids(&[Draw { vertices: &triangle(5, 0, 300), indices: &[0, 1, 2], state: State::default() }], 5).unwrap();
-        for sample in 0..samples as u32 {
-            assert!(canvas.ids(sample).unwrap().iter().all(|&id| id == 5));
-        }
-        assert_eq!(canvas.ids(samples as u32).unwrap_err().kind(), ErrorKind::BadSample);
-        assert_eq!((canvas.samples(), canvas.split(2)[1].samples()), (samples, samples));
-    }
-}
-
-#[test]
-fn masks_samples_of_sixteen() {
-    let mut canvas = Canvas::new(70, 130, Samples::Sixteen).unwrap();
-    canvas.clear([255; 3], 9).unwrap();
-    let state = State { sample_mask: 1 << 8 | 1 << 15, ..State::default() };
-    canvas.draw_indexed(&triangle(5, 0, 300), &[0, 1, 2], &state).unwrap();
-    for sample in 0..16 {
-        let wanted = if sample == 8 || sample == 15 { 5 } else { 16_777_215 };
-        assert!(canvas.ids(sample).unwrap().iter().all(|&id| id == wanted));
-    }
-    // Of sixteen samples 14 are white, and 2 have red 5, green 0 and blue 0.
-    assert_eq!(canvas.pixels(Format::Rgb8).unwrap(), [224, 223, 223].repeat(70 * 130));
 }
 
 #[test]
 fn reads_depths_and_samples() {
-    let mut canvas = Canvas::new(150, 190, Samples::Four).unwrap();
-    canvas.clear([255; 3], 900).unwrap();
-    let state = State { depth_write: true, sample_mask: 8, ..State::default() };
-    canvas.draw_indexed(&triangle(0x030201, 7, 140), &[0, 1, 2], &state).unwrap();
+    let mut canvas = Canvas::builder(150, 190).samples(4).build().unwrap();
+    canvas.clear(Clear { color: [255; 4], depth: 900 }).unwrap();
+    let state = State::new().depth_write(true).skip_samples(7);
+    canvas.draw(&triangle(0x030201, 7, 140), &[0u16, 1, 2], state).unwrap();
     let (first, last) = (canvas.depths(0).unwrap(), canvas.depths(3).unwrap());
     assert!(first.iter().all(|&depth| depth == 900));
     assert_eq!((last[0], last[139 * 150], last[140 * 150], last[150 * 190 - 1]), (7, 900, 900, 900));
-    let (clear, drawn) = (Sample { color: [255; 3], depth: 900 }, Sample { color: [1, 2, 3], depth: 7 });
+    let (clear, drawn) = (([255; 3], 900), ([1, 2, 3], 7));
     for (column, row, sample, wanted) in [(0, 0, 3, drawn), (0, 0, 2, clear), (2, 130, 3, drawn), (149, 189, 3, clear)] {
-        assert_eq!(canvas.sample(column, row, sample).unwrap(), wanted);
+        let found = canvas.sample(column, row, sample).unwrap();
+        assert_eq!((found.color, found.depth), wanted);
     }
     let part = canvas.rows(2, 3).unwrap();
     assert_eq!((part.top(), part.height(), part.width(), part.first(), part.end()), (128, 62, 150, 2, 3));
-    assert_eq!(part.sample(2, 130, 3).unwrap(), drawn);
+    assert_eq!(part.sample(2, 130, 3).unwrap().depth, 7);
     assert_eq!(part.depths(3).unwrap(), last[128 * 150..]);
     for (column, row, sample) in [(150, 130, 0), (0, 127, 0), (0, 190, 0), (0, u32::MAX, 0), (0, 130, 4)] {
         assert_eq!(part.sample(column, row, sample).unwrap_err().kind(), ErrorKind::BadSample);
     }
     let mut entries = [1; 150 * 62 + 61 * 3];
-    part.depths_into(3, &mut entries, 153).unwrap();
+    part.depths_into(3, &mut entries, 2 * 153).unwrap();
     assert_eq!((entries[..150].to_vec(), entries[150..153].to_vec()), (last[128 * 150..129 * 150].to_vec(), vec![1; 3]));
 }
 
 #[test]
-fn stands_anywhere_on_the_screen() {
-    let origin = Origin { x: 30_000, y: -20 };
-    let mut window = Canvas::new(40, 30, Samples::One).unwrap().with_origin(origin);
-    assert_eq!(window.origin(), origin);
-    window.clear([255; 3], 9).unwrap();
-    let vertices = triangle(5, 0, 10).map(|vertex| Vertex { x: vertex.x + 256 * 30_000, ..vertex });
-    window.draw_ids(&[Draw { vertices: &vertices, indices: &[0, 1, 2], state: State::default() }], 5).unwrap();
-    let ids = window.ids(0).unwrap();
-    assert_eq!((ids[20 * 40], ids[20 * 40 + 9], ids[19 * 40], ids[29 * 40]), (5, 16_777_215, 16_777_215, 16_777_215));
+fn reads_and_stores_the_colours_of_one_sample() {
+    for threads in THREADS {
+        let mut canvas = Canvas::builder(70, 130).samples(4).threads(threads).build().unwrap();
+        canvas.clear(Clear { color: [255; 4], depth: 900 }).unwrap();
+        canvas.draw(&triangle(0x030201, 7, 300), &[0u32, 1, 2], State::new().skip_samples(!4)).unwrap();
+        let (drawn, clear) = ([1, 2, 3].repeat(70 * 130), vec![255; 3 * 70 * 130]);
+        assert!(canvas.colors(2, Format::Rgb8).unwrap() == drawn && canvas.colors(1, Format::Rgb8).unwrap() == clear);
+        canvas.store(0, Format::Rgb8, &drawn, 0).unwrap();
+        assert!(canvas.colors(0, Format::Bgra8).unwrap() == [3, 2, 1, 255].repeat(70 * 130));
+        assert!(
+            canvas.colors(3, Format::Rgb8).unwrap() == clear && canvas.depths(0).unwrap().iter().all(|&depth| depth == 900)
+        );
+        assert_eq!(refused(canvas.store(4, Format::Rgb8, &drawn, 0)).0, ErrorKind::BadSample);
+        assert_eq!(refused(canvas.store(0, Format::Rgb8, &drawn[1..], 0)).0, ErrorKind::BufferTooSmall);
+        assert_eq!(canvas.colors(4, Format::Rgb8).unwrap_err().kind(), ErrorKind::BadSample);
+    }
 }
 
-/// Without a scissor nothing is cut, also left of the screen and above it; with one only the screen is drawn.
 #[test]
-fn is_drawn_left_of_the_screen() {
-    let scissor = Some([0, 0, 32_768, 32_768]);
-    for origin in [Origin { x: -20, y: 0 }, Origin { x: 0, y: -20 }, Origin { x: -20, y: -20 }, Origin { x: -20, y: 7 }] {
-        let vertices =
-            triangle(5, 0, 10).map(|vertex| Vertex { x: vertex.x + 256 * origin.x, y: vertex.y + 256 * origin.y, ..vertex });
+fn stands_anywhere_on_the_screen() {
+    for (x, y) in [(30_000, -20), (-20, 0), (-20, -20)] {
+        let mut window = Canvas::builder(40, 130).samples(4).origin(x, y).build().unwrap();
+        assert_eq!(window.origin(), Origin { x, y });
+        let vertices = triangle(5, 0, 10).map(|vertex| Vertex { x: vertex.x + 256 * x, y: vertex.y + 256 * y, ..vertex });
         for threads in THREADS {
-            let mut window = Canvas::new(40, 130, Samples::Four).unwrap().with_origin(origin);
             window.set_threads(threads);
-            let draw =
-                |scissor| Draw { vertices: &vertices, indices: &[0, 1, 2], state: State { scissor, ..State::default() } };
-            window.clear([255; 3], 9).unwrap();
-            window.draw_ids(&[draw(None)], 5).unwrap();
-            let ids = window.ids(0).unwrap();
-            let wanted: Vec<u32> =
-                (0..40 * 130).map(|place| if place % 40 + place / 40 < 10 { 5 } else { 16_777_215 }).collect();
-            assert!(ids == wanted, "{origin:?}");
-            window.clear([255; 3], 9).unwrap();
-            window.draw(&[draw(None)]).unwrap();
-            assert!(window.ids(0).unwrap() == wanted, "{origin:?}");
-            // A draw with a scissor beside one without is cut as it is by itself.
-            for draws in [vec![draw(scissor)], vec![Draw { indices: &[], ..draw(None) }, draw(scissor)]] {
-                window.clear([255; 3], 9).unwrap();
-                window.draw_ids(&draws, 5).unwrap();
-                let is_on_screen = |place: u32| (place % 40) as i32 + origin.x >= 0 && (place / 40) as i32 + origin.y >= 0;
-                let cut = |(place, &id): (u32, &u32)| if is_on_screen(place) { id } else { 16_777_215 };
-                assert!(window.ids(0).unwrap() == (0..).zip(&wanted).map(cut).collect::<Vec<_>>(), "{origin:?}");
-            }
-            assert_eq!(window.origin(), origin);
+            window.clear([255; 3]).unwrap();
+            window.draw_ids(&[Draw::new(&vertices, Indices::InOrder)], 5).unwrap();
+            let wanted =
+                |limit: u32| (0..40 * 130).map(move |at| if at % 40 + at / 40 < 10 && at % 40 < limit { 5 } else { WHITE });
+            assert!(window.ids(0).unwrap().into_iter().eq(wanted(40)), "{x}, {y}");
+            // A scissor is of the screen too, also left of it and above.
+            window.clear([255; 3]).unwrap();
+            let state = State::new().scissor([i32::MIN, i32::MIN, x + 3, i32::MAX]);
+            window.draw_ids(&[Draw::new(&vertices, Indices::InOrder).state(state)], 5).unwrap();
+            assert!(window.ids(0).unwrap().into_iter().eq(wanted(3)), "{x}, {y}");
         }
     }
 }
 
-/// A vertex outside of the guard band, or seen from the origin outside of it, is refused with a scissor and without one.
+/// A vertex outside of the guard band, or seen from the origin outside of it, is refused.
 #[test]
-fn refuses_the_same_left_of_the_screen() {
-    let scissor = Some([0, 0, 32_768, 32_768]);
-    let low = i32::MIN;
+fn refuses_what_is_too_far_away() {
     for (x, place, is_drawn) in [
         (-20, 8_388_607, false),
         (-20, 8_383_487, true),
         (-20, -8_388_608, true),
         (-20, -8_388_609, false),
-        (low, 0, false),
+        (i32::MIN, 0, false),
         (-20, i32::MAX, false),
     ] {
-        let mut window = Canvas::new(4, 4, Samples::One).unwrap().with_origin(Origin { x, y: 0 });
-        window.clear([1, 2, 3], 9).unwrap();
-        for scissor in [scissor, None] {
-            let vertices = triangle(5, 0, 10).map(|vertex| Vertex { x: place, ..vertex });
-            let state = State { scissor, ..State::default() };
-            let drawn = window.draw_indexed(&vertices, &[0, 1, 2], &state);
-            assert_eq!(drawn.is_ok(), is_drawn, "{x} {place}");
-            assert!(is_drawn || refused(drawn) == (ErrorKind::BadList(ListError::OutOfRange), Some(0)));
+        let mut window = Canvas::builder(4, 4).origin(x, 0).build().unwrap();
+        let vertices = triangle(5, 0, 10).map(|vertex| Vertex { x: place, ..vertex });
+        let drawn = window.draw(&vertices, &[2u16, 1, 0], State::new());
+        assert_eq!(drawn.is_ok(), is_drawn, "{x} {place}");
+        if let Err(error) = drawn {
+            assert_eq!(error.kind(), ErrorKind::BadBatch(BatchCause::BadPosition));
+            assert_eq!((error.draw(), error.element().unwrap_or(2)), (Some(0), 2));
         }
-        let both = [None, Some([0, 0, 32_769, 1])].map(|scissor| State { scissor, ..State::default() });
-        let vertices = triangle(5, 0, 10);
-        let draws = both.map(|state| Draw { vertices: &vertices, indices: &[], state });
-        assert_eq!(refused(window.draw(&draws)), (ErrorKind::BadList(ListError::OutOfRange), Some(1)));
     }
 }
 
@@ -292,12 +376,9 @@ fn refuses_the_same_left_of_the_screen() {
 #[test]
 fn has_parts() {
     fn is_send<T: Send>(_: &T) {}
-    let mut canvas = Canvas::new(10, 200, Samples::Four).unwrap();
+    let mut canvas = Canvas::builder(10, 200).samples(4).build().unwrap();
     is_send(&canvas);
-    assert_eq!(
-        (canvas.width(), canvas.height(), canvas.samples(), canvas.first(), canvas.end()),
-        (10, 200, Samples::Four, 0, 4)
-    );
+    assert_eq!((canvas.width(), canvas.height(), canvas.first(), canvas.end()), (10, 200, 0, 4));
     let heights = |canvas: &mut Canvas, parts| canvas.split(parts).iter().map(|part| part.height()).collect::<Vec<_>>();
     assert_eq!(heights(&mut canvas, 3), [64, 64, 72]);
     assert_eq!(heights(&mut canvas, 100), [64, 64, 64, 8]);
@@ -306,10 +387,10 @@ fn has_parts() {
         assert_eq!(canvas.rows(first, end).unwrap_err().kind(), ErrorKind::BadTileRows);
     }
     let mut none = canvas.rows(4, 4).unwrap();
-    none.clear([0; 3], 0).unwrap();
+    none.clear([0; 3]).unwrap();
     assert_eq!((none.height(), none.pixels(Format::Rgb8).unwrap().len(), none.split(2).len()), (0, 0, 0));
-    let refused = none.draw_indexed(&[], &[0, 0, 0], &State::default()).unwrap_err();
-    assert_eq!(refused.kind(), ErrorKind::BadList(ListError::BadIndex));
+    let refused = none.draw(&[], &[0u16, 0, 0], State::new()).unwrap_err();
+    assert_eq!(refused.kind(), ErrorKind::BadBatch(BatchCause::BadIndex));
     let mut below = canvas.rows(1, 4).unwrap();
     assert_eq!(below.rows(0, 2).unwrap_err().kind(), ErrorKind::BadTileRows);
     assert_eq!(below.rows(2, 4).unwrap().top(), 128);
@@ -317,36 +398,40 @@ fn has_parts() {
 
 // ---- Errors
 
-fn refused(result: Result<(), Error>) -> (ErrorKind, Option<u32>) {
+fn refused(result: Result<(), Error>) -> (ErrorKind, Option<usize>) {
     let error = result.unwrap_err();
     (error.kind(), error.draw())
 }
 
 #[test]
 fn refuses_canvases_that_there_are_not() {
-    for (width, height) in [(0, 1), (1, 0), (4097, 1), (1, 4097), (u32::MAX, u32::MAX)] {
-        let error = Canvas::new(width, height, Samples::One).unwrap_err();
-        assert_eq!((error.kind(), error.to_string().as_str()), (ErrorKind::BadCanvas, "trirast: no such canvas"));
+    for (width, height, samples) in
+        [(0, 1, 1), (1, 0, 1), (4097, 1, 1), (1, 4097, 1), (u32::MAX, u32::MAX, 1), (1, 1, 3), (1, 1, 0), (1, 1, 32)]
+    {
+        let error = Canvas::builder(width, height).samples(samples).build().unwrap_err();
+        assert_eq!((error.kind(), error.to_string().as_str()), (ErrorKind::BadCanvas, "no such canvas"));
+        assert_eq!((error.draw(), error.element()), (None, None));
     }
 }
 
 #[test]
 fn refuses_buffers_that_are_too_small() {
-    let mut canvas = Canvas::new(10, 200, Samples::Four).unwrap();
-    canvas.clear([1, 2, 3], 4).unwrap();
+    let mut canvas = Canvas::builder(10, 200).samples(4).build().unwrap();
+    canvas.clear([1, 2, 3]).unwrap();
     for threads in THREADS {
         canvas.set_threads(threads);
-        for (length, stride) in [(199 * 31 + 29, 31), (200 * 30, 29), (0, 30), (6000, usize::MAX)] {
+        for (length, stride) in [(199 * 31 + 29, 31), (200 * 30, 29), (0, 30), (5999, 0), (6000, usize::MAX)] {
             let mut bytes = vec![7; length];
             assert_eq!(refused(canvas.resolve(Format::Rgb8, &mut bytes, stride)).0, ErrorKind::BufferTooSmall);
             assert_eq!(refused(canvas.load(Format::Rgb8, &bytes, stride)).0, ErrorKind::BufferTooSmall);
             assert!(bytes.iter().all(|&byte| byte == 7));
         }
         let mut depths = [7; 1999];
-        assert_eq!(refused(canvas.depths_into(0, &mut depths, 10)).0, ErrorKind::BufferTooSmall);
-        assert_eq!(refused(canvas.depths_into(4, &mut depths, 10)).0, ErrorKind::BadSample);
+        assert_eq!(refused(canvas.depths_into(0, &mut depths, 20)).0, ErrorKind::BufferTooSmall);
+        assert_eq!(refused(canvas.depths_into(0, &mut depths, 21)).0, ErrorKind::BadStride);
+        assert_eq!(refused(canvas.depths_into(4, &mut depths, 20)).0, ErrorKind::BadSample);
         assert_eq!(depths, [7; 1999]);
-        assert_eq!(canvas.ids(4).unwrap_err().to_string(), "trirast: no such sample");
+        assert_eq!(canvas.ids(4).unwrap_err().to_string(), "no such sample");
         assert_eq!(canvas.pixels(Format::Rgb8).unwrap(), [1, 2, 3].repeat(2000));
     }
 }
@@ -355,25 +440,53 @@ fn refuses_buffers_that_are_too_small() {
 fn refuses_batches_and_draws_nothing_of_them() {
     let good = triangle(0, 0, 200);
     let far = good.map(|vertex| Vertex { x: 8_388_608, ..vertex });
-    let quads = State { topology: Topology::Quads, ..State::default() };
-    let first = Draw { vertices: &good, indices: &[0, 1, 2], state: State::default() };
+    let first = Draw::new(&good, &[0u32, 1, 2]);
+    let quads = State::new().topology(Topology::Quads);
     let cases = [
-        (Draw { indices: &[0, 1, 3], ..first }, ListError::BadIndex),
-        (Draw { indices: &[0, 1], ..first }, ListError::WrongKind),
-        (Draw { vertices: &far, ..first }, ListError::OutOfRange),
-        (Draw { state: State { scissor: Some([0, 0, 32_769, 1]), ..State::default() }, ..first }, ListError::OutOfRange),
-        (Draw { indices: &[0, 1, 2, 0], state: quads, ..first }, ListError::NotConvex),
+        (Draw::new(&good, &[0u32, 1, 3]), BatchCause::BadIndex, Some(2)),
+        (Draw::new(&good, &[0u32, 1]), BatchCause::NotWhole, None),
+        (Draw::new(&far, &[1u32, 1, 1]), BatchCause::BadPosition, Some(1)),
+        (Draw::new(&good, &[0u32, 1, 2, 0]).state(quads), BatchCause::NotConvex, Some(0)),
     ];
-    let mut canvas = Canvas::new(100, 200, Samples::One).unwrap();
-    canvas.clear([1, 2, 3], 4).unwrap();
+    let mut canvas = Canvas::builder(100, 200).build().unwrap();
+    canvas.clear([1, 2, 3]).unwrap();
     for threads in THREADS {
         canvas.set_threads(threads);
-        for (second, wanted) in cases {
-            assert_eq!(refused(canvas.draw(&[first, second])), (ErrorKind::BadList(wanted), Some(1)));
-            assert_eq!(refused(canvas.draw_ids(&[second], 0)), (ErrorKind::BadList(wanted), Some(0)));
+        for (second, wanted, element) in cases {
+            let error = canvas.draw_batch(&[first, second]).unwrap_err();
+            assert_eq!((error.kind(), error.draw()), (ErrorKind::BadBatch(wanted), Some(1)));
+            // The library need not say which element it is.
+            assert!(error.element().is_none() || error.element() == element);
+            assert!(error.to_string().starts_with("draw 1: "), "{error}");
+            assert_eq!(refused(canvas.draw_ids(&[second], 0)), (ErrorKind::BadBatch(wanted), Some(0)));
         }
     }
+    let error = canvas.draw_batch(&[first, cases[3].0]).unwrap_err();
+    assert!(error.to_string().ends_with("is not strictly convex"), "{error}");
     assert_eq!(canvas.pixels(Format::Rgb8).unwrap(), [1, 2, 3].repeat(20_000));
+}
+
+#[test]
+fn tests_depths() {
+    let mut canvas = Canvas::builder(8, 8).build().unwrap();
+    canvas.clear(Clear { color: [255; 4], depth: 100 }).unwrap();
+    let cases = [
+        (DepthTest::Always, [true, true, true]),
+        (DepthTest::Never, [false, false, false]),
+        (DepthTest::Less, [true, false, false]),
+        (DepthTest::Equal, [false, true, false]),
+        (DepthTest::LessEqual, [true, true, false]),
+        (DepthTest::Greater, [false, false, true]),
+        (DepthTest::NotEqual, [true, false, true]),
+        (DepthTest::GreaterEqual, [false, true, true]),
+    ];
+    for (test, wanted) in cases {
+        for (depth, is_drawn) in [99, 100, 101].into_iter().zip(wanted) {
+            canvas.clear(Clear { color: [255; 4], depth: 100 }).unwrap();
+            canvas.draw(&triangle(5, depth, 64), Indices::InOrder, State::new().depth_test(test)).unwrap();
+            assert_eq!(canvas.ids(0).unwrap()[0], if is_drawn { 5 } else { WHITE }, "{test:?} {depth}");
+        }
+    }
 }
 
 // ---- Edge functions
@@ -382,16 +495,20 @@ fn refuses_batches_and_draws_nothing_of_them() {
 #[test]
 fn gives_edge_functions() {
     let (a, b, c) = ([0, 0], [256, 0], [0, 256]);
-    let inside = edges(a, b, c, [64, 32]).unwrap();
+    let inside = edges([a, b, c], [64, 32]).unwrap();
     assert_eq!((inside.a, inside.b, inside.c, inside.doubled_area), (40_960, 16_384, 8_192, 65_536));
     assert!(inside.covered);
-    let reversed = edges(a, c, b, [64, 32]).unwrap();
+    let reversed = edges([a, c, b], [64, 32]).unwrap();
     assert_eq!((reversed.a, reversed.b, reversed.c, reversed.doubled_area), (-40_960, -8_192, -16_384, -65_536));
     assert!(reversed.covered);
     // The hypotenuse is a right edge; the others are the top and the left one.
-    assert!(!edges(a, b, c, [128, 128]).unwrap().covered);
-    assert!(edges(a, b, c, [128, 0]).unwrap().covered && edges(a, b, c, [0, 128]).unwrap().covered);
-    let error = edges(a, b, [0, 8_388_608], [0, 0]).unwrap_err();
-    assert_eq!((error.kind(), error.to_string().as_str()), (ErrorKind::BadPosition, "trirast: position out of range"));
-    assert_eq!(edges(a, b, c, [-8_388_609, 0]).unwrap_err().kind(), ErrorKind::BadPosition);
+    let points = [[128, 128], [128, 0], [0, 128], [64, 32]];
+    let found = edges_at([a, b, c], &points).unwrap();
+    assert_eq!(found.iter().map(|one| one.covered).collect::<Vec<_>>(), [false, true, true, true]);
+    assert_eq!(found[3], inside);
+    assert_eq!(edges_at([a, b, c], &[]).unwrap(), []);
+    let error = edges([a, b, [0, 8_388_608]], [0, 0]).unwrap_err();
+    assert_eq!((error.kind(), error.to_string().as_str()), (ErrorKind::BadPosition, "position out of range"));
+    assert_eq!(edges([a, b, c], [-8_388_609, 0]).unwrap_err().kind(), ErrorKind::BadPosition);
+    assert_eq!(edges_at([a, b, c], &[[0, 0], [0, 8_388_608]]).unwrap_err().kind(), ErrorKind::BadPosition);
 }

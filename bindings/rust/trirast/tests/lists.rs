@@ -4,7 +4,7 @@ mod common;
 
 use std::fs;
 
-use trirast::{draw, draw_by_threads, draw_into, draw_rows_into, image_info, ErrorKind, ListError, TileSize};
+use trirast::{draw, draw_by_threads, draw_into, draw_rows_into, image_info, ErrorKind, ListCause, TileSize};
 
 const SIZES: [TileSize; 4] = [TileSize::Eight, TileSize::Sixteen, TileSize::ThirtyTwo, TileSize::SixtyFour];
 /// A white triangle over the upper left half of nine pixels. By the top-left rule it covers the first and second pixel of the
@@ -59,11 +59,11 @@ fn refuses_tile_rows_that_there_are_not() {
 #[test]
 fn says_what_is_wrong_with_a_list() {
     let error = draw("{", TileSize::default()).unwrap_err();
-    assert_eq!((error.kind(), error.draw()), (ErrorKind::BadList(ListError::NotJson), None));
+    assert_eq!((error.kind(), error.draw()), (ErrorKind::BadList(ListCause::NotJson), None));
     let bad_index = TRIANGLE.replace("[[0, 1, 2]]", "[[0, 1, 3]]");
     let error = draw(bad_index, TileSize::default()).unwrap_err();
-    assert_eq!((error.kind(), error.draw()), (ErrorKind::BadList(ListError::BadIndex), Some(0)));
-    assert_eq!(error.to_string(), "trirast: list fault 6 BadIndex in draw 0");
+    assert_eq!((error.kind(), error.draw()), (ErrorKind::BadList(ListCause::BadIndex), Some(0)));
+    assert_eq!(error.to_string(), "list fault 6 BadIndex in draw 0");
     let long = vec![b' '; 67_108_865];
     assert_eq!(draw(long, TileSize::default()).unwrap_err().kind(), ErrorKind::InputTooLong);
 }
@@ -89,7 +89,7 @@ fn draws_what_the_program_draws() {
             let by_threads = draw_by_threads(&text, SIZES[number / 4 % 4], [1, 2, 3, 4, 100][number % 5]).unwrap();
             assert_eq!(by_threads.into_file(), one.written, "{}", one.list.display());
         } else {
-            let line = format!("{}\n", draw(&text, size).unwrap_err());
+            let line = format!("trirast: {}\n", draw(&text, size).unwrap_err());
             assert_eq!(line.as_bytes(), one.written, "{}", one.list.display());
         }
     }

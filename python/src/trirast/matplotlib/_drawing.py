@@ -8,7 +8,7 @@ import numpy as np
 from numpy.typing import NDArray
 
 from .._canvas import Canvas
-from ._triangles import Box, Triangles, Vertices, bounds_of, box_around, meets, numbered, vertices_of, within_reach
+from ._triangles import CHANNELS, Box, Triangles, Vertices, bounds_of, box_around, meets, numbered, vertices_of, within_reach
 
 # A canvas of this side takes 86 MB with four samples a pixel. With more of them it has half of this side.
 MAX_SIDE = 2048
@@ -70,8 +70,7 @@ def batches(triangles: Triangles, window: Box) -> Iterator[Vertices]:
 def draw_batch(canvas: Canvas, vertices: Vertices, threads: int) -> None:
     if not len(vertices):
         return
-    blend = "none" if (vertices[:, 6] == OPAQUE).all() else "over"
-    canvas.draw(vertices, np.arange(len(vertices), dtype=np.uint32), blend=blend, threads=threads)
+    canvas.draw(vertices, blend="none" if (vertices["alpha"] == OPAQUE).all() else "over", threads=threads)
 
 
 def drawn_over_opaque(below: Pixels, given: Iterator[Vertices], shares: Optional[Shares], threads: int, samples: int) -> Pixels:
@@ -101,7 +100,8 @@ def drawn_over_clear(below: Pixels, given: Iterator[Vertices], shares: Optional[
     for vertices in given:
         for canvas in canvases:
             draw_batch(canvas, vertices, threads)
-            vertices[:, 3:6] = OPAQUE
+            for channel in CHANNELS[:3]:
+                vertices[channel] = OPAQUE
     color, alpha = (canvas.rgb(threads=threads).astype(np.float32) for canvas in canvases)
     alpha = alpha[..., :1] / OPAQUE
     return composed(below, color, alpha) if shares is None else composed(below, shares * color, shares * alpha)

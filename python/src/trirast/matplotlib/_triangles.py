@@ -7,13 +7,16 @@ from typing import Any, NamedTuple
 import numpy as np
 from numpy.typing import NDArray
 
+from .._vertices import VERTEX
+
 UNIT = 256
+CHANNELS = ("red", "green", "blue", "alpha")
 # The farthest position from a window's corner that is drawn without a cut, in pixels. The guard band ends at 32,768.
 REACH = 32767.0
 
 Points = NDArray[np.float64]
 Colors = NDArray[np.float64]
-Vertices = NDArray[np.int32]
+Vertices = NDArray[Any]
 
 
 class Box(NamedTuple):
@@ -131,12 +134,13 @@ def crossing(inside: Points, outside: Points, axis: int, sign: int) -> Points:
 
 def vertices_of(triangles: Triangles) -> Vertices:
     """The vertices of a batch, three for each triangle, at depth 0."""
-    found = np.empty((3 * len(triangles.points), 7), np.int32)
-    np.rint(triangles.points.reshape(-1, 2) * UNIT, out=found[:, :2], casting="unsafe")
-    found[:, 2] = 0
+    found = np.zeros(3 * len(triangles.points), VERTEX)
+    places = np.rint(triangles.points.reshape(-1, 2) * UNIT)
+    found["x"], found["y"] = places.T
     colors = triangles.colors.reshape(-1, 4) * 255.0
     np.clip(colors, 0, 255, out=colors)
     # Agg rounds colours in this way.
     colors += 0.5
-    found[:, 3:] = colors
+    for channel, values in zip(CHANNELS, colors.T):
+        found[channel] = values
     return found

@@ -1,9 +1,10 @@
 """Scenes in files of numpy, .npz: arrays without the limits of a draw list.
 
-A file has `vertices`, (n, 7) integers; `triangles`, (m, 3) integers; and `draws`, a text: a draw list as JSON, in whose draws
-`triangles` is a number, and `vertices` is absent. Members that are stored and not deflated, as numpy.savez leaves them, are copied to
-files without a name, which are mapped, so that scenes larger than memory can be drawn. The file itself is not mapped: to read what
-somebody cuts off from it would end the process.
+A file has `vertices`, records of trirast.VERTEX or (n, 7) integers; `triangles`, (m, 3) integers; and `draws`, a text:
+a draw list as JSON, in whose draws `triangles` is a number, and `vertices` is absent. Records and integers that are
+stored and not deflated, as numpy.savez leaves them, are copied to files without a name, which are mapped, so that
+scenes larger than memory can be drawn. The file itself is not mapped: to read what somebody cuts off from it would end
+the process.
 """
 
 from __future__ import annotations
@@ -20,10 +21,11 @@ import numpy as np
 from numpy.lib import format as numpy_format
 from numpy.typing import NDArray
 
+from .._vertices import VERTEX
 from ._draw_list import MAX_LIST, check_states, scene_of_list, sheet_of
 from ._errors import ArraysError
 from ._places import Path, check_file
-from ._scene import PosterDraw, Scene, owned
+from ._scene import PosterDraw, Scene, own_vertices, owned
 
 # Members begin at multiples of this in files that `save_arrays` writes, so that others can map them as integers.
 ALIGNMENT = 64
@@ -87,7 +89,7 @@ def member(file: IO[bytes], archive: zipfile.ZipFile, name: str) -> NDArray[Any]
     with archive.open(info) as opened:
         shape, fortran, dtype = header_of(opened)
         header = opened.tell()
-        if info.compress_type != zipfile.ZIP_STORED or fortran or not shape or not all(shape) or dtype.kind not in "iu":
+        if info.compress_type != zipfile.ZIP_STORED or fortran or not shape or not all(shape) or not is_mapped(dtype):
             opened.seek(0)
             return np.asarray(npy.read_array(opened, allow_pickle=False))
     size = int(np.prod(shape, dtype=object)) * dtype.itemsize
@@ -97,6 +99,11 @@ def member(file: IO[bytes], archive: zipfile.ZipFile, name: str) -> NDArray[Any]
     with tempfile.TemporaryFile(dir=os.environ.get("TMPDIR") or (LARGE if os.path.isdir(LARGE) else None)) as copy:
         copy_part(file, name, data_offset(file, info) + header, size, copy)
         return np.memmap(copy, dtype, "c", 0, shape)
+
+
+def is_mapped(dtype: np.dtype[Any]) -> bool:
+    """Whether an array of this type is mapped: of integers, or of records."""
+    return dtype.kind in "iu" or dtype == np.dtype(VERTEX)
 
 
 def copy_part(file: IO[bytes], name: str, start: int, size: int, copy: IO[bytes]) -> None:
@@ -127,9 +134,9 @@ def data_offset(file: IO[bytes], info: zipfile.ZipInfo) -> int:
 
 
 def save_arrays(path: Path, vertices: NDArray[Any], triangles: NDArray[Any], value: Any) -> None:
-    """Writes a .npz file for `scene_of`: members stored, and aligned. It gets its name when it is whole, so the arrays may be those of a
-    file of that name."""
-    arrays = {"vertices": vertices, "triangles": triangles, "draws": np.array(json.dumps(value))}
+    """Writes a .npz file for `scene_of`: members stored, and aligned, vertices as records. It gets its name when it is
+    whole, so the arrays may be those of a file of that name."""
+    arrays = {"vertices": own_vertices(vertices, copy=False), "triangles": triangles, "draws": np.array(json.dumps(value))}
     name = os.fsdecode(path)
     check_file(name)
     new = f"{name}.{secrets.token_hex(8)}"

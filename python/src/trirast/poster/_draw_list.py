@@ -9,8 +9,9 @@ from typing import Any, Optional
 import numpy as np
 from numpy.typing import NDArray
 
+from .._draw import EVERY_SAMPLE
 from .._draw_list import image_info
-from .._scene import EVERY_SAMPLE
+from .._vertices import VERTEX, records_of
 from ._scene import MAX_SIDE, SAMPLES, PosterDraw, Scene, Sheet, owned
 
 # The library reads lists of at most this many pixels a side, this many draws, and this many bytes.
@@ -33,11 +34,11 @@ def scene_of_list(data: bytes, source: Optional[str] = None) -> Scene:
     Raises trirast.Error as the library does for the same list with sides of at most 4096.
     """
     value = checked(data)
-    draws, vertices, triangles = [], [np.zeros((0, 7), np.int32)], [np.zeros((0, 3), np.int32)]
+    draws, vertices, triangles = [], [np.zeros(0, VERTEX)], [np.zeros((0, 3), np.int32)]
     base = 0
     for draw in value["draws"]:
         mine = triangles_of(draw)
-        vertices.append(np.array(draw["vertices"], np.int32).reshape(-1, 7))
+        vertices.append(np.frombuffer(records_of(draw["vertices"]), VERTEX))
         triangles.append(mine + np.int32(base))
         base += len(draw["vertices"])
         draws.append(PosterDraw(len(mine), state_of(draw)))

@@ -14,7 +14,7 @@ from numpy.typing import NDArray
 from ._draw_list import LIST_SIDE
 from ._errors import GuardBandError
 from ._pool import Pool
-from ._scene import LOW, SAMPLES, UNIT, Boxes, Indices, Scene, Triangles, Vertices
+from ._scene import AXES, LOW, SAMPLES, UNIT, Boxes, Indices, Scene, Triangles, Vertices
 from ._windows import TILE, Area, Span, Windows
 
 # Triangles of a group. Of fewer Python's lock would be handed from thread to thread too often. There are at least as many for each place,
@@ -141,13 +141,13 @@ def bounds_of(vertices: Vertices, triangles: Triangles) -> tuple[Bounds, Bounds]
     # Corner after corner, so that few arrays are in memory at once.
     for corner in range(3):
         names = triangles[:, corner].astype(np.intp)
-        for axis in range(2):
-            positions = vertices[:, axis][names]
+        for number, axis in enumerate(AXES):
+            positions = vertices[axis][names]
             if corner == 0:
                 found.append(Bounds(positions, positions.copy()))
             else:
-                np.minimum(found[axis].low, positions, out=found[axis].low)
-                np.maximum(found[axis].high, positions, out=found[axis].high)
+                np.minimum(found[number].low, positions, out=found[number].low)
+                np.maximum(found[number].high, positions, out=found[number].high)
     across, down = found
     return across, down
 
@@ -196,7 +196,7 @@ def check_guard_band(bounds: Bounds, first: int, axis: int, windows: Windows) ->
     last = np.minimum(bounds.high // step, most - 1)
     far = np.flatnonzero((np.maximum(bounds.low // step, 0) <= last) & is_too_far(bounds.low, last, axis, windows))
     if len(far):
-        raise GuardBandError(first + int(far[0]), "xy"[axis])
+        raise GuardBandError(first + int(far[0]), AXES[axis])
 
 
 def is_too_far(low: Indices, last: Indices, axis: int, windows: Windows) -> NDArray[np.bool_]:

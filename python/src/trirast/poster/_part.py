@@ -9,7 +9,7 @@ import numpy as np
 from numpy.typing import NDArray
 
 from ._index import Index
-from ._scene import HIGH, LOW, UNIT, Indices, Scene, Sheet, Triangles, Vertices, check_range
+from ._scene import AXES, HIGH, LOW, UNIT, Indices, Scene, Sheet, Triangles, Vertices, check_range
 from ._windows import TILE, Area, Span
 
 # Vertices are looked up in blocks of 256: neighbours in a list are neighbours on the sheet, so a window names few blocks. If a table of
@@ -120,7 +120,7 @@ def low_of(scene: Scene, index: Index, span: Span, triangles: Triangles) -> tupl
     """A position left of and above all corners of triangles: that of the whole scene, if all windows can take it."""
     if index.is_near(span.area):
         return index.low
-    x, y = (int(scene.vertices[:, axis][triangles].min(initial=HIGH)) for axis in range(2))
+    x, y = (int(scene.vertices[axis][triangles].min(initial=HIGH)) for axis in AXES)
     return x, y
 
 

@@ -13,14 +13,16 @@ from typing import TYPE_CHECKING, Any, Mapping, Optional, Sequence
 import numpy as np
 from numpy.typing import NDArray
 
+from .._records import HIGH as HIGH
+from .._records import LOW as LOW
+from .._vertices import VERTEX, is_own_layout, records_of
 from ._errors import ArraysError
 from ._pool import Pool
 
 if TYPE_CHECKING:
     from typing_extensions import TypeAlias
 
-# The guard band: positions are in 1/256 pixel.
-LOW, HIGH = -8388608, 8388607
+# Positions are in 1/256 pixel.
 UNIT = 256
 # Where the samples of a pixel lie, in 1/256 pixel (docs/rules.md), by their number.
 SAMPLES: dict[int, Sequence[tuple[int, int]]] = {
@@ -37,16 +39,14 @@ SAMPLES: dict[int, Sequence[tuple[int, int]]] = {
 MAX_SIDE = 32768
 # Indices of triangles have 32 bits.
 MAX_TRIANGLES = (1 << 31) - 1
-VERTEX_NUMBERS = 7
-LIMITS = ((LOW, HIGH), (LOW, HIGH), (0, 65535), (0, 255), (0, 255), (0, 255), (0, 255))
-NAMES = ("x", "y", "depth", "red", "green", "blue", "alpha")
+AXES = ("x", "y")
 OUTPUTS = ("color", "depth")
 # Keys of a draw that say what is drawn, and not how.
 CONTENTS = ("vertices", "triangles", "strip", "quads")
 # How many rows of an array are looked at together, so that a mapped array is never whole in memory.
 CHUNK = 1 << 20
 
-Vertices: TypeAlias = "NDArray[np.int32]"
+Vertices: TypeAlias = "NDArray[Any]"
 Triangles: TypeAlias = "NDArray[np.int32]"
 Pixels: TypeAlias = "NDArray[Any]"
 Indices: TypeAlias = "NDArray[np.int32]"
@@ -131,11 +131,12 @@ class PosterDraw:
 class Scene:
     """Triangles over vertices, draw after draw.
 
-    `vertices` has rows of x, y, depth, red, green, blue and alpha; `triangles` rows of three indices of vertices. The first
-    draw has the first triangles, and so on. The scene keeps copies of both, which cannot be written to, unless `copy` is false. Then it
-    may keep the arrays themselves. If somebody changes them as long as the scene is used, another picture is drawn, or an error is raised:
-    each window draws copies of what it reads. `source` is the file that it was read from, which no poster replaces. Raises ArraysError if
-    something does not fit, and trirast.Error if a state is wrong.
+    `vertices` are records of trirast.VERTEX, or rows of x, y, depth, red, green, blue and alpha, of which the scene
+    makes records; `triangles` are rows of three indices of vertices. The first draw has the first triangles, and so on.
+    The scene keeps copies of both, which cannot be written to, unless `copy` is false. Then it may keep the arrays
+    themselves. If somebody changes them as long as the scene is used, another picture is drawn, or an error is raised:
+    each window draws copies of what it reads. `source` is the file that it was read from, which no poster replaces.
+    Raises ArraysError if something does not fit, and trirast.Error if a state is wrong.
     """
 
     sheet: Sheet
@@ -152,8 +153,8 @@ class Scene:
         if not isinstance(self.sheet, Sheet) or not all(isinstance(draw, PosterDraw) for draw in self.draws):
             raise ArraysError("a scene has a Sheet, and a sequence of PosterDraw")
         object.__setattr__(self, "draws", tuple(self.draws))
-        for name, columns in (("vertices", VERTEX_NUMBERS), ("triangles", 3)):
-            object.__setattr__(self, name, own(name, getattr(self, name), columns, copy))
+        object.__setattr__(self, "vertices", own_vertices(self.vertices, copy))
+        object.__setattr__(self, "triangles", own_triangles(self.triangles, copy))
         check_arrays(self.vertices, self.triangles, self.draws)
         check_states(self.draws)
 
@@ -197,38 +198,56 @@ def without_mask(draw: PosterDraw) -> PosterDraw:
     return replace(draw, state={key: value for key, value in draw.state.items() if key != "sample_mask"})
 
 
-def digest_of(array: NDArray[np.int32]) -> bytes:
+def digest_of(array: NDArray[Any]) -> bytes:
     """A checksum (BLAKE2b) of the shape and the numbers of an array."""
     found = hashlib.blake2b(repr(array.shape).encode(), digest_size=16)
-    found.update(np.ascontiguousarray(array).data)
+    found.update(np.ascontiguousarray(array).view(np.uint8).data)
     return found.digest()
 
 
-def own(name: str, array: Any, columns: int, copy: bool) -> NDArray[np.int32]:
-    """Rows of the machine's 32-bit integers one after another, which cannot be written to. They are the array itself only if it has
-    such rows and `copy` is false. Raises ArraysError if it has no integers of 32 bits in rows of so many columns."""
-    check_shape(name, array, columns)
+def own_vertices(array: Any, copy: bool) -> Vertices:
+    """Records one after another, which cannot be written to. They are the array itself only if it has such records and
+    `copy` is false. Raises ArraysError if it has neither records nor rows of seven integers that fit."""
+    check_array("vertices", array)
+    if array.dtype.names and is_own_layout(np, array):
+        found: Vertices = np.array(array, order="C") if copy else array.view()
+    elif array.ndim == 2 and array.shape[1] != len(VERTEX) - 1:
+        raise ArraysError(f"vertices: rows of 7 integers, and not {array.dtype} of the shape {array.shape}")
+    else:
+        try:
+            found = np.frombuffer(records_of(array), VERTEX)
+        except (TypeError, ValueError) as error:
+            raise ArraysError(str(error)) from None
+    found.flags.writeable = False
+    return found
+
+
+def own_triangles(array: Any, copy: bool) -> Triangles:
+    """Rows of the machine's 32-bit integers, in the same way. Raises ArraysError if it has no such integers in rows of
+    three."""
+    check_array("triangles", array)
+    if array.ndim != 2 or array.shape[1] != 3 or array.dtype.kind not in "iu":
+        raise ArraysError(f"triangles: rows of 3 integers, and not {array.dtype} of the shape {array.shape}")
     if array.dtype == np.int32 and array.dtype.isnative:
-        found: NDArray[np.int32] = np.array(array, order="C") if copy else np.require(array, None, ("C", "A")).view()
+        found: Triangles = np.array(array, order="C") if copy else np.require(array, None, ("C", "A")).view()
     else:
         found = np.empty(array.shape, np.int32)
         for first in range(0, len(array), CHUNK):
             part = np.array(array[first : first + CHUNK])
-            check_range(name, part, -(1 << 31), (1 << 31) - 1)
+            check_range("triangles", part, -(1 << 31), (1 << 31) - 1)
             found[first : first + CHUNK] = part
     found.flags.writeable = False
     return found
 
 
-def check_arrays(vertices: NDArray[np.int32], triangles: NDArray[np.int32], draws: Sequence[PosterDraw]) -> None:
+def check_arrays(vertices: Vertices, triangles: Triangles, draws: Sequence[PosterDraw]) -> None:
     """Raises ArraysError unless the draws have all triangles, each number is in its range and each index names a vertex."""
     counted = sum(draw.triangles for draw in draws)
     if counted != len(triangles):
         raise ArraysError(f"the draws have {counted} triangles, and the array has {len(triangles)}")
     for first in range(0, len(vertices), CHUNK):
-        part = vertices[first : first + CHUNK]
-        for column, (least, most) in enumerate(LIMITS):
-            check_range(NAMES[column], part[:, column], least, most)
+        for axis in AXES:
+            check_range(axis, vertices[axis][first : first + CHUNK], LOW, HIGH)
     for first in range(0, len(triangles), CHUNK):
         check_range("an index", triangles[first : first + CHUNK], 0, len(vertices) - 1)
 
@@ -242,12 +261,10 @@ def check_states(draws: Sequence[PosterDraw]) -> None:
     check_list({"width": 1, "height": 1, "draws": list(states.values())})
 
 
-def check_shape(name: str, array: Any, columns: int) -> None:
-    """Raises ArraysError if something is no array of rows of integers."""
+def check_array(name: str, array: Any) -> None:
+    """Raises ArraysError if something is no array."""
     if not isinstance(array, np.ndarray) or isinstance(array, np.ma.MaskedArray):
         raise ArraysError(f"{name}: an array of numpy, without a mask, and not {type(array).__name__}")
-    if array.ndim != 2 or array.shape[1] != columns or array.dtype.kind not in "iu":
-        raise ArraysError(f"{name}: rows of {columns} integers, and not {array.dtype} of the shape {array.shape}")
 
 
 def check_range(name: str, numbers: NDArray[Any], least: int, most: int) -> None:

@@ -12,9 +12,9 @@ from typing import Any, Dict, Mapping, Tuple
 
 import numpy as np
 
-from .._canvas import FARTHEST, FORMATS, aligned
-from .._ffi import PLANE_BYTES, CBatch, CBatchDraw, CCanvas, CError, CVertex, library
-from .._scene import Draw
+from .._canvas import FORMATS, aligned
+from .._draw import INDEX_BYTES, Draw
+from .._ffi import CBatch, CCanvas, CClear, CDraw, CError, library
 from ._scene import Pixels, Sheet, Triangles, Vertices
 from ._windows import Area
 
@@ -25,7 +25,6 @@ QUICK = ctypes.PyDLL
 FEW_BYTES, FEW = 2 * 4096 * 4 * 5, 16
 # How many states of draws a canvas keeps.
 STATES = 1024
-INDEX_BYTES = ctypes.sizeof(ctypes.c_uint32)
 TRIANGLE_BYTES = 3 * INDEX_BYTES
 FORMAT, PIXEL_BYTES = FORMATS["rgb"]
 
@@ -34,7 +33,7 @@ class Arrays:
     """The addresses of arrays, which live as long as this does: contiguous and aligned, as the library reads them."""
 
     def __init__(self, vertices: Vertices, triangles: Triangles) -> None:
-        self._kept = [np.require(array, np.int32, ("C", "A")) for array in (vertices, triangles)]
+        self._kept = [np.require(array, None, ("C", "A")) for array in (vertices, triangles)]
         self.vertices, self.indices = (array.ctypes.data for array in self._kept)
         self.vertex_count = len(vertices)
 
@@ -62,15 +61,13 @@ class ThreadCanvas:
 
     def __init__(self) -> None:
         self._memory, self._bytes, self._address, self._is_small = aligned(0)[0], 0, 0, True
-        self._canvas = CCanvas(ctypes.sizeof(CCanvas))
-        self._batch = CBatch(ctypes.sizeof(CBatch), ctypes.sizeof(CBatchDraw), ctypes.sizeof(CVertex), INDEX_BYTES, None, 1)
-        self._error = CError()
+        self._canvas, self._batch, self._error = CCanvas(), CBatch(draw_count=1), CError()
         self._quick, self._calls = library(QUICK), library()
-        self._states: Dict[int, Tuple[Mapping[str, Any], CBatchDraw, int]] = {}
+        self._states: Dict[int, Tuple[Mapping[str, Any], CDraw, int]] = {}
 
     def begin(self, sheet: Sheet, begin: tuple[int, int], arrays: Arrays) -> None:
         """Makes it a canvas of this sheet, for triangles of these arrays. It will begin at the pixel `begin` or before it."""
-        self._color, self._depth, self._is_depth = (ctypes.c_uint8 * 3)(*sheet.clear), sheet.clear_depth, sheet.is_depth
+        self._clear, self._is_depth = CClear(*sheet.clear, 0, sheet.clear_depth), sheet.is_depth
         self._canvas.samples = sheet.samples
         self._size, self._begin, self._arrays = (0, 0), begin, arrays
         self._batch.vertices, self._batch.vertex_count = arrays.vertices, arrays.vertex_count
@@ -88,22 +85,22 @@ class ThreadCanvas:
     def _resize(self, width: int, height: int) -> None:
         """Gives it another size in pixels."""
         canvas, quick = self._canvas, self._quick
-        rows = quick.trirast_canvas_rows(height)
-        size = quick.trirast_canvas_bytes(width, height, canvas.samples, 0, rows)
+        canvas.width, canvas.height = width, height
+        size = quick.trirast_canvas_size(canvas)
         if size > self._bytes:
             self._memory, first = aligned(size)
             self._bytes, self._address = size, ctypes.addressof(self._memory) + first
-        canvas.width, canvas.height, canvas.end = width, height, rows
-        canvas.memory, canvas.plane_count = self._address, size // PLANE_BYTES
+        quick.trirast_canvas_init(canvas, self._address, size)
         self._size, self._is_small = (width, height), size <= FEW_BYTES
 
     def clear(self) -> None:
         """Makes each sample what those of the sheet begin with."""
         calls = self._quick if self._is_small else self._calls
-        calls.trirast_canvas_clear(self._canvas, self._color, self._depth)
+        calls.trirast_canvas_clear(self._canvas, self._clear)
 
     def draw(self, first: int, triangles: int, state: Mapping[str, Any]) -> None:
-        """Draws as many triangles from the triangle `first` of the arrays on. Raises DrawListError, and then nothing was drawn."""
+        """Draws as many triangles from the triangle `first` of the arrays on. Raises BatchError, and then nothing was
+        drawn."""
         _, draw, address = self._states.get(id(state)) or self._keep(state)
         batch, arrays = self._batch, self._arrays
         draw.vertex_count, draw.index_count = arrays.vertex_count, 3 * triangles
@@ -111,11 +108,13 @@ class ThreadCanvas:
         calls = self._quick if self._is_small and triangles <= FEW else self._calls
         calls.trirast_canvas_draw(self._canvas, batch, self._error)
 
-    def _keep(self, state: Mapping[str, Any]) -> Tuple[Mapping[str, Any], CBatchDraw, int]:
+    def _keep(self, state: Mapping[str, Any]) -> Tuple[Mapping[str, Any], CDraw, int]:
         """A draw's state, and as the library takes it, with its address. The state is kept, so that no other has its identity."""
         if len(self._states) == STATES:
             self._states.clear()
-        draw = Draw(b"", b"", **state)._in_c(FARTHEST)
+        keywords = {key: value for key, value in state.items() if key != "write"}
+        keep = "".join(letter for letter, is_written in zip("rgb", state.get("write", ())) if not is_written)
+        draw = Draw(b"", b"", keep=keep, **keywords)._in_c()
         self._states[id(state)] = kept = state, draw, ctypes.addressof(draw)
         return kept
 
@@ -125,7 +124,7 @@ class ThreadCanvas:
         calls = self._quick if self._is_small else self._calls
         if self._is_depth:
             depths = np.empty((height, width), np.uint16)
-            calls.trirast_canvas_depths(canvas, 0, depths.ctypes.data, depths.size, width)
+            calls.trirast_canvas_depths(canvas, 0, depths.ctypes.data, depths.size, 0)
             target.put(area, depths)
         elif (width, height) == (area.width, area.height):
             address, stride = target.address(area.left, area.top), target.stride

@@ -3,11 +3,13 @@
 use std::fs;
 use std::path::Path;
 
-use trirast::{draw_scene, Blend, Cull, DepthTest, Draw, Head, Output, Samples, State, TileSize, Topology, Vertex};
+use trirast::{Blend, Channels, Clear, Cull, DepthTest, Draw, State, Topology, Vertex};
 
 const TOPOLOGIES: [Topology; 3] = [Topology::Triangles, Topology::Strip, Topology::Quads];
 const CULLS: [Cull; 3] = [Cull::None, Cull::Front, Cull::Back];
+/// By their numbers.
 const TESTS: [DepthTest; 8] = [
+    DepthTest::Always,
     DepthTest::Never,
     DepthTest::Less,
     DepthTest::Equal,
@@ -15,9 +17,9 @@ const TESTS: [DepthTest; 8] = [
     DepthTest::Greater,
     DepthTest::NotEqual,
     DepthTest::GreaterEqual,
-    DepthTest::Always,
 ];
-const BLENDS: [Blend; 2] = [Blend::None, Blend::Over];
+const BLENDS: [Blend; 2] = [Blend::NONE, Blend::OVER];
+const CHANNELS: [Channels; 3] = [Channels::RED, Channels::GREEN, Channels::BLUE];
 
 /// A draw with its arrays.
 #[derive(Clone, Debug)]
@@ -27,25 +29,25 @@ pub struct Drawn {
     pub state: State,
 }
 
+/// A picture, of colours or of depths, and what is drawn on it.
 #[derive(Clone, Debug)]
 pub struct Scene {
-    pub head: Head,
+    pub width: u32,
+    pub height: u32,
+    pub samples: u32,
+    pub is_depth: bool,
+    pub clear: Clear,
     pub draws: Vec<Drawn>,
 }
 
 impl Scene {
     pub fn draws(&self) -> Vec<Draw<'_>> {
-        self.draws.iter().map(|one| Draw { vertices: &one.vertices, indices: &one.indices, state: one.state }).collect()
+        self.draws.iter().map(|one| Draw::new(&one.vertices, &one.indices).state(one.state)).collect()
     }
 
     /// The vertices that an index names.
     pub fn vertices(&self) -> impl Iterator<Item = &Vertex> {
         self.draws.iter().flat_map(|one| one.indices.iter().map(move |&index| &one.vertices[index as usize]))
-    }
-
-    /// The pixels of its picture: three bytes each, or two of a depth.
-    pub fn pixels(&self) -> Vec<u8> {
-        draw_scene(&self.head, &self.draws(), TileSize::default()).unwrap().pixels().to_vec()
     }
 }
 
@@ -63,6 +65,10 @@ impl Pick {
         ((self.0 >> 33) % u64::from(end)) as u32
     }
 
+    fn byte(&mut self) -> u8 {
+        self.below(256) as u8
+    }
+
     fn one_of<T: Copy>(&mut self, all: &[T]) -> T {
         all[self.below(all.len() as u32) as usize]
     }
@@ -73,53 +79,53 @@ impl Pick {
     }
 
     fn vertex(&mut self, width: u32, height: u32) -> Vertex {
-        let (x, y, depth) = (self.position(width), self.position(height), self.below(65_536));
-        let mut channel = || self.below(256);
-        Vertex { x, y, depth, red: channel(), green: channel(), blue: channel(), alpha: channel() }
+        let (x, y, depth) = (self.position(width), self.position(height), self.below(65_536) as u16);
+        Vertex::new(x, y, [self.byte(), self.byte(), self.byte(), self.byte()]).at_depth(depth)
     }
 
     fn state(&mut self, width: u32, height: u32) -> State {
-        let scissor = [self.below(width), self.below(height), width, height - self.below(height)];
-        State {
-            topology: self.one_of(&TOPOLOGIES[..2]),
-            cull: self.one_of(&CULLS),
-            depth_test: self.one_of(&TESTS),
-            depth_write: self.below(2) == 1,
-            blend: self.one_of(&BLENDS),
-            write: [self.below(4) > 0, self.below(4) > 0, self.below(4) > 0],
-            sample_mask: u16::MAX - self.below(4) as u16,
-            scissor: if self.below(3) == 0 { Some(scissor) } else { None },
+        let scissor = [self.below(width), self.below(height), width, height - self.below(height)].map(|edge| edge as i32);
+        let mut state = State::new()
+            .topology(self.one_of(&TOPOLOGIES[..2]))
+            .cull(self.one_of(&CULLS))
+            .depth_test(self.one_of(&TESTS))
+            .depth_write(self.below(2) == 1)
+            .blend(self.one_of(&BLENDS))
+            .skip_samples(self.below(4) as u16);
+        for channel in CHANNELS {
+            if self.below(4) == 0 {
+                state.keep |= channel;
+            }
         }
+        if self.below(3) == 0 {
+            state.scissor = Some(scissor);
+        }
+        state
     }
 
     pub fn scene(&mut self) -> Scene {
         let (width, height) = (1 + self.below(150), 1 + self.below(300));
-        let samples = self.one_of(&[Samples::One, Samples::Four]);
-        let clear = [0; 3].map(|_: u8| self.below(256) as u8);
-        let head = Head { samples, clear, clear_depth: self.below(65_536) as u16, ..Head::new(width, height) };
+        let samples = self.one_of(&[1, 2, 4, 8, 16]);
+        let clear = Clear { color: [self.byte(), self.byte(), self.byte(), 255], depth: self.below(65_536) as u16 };
         let draws = (0..1 + self.below(6)).map(|_| {
             let vertices: Vec<_> = (0..3 + self.below(9)).map(|_| self.vertex(width, height)).collect();
             let indices = (0..3 * (1 + self.below(5))).map(|_| self.below(vertices.len() as u32)).collect();
             Drawn { vertices, indices, state: self.state(width, height) }
         });
-        Scene { draws: draws.collect(), head }
+        let draws = draws.collect();
+        Scene { width, height, samples, is_depth: false, clear, draws }
     }
 }
 
-/// The scene of a list, whose arrays are three counts, the head without its size, and the arrays one after another.
+/// The scene of a list, whose arrays are three counts, the head, and the arrays one after another, as 32-bit integers.
 pub fn read(list: &Path) -> Scene {
     let bytes = fs::read(list.with_extension("scene")).expect("the arrays of a list");
     let mut numbers = bytes.chunks(4).map(|four| u32::from_le_bytes([four[0], four[1], four[2], four[3]]));
     let mut next = || numbers.next().expect("a number");
     let [draw_count, _, _, width, height, samples, output] = [0; 7].map(|_| next());
-    let head = Head {
-        samples: if samples == 1 { Samples::One } else { Samples::Four },
-        output: if output == 0 { Output::Color } else { Output::Depth },
-        clear: [0; 3].map(|_| next() as u8),
-        clear_depth: next() as u16,
-        ..Head::new(width, height)
-    };
-    let heads: Vec<_> = (0..draw_count).map(|_| [0; 15].map(|_| next())).collect();
+    let [red, green, blue] = [0; 3].map(|_| next() as u8);
+    let clear = Clear { color: [red, green, blue, 255], depth: next() as u16 };
+    let heads: Vec<_> = (0..draw_count).map(|_| [0; 13].map(|_| next())).collect();
     let vertices: Vec<Vec<_>> =
         heads.iter().map(|draw| (0..draw[0]).map(|_| vertex_of([0; 7].map(|_| next()))).collect()).collect();
     let arrays = heads.iter().zip(vertices);
@@ -128,23 +134,28 @@ pub fn read(list: &Path) -> Scene {
         indices: (0..draw[1]).map(|_| next()).collect(),
         state: state_of(draw),
     });
-    Scene { draws: draws.collect(), head }
+    Scene { draws: draws.collect(), width, height, samples, is_depth: output == 1, clear }
 }
 
 fn vertex_of([x, y, depth, red, green, blue, alpha]: [u32; 7]) -> Vertex {
-    Vertex { x: x as i32, y: y as i32, depth, red, green, blue, alpha }
+    Vertex::new(x as i32, y as i32, [red, green, blue, alpha].map(|channel| channel as u8)).at_depth(depth as u16)
 }
 
-/// The state of a draw, from the members of trirast_batch_draw in their order.
-fn state_of(draw: &[u32; 15]) -> State {
-    State {
-        topology: TOPOLOGIES[draw[2] as usize],
-        cull: CULLS[draw[3] as usize],
-        depth_test: TESTS[draw[4] as usize],
-        depth_write: draw[5] == 1,
-        blend: BLENDS[draw[6] as usize],
-        write: [draw[7] == 1, draw[8] == 1, draw[9] == 1],
-        sample_mask: draw[10] as u16,
-        scissor: Some([draw[11], draw[12], draw[13], draw[14]]),
+/// The state of a draw: its two counts, topology, cull, depth test, whether depth is written, whether it is blended over what is
+/// stored, the channels that are kept, the samples that are skipped, and the scissor.
+fn state_of(draw: &[u32; 13]) -> State {
+    let mut state = State::new()
+        .topology(TOPOLOGIES[draw[2] as usize])
+        .cull(CULLS[draw[3] as usize])
+        .depth_test(TESTS[draw[4] as usize])
+        .depth_write(draw[5] == 1)
+        .blend(BLENDS[draw[6] as usize])
+        .skip_samples(draw[8] as u16)
+        .scissor([draw[9], draw[10], draw[11], draw[12]].map(|edge| edge as i32));
+    for (bit, channel) in CHANNELS.into_iter().enumerate() {
+        if draw[7] >> bit & 1 == 1 {
+            state.keep |= channel;
+        }
     }
+    state
 }

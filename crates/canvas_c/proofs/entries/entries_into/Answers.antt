@@ -34,7 +34,7 @@ returns-clause-judged g c =
     let aligned : c.args.stride % c.args.entry_bytes ≡ 0 = search rules in
     let own : Checks Status = check (c.args.sample < max 1 head.samples) BadSample (check (c.args.stride % c.args.entry_bytes ≡ 0) BadStride done) in
     let counted : count_of rows.canvas.count ≡ max 1 head.samples = ap count_of are.count ∙ count_is head.samples passed.1.0.pattern in
-    let fits : IsOk c.entries.result ↔ FitEntries rows.canvas rows.first rows.end c.args.sample stride size = rw (c.entries_of-stride.ensures, c.view.ensures.rows) at c.entries.ensures.fits in
+    let fits : IsOk c.entries.result ↔ FitEntries rows.canvas rows.first rows.end c.args.sample 1 stride size = rw (c.entries_of-stride.ensures, c.view.ensures.rows) at c.entries.ensures.fits in
     let pieces = piece_checks head (length c.args.planes.now) in
     fitted_is (followed_by pieces own) (HasRoom head 1 stride size) c.entries.result c.fitted.result
     (pass_both pieces own passed (few, (aligned, record {}))) c.fitted.ensures.done c.fitted.ensures.small

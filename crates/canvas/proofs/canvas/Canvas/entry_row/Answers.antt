@@ -1,16 +1,52 @@
-use Rattle.std.proofs.Common.{◌∙◌, ◌/◌, ℕ, ap, map, slice_index, arith}
-use Rattle.std.proofs.lemmas.List.{length-map, map-set}
+use Rattle.std.proofs.Common.{◌≡◌, ◌∙◌, ap, ◌+◌, ◌-◌, ◌*◌, ◌/◌, ◌%◌, ◌<◌, ◌≤◌, ℕ, min, sym, subst, map, length, slice_index, arith}
+use Rattle.std.proofs.lemmas.List.{length-map}
+use Rattle.std.specs.Prelude.{slice_index_or}
+use Rattle.lanes.specs.Block.{stored_at}
 use Rattle.canvas.specs.Layout.{stored}
-use Rattle.canvas.proofs.Units.{one_set}
+use Rattle.canvas.proofs.Places.{none}
+use Rattle.canvas.proofs.Cut.{map-put}
+use Rattle.canvas.proofs.Units.{AreUnits, no_units, more_units, all_units, as_units}
 use Rattle.canvas.proofs.canvas.Canvas.entry_row.Goals as goal
 
-pub loop-i-preserved : goal.loop-i-preserved
-loop-i-preserved g c =
+pub loop-block-init : goal.loop-block-init
+loop-block-init g c =
+    let none : min (8 * 0) c.args.self.now.width ≡ 0 = omega arith in
+    rw none (no_units 1 (λ i entries. entries 0 ≡ g.E.Entry.number_of (stored c.args.self.now (c.args.j / 64) c.args.samples.now i c.args.j c.args.s)) (map g.E.Entry.number c.args.entries.now))
+
+pub loop-block-preserved : goal.loop-block-preserved
+loop-block-preserved g c =
     let self = c.args.self.now in
     let j : ℕ = c.args.j in
     let s : ℕ = c.args.s in
-    let i : ℕ = c.loop-i.i in
+    let xs = c.args.samples.now in
     let number = g.E.Entry.number in
     let number_of = g.E.Entry.number_of in
-    λ k l. ap (λ xs. slice_index xs k) (map-set number c.loop-i.entries i _)
-    ∙ one_set (map number c.loop-i.entries) i _ (λ i. number_of (stored self (j / 64) c.args.samples.now i j s)) (omega (arith, length-map c.loop-i.entries number, c.loop-i.auto.entries, c.requires.entries, c.loop-i-test.true)) c.loop-i.invariant (c.of.ensures ∙ ap number_of c.plane-plane.ensures) k l
+    let block : ℕ = c.loop-block.block in
+    let many : ℕ = c.min-many.result in
+    let run = c.write_run.new.entries in
+    let at : ℕ = 8 * block in
+    let n : ℕ = at + many - at in
+    let size : n ≡ many = omega arith in
+    let is : many ≡ min (self.width - 8 * block) 8 = c.min-many.ensures in
+    let some : 8 * block < self.width = omega (arith, c.loop-block-test.true) in
+    let long : length c.loop-block.entries ≡ self.width = omega (arith, c.loop-block.auto.entries, c.requires.entries) in
+    let room : at + n ≤ length c.loop-block.entries = omega (arith, long, size, is, some) in
+    let is_long : length run ≡ n = omega (arith, c.write_run.auto.entries, room) in
+    let here : (i : ℕ) → i < many → slice_index (map number run) (i * 1 + 0) ≡ number_of (stored self (j / 64) xs (8 * block + i) j s) =
+    λ i l.
+    let first : 8 * block % 8 ≡ 0 = omega arith in
+    let inside : 8 * block % 8 + i < 8 = omega (arith, l, is, first) in
+    let pixel : 8 * (j % 8) + i ≡ 8 * (j % 8) + (8 * block % 8 + i) = omega (arith, first) in
+    as_units (map number run) i ∙ c.write_run.ensures i (omega (arith, l, room)) ∙ ap number_of (ap (λ k. stored_at (slice_index_or xs c.place-place.result none) k) pixel ∙ c.place-place.ensures.stored i inside) in
+    let before : min (8 * block) self.width ≡ 8 * block = omega (arith, some) in
+    let P : ℕ → (ℕ → ℕ) → Type 0 = λ i entries. entries 0 ≡ number_of (stored self (j / 64) xs i j s) in
+    subst (λ written. AreUnits 1 P (min (8 * (block + 1)) self.width) written) (sym (map-put number c.loop-block.entries run at n))
+    (more_units 1 P (λ i f h same p. same 0 (omega arith) ∙ p) (8 * block) many at n (map number c.loop-block.entries) (map number run) (omega arith) (omega (arith, size))
+    (omega (arith, room, length-map c.loop-block.entries number)) (omega (arith, is_long, length-map run number))
+    (subst (λ m. AreUnits 1 P m (map number c.loop-block.entries)) before c.loop-block.invariant) here (min (8 * (block + 1)) self.width) (omega (arith, is, some)))
+
+pub returns : goal.returns
+returns g c =
+    λ i l.
+    sym (as_units (map g.E.Entry.number c.loop-block.entries) i)
+    ∙ all_units 1 (λ i entries. entries 0 ≡ g.E.Entry.number_of (stored c.args.self.now (c.args.j / 64) c.args.samples.now i c.args.j c.args.s)) (min (8 * c.loop-block.block) c.args.self.now.width) c.args.self.now.width _ (omega (arith, c.loop-block-test.false)) c.loop-block.invariant i l

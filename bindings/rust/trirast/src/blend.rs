@@ -1,0 +1,114 @@
+//! Blend equations: what a new colour makes of the stored one.
+
+use trirast_sys as sys;
+
+/// A factor of a blend equation, by Direct3D 11's numbers. Each is a number of 255ths.
+#[derive(Clone, Copy, Debug, PartialEq, Eq, Hash)]
+#[non_exhaustive]
+pub enum Factor {
+    Zero = sys::TRIRAST_FACTOR_ZERO as isize,
+    One = sys::TRIRAST_FACTOR_ONE as isize,
+    SourceColor = sys::TRIRAST_FACTOR_SOURCE_COLOR as isize,
+    InverseSourceColor = sys::TRIRAST_FACTOR_INVERSE_SOURCE_COLOR as isize,
+    SourceAlpha = sys::TRIRAST_FACTOR_SOURCE_ALPHA as isize,
+    InverseSourceAlpha = sys::TRIRAST_FACTOR_INVERSE_SOURCE_ALPHA as isize,
+    StoredAlpha = sys::TRIRAST_FACTOR_STORED_ALPHA as isize,
+    InverseStoredAlpha = sys::TRIRAST_FACTOR_INVERSE_STORED_ALPHA as isize,
+    StoredColor = sys::TRIRAST_FACTOR_STORED_COLOR as isize,
+    InverseStoredColor = sys::TRIRAST_FACTOR_INVERSE_STORED_COLOR as isize,
+    /// The lesser of the new alpha and what the stored one lacks; for alpha 1.
+    SourceAlphaSaturated = sys::TRIRAST_FACTOR_SOURCE_ALPHA_SATURATED as isize,
+    Constant = sys::TRIRAST_FACTOR_CONSTANT as isize,
+    InverseConstant = sys::TRIRAST_FACTOR_INVERSE_CONSTANT as isize,
+}
+
+/// What an equation does with both products, or with both values.
+#[derive(Clone, Copy, Debug, PartialEq, Eq, Hash)]
+#[non_exhaustive]
+pub enum Operation {
+    Add = sys::TRIRAST_OPERATION_ADD as isize,
+    /// New minus stored.
+    Subtract = sys::TRIRAST_OPERATION_SUBTRACT as isize,
+    /// Stored minus new.
+    ReverseSubtract = sys::TRIRAST_OPERATION_REVERSE_SUBTRACT as isize,
+    /// The lesser of both, without factors.
+    Min = sys::TRIRAST_OPERATION_MIN as isize,
+    /// The greater of both, without factors.
+    Max = sys::TRIRAST_OPERATION_MAX as isize,
+}
+
+/// One equation: the new value times `source`, and the stored one times `stored`.
+#[derive(Clone, Copy, Debug, PartialEq, Eq, Hash)]
+pub struct Equation {
+    pub source: Factor,
+    pub stored: Factor,
+    pub operation: Operation,
+}
+
+impl Equation {
+    /// The sum of the new value times one factor and of the stored one times another.
+    pub const fn add(source: Factor, stored: Factor) -> Equation {
+        Equation { source, stored, operation: Operation::Add }
+    }
+}
+
+/// What a new colour makes of the stored one: an equation for colours and one for alpha. A canvas without alpha stores 255.
+#[derive(Clone, Copy, Debug, PartialEq, Eq, Hash)]
+#[non_exhaustive]
+pub struct Blend {
+    pub color: Equation,
+    pub alpha: Equation,
+    /// Red, green, blue and alpha of [`Factor::Constant`].
+    pub constant: [u8; 4],
+}
+
+impl Blend {
+    /// The new colour replaces the stored one.
+    pub const NONE: Blend = Blend::both(Equation::add(Factor::One, Factor::Zero));
+    /// The new colour is blended over the stored one by its alpha, as `over` of draw lists.
+    pub const OVER: Blend = Blend::new(
+        Equation::add(Factor::SourceAlpha, Factor::InverseSourceAlpha),
+        Equation::add(Factor::One, Factor::InverseSourceAlpha),
+    );
+    /// The same of colours that were multiplied by their alpha.
+    pub const PREMULTIPLIED: Blend = Blend::both(Equation::add(Factor::One, Factor::InverseSourceAlpha));
+    /// The new colour times its alpha is added.
+    pub const ADD: Blend = Blend::new(Equation::add(Factor::SourceAlpha, Factor::One), Equation::add(Factor::One, Factor::One));
+    /// Both are multiplied.
+    pub const MULTIPLY: Blend = Blend::both(Equation::add(Factor::StoredColor, Factor::Zero));
+    /// The stored colour stays.
+    pub const KEEP: Blend = Blend::both(Equation::add(Factor::Zero, Factor::One));
+
+    /// Returns two equations, with a constant of zeros.
+    pub const fn new(color: Equation, alpha: Equation) -> Blend {
+        Blend { color, alpha, constant: [0; 4] }
+    }
+
+    const fn both(equation: Equation) -> Blend {
+        Blend::new(equation, equation)
+    }
+
+    /// The same equations with this constant: red, green, blue and alpha.
+    #[must_use]
+    pub const fn with_constant(self, constant: [u8; 4]) -> Blend {
+        Blend { constant, ..self }
+    }
+
+    pub(crate) fn raw(self) -> sys::trirast_blend {
+        sys::trirast_blend {
+            color_source: self.color.source as u8,
+            color_stored: self.color.stored as u8,
+            color_operation: self.color.operation as u8,
+            alpha_source: self.alpha.source as u8,
+            alpha_stored: self.alpha.stored as u8,
+            alpha_operation: self.alpha.operation as u8,
+            constant: self.constant,
+        }
+    }
+}
+
+impl Default for Blend {
+    fn default() -> Blend {
+        Blend::NONE
+    }
+}

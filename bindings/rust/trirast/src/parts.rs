@@ -1,0 +1,138 @@
+//! The parts of a canvas among which calls share it, and those of their buffers.
+
+use std::marker::PhantomData;
+use std::mem::size_of;
+use std::sync::Mutex;
+use std::{panic, thread};
+
+use trirast_sys as sys;
+
+use crate::error::done;
+use crate::{Error, Format, TileRows};
+
+/// The rows of pixels of a tile row.
+pub(crate) const ROW_PIXELS: u32 = sys::TRIRAST_TILE_SIZE;
+
+/// The first row of pixels of a tile row, or the height of a canvas.
+pub(crate) fn pixel_row(canvas: &sys::trirast_canvas, tile_row: u32) -> u32 {
+    canvas.height.min(tile_row.saturating_mul(ROW_PIXELS))
+}
+
+/// Rows in a buffer: the elements that a row has, and those from the beginning of one to that of the next, if these are whole.
+#[derive(Clone, Copy)]
+pub(crate) struct Rows {
+    row: usize,
+    stride: Option<usize>,
+}
+
+impl Rows {
+    pub(crate) fn of_pixels(canvas: &TileRows<'_>, format: Format, stride: usize) -> Rows {
+        let row = canvas.raw.width as usize * format.pixel_bytes();
+        Rows { row, stride: Some(if stride == 0 { row } else { stride }) }
+    }
+
+    pub(crate) fn of_entries<T>(canvas: &TileRows<'_>, stride: usize) -> Rows {
+        let row = canvas.raw.width as usize;
+        let whole = (stride % size_of::<T>() == 0).then_some(stride / size_of::<T>());
+        Rows { row, stride: if stride == 0 { Some(row) } else { whole } }
+    }
+
+    /// The stride, if a buffer of this length has as many rows.
+    fn stride_in(self, length: usize, rows: u32) -> Option<usize> {
+        let stride = self.stride.filter(|&stride| stride >= self.row)?;
+        let above = (rows as usize).saturating_sub(1).checked_mul(stride)?;
+        (above.checked_add(self.row)? <= length).then_some(stride)
+    }
+}
+
+/// A buffer that can be cut in two.
+pub(crate) trait Cut: Sized {
+    fn length(&self) -> usize;
+    fn cut(self, at: usize) -> (Self, Self);
+}
+
+impl<T> Cut for &[T] {
+    fn length(&self) -> usize {
+        self.len()
+    }
+    fn cut(self, at: usize) -> (Self, Self) {
+        self.split_at(at)
+    }
+}
+
+impl<T> Cut for &mut [T] {
+    fn length(&self) -> usize {
+        self.len()
+    }
+    fn cut(self, at: usize) -> (Self, Self) {
+        self.split_at_mut(at)
+    }
+}
+
+impl TileRows<'_> {
+    /// Those from `first` to before `end`, which only calls that read may use beside these.
+    pub(crate) fn piece(&self, first: u32, end: u32) -> Result<TileRows<'_>, Error> {
+        let mut raw = self.raw;
+        // SAFETY: both structs are valid, and this one has the memory of its tile rows.
+        done(unsafe { sys::trirast_canvas_split(&self.raw, first, end, &mut raw) })?;
+        Ok(TileRows { raw, threads: 1, _own: None, lent: PhantomData })
+    }
+
+    /// These tile rows in this many parts.
+    pub(crate) fn pieces(&self, parts: u32) -> Vec<TileRows<'_>> {
+        let (first, count) = (self.raw.first, self.raw.end - self.raw.first);
+        let begin_of = |part: u32| first + (u64::from(count) * u64::from(part) / u64::from(parts)) as u32;
+        // A part has tile rows of the whole, so none is refused.
+        (0..parts).filter_map(|part| self.piece(begin_of(part), begin_of(part + 1)).ok()).collect()
+    }
+
+    /// The parts among which a call shares these tile rows.
+    pub(crate) fn shared(&self) -> Vec<TileRows<'_>> {
+        self.pieces(self.threads.min(self.raw.end - self.raw.first).max(1))
+    }
+
+    /// The same, each with its part of a buffer. If that is too small, there is one part, so that none is done before the library
+    /// reports it.
+    pub(crate) fn with_parts_of<B: Cut>(&self, buffer: B, rows: Rows) -> Vec<(TileRows<'_>, B)> {
+        let stride = rows.stride_in(buffer.length(), self.height());
+        let parts = if stride.is_some() { self.shared() } else { self.pieces(1) };
+        let (last, mut shares, mut rest) = (parts.len() - 1, Vec::with_capacity(parts.len()), buffer);
+        for (number, part) in parts.into_iter().enumerate() {
+            let length = if number == last { rest.length() } else { part.height() as usize * stride.unwrap_or(0) };
+            let (share, behind) = rest.cut(length);
+            shares.push((part, share));
+            rest = behind;
+        }
+        shares
+    }
+
+    /// Makes a call that writes rows of pixels, on each part with that part of a buffer.
+    pub(crate) fn write<T: Send>(
+        &self,
+        buffer: &mut [T],
+        rows: Rows,
+        call: impl Fn(&TileRows<'_>, &mut [T]) -> u32 + Sync,
+    ) -> Result<(), Error> {
+        by_threads(self.with_parts_of(buffer, rows), |(part, share)| done(call(&part, share)))
+    }
+}
+
+/// Makes a call on each part: of the last on the calling thread, and of each other on a thread of its own, or on the calling one if
+/// that does not begin before it. Returns an error if one call does.
+pub(crate) fn by_threads<P: Send>(parts: Vec<P>, call: impl Fn(P) -> Result<(), Error> + Sync) -> Result<(), Error> {
+    let call = &call;
+    // Whoever comes first takes a part.
+    let parts: Vec<_> = parts.into_iter().map(|part| Mutex::new(Some(part))).collect();
+    let take = |part: &Mutex<Option<P>>| part.lock().ok().and_then(|mut held| held.take()).map_or(Ok(()), call);
+    let take = &take;
+    let others = parts.split_last().map_or(&parts[..], |(_, others)| others);
+    thread::scope(|scope| {
+        let start = |part| thread::Builder::new().spawn_scoped(scope, move || take(part)).ok();
+        let started: Vec<_> = others.iter().filter_map(start).collect();
+        let own = parts.iter().rev().map(take).fold(Ok(()), Result::and);
+        started.into_iter().fold(own, |result, one| match one.join() {
+            Ok(done) => result.and(done),
+            Err(thrown) => panic::resume_unwind(thrown),
+        })
+    })
+}

@@ -1,0 +1,171 @@
+//! How the triangles of a draw take effect.
+
+use std::ops::{BitOr, BitOrAssign};
+
+use trirast_sys as sys;
+
+use crate::Blend;
+
+/// What the indices of a draw are.
+#[derive(Clone, Copy, Debug, Default, PartialEq, Eq, Hash)]
+#[non_exhaustive]
+pub enum Topology {
+    /// Three indices each.
+    #[default]
+    Triangles = 0,
+    /// A triangle strip.
+    Strip = 1,
+    /// Strictly convex quads, four indices each.
+    Quads = 2,
+}
+
+/// Which triangles are dropped. Front-facing ones run clockwise on the screen.
+#[derive(Clone, Copy, Debug, Default, PartialEq, Eq, Hash)]
+#[non_exhaustive]
+pub enum Cull {
+    #[default]
+    None = 0,
+    Front = 1,
+    Back = 2,
+}
+
+/// When the new depth passes its test against the stored one.
+#[derive(Clone, Copy, Debug, Default, PartialEq, Eq, Hash)]
+#[non_exhaustive]
+pub enum DepthTest {
+    #[default]
+    Always = sys::TRIRAST_DEPTH_ALWAYS as isize,
+    Never = sys::TRIRAST_DEPTH_NEVER as isize,
+    Less = sys::TRIRAST_DEPTH_LESS as isize,
+    Equal = sys::TRIRAST_DEPTH_EQUAL as isize,
+    LessEqual = sys::TRIRAST_DEPTH_LESS_EQUAL as isize,
+    Greater = sys::TRIRAST_DEPTH_GREATER as isize,
+    NotEqual = sys::TRIRAST_DEPTH_NOT_EQUAL as isize,
+    GreaterEqual = sys::TRIRAST_DEPTH_GREATER_EQUAL as isize,
+}
+
+/// Some of the channels of a colour: `Channels::RED | Channels::ALPHA`.
+#[derive(Clone, Copy, Debug, Default, PartialEq, Eq, Hash)]
+pub struct Channels(u8);
+
+impl Channels {
+    pub const NONE: Channels = Channels(0);
+    pub const RED: Channels = Channels(sys::TRIRAST_KEEP_RED as u8);
+    pub const GREEN: Channels = Channels(sys::TRIRAST_KEEP_GREEN as u8);
+    pub const BLUE: Channels = Channels(sys::TRIRAST_KEEP_BLUE as u8);
+    pub const ALPHA: Channels = Channels(sys::TRIRAST_KEEP_ALPHA as u8);
+    /// Red, green, blue and alpha.
+    pub const ALL: Channels = Channels(Channels::RED.0 | Channels::GREEN.0 | Channels::BLUE.0 | Channels::ALPHA.0);
+
+    /// Returns whether all of these are among them.
+    pub const fn contains(self, these: Channels) -> bool {
+        self.0 & these.0 == these.0
+    }
+}
+
+impl BitOr for Channels {
+    type Output = Channels;
+    fn bitor(self, other: Channels) -> Channels {
+        Channels(self.0 | other.0)
+    }
+}
+
+impl BitOrAssign for Channels {
+    fn bitor_assign(&mut self, other: Channels) {
+        self.0 |= other.0;
+    }
+}
+
+/// How the triangles of a draw take effect. The default draws triangles everywhere, without a depth test.
+///
+/// ```
+/// use trirast::{Blend, Cull, DepthTest, State};
+/// let solid = State::new().depth_test(DepthTest::Less).depth_write(true).cull(Cull::Back);
+/// let glass = State::new().depth_test(DepthTest::Less).blend(Blend::OVER);
+/// assert!(solid.depth_write && !glass.depth_write);
+/// ```
+#[derive(Clone, Copy, Debug, Default, PartialEq, Eq, Hash)]
+#[non_exhaustive]
+pub struct State {
+    pub topology: Topology,
+    pub cull: Cull,
+    pub depth_test: DepthTest,
+    /// Whether the new depth is stored if it passes the test.
+    pub depth_write: bool,
+    pub blend: Blend,
+    /// The channels that are not written.
+    pub keep: Channels,
+    /// Bit s is 1 if sample s is not drawn. Bits past a pixel's samples are not looked at.
+    pub skip_samples: u16,
+    /// The pixels of the screen that are drawn: left, top, right, bottom, the last two outside. `None` is all of them.
+    pub scissor: Option<[i32; 4]>,
+}
+
+impl State {
+    /// Returns the default.
+    pub fn new() -> State {
+        State::default()
+    }
+
+    #[must_use]
+    pub fn topology(self, topology: Topology) -> State {
+        State { topology, ..self }
+    }
+
+    #[must_use]
+    pub fn cull(self, cull: Cull) -> State {
+        State { cull, ..self }
+    }
+
+    #[must_use]
+    pub fn depth_test(self, depth_test: DepthTest) -> State {
+        State { depth_test, ..self }
+    }
+
+    #[must_use]
+    pub fn depth_write(self, depth_write: bool) -> State {
+        State { depth_write, ..self }
+    }
+
+    #[must_use]
+    pub fn blend(self, blend: Blend) -> State {
+        State { blend, ..self }
+    }
+
+    #[must_use]
+    pub fn keep(self, keep: Channels) -> State {
+        State { keep, ..self }
+    }
+
+    #[must_use]
+    pub fn skip_samples(self, skip_samples: u16) -> State {
+        State { skip_samples, ..self }
+    }
+
+    /// Left, top, right, bottom, the last two outside.
+    #[must_use]
+    pub fn scissor(self, scissor: [i32; 4]) -> State {
+        State { scissor: Some(scissor), ..self }
+    }
+
+    /// The draw as C takes it.
+    pub(crate) fn raw(&self, vertex_count: usize, index_count: usize) -> sys::trirast_draw {
+        let [scissor_left, scissor_top, scissor_right, scissor_bottom] = self.scissor.unwrap_or_default();
+        sys::trirast_draw {
+            vertex_count,
+            index_count,
+            topology: self.topology as u8,
+            cull: self.cull as u8,
+            depth_test: self.depth_test as u8,
+            depth_write: u8::from(self.depth_write),
+            keep: self.keep.0,
+            scissor_enable: u8::from(self.scissor.is_some()),
+            skip_samples: self.skip_samples,
+            scissor_left,
+            scissor_top,
+            scissor_right,
+            scissor_bottom,
+            blend: self.blend.raw(),
+        }
+    }
+}

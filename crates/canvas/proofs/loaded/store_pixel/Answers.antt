@@ -1,0 +1,32 @@
+use Rattle.std.proofs.Common.{◌<◌, ◌≤◌, ℕ, slice_index, arith}
+use Rattle.grid.specs.Samples.{count_of}
+use Rattle.canvas.specs.Loaded.{coloured}
+use Rattle.canvas.proofs.Changes.{no_sample_changed, one_sample_more}
+use Rattle.canvas.proofs.loaded.store_pixel.Goals as goal
+
+pub loop-s-init : goal.loop-s-init
+loop-s-init c =
+    no_sample_changed c.args.count c.args.i c.args.j c.args.indices.first (λ sample. coloured c.args.format (λ k. slice_index c.args.pixel.now k) sample) c.args.samples.now c.fill_tile.new.samples c.fill_tile.ensures.filled c.fill_tile.ensures.kept
+
+pub loop-s-preserved : goal.loop-s-preserved
+loop-s-preserved c =
+    let i : ℕ = c.args.i in
+    let j : ℕ = c.args.j in
+    let s : ℕ = c.loop-s.s in
+    let h : s < count_of c.args.count = omega (arith, c.loop-s-test.true, c.requires.indices.1) in
+    one_sample_more c.args.count i j c.args.indices.first s c.loop-s.auto.s h (λ sample. coloured c.args.format (λ k. slice_index c.args.pixel.now k) sample) c.args.samples.now c.loop-s.samples c.recolour.new.plane c.place_in_tile-place.result c.place_in_tile-place.ensures.value
+    (omega (arith, c.place_in_tile-place.ensures.within, c.requires.samples, c.loop-s.auto.samples)) c.recolour.ensures.kept c.recolour.ensures.stored c.loop-s.invariant
+
+pub returns-clause-pixel : goal.returns-clause-pixel
+returns-clause-pixel c s index =
+    let below = index.below in
+    let from = index.from in
+    c.loop-s.invariant.pixel s (omega (arith, below, c.requires.indices.1)) (record { from = index.from; below = omega (arith, below, c.loop-s-test.false) })
+
+pub returns-clause-others : goal.returns-clause-others
+returns-clause-others c column row s h other =
+    c.loop-s.invariant.others column row s h
+    (λ a b index.
+    let from = index.from in
+    let below = index.below in
+    other a b (record { from = index.from; below = (let within : c.loop-s.s ≤ c.args.indices.end = c.loop-s.auto.s-end c.requires.indices.0 in omega (arith, below, within)) }))

@@ -1,0 +1,20 @@
+use Rattle.std.proofs.Common.{refl, arith}
+use Rattle.canvas.proofs.TileEntries.{none_recoloured, one_recoloured, sample_recoloured}
+use Rattle.canvas.proofs.tile_store.store_one.Goals as goal
+
+pub loop-place-init : goal.loop-place-init
+loop-place-init c = none_recoloured 1 (λ p k. c.args.colour) c.args.samples.now
+
+pub loop-place-preserved : goal.loop-place-preserved
+loop-place-preserved c =
+    one_recoloured 1 c.loop-place.place (λ p k. c.args.colour) c.args.samples.now c.loop-place.samples c.fill_plane.new.plane c.loop-place.auto.place
+    (omega (arith, c.loop-place-test.true, c.end_of_planes-place-end.ensures.within, c.requires, c.loop-place.auto.samples)) c.fill_plane.ensures c.loop-place.invariant
+
+pub returns-clause-stored : goal.returns-clause-stored
+returns-clause-stored c i j s h =
+    let old = c.args.samples.now in
+    sample_recoloured c.args.count 1 c.loop-place.place c.args.colour (λ p k. c.args.colour) old c.loop-place.samples i j s (omega arith) (omega arith)
+    (let below = c.end_of_planes-place-end.ensures.read i j s h in omega (arith, below, c.loop-place-test.false)) refl c.loop-place.invariant
+
+pub returns-clause-first : goal.returns-clause-first
+returns-clause-first c = c.loop-place.invariant.kept 0 (λ h l. omega (arith, h))

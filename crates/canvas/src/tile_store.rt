@@ -1,0 +1,169 @@
+//! Colours in the caller's memory, stored as those of all samples of one tile.
+ghost use Rattle.std.specs.Prelude.{◌≡◌, ◌↔◌, ◌⊎◌, ℕ, ◌+◌, ◌*◌, ◌/◌, ◌%◌, ◌<◌, ◌≤◌, length, slice_index, slice_index_or, [], IsOk, OnOk, OnErr, IfErr};
+ghost use Rattle.lanes.specs.Block.{stored_at};
+ghost use Rattle.grid.specs.Samples.{count_of};
+ghost use Rattle.canvas.specs.Layout.{HasTile, columns_of, planes_of_tile, planes_of_row, planes_of_rows, place_in_tile as place_of, stored_in_tile};
+ghost use Rattle.canvas.specs.Loaded.{AreChanged};
+ghost use Rattle.canvas.specs.Tiles.{IsInTile, FitTileOrOne, IsTileMisfit, tile_entries as entries_of, entry_in_tile, said_of, with_colour, IsUniformTile, IsUniform, AreTileColours};
+
+use crate::canvas::Canvas;
+use crate::loaded::set_colour;
+use crate::misfit::Misfit;
+use crate::piece::Piece;
+use crate::tile_ids::tile_entries;
+use crate::tile_planes::{fill_tile, is_cleared};
+use crate::tile_rows::TileRows;
+use grid::SampleCount;
+use lanes::BlockSamples;
+
+/// Red, green and blue of the colour of this number, red its lowest byte.
+#[inline]
+fn channels(colour: u32) -> (u8, u8, u8)
+    ensures { (result.0 ≡ colour % 256) × (result.1 ≡ colour / 256 % 256) × (result.2 ≡ colour / 65536 % 256) }
+{
+    (
+        (colour % 256) as u8,
+        (colour / 256 % 256) as u8,
+        (colour / 65536 % 256) as u8,
+    )
+}
+
+/// Stores colours in place of those of a plane, pixel by pixel.
+fn store_plane(plane: &mut BlockSamples, colours: &[u32])
+    requires { length colours.now ≡ 64 }
+    ensures { (k : ℕ) → k < 64 → stored_at plane.new k ≡ with_colour (slice_index colours.now k) (stored_at plane.old k) }
+{
+    for k in 0..64 {
+        let (r, g, b) = channels(colours[k]);
+        set_colour(plane, k, r, g, b);
+    }
+}
+
+/// Stores one colour in place of those of a plane.
+fn fill_plane(plane: &mut BlockSamples, colour: u32)
+    ensures { (k : ℕ) → k < 64 → stored_at plane.new k ≡ with_colour colour (stored_at plane.old k) }
+{
+    let (r, g, b) = channels(colour);
+    *plane = BlockSamples {
+        z: plane.z,
+        r: [r; 64],
+        g: [g; 64],
+        b: [b; 64],
+    };
+}
+
+/// The end of the planes in which the samples of a tile with this first plane lie.
+fn end_of_planes(count: SampleCount, state: &BlockSamples) -> usize
+    ensures read { (i j s : ℕ) → s < count_of count → place_of count state.now i j s < result }
+    ensures within { result ≤ planes_of_tile count }
+    ensures some { 1 ≤ result }
+{
+    let many = count.count() as usize;
+    if is_cleared(state) {
+        1 + many
+    } else {
+        1 + 65 * many
+    }
+}
+
+/// Stores colours in place of those of all samples of a tile, plane by plane.
+fn store_each(count: SampleCount, colours: &[u32], samples: &mut [BlockSamples])
+    requires colours { length colours.now ≡ entries_of count }
+    requires samples { length samples.old ≡ planes_of_tile count }
+    ensures { (i j s : ℕ) → s < count_of count → stored_in_tile count samples.new i j s ≡ with_colour (slice_index colours.now (entry_in_tile count i j s)) (stored_in_tile count samples.old i j s) }
+{
+    fill_tile(count, samples);
+    let many = count.count() as usize;
+    let own = 1 + many;
+    for number in 0..64 * many {
+        let from = 64 * number;
+        store_plane(&mut samples[own + number], &colours[from..from + 64]);
+    }
+}
+
+/// Stores one colour in place of those of all samples of a tile.
+fn store_one(count: SampleCount, colour: u32, samples: &mut [BlockSamples])
+    requires { length samples.old ≡ planes_of_tile count }
+    ensures stored { (i j s : ℕ) → s < count_of count → stored_in_tile count samples.new i j s ≡ with_colour colour (stored_in_tile count samples.old i j s) }
+    ensures first { slice_index_or samples.new 0 (record { z = []; r = []; g = []; b = [] }) ≡ slice_index_or samples.old 0 (record { z = []; r = []; g = []; b = [] }) }
+{
+    for place in 1..end_of_planes(count, &samples[0]) {
+        fill_plane(&mut samples[place], colour);
+    }
+}
+
+/// Stores colours in place of those of all samples of a tile, or one in place of all of them.
+fn store_colours(count: SampleCount, colours: &[u32], samples: &mut [BlockSamples])
+    requires colours { (length colours.now ≡ 1) ⊎ (length colours.now ≡ entries_of count) }
+    requires samples { length samples.old ≡ planes_of_tile count }
+    ensures stored { (i j s : ℕ) → s < count_of count → stored_in_tile count samples.new i j s ≡ with_colour (said_of count colours.now i j s) (stored_in_tile count samples.old i j s) }
+    ensures uniform { length colours.now ≡ 1 → IsUniformTile count samples.old → IsUniformTile count samples.new }
+{
+    if colours.len() == 1 {
+        store_one(count, colours[0], samples);
+    } else {
+        store_each(count, colours, samples);
+    }
+}
+
+impl Canvas {
+    /// Stores colours in place of those of all samples of the tile in a column of tiles, in the planes of its tile row.
+    fn store_tile(&self, row: u32, column: u32, colours: &[u32], samples: &mut [BlockSamples])
+        requires column { column < columns_of self.now }
+        requires colours { (length colours.now ≡ 1) ⊎ (length colours.now ≡ entries_of self.now.count) }
+        requires samples { length samples.old ≡ planes_of_row self.now }
+        ensures stored { AreTileColours self.now row (row + 1) column row colours.now samples.old samples.new }
+        ensures uniform { length colours.now ≡ 1 → IsUniform self.now row column row samples.old → IsUniform self.now row column row samples.new }
+    {
+        let each = self.planes_of_tile();
+        let at = column as usize * each;
+        store_colours(self.count, colours, &mut samples[at..at + each]);
+    }
+}
+
+impl TileRows {
+    /// Stores colours in place of those of all samples of a tile, as `Piece::tile_store` does.
+    fn store_in_tile(
+        &self,
+        column: u32,
+        row: u32,
+        colours: &[u32],
+        samples: &mut [BlockSamples],
+    ) -> Result<(), Misfit>
+        requires { length samples.old ≡ planes_of_rows self.now.canvas self.now.first self.now.end }
+        ensures fits { IsOk result ↔ FitTileOrOne self.now.canvas self.now.first self.now.end column row (length colours.now) }
+        ensures stored { OnOk result (AreTileColours self.now.canvas self.now.first self.now.end column row colours.now samples.old samples.new) }
+        ensures uniform { OnOk result (length colours.now ≡ 1 → IsUniform self.now.canvas self.now.first column row samples.old → IsUniform self.now.canvas self.now.first column row samples.new) }
+        ensures unfit { OnErr result (samples.new ≡ samples.old) }
+        ensures reason { IfErr result (IsTileMisfit self.now.canvas self.now.first self.now.end column row ((length colours.now ≡ 1) ⊎ (length colours.now ≡ entries_of self.now.canvas.count))) }
+    {
+        if !self.has_tile(column, row) {
+            return Err(Misfit::Tile);
+        }
+        if colours.len() != 1 && colours.len() != tile_entries(self.canvas.count) {
+            return Err(Misfit::Pixels);
+        }
+        let each = self.canvas.planes_of_row();
+        let from = (row - self.first) as usize * each;
+        self.canvas
+            .store_tile(row, column, colours, &mut samples[from..from + each]);
+        Ok(())
+    }
+}
+
+impl Piece<'_> {
+    /// Stores colours in place of those of all samples of a tile, those of pixels beside the picture too: red + 256 * green + 65536 * blue
+    /// each, laid out as `View::tile_ids` writes ids; what is above the third byte is not read. One colour alone is that of all samples, and
+    /// a tile that is unchanged since it was cleared stays so. Depths and other tiles are unchanged.
+    pub fn tile_store(&mut self, column: u32, row: u32, colours: &[u32]) -> Result<(), Misfit>
+        ensures fits { IsOk result ↔ FitTileOrOne self.old.rows.canvas self.old.rows.first self.old.rows.end column row (length colours.now) }
+        ensures stored { OnOk result (AreTileColours self.old.rows.canvas self.old.rows.first self.old.rows.end column row colours.now self.old.planes.now self.new.planes.now) }
+        ensures uniform { OnOk result (length colours.now ≡ 1 → IsUniform self.old.rows.canvas self.old.rows.first column row self.old.planes.now → IsUniform self.old.rows.canvas self.old.rows.first column row self.new.planes.now) }
+        ensures unfit { OnErr result (self.new.planes.now ≡ self.old.planes.now) }
+        ensures reason { IfErr result (IsTileMisfit self.old.rows.canvas self.old.rows.first self.old.rows.end column row ((length colours.now ≡ 1) ⊎ (length colours.now ≡ entries_of self.old.rows.canvas.count))) }
+        ensures rows { self.new.rows ≡ self.old.rows }
+        ensures same { self.new.planes.ghost_name ≡ self.old.planes.ghost_name }
+    {
+        self.rows.store_in_tile(column, row, colours, self.planes)
+    }
+}

@@ -1,0 +1,49 @@
+use Rattle.std.proofs.Common.{◌≡◌, ◌⊎◌, refl, sym, subst, rules, ℕ, ◌+◌, ◌*◌, ◌≤◌, length, arith}
+use Rattle.std.proofs.lemmas.Result.{err_from_is_err_and}
+use Rattle.canvas.specs.Tiles.{tile_entries, FitTile, FitTileOrOne, IsTileMisfit, AreTileColours, AreTileIds}
+use Rattle.model.specs.Checking.{done, check}
+use Rattle.model.proofs.Checking.{fails_before}
+use Rattle.c_abi.specs.declared.status.Status.TheVariants.{BufferTooSmall, BadTile}
+use Rattle.canvas_c.specs.Pieces.{piece_checks}
+use Rattle.canvas_c.specs.Samples.{NamesTile, entries_in_tile}
+use Rattle.canvas_c.proofs.OfTiles.{tile_fits, tile_fails}
+use Rattle.canvas_c.proofs.tiles.store_in_tile.Goals as goal
+
+pub returns-in_err-rows-clause-judged : goal.returns-in_err-rows-clause-judged
+returns-in_err-rows-clause-judged c =
+    let head = c.args.head.now in
+    let planes : ℕ = length c.args.planes.now in
+    let size : ℕ = length c.args.colours.now in
+    let p = err_from_is_err_and c.from_residual.result c.from_residual.ensures.1 in
+    rw (p.1, p.2)
+    (fails_before (piece_checks head planes) (check (NamesTile head c.args.column c.args.row) BadTile (check ((size ≡ 1) ⊎ (size ≡ entries_in_tile head)) BufferTooSmall done)) _ c.in_err-rows.ensures.judged)
+
+pub returns-in-Ok-clause-judged : goal.returns-in-Ok-clause-judged
+returns-in-Ok-clause-judged c =
+    let head = c.args.head.now in
+    let rows = c.in_ok-rows.rows in
+    let planes : ℕ = length c.args.planes.now in
+    let size : ℕ = length c.args.colours.now in
+    let judged = c.in_ok-rows.ensures.judged in
+    let fits : FitTileOrOne rows.canvas rows.first rows.end c.args.column c.args.row size = rw c.over-piece.ensures.rows at c.in-Ok.ensures.fits.0 refl in
+    (tile_fits head rows judged.1 c.args.column c.args.row planes ((size ≡ 1) ⊎ (size ≡ entries_in_tile head)) ((size ≡ 1) ⊎ (size ≡ tile_entries rows.canvas.count)) judged.0 fits.0 (rw judged.1.count at fits.1), tt)
+
+pub returns-in-Ok-clause-stored : goal.returns-in-Ok-clause-stored
+returns-in-Ok-clause-stored c =
+    let rows = c.in_ok-rows.rows in
+    record {
+      rows = rows;
+      are = c.in_ok-rows.ensures.judged.1;
+      holds = subst (AreTileColours rows.canvas rows.first rows.end c.args.column c.args.row c.args.colours.now c.args.planes.now) (search rules) (rw (c.over-piece.ensures.rows, c.over-piece.ensures.planes) at c.in-Ok.ensures.stored);
+    }
+
+pub returns-in-Err-clause-judged : goal.returns-in-Err-clause-judged
+returns-in-Err-clause-judged c =
+    let head = c.args.head.now in
+    let rows = c.in_ok-rows.rows in
+    let planes : ℕ = length c.args.planes.now in
+    let size : ℕ = length c.args.colours.now in
+    let judged = c.in_ok-rows.ensures.judged in
+    let reason : IsTileMisfit rows.canvas rows.first rows.end c.args.column c.args.row ((size ≡ 1) ⊎ (size ≡ tile_entries rows.canvas.count)) c.in-Err.misfit = rw c.over-piece.ensures.rows at c.in-Err.ensures.reason in
+    rw c.status_for_tile.ensures
+    (tile_fails head rows judged.1 c.args.column c.args.row planes ((size ≡ 1) ⊎ (size ≡ entries_in_tile head)) ((size ≡ 1) ⊎ (size ≡ tile_entries rows.canvas.count)) judged.0 c.in-Err.misfit (λ room. rw judged.1.count room) reason)

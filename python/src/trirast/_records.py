@@ -1,0 +1,200 @@
+"""Rows of integers as records of C, in memory that nobody else has.
+
+Nothing is rounded, wrapped or guessed. A message has the parameter's name, row and column, what is wanted and what was
+passed.
+"""
+
+import operator
+import sys
+from array import array
+from typing import Any, Iterable, List, NamedTuple, Optional, Sequence, Tuple, Union
+
+from ._arguments import of_length, shown
+from ._buffers import buffer_of, family_of, kind_of, refuse_masked
+
+LOW, HIGH = -8388608, 8388607
+SNAP = "use trirast.snap(xy)"
+# The least and the greatest integer of each type, by the letter that array, numpy and memoryview have for it.
+LIMITS = {"i": (-(1 << 31), (1 << 31) - 1), "I": (0, (1 << 32) - 1), "H": (0, 65535), "B": (0, 255)}
+# Rows that are looked at and then copied, so that what is copied is still in a processor's cache.
+CHUNK = 1 << 13
+# Memory that nobody else has.
+Copy = Union[bytes, bytearray]
+
+
+class Column(NamedTuple):
+    """A column of rows: its name, its type and the byte at which it begins in a record."""
+
+    name: str
+    code: str
+    begin: int
+
+    @property
+    def is_position(self) -> bool:
+        return self.code == "i"
+
+    def refused(self, name: str, row: int, value: Any) -> Optional[Exception]:
+        """The error of a value, or `None` if it is an integer that fits."""
+        least, greatest = LIMITS[self.code]
+        try:
+            if least <= operator.index(value) <= greatest:
+                return None
+        except TypeError:
+            is_real = self.is_position and hasattr(value, "__float__")
+            unit, how = (" in 1/256 pixel", f"; {SNAP}") if is_real else ("", "")
+            return TypeError(f"{name}: row {row}, {self.name}: an integer{unit}, and not {shown(value)}{how}")
+        # What lies between the band and 32 bits the library refuses, if an index names it.
+        least, greatest = (LOW, HIGH) if self.is_position else (least, greatest)
+        return ValueError(f"{name}: row {row}, {self.name}: {least} to {greatest}, and not {shown(value)}")
+
+
+Columns = Sequence[Column]
+
+
+def index_columns(count: int) -> Columns:
+    """The columns of rows of indices."""
+    return tuple(Column(f"index {number}", "I", 4 * number) for number in range(count))
+
+
+class Table:
+    """Integers by columns, as they came: arrays of numpy, or sequences.
+
+    It lets them go before an error is raised, since who keeps the error keeps the frames that have it.
+    """
+
+    def __init__(self, name: str, columns: Columns, values: Sequence[Any]) -> None:
+        self._name, self._columns, self._values = name, columns, values
+        self.count = len(values[0])
+
+    def fill(self, made: bytearray, size: int) -> bytearray:
+        """Writes the columns to records of this size, and returns these. Raises the error of the first value that does
+        not fit, and ValueError if there are more or fewer records than rows."""
+        error: Optional[Exception] = None
+        if self.count * size == len(made):
+            error = self._put(made, size)
+        else:
+            error = ValueError(f"{self._name}: {len(made) // size} rows, one for each vertex, and not {self.count}")
+        self._values = ()
+        if error is not None:
+            raise error
+        return made
+
+    def _put(self, made: bytearray, size: int) -> Optional[Exception]:
+        """Writes each column to its place in records of this size. Returns the error of the first value that does not
+        fit."""
+        numpy = sys.modules.get("numpy")
+        for first in range(0, self.count, CHUNK):
+            for column, values in zip(self._columns, self._values):
+                part = values[first : first + CHUNK]
+                width = array(column.code).itemsize
+                start, step = (first * size + column.begin) // width, size // width
+                whole = slice(start, start + step * (len(part) - 1) + 1, step)
+                if numpy is not None and isinstance(part, numpy.ndarray):
+                    if not fits(numpy, column, part):
+                        return self._error(column, part.tolist(), first)
+                    numpy.frombuffer(made, column.code)[whole] = part
+                    continue
+                try:
+                    memoryview(made).cast(column.code)[whole] = array(column.code, map(operator.index, part))
+                except (TypeError, OverflowError):
+                    return self._error(column, part, first)
+        return None
+
+    def _error(self, column: Column, values: Iterable[Any], first: int) -> Exception:
+        """The error of the first of a column's values that is refused. The row of the first one is `first`."""
+        errors = (column.refused(self._name, row, value) for row, value in enumerate(values, first))
+        return next((error for error in errors if error), TypeError(f"{self._name}: integers, which no other thread changes"))
+
+
+def fits(numpy: Any, column: Column, part: Any) -> bool:
+    """Whether each integer of an array fits a column."""
+    if numpy.can_cast(part.dtype, column.code):
+        return True
+    least, greatest = LIMITS[column.code]
+    if least:
+        return bool(least <= part.min() and part.max() <= greatest)
+    # A number with a sign has bits beyond the limit if it is negative.
+    return 0 <= int(numpy.bitwise_or.reduce(part)) <= greatest
+
+
+def table_of(name: str, values: Any, *choices: Columns) -> Table:
+    """Rows of integers with as many columns as one of the choices. A flat buffer is cut into rows if there is one
+    choice alone.
+
+    Raises TypeError at what has no integers, and ValueError at rows of another length.
+    """
+    refuse_masked(name, values)
+    view = buffer_of(values)
+    if view is None:
+        return of_sequence(name, values, choices)
+    columns, family, kind, shape = choice_of(view, choices), family_of(view), kind_of(view), view.shape or ()
+    if columns is None or 0 in shape or family not in ("int", "uint"):
+        view.release()
+        return nothing_of(name, columns, family, kind, shape, choices)
+    numpy = sys.modules.get("numpy")
+    if numpy is not None:
+        return Table(name, columns, list(numpy.asarray(view).reshape(-1, len(columns)).T))
+    try:
+        rows: List[Any] = view.tolist()
+    except NotImplementedError:
+        view.release()
+        raise TypeError(f"{name}: integers in the machine's order, and not {kind}") from None
+    if view.ndim == 1:
+        return Table(name, columns, [rows[k :: len(columns)] for k in range(len(columns))])
+    return Table(name, columns, list(zip(*rows)))
+
+
+def choice_of(view: memoryview, choices: Sequence[Columns]) -> Optional[Columns]:
+    """The choice that a buffer has the columns of, or `None`."""
+    shape = view.shape or ()
+    for columns in choices:
+        is_flat = len(shape) == 1 and len(choices) == 1 and shape[0] % len(columns) == 0
+        if is_flat or (len(shape) == 2 and shape[1] == len(columns)) or shape == (0,):
+            return columns
+    return None
+
+
+def nothing_of(
+    name: str, columns: Optional[Columns], family: str, kind: str, shape: Tuple[int, ...], choices: Sequence[Columns]
+) -> Table:
+    """The table of a buffer without rows. Raises the error of one that has no rows of integers."""
+    if columns is None:
+        raise ValueError(f"{name}: {rows_of(choices)}, and not the shape {shape}")
+    if 0 in shape:
+        return Table(name, columns, [()] * len(columns))
+    unit, how = (" in 1/256 pixel", f"; {SNAP}" * (family == "float")) if columns[0].is_position else ("", "")
+    raise TypeError(f"{name}: integers{unit}, and not {kind}{how}")
+
+
+def rows_of(choices: Sequence[Columns]) -> str:
+    """What rows may be."""
+    counts = " or ".join(str(len(columns)) for columns in choices)
+    return "integers" if counts == "1" else f"rows of {counts} integers"
+
+
+def of_sequence(name: str, values: Any, choices: Sequence[Columns]) -> Table:
+    """A sequence of rows, or of integers if a row has one."""
+    try:
+        rows = list(values)
+    except TypeError:
+        raise TypeError(f"{name}: {rows_of(choices)}, and not {shown(values)}") from None
+    if len(choices[0]) == 1:
+        return Table(name, choices[0], [rows])
+    first = len(rows[0]) if rows and hasattr(rows[0], "__len__") else len(choices[0])
+    columns = next((each for each in choices if len(each) == first), None)
+    if columns is None:
+        counts = " or ".join(str(len(each)) for each in choices)
+        raise ValueError(f"{name}: row 0: {counts} values, and not {first}")
+    listed: List[Tuple[Any, ...]] = [tuple(of_length(f"{name}: row {number}", row, len(columns))) for number, row in enumerate(rows)]
+    return Table(name, columns, list(zip(*listed)) or [()] * len(columns))
+
+
+def indices_of(name: str, values: Any, columns: Columns) -> Copy:
+    """Rows of indices, 32 bits each."""
+    size = 4 * len(columns)
+    if isinstance(values, (bytes, bytearray)):
+        if len(values) % size:
+            raise ValueError(f"{name}: {rows_of([columns])} of 4 bytes, and not {len(values)} bytes")
+        return bytes(values)
+    table = table_of(name, values, columns)
+    return table.fill(bytearray(size * table.count), size)

@@ -1,0 +1,68 @@
+"""Blending on canvases by the words of its rule, in whole numbers, one channel at a time.
+
+Channels are 0 to 255. s is the new channel and a the new alpha, d the stored channel and e the stored alpha, which is
+255 on a canvas without alpha, and k the constant's channel. A factor is a number of 255ths. f is s by its factor, and g
+is d by its factor.
+"""
+
+from __future__ import annotations
+
+from typing import Callable, NamedTuple, Sequence
+
+Factor = Callable[[int, int, int, int, int], int]
+FACTORS: dict[str, Factor] = {
+    "zero": lambda s, a, d, e, k: 0,
+    "one": lambda s, a, d, e, k: 255,
+    "source_color": lambda s, a, d, e, k: s,
+    "inverse_source_color": lambda s, a, d, e, k: 255 - s,
+    "source_alpha": lambda s, a, d, e, k: a,
+    "inverse_source_alpha": lambda s, a, d, e, k: 255 - a,
+    "stored_color": lambda s, a, d, e, k: d,
+    "inverse_stored_color": lambda s, a, d, e, k: 255 - d,
+    "stored_alpha": lambda s, a, d, e, k: e,
+    "inverse_stored_alpha": lambda s, a, d, e, k: 255 - e,
+    "constant": lambda s, a, d, e, k: k,
+    "inverse_constant": lambda s, a, d, e, k: 255 - k,
+    "source_alpha_saturated": lambda s, a, d, e, k: min(a, 255 - e),
+}
+OPERATIONS: dict[str, Callable[[int, int], int]] = {
+    "add": lambda f, g: f + g, "subtract": lambda f, g: f - g, "reverse_subtract": lambda f, g: g - f,
+}
+# These take no factors.
+ENDS: dict[str, Callable[[int, int], int]] = {"min": min, "max": max}
+
+
+class Equation(NamedTuple):
+    """What is made of the new and the stored colour. The equation of alpha has no effect on a canvas without alpha."""
+
+    color_source: str = "one"
+    color_stored: str = "zero"
+    color_operation: str = "add"
+    alpha_source: str = "one"
+    alpha_stored: str = "zero"
+    alpha_operation: str = "add"
+    constant: Sequence[int] = (0, 0, 0, 0)
+
+
+PRESETS = {
+    "none": Equation(),
+    "over": Equation("source_alpha", "inverse_source_alpha", "add", "one", "inverse_source_alpha"),
+    "premultiplied": Equation("one", "inverse_source_alpha", "add", "one", "inverse_source_alpha"),
+    "add": Equation("source_alpha", "one", "add", "one", "one"),
+    "multiply": Equation("stored_color", "zero", "add", "stored_color", "zero"),
+    "keep": Equation("zero", "one", "add", "zero", "one"),
+}
+
+
+def blended(given: str | Equation, channel: int, s: int, a: int, d: int, e: int = 255) -> int:
+    """The new value of red, green or blue, whose number is `channel`, by an equation or by the one of a name."""
+    equation = PRESETS[given] if isinstance(given, str) else given
+    if equation.color_operation in ENDS:
+        return ENDS[equation.color_operation](s, d)
+    k = equation.constant[channel]
+    f = s * FACTORS[equation.color_source](s, a, d, e, k)
+    g = d * FACTORS[equation.color_stored](s, a, d, e, k)
+    x = OPERATIONS[equation.color_operation](f, g)
+    # The q with 255 q <= x + 127 < 255 (q + 1).
+    q = (x + 127) // 255
+    return min(max(q, 0), 255)
