@@ -121,9 +121,14 @@ typedef enum trirast_batch_cause {
     TRIRAST_BATCH_NOT_WHOLE = 4,        /* the indices of the draw make no whole triangles or quads */
     TRIRAST_BATCH_TOO_MANY_IDS = 5,     /* the id of a triangle would be greater than 16,777,215 (trirast_canvas_draw_ids) */
     TRIRAST_BATCH_BAD_INDEX = 6,        /* an index is not less than the draw's vertex_count */
-    TRIRAST_BATCH_BAD_POSITION = 7,     /* a vertex that an index names is too far away */
+    TRIRAST_BATCH_BAD_POSITION = 7,     /* a vertex that an index names, or a corner, is too far away; element: the corner */
     TRIRAST_BATCH_NOT_CONVEX = 8,       /* a quad is not strictly convex */
-    TRIRAST_BATCH_LEFT_OVER = 9         /* a vertex or an index is in no draw */
+    TRIRAST_BATCH_LEFT_OVER = 9,        /* a vertex or an index is in no draw, or a corner or a ring is in no polygon */
+    TRIRAST_BATCH_TOO_MANY_CORNERS = 10, /* polygons have 2^32 corners or more */
+    TRIRAST_BATCH_BAD_RING = 11,        /* a ring ends before it begins, or behind the last corner; element: the ring */
+    TRIRAST_BATCH_BAD_POLYGON = 12,     /* a polygon ends before it begins, or behind the last ring; element: the polygon */
+    TRIRAST_BATCH_TOO_FEW_COLORS = 13,  /* there are fewer colours than polygons */
+    TRIRAST_BATCH_TOO_FEW_DEPTHS = 14   /* there are depths, but fewer than polygons */
 } trirast_batch_cause;
 
 /* Why a call failed. */
@@ -510,6 +515,115 @@ inline trirast_status trirast_canvas_draw_ids(trirast_canvas *canvas, const trir
                                               trirast_error *error) {
     trirast_error unread;
     return trirast_proved_canvas_draw_ids(canvas, batch, first_id, error ? error : &unread);
+}
+
+/* ---- Polygons: rings of corners, in one colour each ---- */
+
+/* Which points are inside of a polygon, by the edges of its rings that a ray to the left crosses. */
+typedef enum trirast_fill_rule {
+    TRIRAST_FILL_EVEN_ODD = 0, /* an odd number of edges is crossed */
+    TRIRAST_FILL_NONZERO = 1   /* more edges are crossed downwards than upwards, or fewer */
+} trirast_fill_rule;
+
+/* A corner of a ring, or any point, in 1/256 pixel of the screen: -8388608 to 8388607. */
+typedef struct trirast_corner {
+    int32_t x; /* to the right */
+    int32_t y; /* downwards */
+} trirast_corner;
+
+/* Polygons with their colours. A polygon is any number of rings, which may have holes, touch and cross each other and
+ * themselves; a ring is closed from its last corner to its first, and one of fewer than three corners covers nothing.
+ * Which samples a polygon covers is exact: neighbours with common edges leave no gap and no overlap, and a triangle
+ * covers what trirast_canvas_draw draws of it (docs/polygons.md).
+ *
+ * The arrays of shapely.to_ragged_array and of GeoArrow are these, but that each of their arrays of ends begins with a
+ * 0, which is left out here. */
+typedef struct trirast_polygons {
+    uint32_t struct_size;           /* 0 or sizeof(trirast_polygons) */
+    uint32_t fill_rule;             /* a trirast_fill_rule */
+    const trirast_corner *corners;  /* of all rings, one ring's after another's */
+    size_t corner_count;
+    const uint32_t *ring_ends;      /* of each ring the index behind its last corner, where the next ring begins */
+    size_t ring_count;
+    const uint32_t *polygon_ends;   /* of each polygon the index behind its last ring, where the next polygon begins */
+    size_t polygon_count;
+    const uint8_t (*colors)[4];     /* of each polygon red, green, blue and alpha; not looked at where ids are drawn */
+    size_t color_count;
+    const uint16_t *depths;         /* of each polygon its depth; NULL with depth_count 0: 0 */
+    size_t depth_count;
+    trirast_draw state;             /* how they are drawn. Its vertex_count, index_count and topology are not used, nor is cull: a
+                                     * polygon may run either way round */
+} trirast_polygons;
+
+/* Scratch memory of a column of 8 pixels of a canvas, in bytes: its flags, and by the nonzero rule its counters. */
+#define TRIRAST_FLAGS_BYTES 256
+#define TRIRAST_COUNTERS_BYTES 8192
+
+/* Returns the bytes of scratch memory of a call that draws polygons by this rule on this canvas: for each 8 pixels of
+ * its width, rounded up to whole tiles, 256 bytes by the even-odd rule, and 8,448 by the nonzero rule. So that is 32 KB
+ * or 1 MB for 1,024 pixels. Returns 0 if there is no such canvas. */
+inline size_t trirast_polygons_scratch(const trirast_canvas *canvas, trirast_fill_rule fill_rule) {
+    const size_t columns = ((size_t)canvas->width + TRIRAST_TILE_SIZE - 1) / TRIRAST_TILE_SIZE * (TRIRAST_TILE_SIZE / 8);
+    if (trirast_canvas_size(canvas) == 0) return 0;
+    return columns * (fill_rule == TRIRAST_FILL_EVEN_ODD ? TRIRAST_FLAGS_BYTES : TRIRAST_FLAGS_BYTES + TRIRAST_COUNTERS_BYTES);
+}
+
+trirast_status trirast_proved_canvas_draw_polygons(trirast_canvas *canvas, const trirast_polygons *polygons, void *flags,
+                                                   size_t flag_columns, void *counters, size_t counter_columns,
+                                                   trirast_error *error);
+
+/* Draws polygons over what is stored: each sample ends as the polygons make it, one after another, in their order. A
+ * polygon makes of a sample that it covers what a triangle of one colour and one depth does in this state.
+ *
+ * @canvas: the tile rows. Threads may draw the same polygons on pieces of a canvas, each with scratch memory of its own.
+ * @polygons: what is drawn on them.
+ * @scratch: memory that the call uses: what is in it before does not matter, and after it is all zeros. Aligned to 8.
+ * @scratch_size: its bytes: at least trirast_polygons_scratch(canvas, polygons->fill_rule).
+ * @error: why nothing was drawn, or NULL.
+ *
+ * Returns TRIRAST_STATUS_OK; or the first check that fails, then TRIRAST_STATUS_BAD_STRUCT_SIZE of the polygons, then
+ * TRIRAST_STATUS_BAD_POSITION if origin_x or origin_y of the canvas is not -32768 to 28672, then
+ * TRIRAST_STATUS_BUFFER_TOO_SMALL if the scratch memory is too small or not aligned to 8, then TRIRAST_STATUS_BAD_BATCH
+ * with the first error of the polygons:
+ * - TRIRAST_BATCH_BAD_STATE if the rule or a number of the state is outside of its range;
+ * - TRIRAST_BATCH_TOO_MANY_CORNERS if there are 2^32 corners or more;
+ * - TRIRAST_BATCH_BAD_RING if a ring ends before it begins, or behind the last corner; element: its index;
+ * - TRIRAST_BATCH_LEFT_OVER if the last ring ends before the last corner;
+ * - TRIRAST_BATCH_BAD_POLYGON if a polygon ends before it begins, or behind the last ring; element: its index;
+ * - TRIRAST_BATCH_LEFT_OVER if the last polygon ends before the last ring;
+ * - TRIRAST_BATCH_BAD_POSITION if a coordinate of a corner is not -8388608 to 8388607; element: its index;
+ * - TRIRAST_BATCH_TOO_FEW_COLORS if there are fewer colours than polygons (trirast_canvas_draw_polygons alone);
+ * - TRIRAST_BATCH_TOO_MANY_IDS if the id of a polygon would be greater than 16,777,215, or first_id is greater than
+ *   16,777,216 (trirast_canvas_draw_polygon_ids alone);
+ * - TRIRAST_BATCH_TOO_FEW_DEPTHS if there are depths, but fewer than polygons. */
+inline trirast_status trirast_canvas_draw_polygons(trirast_canvas *canvas, const trirast_polygons *polygons, void *scratch,
+                                                   size_t scratch_size, trirast_error *error) {
+    const size_t columns = trirast_polygons_scratch(canvas, TRIRAST_FILL_EVEN_ODD) / TRIRAST_FLAGS_BYTES;
+    const int fits = (uintptr_t)scratch % 8 == 0 && scratch_size >= trirast_polygons_scratch(canvas, (trirast_fill_rule)polygons->fill_rule);
+    const size_t counters = fits && polygons->fill_rule != TRIRAST_FILL_EVEN_ODD ? columns : 0;
+    trirast_error unread;
+    return trirast_proved_canvas_draw_polygons(canvas, polygons, scratch, fits ? columns : 0,
+                                               (unsigned char *)scratch + (fits ? columns * TRIRAST_FLAGS_BYTES : 0), counters,
+                                               error ? error : &unread);
+}
+
+trirast_status trirast_proved_canvas_draw_polygon_ids(trirast_canvas *canvas, const trirast_polygons *polygons,
+                                                      uint32_t first_id, void *flags, size_t flag_columns, void *counters,
+                                                      size_t counter_columns, trirast_error *error);
+
+/* Draws polygons in the same way, and stores in place of a colour the id of each: first_id and its index. What the state
+ * keeps and its blending are not used.
+ *
+ * @first_id: the id of the first polygon. */
+inline trirast_status trirast_canvas_draw_polygon_ids(trirast_canvas *canvas, const trirast_polygons *polygons, uint32_t first_id,
+                                                      void *scratch, size_t scratch_size, trirast_error *error) {
+    const size_t columns = trirast_polygons_scratch(canvas, TRIRAST_FILL_EVEN_ODD) / TRIRAST_FLAGS_BYTES;
+    const int fits = (uintptr_t)scratch % 8 == 0 && scratch_size >= trirast_polygons_scratch(canvas, (trirast_fill_rule)polygons->fill_rule);
+    const size_t counters = fits && polygons->fill_rule != TRIRAST_FILL_EVEN_ODD ? columns : 0;
+    trirast_error unread;
+    return trirast_proved_canvas_draw_polygon_ids(canvas, polygons, first_id, scratch, fits ? columns : 0,
+                                                  (unsigned char *)scratch + (fits ? columns * TRIRAST_FLAGS_BYTES : 0), counters,
+                                                  error ? error : &unread);
 }
 
 /* Writes the colour of each pixel, the mean of its samples. Bytes between the rows of pixels are unchanged.

@@ -12,6 +12,13 @@ extern inline trirast_status trirast_canvas_draw(trirast_canvas *canvas, const t
 extern inline trirast_status trirast_canvas_draw_ids(trirast_canvas *canvas, const trirast_batch *batch,
                                                      uint32_t first_id, trirast_error *error);
 
+extern inline size_t trirast_polygons_scratch(const trirast_canvas *canvas, trirast_fill_rule fill_rule);
+extern inline trirast_status trirast_canvas_draw_polygons(trirast_canvas *canvas, const trirast_polygons *polygons,
+                                                          void *scratch, size_t scratch_size, trirast_error *error);
+extern inline trirast_status trirast_canvas_draw_polygon_ids(trirast_canvas *canvas, const trirast_polygons *polygons,
+                                                             uint32_t first_id, void *scratch, size_t scratch_size,
+                                                             trirast_error *error);
+
 extern inline trirast_status trirast_edges_at(const trirast_corners *corners, const void *points, size_t stride,
                                               size_t count, trirast_edges *edges);
 

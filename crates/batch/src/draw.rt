@@ -100,7 +100,7 @@ impl BatchDraw {
     }
 
     /// Whether each number of the state is in its range.
-    pub(crate) fn is_in_range(&self) -> bool
+    pub fn is_in_range(&self) -> bool
         ensures { IsTrue result ↔ IsDrawInRange self.now }
     {
         let tests = self.topology <= 2 && self.cull <= 2 && self.depth_test <= 7;
@@ -124,7 +124,7 @@ impl BatchDraw {
     }
 
     /// The state.
-    pub(crate) fn state(&self) -> State
+    pub fn state(&self) -> State
         ensures { result ≡ state_listed self.now }
     {
         State {

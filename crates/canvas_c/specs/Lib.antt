@@ -45,9 +45,25 @@
 --   weights_checks: The checks of a call that writes edge functions: the corners are in the guard band, and so is the point.
 --   AreEdgesOf: The edge functions at a point, each of the edge across from its corner, the doubled area, and whether the point is covered.
 --   AreEdges: The same, of the corners as the caller gives them.
+--
+-- PolygonChecks.antt
+--   origin_of: The origin of the caller's canvas.
+--   rule_of: The rules by their numbers.
+--   IsKnown: The rule and the state are known ones.
+--   HasDepths: There is a depth for each polygon, or none at all.
+--   AreGood: The polygons can be drawn, in their colours or by ids.
+--   columns_of_blocks: How many columns of blocks a canvas of this width has.
+--   HasScratch: The scratch memory has a column of flags for each column of blocks, and by the nonzero rule as many columns of counters.
+--   polygons_checks: The checks of a call that draws polygons.
+--   array_fault: What is wrong with arrays of polygons, by its number and with the index of the ring, the polygon or the corner.
+--   colours_cause: There are too few colours, or an id would have more than 24 bits.
+--   of_all: An error of all polygons together.
+--   IsFirstOfPolygons: This is the first that is wrong with the polygons: the rule or the state, then the arrays, the colours or ids, and the depths.
+--   shapes_listed: The polygons as they are drawn, in their order.
 
 pub mod Pieces
 pub mod Samples
 pub mod Arrays
 pub mod Batches
 pub mod Weights
+pub mod PolygonChecks

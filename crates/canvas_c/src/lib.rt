@@ -7,6 +7,8 @@ mod cleared;
 mod entries;
 mod images;
 mod piece;
+mod polygon_arrays;
+mod polygon_batches;
 mod sample_colours;
 mod tiles;
 mod weights;
@@ -17,6 +19,10 @@ pub use cleared::{Clear, trirast_proved_canvas_clear};
 pub use entries::{trirast_canvas_depths, trirast_canvas_ids};
 pub use images::{trirast_canvas_load, trirast_canvas_resolve};
 pub use piece::{CanvasHead, CanvasPiece, trirast_canvas_size, trirast_canvas_tile_rows};
+pub use polygon_arrays::PolygonArrays;
+pub use polygon_batches::{
+    trirast_proved_canvas_draw_polygon_ids, trirast_proved_canvas_draw_polygons,
+};
 pub use sample_colours::{trirast_canvas_colors, trirast_canvas_store};
 pub use tiles::{trirast_canvas_tile_ids, trirast_canvas_tile_store};
 pub use weights::{Corners, Edges, trirast_edges_at_point};

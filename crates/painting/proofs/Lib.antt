@@ -5,3 +5,4 @@ pub mod Columns
 pub mod Strips
 pub mod TileRows
 pub mod Batches
+pub mod Zeros

@@ -3,6 +3,8 @@ use Rattle.std.specs.Prelude.{ℕ, ◌+◌, ◌≤◌, List, [], map, length, sl
 use Rattle.std.specs.List.{range_with_len}
 use Rattle.shade.specs.declared.state.State.{State}
 use Rattle.polygons.specs.declared.arrays.Polygons.{Polygons}
+use Rattle.polygons.specs.declared.corner.Corner.{Corner}
+use Rattle.polygons.specs.declared.rule.Rule.{Rule}
 use Rattle.polygons.specs.Arrays.{rings_of}
 use Rattle.canvas.specs.Ids.{colour_of_id, replacing}
 use Rattle.painting.specs.declared.batch.Paints.{Paints}
@@ -18,15 +20,20 @@ abbrev pub state_of : Option ℕ → State → State
 state_of None state = state
 state_of (Some first) state = replacing state
 
--- Polygon k as it is drawn. Its depth is 0 if there are no depths.
-abbrev pub shape_in : Polygons → Paints → ℕ → Shape
-shape_in polygons paints k = record {
-  rings = rings_of polygons.corners.now polygons.ring_ends.now polygons.polygon_ends.now k;
-  rule = paints.rule;
-  rgba = rgba_of paints.ids paints.colours.now k;
-  z = slice_index paints.depths.now k;
-  state = state_of paints.ids paints.state;
+-- Polygon k of these arrays as it is drawn. Its depth is 0 if there are no depths.
+abbrev pub shape_by : List Corner → List ℕ → List ℕ → Rule → List (List ℕ) → List ℕ → Option ℕ → State → ℕ → Shape
+shape_by corners ring_ends polygon_ends rule colours depths ids state k = record {
+  rings = rings_of corners ring_ends polygon_ends k;
+  rule = rule;
+  rgba = rgba_of ids colours k;
+  z = slice_index depths k;
+  state = state_of ids state;
 }
+
+-- Polygon k as it is drawn.
+abbrev pub shape_in : Polygons → Paints → ℕ → Shape
+shape_in polygons paints =
+    shape_by polygons.corners.now polygons.ring_ends.now polygons.polygon_ends.now paints.rule paints.colours.now paints.depths.now paints.ids paints.state
 
 -- The polygons as they are drawn, in their order.
 abbrev pub shapes_of : Polygons → Paints → List Shape

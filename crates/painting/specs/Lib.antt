@@ -24,6 +24,7 @@
 -- Batches.antt
 --   rgba_of: The colour of polygon k: one of these, or that of its id, which is counted from the first one on.
 --   state_of: The state: where ids are drawn, they replace what is stored.
+--   shape_by: Polygon k of these arrays as it is drawn.
 --   shape_in: Polygon k as it is drawn.
 --   shapes_of: The polygons as they are drawn, in their order.
 --   HasColours: There is a colour for each of n polygons, or an id of 24 bits.

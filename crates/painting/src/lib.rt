@@ -7,9 +7,11 @@ mod column;
 mod polygon;
 mod row;
 mod rows;
+mod scratch;
 mod strip;
 mod window;
 
 pub use batch::{Paints, draw_polygons};
 pub use polygon::Polygon;
 pub use rows::draw_polygon;
+pub use scratch::{clear, clear_counters, scratch_columns};

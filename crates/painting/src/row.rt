@@ -7,7 +7,8 @@ ghost use Rattle.painting.specs.Painting.{IsOriginInBand};
 ghost use Rattle.painting.specs.Parts.{over_screen, MeetsHere, RowsPaint};
 
 use crate::polygon::Polygon;
-use crate::strip::{clear, paint_strip};
+use crate::scratch::clear;
+use crate::strip::paint_strip;
 use canvas::{Canvas, Origin};
 use lanes::{BlockSamples, Interpolants};
 use polygons::{Counters, Flags, Strip, cover_strip};

@@ -2,7 +2,6 @@
 ghost use Rattle.std.specs.Prelude.{◌≡◌, ◌+◌, ◌*◌, ◌<◌, ◌≤◌, length};
 ghost use Rattle.grid.specs.Samples.{IsPart};
 ghost use Rattle.canvas.specs.Layout.{columns_of, rows_of, planes_of_row};
-ghost use Rattle.polygons.specs.Cells.{AreZeros};
 ghost use Rattle.painting.specs.Parts.{CoversScreen, IsFlagged, RowsPaint};
 
 use crate::column::paint_column;
@@ -41,15 +40,5 @@ pub(crate) fn paint_strip(
             &flags[k],
             &mut samples[at..at + each],
         );
-    }
-}
-
-/// Sets all flags to 0.
-pub(crate) fn clear(flags: &mut [Flags])
-    ensures len { length flags.new ≡ length flags.old }
-    ensures zeros { AreZeros flags.new }
-{
-    for words in flags.iter_mut() {
-        *words = [0; 32];
     }
 }

@@ -1,0 +1,153 @@
+use Rattle.std.proofs.Common.{◌≡◌, ◌⊎◌, ◌↔◌, ◌∙◌, inl, inr, refl, sym, ap, subst, rules, arith, ℕ, ◌+◌, ◌*◌, ◌/◌, ◌≤◌, List, Option, length, take, FitsSigned, w32, IsTrue}
+use Rattle.std.proofs.lemmas.Int.{to_z-of_z}
+use Rattle.std.proofs.lemmas.List.{length-take}
+use Rattle.std.proofs.lemmas.Result.{err_from_is_err_and}
+use Rattle.model.specs.Checking.{Checks, done, check}
+use Rattle.model.proofs.Checking.{pass_both, fails_before, fails_later}
+use Rattle.polygons.specs.declared.rule.Rule.{Rule}
+use Rattle.polygons.specs.declared.rule.Rule.TheVariants.{EvenOdd, NonZero}
+use Rattle.polygons.specs.Cells.{HasCounters}
+use Rattle.painting.specs.Painting.{ArePainted, IsOriginInBand}
+use Rattle.c_abi.specs.declared.status.Status.{Status}
+use Rattle.c_abi.specs.declared.status.Status.TheVariants.{BadBatch, BadPosition, BadStructSize, BufferTooSmall}
+use Rattle.c_abi.specs.Sizes.{IsOwnSize}
+use Rattle.canvas_c.specs.Pieces.{piece_checks}
+use Rattle.canvas_c.specs.PolygonChecks.{origin_of, rule_of, columns_of_blocks, shapes_listed, AreGood, HasScratch}
+use Rattle.canvas_c.specs.declared.polygon_arrays.PolygonArrays.{PolygonArrays}
+use Rattle.canvas_c.specs.declared.piece.CanvasHead.{CanvasHead}
+use Rattle.canvas_c.proofs.Ended.{piece_fault}
+use Rattle.canvas_c.proofs.polygon_batches.draw_into.Goals as goal
+
+abbrev later_checks : CanvasHead → Option ℕ → PolygonArrays → ℕ → ℕ → Checks Status
+later_checks head ids a flags counters =
+    check (IsOwnSize a.struct_size 144) BadStructSize (
+    check (IsOriginInBand (origin_of head)) BadPosition (
+    check (HasScratch head a flags counters) BufferTooSmall (
+    check (AreGood ids a) BadBatch
+    done)))
+
+-- as many columns of flags, and of counters if they are needed
+abbrev IsEnough : CanvasHead → PolygonArrays → ℕ → ℕ → Type 0
+IsEnough head a flags counters = (columns_of_blocks head.width ≤ flags) × ((a.fill_rule ≡ 0) ⊎ (columns_of_blocks head.width ≤ counters))
+
+scratch_of : (head : CanvasHead) (a : PolygonArrays) (flags counters : ℕ) → IsEnough head a flags counters → HasScratch head a flags counters
+scratch_of head a flags counters h = record { enough_flags = h.0; enough_counters = h.1 }
+
+lacks_scratch : (head : CanvasHead) (a : PolygonArrays) (flags counters : ℕ) → ¬ IsEnough head a flags counters → ¬ HasScratch head a flags counters
+lacks_scratch head a flags counters n h = n (h.enough_flags, h.enough_counters)
+
+any_rule : (rule : Rule) (flags counters : List (List ℕ)) → length counters ≡ length flags → HasCounters rule flags counters
+any_rule EvenOdd flags counters e = tt
+any_rule NonZero flags counters e = e
+
+pub returns-in_err-rows-clause-judged : goal.returns-in_err-rows-clause-judged
+returns-in_err-rows-clause-judged c =
+    let head = c.args.head.now in
+    let planes : ℕ = length c.args.planes.now in
+    let failed = c.in_err-rows.field-0.0 in
+    let p = err_from_is_err_and c.from_residual.result c.from_residual.ensures.1 in
+    rw (p.1, p.2) (record {
+      first = fails_before (piece_checks head planes) (later_checks head c.args.ids c.args.arrays.now (length c.args.flags.now) (length c.args.counters.now)) failed c.in_err-rows.ensures.judged;
+      fault = piece_fault head planes failed c.in_err-rows.ensures.judged;
+    })
+
+pub returns-then-not-is_in_band-clause-judged : goal.returns-then-not-is_in_band-clause-judged
+returns-then-not-is_in_band-clause-judged c =
+    let head = c.args.head.now in
+    let a = c.args.arrays.now in
+    let x : FitsSigned w32 head.origin_x = search rules in
+    let y : FitsSigned w32 head.origin_y = search rules in
+    let size : IsOwnSize a.struct_size 144 = search rules in
+    let sees : IsTrue c.is_in_band.result ↔ IsOriginInBand (origin_of head) = rw (to_z-of_z w32 head.origin_x x, to_z-of_z w32 head.origin_y y) at c.is_in_band.ensures in
+    let lacks : ¬ IsOriginInBand (origin_of head) = search rules in
+    rw c.from-then-not-is_in_band.ensures (record {
+      first = fails_later (piece_checks head (length c.args.planes.now)) (later_checks head c.args.ids a (length c.args.flags.now) (length c.args.counters.now)) BadPosition c.in_ok-rows.ensures.judged.0 (inr (size, inl (lacks, refl)));
+      fault = ((λ h. cc), (λ h. cc));
+    })
+
+pub returns-then-not-has_scratch-clause-judged : goal.returns-then-not-has_scratch-clause-judged
+returns-then-not-has_scratch-clause-judged c =
+    let head = c.args.head.now in
+    let a = c.args.arrays.now in
+    let flags : ℕ = length c.args.flags.now in
+    let counters : ℕ = length c.args.counters.now in
+    let x : FitsSigned w32 head.origin_x = search rules in
+    let y : FitsSigned w32 head.origin_y = search rules in
+    let size : IsOwnSize a.struct_size 144 = search rules in
+    let sees : IsTrue c.is_in_band.result ↔ IsOriginInBand (origin_of head) = rw (to_z-of_z w32 head.origin_x x, to_z-of_z w32 head.origin_y y) at c.is_in_band.ensures in
+    let band : IsOriginInBand (origin_of head) = sees.0 (search rules) in
+    let same : c.scratch_columns-columns.result ≡ columns_of_blocks head.width = c.scratch_columns-columns.ensures.value ∙ ap (λ w. 8 * ((w + 63) / 64)) c.in_ok-rows.ensures.judged.1.width in
+    let enough : IsTrue c.has_scratch.result ↔ IsEnough head a flags counters = rw same at c.has_scratch.ensures in
+    let lacks : ¬ IsEnough head a flags counters = search rules in
+    rw c.from-then-not-has_scratch.ensures (record {
+      first = fails_later (piece_checks head (length c.args.planes.now)) (later_checks head c.args.ids a flags counters) BufferTooSmall c.in_ok-rows.ensures.judged.0 (inr (size, inr (band, inl (lacks_scratch head a flags counters lacks, refl))));
+      fault = ((λ h. cc), (λ h. cc));
+    })
+
+pub returns-in-Err-clause-judged : goal.returns-in-Err-clause-judged
+returns-in-Err-clause-judged c =
+    let head = c.args.head.now in
+    let a = c.args.arrays.now in
+    let flags : ℕ = length c.args.flags.now in
+    let counters : ℕ = length c.args.counters.now in
+    let x : FitsSigned w32 head.origin_x = search rules in
+    let y : FitsSigned w32 head.origin_y = search rules in
+    let size : IsOwnSize a.struct_size 144 = search rules in
+    let sees : IsTrue c.is_in_band.result ↔ IsOriginInBand (origin_of head) = rw (to_z-of_z w32 head.origin_x x, to_z-of_z w32 head.origin_y y) at c.is_in_band.ensures in
+    let band : IsOriginInBand (origin_of head) = sees.0 (search rules) in
+    let same : c.scratch_columns-columns.result ≡ columns_of_blocks head.width = c.scratch_columns-columns.ensures.value ∙ ap (λ w. 8 * ((w + 63) / 64)) c.in_ok-rows.ensures.judged.1.width in
+    let enough : IsTrue c.has_scratch.result ↔ IsEnough head a flags counters = rw same at c.has_scratch.ensures in
+    let scratch = scratch_of head a flags counters (enough.0 (search rules)) in
+    let wrong = c.in-Err.ensures.wrong in
+    rw c.of_batch.ensures (record {
+      first = fails_later (piece_checks head (length c.args.planes.now)) (later_checks head c.args.ids a flags counters) BadBatch c.in_ok-rows.ensures.judged.0 (inr (size, inr (band, inr (scratch, inl (wrong.0, refl)))));
+      fault = (inr refl, wrong.1);
+    })
+
+pub draw_polygons-requires-clause-counted : goal.draw_polygons-requires-clause-counted
+draw_polygons-requires-clause-counted c =
+    let head = c.args.head.now in
+    let a = c.args.arrays.now in
+    let flags = c.clear.new.flags in
+    let counters = c.clear_counters.new.counters in
+    let columns : ℕ = c.scratch_columns-columns.result in
+    let enough : (columns ≤ length c.args.flags.now) × ((a.fill_rule ≡ 0) ⊎ (columns ≤ length c.args.counters.now)) = c.has_scratch.ensures.0 (search rules) in
+    let long_flags = length-take columns c.args.flags.now in
+    let long_counters = length-take c.min-counted.result c.args.counters.now in
+    elim enough.1 [
+      | inl zero ↦ subst (λ (rule : Rule). HasCounters rule flags counters) (sym (c.rule_of.ensures ∙ ap rule_of zero)) tt
+      | inr more ↦ any_rule c.rule_of.result flags counters (omega (arith, more, enough.0, long_flags, long_counters, c.clear.ensures.len, c.clear_counters.ensures.len, c.min-counted.ensures))
+    ]
+
+pub returns-clause-judged : goal.returns-clause-judged
+returns-clause-judged c =
+    let head = c.args.head.now in
+    let a = c.args.arrays.now in
+    let flags : ℕ = length c.args.flags.now in
+    let counters : ℕ = length c.args.counters.now in
+    let x : FitsSigned w32 head.origin_x = search rules in
+    let y : FitsSigned w32 head.origin_y = search rules in
+    let size : IsOwnSize a.struct_size 144 = search rules in
+    let sees : IsTrue c.is_in_band.result ↔ IsOriginInBand (origin_of head) = rw (to_z-of_z w32 head.origin_x x, to_z-of_z w32 head.origin_y y) at c.is_in_band.ensures in
+    let band : IsOriginInBand (origin_of head) = sees.0 (search rules) in
+    let same : c.scratch_columns-columns.result ≡ columns_of_blocks head.width = c.scratch_columns-columns.ensures.value ∙ ap (λ w. 8 * ((w + 63) / 64)) c.in_ok-rows.ensures.judged.1.width in
+    let enough : IsTrue c.has_scratch.result ↔ IsEnough head a flags counters = rw same at c.has_scratch.ensures in
+    let scratch = scratch_of head a flags counters (enough.0 (search rules)) in
+    (pass_both (piece_checks head (length c.args.planes.now)) (later_checks head c.args.ids a flags counters) c.in_ok-rows.ensures.judged.0 (size, (band, (scratch, (c.in-Ok.ensures.good.0, record {})))), record {})
+
+pub returns-clause-drawn : goal.returns-clause-drawn
+returns-clause-drawn c =
+    let head = c.args.head.now in
+    let a = c.args.arrays.now in
+    let x : FitsSigned w32 head.origin_x = search rules in
+    let y : FitsSigned w32 head.origin_y = search rules in
+    let rows = c.in_ok-rows.rows in
+    let good = c.in-Ok.ensures.good in
+    let drawn =
+    rw (to_z-of_z w32 head.origin_x x, to_z-of_z w32 head.origin_y y, c.over-piece.ensures.rows, c.over-piece.ensures.planes, good.1, good.2, good.3, c.rule_of.ensures, c.state.ensures)
+    at c.draw_polygons.ensures.painted in
+    record {
+      rows = rows;
+      are = c.in_ok-rows.ensures.judged.1;
+      holds = subst (ArePainted (shapes_listed c.args.ids a) (origin_of head) rows.canvas rows.first rows.end c.args.planes.now) (search rules) drawn;
+    }

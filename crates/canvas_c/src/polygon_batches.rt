@@ -1,0 +1,118 @@
+//! Polygons, drawn at the samples of tile rows.
+ghost use Rattle.std.specs.Prelude.{◌≡◌, ◌≢◌, length, OnOk, OnErr, None as Nothing, Some as Just, ⊤};
+ghost use Rattle.painting.specs.Painting.{ArePainted};
+ghost use Rattle.c_abi.specs.Calls.{IsCall, IsReport};
+ghost use Rattle.canvas_c.specs.Pieces.{OnRows};
+ghost use Rattle.canvas_c.specs.PolygonChecks.{origin_of, polygons_checks, shapes_listed, IsFirstOfPolygons};
+
+use crate::piece::{CanvasHead, CanvasPiece, rows_of};
+use crate::polygon_arrays::{PolygonArrays, is_in_band, rule_of};
+use c_abi::{CallError, Error, Status, report};
+use canvas::Origin;
+use lanes::BlockSamples;
+use painting::{Paints, clear, clear_counters, draw_polygons, scratch_columns};
+use polygons::{Counters, Flags};
+
+/// Draws polygons, in their colours or by ids.
+fn draw_into(
+    head: &CanvasHead,
+    planes: &mut [BlockSamples],
+    arrays: &PolygonArrays<'_>,
+    ids: Option<u32>,
+    flags: &mut [Flags],
+    counters: &mut [Counters],
+) -> Result<(), CallError>
+    ensures judged { IsCall (polygons_checks head.now (length planes.old) ids arrays.now (length flags.old) (length counters.old)) (IsFirstOfPolygons ids arrays.now) (λ done. ⊤) result }
+    ensures drawn { OnOk result (OnRows head.now (λ c first end. ArePainted (shapes_listed ids arrays.now) (origin_of head.now) c first end planes.old planes.new)) }
+    ensures kept { OnErr result (planes.new ≡ planes.old) }
+{
+    let rows = rows_of(head, planes)?;
+    if !arrays.has_size() {
+        return Err(CallError::from(Status::BadStructSize));
+    }
+    let origin = Origin {
+        x: head.origin_x,
+        y: head.origin_y,
+    };
+    if !is_in_band(&origin) {
+        return Err(CallError::from(Status::BadPosition));
+    }
+    let columns = scratch_columns(&rows.canvas);
+    if !arrays.has_scratch(columns, flags.len(), counters.len()) {
+        return Err(CallError::from(Status::BufferTooSmall));
+    }
+    let polygons = match arrays.polygons(ids) {
+        Ok(polygons) => polygons,
+        Err(fault) => return Err(CallError::of_batch(fault)),
+    };
+    let paints = Paints {
+        rule: rule_of(arrays.fill_rule),
+        colours: arrays.colours,
+        depths: arrays.depths,
+        ids,
+        state: arrays.state.state(),
+    };
+    let flags = &mut flags[..columns];
+    clear(flags);
+    let counted = columns.min(counters.len());
+    let counters = &mut counters[..counted];
+    clear_counters(counters);
+    let mut piece = rows.over(planes);
+    draw_polygons(&mut piece, &polygons, &paints, &origin, flags, counters);
+    Ok(())
+}
+
+/// Draws polygons at the samples of these tile rows, over what is stored there, one after another. Flags and counters are scratch memory:
+/// what is in them before does not matter. Returns the status, and writes the error. If the status is not 0, the samples are unchanged.
+#[unsafe(no_mangle)]
+pub extern "C" fn trirast_proved_canvas_draw_polygons(
+    canvas: &mut CanvasPiece<'_>,
+    polygons: &PolygonArrays<'_>,
+    flags: &mut [Flags],
+    counters: &mut [Counters],
+    error: &mut Error,
+) -> u32
+    ensures report { IsReport (polygons_checks canvas.old.head (length canvas.old.planes.now) Nothing polygons.now (length flags.old) (length counters.old)) (IsFirstOfPolygons Nothing polygons.now) result error.new }
+    ensures drawn { result ≡ 0 → OnRows canvas.old.head (λ c first end.
+        ArePainted (shapes_listed Nothing polygons.now) (origin_of canvas.old.head) c first end canvas.old.planes.now canvas.new.planes.now) }
+    ensures kept { result ≢ 0 → canvas.new.planes.now ≡ canvas.old.planes.now }
+    ensures head { canvas.new.head ≡ canvas.old.head }
+    ensures same { canvas.new.planes.ghost_name ≡ canvas.old.planes.ghost_name }
+{
+    let head = canvas.head;
+    report(
+        draw_into(&head, canvas.planes, polygons, None, flags, counters),
+        error,
+    )
+}
+
+/// Draws polygons in the same way, each in the colour of its id, unblended: `first_id` and its index.
+#[unsafe(no_mangle)]
+pub extern "C" fn trirast_proved_canvas_draw_polygon_ids(
+    canvas: &mut CanvasPiece<'_>,
+    polygons: &PolygonArrays<'_>,
+    first_id: u32,
+    flags: &mut [Flags],
+    counters: &mut [Counters],
+    error: &mut Error,
+) -> u32
+    ensures report { IsReport (polygons_checks canvas.old.head (length canvas.old.planes.now) (Just first_id) polygons.now (length flags.old) (length counters.old)) (IsFirstOfPolygons (Just first_id) polygons.now) result error.new }
+    ensures drawn { result ≡ 0 → OnRows canvas.old.head (λ c first end.
+        ArePainted (shapes_listed (Just first_id) polygons.now) (origin_of canvas.old.head) c first end canvas.old.planes.now canvas.new.planes.now) }
+    ensures kept { result ≢ 0 → canvas.new.planes.now ≡ canvas.old.planes.now }
+    ensures head { canvas.new.head ≡ canvas.old.head }
+    ensures same { canvas.new.planes.ghost_name ≡ canvas.old.planes.ghost_name }
+{
+    let head = canvas.head;
+    report(
+        draw_into(
+            &head,
+            canvas.planes,
+            polygons,
+            Some(first_id),
+            flags,
+            counters,
+        ),
+        error,
+    )
+}
