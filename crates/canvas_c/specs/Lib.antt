@@ -15,8 +15,8 @@
 --   piece_checks: What each call on tile rows checks first.
 --   format_of: The formats by their numbers.
 --   image_checks: A picture of `size` bytes is read or written, whose rows begin `stride` bytes behind each other.
---   entries_of: The entries from the beginning of a row to that of the next: those of a row if the caller says 0, else those of `stride` bytes.
---   entries_checks: The samples of one index are read to `size` entries of `entry_bytes` bytes, whose rows begin `stride` bytes behind each other.
+--   entries_of: The entries from the beginning of a row to that of the next: those of a row for 0, else those of `stride` bytes.
+--   entries_checks: The samples of one index are read to `size` entries of `entry_bytes` bytes, a row every `stride` bytes.
 --
 -- Samples.antt
 --   colours_checks: The colours of one sample index are read or written in `size` bytes, whose rows begin `stride` bytes behind each other.
@@ -58,7 +58,7 @@
 --   array_fault: What is wrong with arrays of polygons, by its number and with the index of the ring, the polygon or the corner.
 --   colours_cause: There are too few colours, or an id would have more than 24 bits.
 --   of_all: An error of all polygons together.
---   IsFirstOfPolygons: This is the first that is wrong with the polygons: the rule or the state, then the arrays, the colours or ids, and the depths.
+--   IsFirstOfPolygons: This is first wrong with the polygons: the rule or the state, then the arrays, the colours or ids, the depths.
 --   shapes_listed: The polygons as they are drawn, in their order.
 
 pub mod Pieces

@@ -99,11 +99,11 @@ image_checks head planes format stride size =
     check (HasRoom head (pixel_bytes (format_of format)) (stride_of (head.width * pixel_bytes (format_of format)) stride) size) BufferTooSmall
     done))
 
--- The entries from the beginning of a row to that of the next: those of a row if the caller says 0, else those of `stride` bytes.
+-- The entries from the beginning of a row to that of the next: those of a row for 0, else those of `stride` bytes.
 abbrev pub entries_of : ℕ → ℕ → ℕ → ℕ
 entries_of row entry_bytes stride = if stride == 0 then row else stride / entry_bytes
 
--- The samples of one index are read to `size` entries of `entry_bytes` bytes, whose rows begin `stride` bytes behind each other.
+-- The samples of one index are read to `size` entries of `entry_bytes` bytes, a row every `stride` bytes.
 abbrev pub entries_checks : CanvasHead → ℕ → ℕ → ℕ → ℕ → ℕ → Checks Status
 entries_checks head planes sample entry_bytes stride size =
     followed_by (piece_checks head planes) (

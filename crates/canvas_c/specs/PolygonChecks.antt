@@ -81,7 +81,7 @@ colours_cause (Some first) = 5
 abbrev pub of_all : ℕ → Fault
 of_all cause = record { cause = cause; draw = None; element = None }
 
--- This is the first that is wrong with the polygons: the rule or the state, then the arrays, the colours or ids, and the depths.
+-- This is first wrong with the polygons: the rule or the state, then the arrays, the colours or ids, the depths.
 abbrev pub IsFirstOfPolygons : Option ℕ → PolygonArrays → Fault → Type 0
 IsFirstOfPolygons ids a fault =
     ((¬ IsKnown a) × (fault ≡ of_all 3))

@@ -3,7 +3,7 @@
 -- Painting.antt
 --   IsInScissor: Pixel (i, j) of the screen is in the rectangle, whose right and lower sides are outside of it (Direct3D 11, scissor test).
 --   Shape: A polygon as it is drawn: its rings, its rule, one colour and one depth for all of its samples, and its draw's state.
---   MeetsSample: The polygon meets sample s of pixel (i, j) of the screen, whatever depth is stored there: by its rule it covers the sample's position, the pixel is in the scissor, and bit s of the sample mask is set.
+--   MeetsSample: The polygon meets sample s of pixel (i, j) of the screen, whatever depth is stored there.
 --   fragment_of: The polygon's colour and depth, which are the same at all samples.
 --   Paints: What the polygon makes of sample s of pixel (i, j) of the screen.
 --   PaintAll: What the polygons make of sample s of pixel (i, j) of the screen, one after another.
@@ -12,11 +12,11 @@
 --   shape_of: The polygon as it is drawn, by its corners.
 --
 -- Parts.antt
---   over_screen: A triangle that covers the screen, in the colour, at the depth and in the state of the polygon, with the scissor as seen from the origin.
+--   over_screen: A triangle that covers the screen, in the colour, at the depth and in the state of the polygon.
 --   CoversScreen: The triangle covers each sample of the screen, which is 4096 by 4096 pixels.
 --   TilePaints: The triangle is drawn at those samples of the tile that are in this part, and the others are unchanged.
 --   RowsPaint: The same of tile rows.
---   IsInColumn: The sample is in column `bx` of blocks and in the part that begins with sample `from`, its bit is set in the words of this column's masks, and the state lets it be drawn.
+--   IsInColumn: The sample is in column `bx` of blocks and is drawn there.
 --   IsFlagged: The same in the first n columns of blocks, from column `first` on.
 --   MeetsHere: The polygon meets sample s of pixel (i, j) of the canvas.
 --   HoldsSamples: Each sample of the canvas that lies in the box is in a column of blocks and a tile row of the window.

@@ -32,7 +32,7 @@ pub record Shape : Type 0 where
   pub z : ℕ
   pub state : State
 
--- The polygon meets sample s of pixel (i, j) of the screen, whatever depth is stored there: by its rule it covers the sample's position,
+-- The polygon meets sample s of pixel (i, j) of the screen, whatever depth is stored there. By its rule it covers the sample's position,
 -- the pixel is in the scissor, and bit s of the sample mask is set.
 pub record MeetsSample (shape : Shape) (count : SampleCount) (i j : ℤ) (s : ℕ) : Type 0 where
   pub covered : PolygonCovers shape.rule shape.rings (screen_sample i j s count)

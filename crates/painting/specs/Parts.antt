@@ -24,7 +24,7 @@ use Rattle.painting.specs.declared.polygon.Polygon.{Polygon}
 use Rattle.painting.specs.declared.window.Window.{Window}
 use Rattle.painting.specs.Painting.{MeetsSample, shape_of}
 
--- A triangle that covers the screen, in the colour, at the depth and in the state of the polygon, with the scissor as seen from the origin.
+-- A triangle that covers the screen, in the colour, at the depth and in the state of the polygon. Its scissor is as seen from the origin.
 abbrev pub over_screen : Polygon → Origin → Placed
 over_screen polygon origin = record {
   tri = record { a = record { x = negsuc 0; y = negsuc 0 }; b = record { x = pos 8388607; y = negsuc 0 }; c = record { x = negsuc 0; y = pos 8388607 } };
@@ -48,8 +48,8 @@ pub record RowsPaint (t : Placed) (c : Canvas) (first end : ℕ) (part : ℕ →
   pub met : (i j s : ℕ) → IsStoredIn c first end i j s → part i j s → IsDrawnAt t (sample_position i j s c.count) (stored c first old i j s) (stored c first new i j s)
   pub missed : (i j s : ℕ) → IsStoredIn c first end i j s → ¬ part i j s → stored c first new i j s ≡ stored c first old i j s
 
--- The sample is in column `bx` of blocks and in the part that begins with sample `from`, its bit is set in the words of this column's
--- masks, and the state lets it be drawn. Of each of the first n rows of blocks there are four words.
+-- The sample is in column `bx` of blocks and is drawn there. It is in the part that begins with sample `from`, its bit is set in the words
+-- of this column's masks, and the state lets it be drawn. Of each of the first n rows of blocks there are four words.
 pub record IsInColumn (state : State) (tile : Tile) (bx from n : ℕ) (words : List ℕ) (row column s : ℕ) : Type 0 where
   pub left : 8 * bx ≤ 8 * tile.bx + column
   pub right : 8 * tile.bx + column < 8 * bx + 8

@@ -48,8 +48,8 @@ pub record IsFirstOutside (corners : List Corner) (k : ℕ) : Type 0 where
   pub before : AreCornersInBand (take k corners)
   pub outside : ¬ IsInGuardBand (position_of (slice_index_or corners k (record { x = pos 0; y = pos 0 })))
 
--- What is wrong with the arrays, looked at in this order: that there are fewer than 2^32 corners; the ends of rings; the ends of
--- polygons; the corners.
+-- What is first wrong with the arrays. It is looked at in this order: that there are fewer than 2^32 corners; the ends of rings; the ends
+-- of polygons; the corners.
 abbrev pub IsWrong : List Corner → List ℕ → List ℕ → ArraysError → Type 0
 IsWrong corners ring_ends polygon_ends TooManyCorners = 2 ^ 32 ≤ length corners
 IsWrong corners ring_ends polygon_ends (Ring k) = (length corners < 2 ^ 32) × IsFirstFall ring_ends (length corners) k

@@ -40,7 +40,7 @@
 --   IsFirstFall: Part k is the first that ends before it begins, or behind the whole, which has n elements.
 --   IsShort: The last part ends before the whole does, which has n elements.
 --   IsFirstOutside: Corner k is the first outside of the guard band.
---   IsWrong: What is wrong with the arrays, looked at in this order: that there are fewer than 2^32 corners; the ends of rings; the ends of polygons; the corners.
+--   IsWrong: What is first wrong with the arrays.
 --
 -- Laws.antt
 --   reversed: The edge in the other direction.

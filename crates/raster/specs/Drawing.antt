@@ -95,8 +95,8 @@ abbrev pub CoversMasks : Tri → ℕ → ℕ → SampleCount → ℕ → List �
 CoversMasks t bx by count from masks =
     (row column s : ℕ) → row < 8 → column < 8 → s < part_size count → IsBitSet (slice_index masks s) (8 * row + column) → CoversInBlock t bx by count (from + s) row column
 
--- Sample s of the pixel in a row and a column of the tile is in these masks of block (bx, by), of the part that begins with sample
--- `from`, and the state lets it be drawn.
+-- Sample s of the pixel in a row and a column of the tile is drawn by these masks. They are of block (bx, by) and of the part that begins
+-- with sample `from`, and the state lets it be drawn.
 pub record IsChosen (state : State) (tile : Tile) (bx by from : ℕ) (masks : List ℕ) (row column s : ℕ) : Type 0 where
   pub part : IsInSquarePart tile bx by 8 from row column s
   pub in_masks : IsBitSet (slice_index masks (s - from)) (8 * (row % 8) + column % 8)
