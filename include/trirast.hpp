@@ -361,6 +361,25 @@ public:
         });
     }
 
+    /* Draws polygons of C, whose arrays are as it says. Scratch memory is allocated for each thread. */
+    void draw_polygons(const trirast_polygons &polygons, std::uint32_t threads = 1) {
+        each(threads, [&polygons](TileRows &part) {
+            std::vector<std::uint64_t> scratch = part.scratch_of(polygons);
+            detail::check_call([&](trirast_error *error) {
+                return trirast_canvas_draw_polygons(&part.rows_, &polygons, scratch.data(), 8 * scratch.size(), error);
+            });
+        });
+    }
+
+    void draw_polygon_ids(const trirast_polygons &polygons, std::uint32_t first_id, std::uint32_t threads = 1) {
+        each(threads, [&polygons, first_id](TileRows &part) {
+            std::vector<std::uint64_t> scratch = part.scratch_of(polygons);
+            detail::check_call([&](trirast_error *error) {
+                return trirast_canvas_draw_polygon_ids(&part.rows_, &polygons, first_id, scratch.data(), 8 * scratch.size(), error);
+            });
+        });
+    }
+
     void resolve(trirast_format format, Span<std::uint8_t> pixels, std::size_t stride = 0) const {
         detail::check(trirast_canvas_resolve(&rows_, format, pixels.data(), pixels.size(), stride));
     }
@@ -411,6 +430,10 @@ protected:
     trirast_canvas rows_{};
 
 private:
+    std::vector<std::uint64_t> scratch_of(const trirast_polygons &polygons) const {
+        return std::vector<std::uint64_t>(trirast_polygons_scratch(&rows_, static_cast<trirast_fill_rule>(polygons.fill_rule)) / 8);
+    }
+
     std::uint32_t pixel_row(std::uint32_t tile_row) const noexcept {
         const std::uint32_t row = tile_row * TRIRAST_TILE_SIZE;
         return row < rows_.height ? row : rows_.height;

@@ -153,14 +153,14 @@ class Rows(Refusals):
         self.must_say(
             (draw(colors=(1, 2, 256)), ValueError, "colors: 0 to 255, and not 256"),
             (draw(colors=(0.5, 1.0, 0.0)), TypeError, "colors: an integer, and not 0.5"),
-            (draw(colors=[(1, 2, 3)] * 2), ValueError, "colors: 3 rows, one for each vertex, and not 2"),
+            (draw(colors=[(1, 2, 3)] * 2), ValueError, "colors: 3 rows, and not 2"),
             (draw(colors=[(1, 2, 3), (1, 2, 3), (1, 2, 300)]), ValueError, "colors: row 2, blue: 0 to 255, and not 300"),
             (draw(colors=[(1, 2)] * 3), ValueError, "colors: row 0: 3 or 4 values, and not 2"),
             (draw(colors="red"), ValueError, "colors: row 0: 3 or 4 values, and not 1"),
             (draw(colors=5), TypeError, "colors: rows of 3 or 4 integers, and not 5"),
             (draw(depth=65536), ValueError, "depth: 0 to 65535, and not 65536"),
             (draw(depth=0.5), TypeError, "depth: integers, and not 0.5"),
-            (draw(depth=[1, 2]), ValueError, "depth: 3 rows, one for each vertex, and not 2"),
+            (draw(depth=[1, 2]), ValueError, "depth: 3 rows, and not 2"),
             (draw(depth=[1, 2, -1]), ValueError, "depth: row 2, depth: 0 to 65535, and not -1"),
             (draw(depth=[1, 2, 0.5]), TypeError, "depth: row 2, depth: an integer, and not 0.5"),
         )

@@ -17,7 +17,7 @@ from .common import PYTHON
 INCLUDE = os.path.join(os.path.dirname(PYTHON), "include")
 STRUCTS: Dict[str, Any] = {
     "trirast_error": _ffi.CError, "trirast_image_info": _ffi.CImageInfo, "trirast_blend": _ffi.CBlend, "trirast_draw": _ffi.CDraw,
-    "trirast_batch": _ffi.CBatch, "trirast_canvas": _ffi.CCanvas, "trirast_clear": _ffi.CClear, "trirast_corners": _ffi.CCorners,
+    "trirast_batch": _ffi.CBatch, "trirast_polygons": _ffi.CPolygons, "trirast_canvas": _ffi.CCanvas, "trirast_clear": _ffi.CClear, "trirast_corners": _ffi.CCorners,
     "trirast_stored": _ffi.CStored, "trirast_fragment": _ffi.CFragment, "trirast_event": _ffi.CEvent,
     "trirast_sample_info": _ffi.CSampleInfo, "trirast_history_request": _ffi.CHistoryRequest, "trirast_sample_counts": _ffi.CSampleCounts,
 }

@@ -9,11 +9,12 @@ from ._arguments import between, color_of, flag, integer, named, number, of_leng
 from ._batch import batch_of, draws_of, explained
 from ._blend import Blend, Preset
 from ._buffers import Buffer, Form, check_writable, raw, readable
-from ._draw import EVERY_SAMPLE, Cull, DepthTest, Draw
+from ._draw import EVERY_SAMPLE, Cull, DepthTest, Draw, state_in_c
 from ._errors import BatchError, CanvasError
 from ._ffi import CCanvas, CClear, CCorners, CError, library
 from ._fragments import Fragments, Rate, fragments_of
 from ._picture import Path, Picture
+from ._polygons import RULES, Rule, polygons_of, scratch_of
 from ._records import table_of
 from ._threads import share
 from ._version import INTERFACE
@@ -193,6 +194,51 @@ class Canvas:
             self._each(threads, lambda piece, _top: call(piece, batch, *ids, CError()))
         except BatchError as error:
             raise explained(error, listed, self.origin) from None
+
+    def draw_polygons(
+        self,
+        corners: Any,
+        ring_ends: Any,
+        polygon_ends: Any,
+        colors: Any = (255, 255, 255),
+        *,
+        rule: Rule = "even-odd",
+        depth: Optional[Any] = None,
+        blend: Union[Preset, Blend] = "none",
+        depth_test: DepthTest = "always",
+        depth_write: bool = False,
+        keep: str = "",
+        sample_mask: SupportsIndex = EVERY_SAMPLE,
+        scissor: Optional[Sequence[SupportsIndex]] = None,
+        first_id: Optional[SupportsIndex] = None,
+        threads: SupportsIndex = 1,
+    ) -> None:
+        """Draws polygons over what is stored, one after another, each in one colour and at one depth.
+
+        A polygon is any number of rings, and a ring any number of corners: rings may be holes, touch and cross each
+        other and themselves. `corners` are rows of x and y in 1/256 pixel of the screen, of all rings one after
+        another; `trirast.snap` makes them of floats in pixels. `ring_ends` has of each ring the index behind its last
+        corner, and `polygon_ends` of each polygon the index behind its last ring: the offsets of
+        `shapely.to_ragged_array` without their leading 0. `colors` is one colour of 3 or 4 channels, red, green, blue
+        and alpha of 0 to 255, or a row of them for each polygon. `depth` is one depth, 0 to 65535, or one for each; 0,
+        if there are none.
+
+        By the rule "even-odd" a sample is inside if a ray from it to the left crosses an odd number of edges, by
+        "nonzero" if it crosses more that run downwards than upwards, or fewer. This is exact: polygons that share
+        their edges leave no gap and no overlap, and a triangle covers what `draw` draws of it.
+
+        All else is as for `draw`. With `first_id` each polygon is drawn in the colour of its id. Arrays are copied.
+
+        Raises BatchError, and then nothing was drawn, if the ends fall or leave the arrays, or a corner lies outside of
+        -8388608 to 8388607; its element is the ring, the polygon or the corner. Raises PositionError if the canvas's
+        origin is not -32768 to 28672.
+        """
+        state = state_in_c("none", depth_test, depth_write, keep, sample_mask, scissor, blend)
+        polygons = polygons_of(corners, ring_ends, polygon_ends, colors, depth, named("rule", RULES, rule), state)
+        ids = () if first_id is None else (number("first_id", first_id),)
+        call = library().trirast_canvas_draw_polygon_ids if ids else library().trirast_canvas_draw_polygons
+        size = library().trirast_polygons_scratch(self._whole, polygons.fill_rule)
+        self._each(threads, lambda piece, _top: call(piece, polygons, *ids, scratch_of(size), size, CError()))
 
     def rgb(self, out: Optional[Any] = None, *, threads: SupportsIndex = 1) -> Any:
         """The colours, of the shape (height, width, 3): a numpy array, or without numpy a memoryview; or what `out` is."""

@@ -2,7 +2,7 @@
 
 import sys
 from array import array
-from typing import Any, Literal, Optional, Sequence, SupportsIndex, TypedDict, Union
+from typing import Any, Literal, Optional, Sequence, SupportsIndex, Tuple, TypedDict, Union
 
 from ._arguments import between, flag, named, of_length, shown, signed
 from ._blend import Blend, Preset, blend_in_c
@@ -69,21 +69,34 @@ class Draw:
         if not self._indices:
             # A batch without indices is not one of vertices in their order.
             self._vertices = b""
-        self._state = (
-            named("cull", CULLS, cull), named("depth_test", DEPTH_TESTS, depth_test), flag("depth_write", depth_write), kept_of(keep),
-            int(scissor is not None), ~between("sample_mask", sample_mask, 0, EVERY_SAMPLE) & EVERY_SAMPLE,
-            *(signed("scissor", side) for side in of_length("scissor", (0, 0, 0, 0) if scissor is None else scissor, 4)),
-        )
-        self._blend = blend_in_c(blend)
+        self._state = state_in_c(cull, depth_test, depth_write, keep, sample_mask, scissor, blend)
 
     def _in_c(self) -> CDraw:
         """The draw as C has it."""
-        return CDraw(self._count, len(self._indices) // INDEX_BYTES, self._topology, *self._state, self._blend)
+        return CDraw(self._count, len(self._indices) // INDEX_BYTES, self._topology, *self._state)
 
     @property
     def _count(self) -> int:
         """How many vertices it has."""
         return len(self._vertices) // VERTEX_BYTES
+
+
+def state_in_c(
+    cull: Cull,
+    depth_test: DepthTest,
+    depth_write: bool,
+    keep: str,
+    sample_mask: SupportsIndex,
+    scissor: Optional[Sequence[SupportsIndex]],
+    blend: Union[Preset, Blend],
+) -> Tuple[Any, ...]:
+    """The members of a trirast_draw behind its topology."""
+    return (
+        named("cull", CULLS, cull), named("depth_test", DEPTH_TESTS, depth_test), flag("depth_write", depth_write), kept_of(keep),
+        int(scissor is not None), ~between("sample_mask", sample_mask, 0, EVERY_SAMPLE) & EVERY_SAMPLE,
+        *(signed("scissor", side) for side in of_length("scissor", (0, 0, 0, 0) if scissor is None else scissor, 4)),
+        blend_in_c(blend),
+    )
 
 
 def in_order(count: int) -> Copy:

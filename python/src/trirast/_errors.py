@@ -48,7 +48,7 @@ class BatchError(PlacedError):
 
     causes = {
         1: "TooFewVertices", 2: "TooFewIndices", 3: "BadState", 4: "NotWhole", 5: "TooManyIds", 6: "BadIndex", 7: "BadPosition", 8: "NotConvex",
-        9: "LeftOver",
+        9: "LeftOver", 10: "TooManyCorners", 11: "BadRing", 12: "BadPolygon", 13: "TooFewColors", 14: "TooFewDepths",
     }
 
 

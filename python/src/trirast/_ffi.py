@@ -63,6 +63,17 @@ class CBatch(ctypes.Structure):
     ]
 
 
+class CPolygons(ctypes.Structure):
+    """trirast_polygons of the header. `kept` is what its pointers point to."""
+
+    kept: Tuple[Any, ...]
+    _fields_ = [
+        *fields(WORD, "struct_size fill_rule"), ("corners", POINTER), ("corner_count", COUNT), ("ring_ends", POINTER), ("ring_count", COUNT),
+        ("polygon_ends", POINTER), ("polygon_count", COUNT), ("colors", POINTER), ("color_count", COUNT), ("depths", POINTER),
+        ("depth_count", COUNT), ("state", CDraw),
+    ]
+
+
 class CCanvas(ctypes.Structure):
     """trirast_canvas of the header. `kept` is what its pointer points to."""
 
@@ -152,6 +163,8 @@ STATUSES: Dict[str, List[Any]] = {
     "trirast_canvas_clear": CANVAS + to(CClear),
     "trirast_canvas_draw": CANVAS + to(CBatch) + ERROR,
     "trirast_canvas_draw_ids": CANVAS + to(CBatch) + NUMBER + ERROR,
+    "trirast_canvas_draw_polygons": CANVAS + to(CPolygons) + BUFFER + ERROR,
+    "trirast_canvas_draw_polygon_ids": CANVAS + to(CPolygons) + NUMBER + BUFFER + ERROR,
     "trirast_canvas_load": PIXELS,
     "trirast_canvas_resolve": PIXELS,
     "trirast_canvas_depths": PIXELS,
@@ -169,6 +182,7 @@ OTHERS: Dict[str, Tuple[List[Any], Any]] = {
     "trirast_error_message": (ERROR + BUFFER, COUNT),
     "trirast_canvas_size": (CANVAS, COUNT),
     "trirast_canvas_tile_rows": (CANVAS, WORD),
+    "trirast_polygons_scratch": (CANVAS + NUMBER, COUNT),
 }
 
 

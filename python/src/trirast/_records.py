@@ -73,7 +73,7 @@ class Table:
         if self.count * size == len(made):
             error = self._put(made, size)
         else:
-            error = ValueError(f"{self._name}: {len(made) // size} rows, one for each vertex, and not {self.count}")
+            error = ValueError(f"{self._name}: {len(made) // size} rows, and not {self.count}")
         self._values = ()
         if error is not None:
             raise error

@@ -5,7 +5,7 @@ from typing import Any, Optional
 
 from ._arguments import between, color_of
 from ._buffers import refuse_masked
-from ._records import Column, table_of
+from ._records import Column, Columns, table_of
 
 # The fields of a vertex, as numpy takes them: numpy.zeros(3, trirast.VERTEX) are three. x and y are in 1/256 pixel. The last is not read.
 VERTEX = [
@@ -76,15 +76,15 @@ def is_own_layout(np: Any, vertices: Any) -> bool:
     return bool(has_all and is_packed and len(vertices))
 
 
-def put_colors(records: bytearray, count: int, colors: Any) -> None:
-    """Writes a colour to all records, or one to each. One of three channels is opaque."""
+def put_colors(records: bytearray, count: int, colors: Any, columns: Columns = COLOR, size: int = VERTEX_BYTES) -> None:
+    """Writes a colour to all records of this size, or one to each. One of three channels is opaque."""
     first = colors[0] if getattr(colors, "ndim", 1) == 1 and hasattr(colors, "__len__") and len(colors) in (3, 4) else ()
     if hasattr(first, "__len__"):
-        records[13::VERTEX_BYTES] = bytes([OPAQUE]) * count
-        table_of("colors", colors, COLOR[:3], COLOR).fill(records, VERTEX_BYTES)
+        records[columns[3].begin :: size] = bytes([OPAQUE]) * count
+        table_of("colors", colors, columns[:3], columns).fill(records, size)
         return
-    for column, channel in zip(COLOR, (*color_of("colors", colors, 3, 4), OPAQUE)):
-        records[column.begin :: VERTEX_BYTES] = bytes([channel]) * count
+    for column, channel in zip(columns, (*color_of("colors", colors, 3, 4), OPAQUE)):
+        records[column.begin :: size] = bytes([channel]) * count
 
 
 def put_depths(records: bytearray, count: int, depth: Any) -> None:

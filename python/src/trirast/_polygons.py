@@ -1,0 +1,50 @@
+"""Polygons: rings of corners, each polygon in one colour and at one depth."""
+
+import ctypes
+from array import array
+from typing import Any, Literal, Optional, Tuple
+
+from ._arguments import between
+from ._batch import address_of
+from ._ffi import CDraw, CPolygons
+from ._records import Column, Copy, index_columns, indices_of, table_of
+from ._vertices import PLACE, put_colors
+
+Rule = Literal["even-odd", "nonzero"]
+# In the order of their numbers in C.
+RULES = ("even-odd", "nonzero")
+CORNER_BYTES, END_BYTES, COLOR_BYTES, DEPTH_BYTES = 8, 4, 4, 2
+COLOR = tuple(Column(name, "B", k) for k, name in enumerate(("red", "green", "blue", "alpha")))
+DEPTH = Column("depth", "H", 0)
+
+
+def polygons_of(
+    corners: Any, ring_ends: Any, polygon_ends: Any, colors: Any, depth: Optional[Any], rule: int, state: Tuple[Any, ...]
+) -> CPolygons:
+    """Polygons as C has them, which keep what they point to."""
+    places = table_of("corners", corners, PLACE)
+    packed = places.fill(bytearray(CORNER_BYTES * places.count), CORNER_BYTES)
+    of_rings = indices_of("ring_ends", ring_ends, index_columns(1))
+    of_polygons = indices_of("polygon_ends", polygon_ends, index_columns(1))
+    count = len(of_polygons) // END_BYTES
+    filled = bytearray(COLOR_BYTES * count)
+    put_colors(filled, count, colors, COLOR, COLOR_BYTES)
+    depths = b"" if depth is None else depths_of(depth, count)
+    made = CPolygons(
+        0, rule, address_of(packed), places.count, address_of(of_rings), len(of_rings) // END_BYTES, address_of(of_polygons), count,
+        address_of(filled), count, address_of(depths), len(depths) // DEPTH_BYTES, CDraw(0, 0, 0, *state),
+    )
+    made.kept = packed, of_rings, of_polygons, filled, depths
+    return made
+
+
+def depths_of(depth: Any, count: int) -> Copy:
+    """One depth for all polygons, or one for each."""
+    if hasattr(depth, "__index__") and not hasattr(depth, "__len__"):
+        return array("H", [between("depth", depth, 0, 65535)] * count).tobytes()
+    return table_of("depth", depth, (DEPTH,)).fill(bytearray(DEPTH_BYTES * count), DEPTH_BYTES)
+
+
+def scratch_of(size: int) -> Any:
+    """Memory that a call uses, of so many bytes, aligned to 8."""
+    return (ctypes.c_uint64 * (size // 8))()

@@ -1,0 +1,117 @@
+"""Polygons: each sample is that of the definition, counted edge by edge, and what the calls refuse."""
+
+import random
+import unittest
+from typing import List, Sequence, Tuple
+
+from trirast import BatchError, Canvas, PositionError
+
+Corner = Tuple[int, int]
+# Of each number of samples their places in 1/16 pixel from the pixel's middle: the standard patterns of Direct3D 11.
+PLACES = {
+    1: ((0, 0),),
+    2: ((4, 4), (-4, -4)),
+    4: ((-2, -6), (6, -2), (-6, 2), (2, 6)),
+    8: ((1, -3), (-1, 3), (5, 1), (-3, -5), (-5, 5), (-7, -1), (3, 7), (7, -7)),
+    16: (
+        (1, 1), (-1, -3), (-3, 2), (4, -1), (-5, -2), (2, 5), (5, 3), (3, -5), (-2, 6), (0, -7), (-4, -6), (-6, 4), (-8, 0), (7, -4), (6, 7),
+        (-7, -8),
+    ),
+}
+SQUARE = [(0, 0), (512, 0), (512, 512), (0, 512)]
+WHITE = (1 << 24) - 1
+
+
+def is_inside(rings: Sequence[Sequence[Corner]], rule: str, x: int, y: int) -> bool:
+    """Whether a ray to the left crosses an odd number of edges, or as many downwards as upwards do not cancel."""
+    crossed = turns = 0
+    for ring in rings:
+        for (ax, ay), (bx, by) in zip(ring, (*ring[1:], *ring[:1])):
+            down = 1 if ay < by else -1
+            (px, py), (qx, qy) = ((ax, ay), (bx, by)) if down == 1 else ((bx, by), (ax, ay))
+            # The line at the height of y is at x or left of it; the upper end belongs to the edge, the lower one does not.
+            if py <= y < qy and px * (qy - py) + (qx - px) * (y - py) <= x * (qy - py):
+                crossed, turns = crossed + 1, turns + down
+    return bool(crossed % 2 if rule == "even-odd" else turns)
+
+
+def flat(polygons: Sequence[Sequence[Sequence[Corner]]]) -> Tuple[List[Corner], List[int], List[int]]:
+    """Corners, ends of rings and ends of polygons."""
+    corners: List[Corner] = []
+    rings: List[int] = []
+    ends = []
+    for polygon in polygons:
+        for ring in polygon:
+            corners += ring
+            rings.append(len(corners))
+        ends.append(len(rings))
+    return corners, rings, ends
+
+
+class Polygons(unittest.TestCase):
+    def test_each_sample_is_the_definition_s(self) -> None:
+        numbers = random.Random(5)
+        for count, places in PLACES.items():
+            for rule in ("even-odd", "nonzero"):
+                width, height, origin = numbers.randrange(1, 90), numbers.randrange(1, 90), (numbers.randrange(-9, 9), numbers.randrange(-9, 9))
+                canvas = Canvas(width, height, count, origin=origin)
+                canvas.clear((255, 255, 255))
+                # Corners on quarters of pixels meet samples often.
+                polygons = [
+                    [[(64 * numbers.randrange(-40, 400), 64 * numbers.randrange(-40, 400)) for _ in range(numbers.randrange(8))] for _ in range(3)]
+                    for _ in range(2)
+                ]
+                canvas.draw_polygons(*flat(polygons), rule=rule, first_id=0, threads=2)  # type: ignore[arg-type]
+                for sample, (dx, dy) in enumerate(places):
+                    seen = canvas.ids(sample).tolist()
+                    for row in range(height):
+                        for column in range(width):
+                            x, y = 256 * (column + origin[0]) + 128 + 16 * dx, 256 * (row + origin[1]) + 128 + 16 * dy
+                            inside = [number for number, rings in enumerate(polygons) if is_inside(rings, rule, x, y)]
+                            self.assertEqual(seen[row][column], inside[-1] if inside else WHITE, (count, rule, column, row, sample))
+
+    def test_neighbours_leave_no_seam(self) -> None:
+        middle = (301, 287)
+        outline = [(0, 0), (4096, 0), (4096, 4096), (0, 4096)]
+        canvas = Canvas(16, 16, 16)
+        canvas.clear()
+        cells = [[[outline[k], outline[(k + 1) % 4], middle]] for k in range(4)]
+        canvas.draw_polygons(*flat(cells), (255, 255, 255, 128), blend="over")
+        self.assertEqual({tuple(pixel) for row in canvas.rgb().tolist() for pixel in row}, {(128, 128, 128)})
+
+    def test_colours_and_depths(self) -> None:
+        canvas = Canvas(4, 2)
+        canvas.clear()
+        moved = [(x + 512, y) for x, y in SQUARE]
+        canvas.draw_polygons(*flat([[SQUARE], [moved]]), [(10, 20, 30), (40, 50, 60)], depth=[7, 8], depth_write=True)
+        self.assertEqual(canvas.rgb().tolist()[0], [[10, 20, 30], [10, 20, 30], [40, 50, 60], [40, 50, 60]])
+        self.assertEqual(canvas.depth().tolist()[1], [7, 7, 8, 8])
+        canvas.draw_polygons(*flat([[SQUARE]]), (1, 2, 3), depth=9, depth_test="less")
+        self.assertEqual(canvas.rgb().tolist()[0][0], [10, 20, 30])
+        canvas.draw_polygons([], [], [])
+        canvas.draw_polygons([], [0], [1])
+
+    def test_what_is_refused(self) -> None:
+        canvas = Canvas(4, 4)
+        canvas.clear()
+        corners, rings, polygons = flat([[SQUARE], [SQUARE]])
+        for ends, of_polygons, name, element in (
+            ([5, 4], polygons, "BadRing", 1), ([4, 9], polygons, "BadRing", 1), ([4, 7], polygons, "LeftOver", None),
+            (rings, [2, 1], "BadPolygon", 1), (rings, [1, 1], "LeftOver", None),
+        ):
+            with self.assertRaises(BatchError) as caught:
+                canvas.draw_polygons(corners, ends, of_polygons)
+            self.assertEqual((caught.exception.name, caught.exception.element), (name, element), (ends, of_polygons))
+        with self.assertRaises(ValueError):
+            canvas.draw_polygons(corners, rings, polygons, [(1, 2, 3)])
+        with self.assertRaises(ValueError):
+            canvas.draw_polygons(corners, rings, polygons, rule="winding")  # type: ignore[arg-type]
+        with self.assertRaises(BatchError):
+            canvas.draw_polygons(corners, rings, polygons, first_id=1 << 24)
+        with self.assertRaises(PositionError):
+            Canvas(4, 4, origin=(40000, 0)).draw_polygons(corners, rings, polygons)
+        self.assertEqual(set(canvas.rgb().tobytes()), {0})
+
+
+if __name__ == "__main__":
+    unittest.main()
