@@ -9,7 +9,7 @@ from tools import places
 
 PAGES = ("README.md", *(
     f"docs/{name}.md" for name in (
-        "canvas", "canvas_proved", "conformance", "draw-list", "gallery", "library", "matplotlib", "performance", "posters", "proofs",
+        "canvas", "canvas_proved", "conformance", "draw-list", "gallery", "library", "matplotlib", "performance", "polygons", "posters", "proofs",
         "python", "rules", "shading", "tested", "web",
     )
 ))
