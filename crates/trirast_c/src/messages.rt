@@ -54,7 +54,10 @@ fn batch_words(cause: u32) -> (&'static str, &'static str) {
         6 => ("index", "is not less than the number of vertices"),
         7 => ("vertex", "is out of range"),
         8 => ("quad", "is not strictly convex"),
-        9 => ("", "a vertex or an index is in no draw, or a corner or a ring in no polygon"),
+        9 => (
+            "",
+            "a vertex or an index is in no draw, or a corner or a ring in no polygon",
+        ),
         10 => ("", "the polygons have 4294967296 corners or more"),
         11 => ("ring", "ends before it begins, or behind the last corner"),
         12 => ("polygon", "ends before it begins, or behind the last ring"),
