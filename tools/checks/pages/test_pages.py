@@ -27,6 +27,7 @@ ELSEWHERE = {
     ("docs/library.md", "c"): "tools/checks/library/install.py, whose programs are these; here each is compiled",
     ("docs/library.md", "rust"): "bindings/rust/trirast, whose documentation has them",
     ("docs/library.md", "cmake"): "tools/packaging",
+    ("docs/shading.md", "cpp"): "tools/checks/shade, which compares its picture",
     ("README.md", "json"): "run as a list", ("docs/draw-list.md", "json"): "run as a list",
 }
 RUN = {"sh", "inline", "console", "python", "text"}
