@@ -23,12 +23,17 @@ def type_of(text: str, enums: list[str]) -> str:
     """A type of C in Rust, as `const uint8_t *`. Enumerations have 32 bits."""
     name = text.replace("const ", "").replace("*", "").strip()
     pointer = ("*const " if text.startswith("const ") else "*mut ") if "*" in text else ""
+    array = re.fullmatch(r"(\w+)_of_(\d+)", name)
+    if array:
+        return f"{pointer}[{TYPES[array[1]]}; {array[2]}]"
     return pointer + ("u32" if name in enums else TYPES.get(name, name))
 
 
 def variables(text: str, between: str, enums: list[str]) -> str:
     """The members of a struct or the parameters of a call in C, which are named one after another."""
     found = []
+    # A pointer to arrays has its name inside.
+    text = re.sub(r"(\w+) \(\*(\w+)\)\[(\d+)\]", r"\1_of_\3 *\2", text)
     for kind, names in re.findall(rf"((?:const )?\w+ \**)([\w\[\], ]+?) ?(?:{between}|$)", text):
         for name in names.split(","):
             array = re.fullmatch(r"(\w+)\[(\d+)\]", name.strip())

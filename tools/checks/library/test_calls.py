@@ -387,7 +387,7 @@ def test_tests_depths(test: int, passes: str) -> None:
         (in_list(10, 1023), "list fault 10 NotConvex in draw 1023"),
         ((15, 6, 3, 17), "draw 3: index 17 is not less than the number of vertices"),
         ((15, 4, 0, None), "draw 0: the indices make no whole triangles or quads"),
-        ((15, 9, None, None), "a vertex or an index is in no draw"),
+        ((15, 9, None, None), "a vertex or an index is in no draw, or a corner or a ring in no polygon"),
         (alone(2), "input too long"),
         (alone(3), "out of memory"),
         (alone(4), "buffer too small"),

@@ -60,6 +60,15 @@ pub const TRIRAST_BATCH_BAD_INDEX: u32 = 6;
 pub const TRIRAST_BATCH_BAD_POSITION: u32 = 7;
 pub const TRIRAST_BATCH_NOT_CONVEX: u32 = 8;
 pub const TRIRAST_BATCH_LEFT_OVER: u32 = 9;
+pub const TRIRAST_BATCH_TOO_MANY_CORNERS: u32 = 10;
+pub const TRIRAST_BATCH_BAD_RING: u32 = 11;
+pub const TRIRAST_BATCH_BAD_POLYGON: u32 = 12;
+pub const TRIRAST_BATCH_TOO_FEW_COLORS: u32 = 13;
+pub const TRIRAST_BATCH_TOO_FEW_DEPTHS: u32 = 14;
+
+// Which points are inside of a polygon, by the edges of its rings that a ray to the left crosses.
+pub const TRIRAST_FILL_EVEN_ODD: u32 = 0;
+pub const TRIRAST_FILL_NONZERO: u32 = 1;
 
 // What the indices of a draw are.
 pub const TRIRAST_TOPOLOGY_TRIANGLES: u32 = 0;
@@ -115,6 +124,9 @@ pub const TRIRAST_OPERATION_MAX: u32 = 5;
 pub const TRIRAST_TILE_SIZE: u32 = 64;
 /// Bytes of the samples of one index of a block of 8 by 8 pixels: the unit of a canvas's memory.
 pub const TRIRAST_PLANE_BYTES: usize = 320;
+/// Scratch memory of a column of 8 pixels of a canvas: its flags, and by the nonzero rule its counters.
+pub const TRIRAST_FLAGS_BYTES: usize = 256;
+pub const TRIRAST_COUNTERS_BYTES: usize = 8192;
 
 // How the colour of a pixel lies in bytes, in the order of the name.
 pub const TRIRAST_FORMAT_RGB8: u32 = 0;
@@ -224,6 +236,41 @@ pub struct trirast_batch {
 impl Default for trirast_batch {
     /// All zeros.
     fn default() -> trirast_batch {
+        // SAFETY: numbers and raw pointers may be zeros.
+        unsafe { std::mem::zeroed() }
+    }
+}
+
+/// A corner of a ring, in 1/256 pixel of the screen.
+#[repr(C)]
+#[derive(Clone, Copy, Debug, Default, PartialEq, Eq, Hash)]
+pub struct trirast_corner {
+    pub x: i32,
+    pub y: i32,
+}
+
+/// Polygons with their colours.
+#[repr(C)]
+#[derive(Clone, Copy, Debug)]
+pub struct trirast_polygons {
+    pub struct_size: u32,
+    pub fill_rule: u32,
+    pub corners: *const trirast_corner,
+    pub corner_count: usize,
+    pub ring_ends: *const u32,
+    pub ring_count: usize,
+    pub polygon_ends: *const u32,
+    pub polygon_count: usize,
+    pub colors: *const [u8; 4],
+    pub color_count: usize,
+    pub depths: *const u16,
+    pub depth_count: usize,
+    pub state: trirast_draw,
+}
+
+impl Default for trirast_polygons {
+    /// All zeros.
+    fn default() -> trirast_polygons {
         // SAFETY: numbers and raw pointers may be zeros.
         unsafe { std::mem::zeroed() }
     }
@@ -409,6 +456,22 @@ extern "C" {
         canvas: *mut trirast_canvas,
         batch: *const trirast_batch,
         first_id: u32,
+        error: *mut trirast_error,
+    ) -> u32;
+    pub fn trirast_polygons_scratch(canvas: *const trirast_canvas, fill_rule: u32) -> usize;
+    pub fn trirast_canvas_draw_polygons(
+        canvas: *mut trirast_canvas,
+        polygons: *const trirast_polygons,
+        scratch: *mut c_void,
+        scratch_size: usize,
+        error: *mut trirast_error,
+    ) -> u32;
+    pub fn trirast_canvas_draw_polygon_ids(
+        canvas: *mut trirast_canvas,
+        polygons: *const trirast_polygons,
+        first_id: u32,
+        scratch: *mut c_void,
+        scratch_size: usize,
         error: *mut trirast_error,
     ) -> u32;
     pub fn trirast_canvas_resolve(
