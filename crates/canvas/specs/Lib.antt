@@ -84,7 +84,7 @@
 --   IsUniformTile: The tile with these planes is unchanged since it was cleared, and all of its samples have one id.
 --   planes_in: The planes of the tile in a column and a row of tiles.
 --   IsUniform: The tile in a column and a row of tiles is unchanged since it was cleared, and all of its samples have one id.
---   IsWritten: So many ids are written of a tile: one if it is unchanged since it was cleared, else one for each sample.
+--   IsWritten: The number of ids that are written of a tile: one if it is unchanged since it was cleared, else one for each sample.
 --   with_colour: The sample in the colour of this number, red its lowest byte.
 --   AreTileColours: The samples of a tile have the colours that the entries say, and the depths that they had.
 --   HasBytes: The channels of the sample are bytes.

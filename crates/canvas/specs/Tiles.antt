@@ -61,7 +61,7 @@ planes_in c first column row samples =
 abbrev pub IsUniform : Canvas → ℕ → ℕ → ℕ → List BlockSamples → Type 0
 IsUniform c first column row samples = IsUniformTile c.count (planes_in c first column row samples)
 
--- So many ids are written of a tile: one if it is unchanged since it was cleared, else one for each sample.
+-- The number of ids that are written of a tile: one if it is unchanged since it was cleared, else one for each sample.
 abbrev pub IsWritten : Canvas → ℕ → ℕ → ℕ → List BlockSamples → ℕ → Type 0
 IsWritten c first column row samples many =
     ((many ≡ 1) × IsUniform c first column row samples) ⊎ ((many ≡ tile_entries c.count) × ¬ IsUniform c first column row samples)

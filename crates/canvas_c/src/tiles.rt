@@ -21,7 +21,7 @@ fn status_for_tile(misfit: Misfit) -> Status
     }
 }
 
-/// 1 if so many entries are one, else 0.
+/// 1 if that number of entries is one, else 0.
 fn is_one(many: usize) -> u32
     ensures one { many ≡ 1 → result ≡ 1 }
     ensures more { many ≢ 1 → result ≡ 0 }
