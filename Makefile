@@ -83,7 +83,8 @@ LIBRARY_aarch64 := lib/aarch64/libtrirast.a lib/aarch64/libtrirast.so lib/aarch6
 PROGRAM_x86_64 := $(PROGRAM)
 PROGRAM_aarch64 := bin/aarch64/trirast
 CMAKE_FILES := trirast-config.cmake trirast-config-version.cmake
-HEADERS := trirast.h trirast.hpp trirast_clip.h trirast_clip.hpp trirast_lanes.hpp trirast_shade.hpp
+HEADERS := trirast.h trirast.hpp trirast_clip.h trirast_clip.hpp trirast_lanes.hpp trirast_shade.h trirast_shade.hpp \
+    $(addprefix trirast/,canvas.hpp edges.hpp error.hpp list.hpp polygons.hpp span.hpp state.hpp tile_rows.hpp)
 # What is installed: the mode of each file, where it lies here, and below PREFIX. And the files that are made there.
 INSTALLED := 755:$(STUB):bin/trirast 755:$(WHY):bin/trirast_why \
     755:lib/$(FIRST_LEVEL)/program.so:lib/trirast/program.so \
@@ -220,7 +221,7 @@ $(OBJECTS:%/trirast.o=%/libtrirast.so): %/libtrirast.so: %/$(SHARED)
 # What Python loads, here and in a wheel: it holds nothing and needs the library beside it, so that the loader takes the one for the
 # processor's level.
 lib/load.so lib/aarch64/load.so: %/load.so: %/$(SHARED)
-	$(CC) -shared -nostdlib -s -Wl,--build-id=none -o $@ -Wl,--no-as-needed $< '-Wl,-rpath,$$ORIGIN'
+	$(CC) -shared -nostdlib -s -Wl,--build-id=none,-z,noexecstack -o $@ -Wl,--no-as-needed $< '-Wl,-rpath,$$ORIGIN'
 
 lib/load.so: lib/glibc-hwcaps/$(LEVEL)/$(SHARED)
 lib/glibc-hwcaps/$(LEVEL)/$(SHARED): lib/$(LEVEL)/$(SHARED)
@@ -262,7 +263,7 @@ install: $(STUB) $(PROGRAMS) $(WHY) $(LIBRARY_x86_64)
 
 uninstall:
 	@for name in $(foreach file,$(INSTALLED),$(word 3,$(subst :, ,$(file)))) $(MADE); do rm -fv "$(DESTDIR)$(PREFIX)/$$name"; done
-	@rmdir $(foreach folder,share/trirast $(foreach place,lib/trirast $(LIBDIR),$(place)/glibc-hwcaps/$(LEVEL) $(place)/glibc-hwcaps) \
+	@rmdir $(foreach folder,share/trirast include/trirast $(foreach place,lib/trirast $(LIBDIR),$(place)/glibc-hwcaps/$(LEVEL) $(place)/glibc-hwcaps) \
 	    lib/trirast $(LIBDIR)/cmake/trirast $(LIBDIR)/cmake, \
 	    "$(DESTDIR)$(PREFIX)/$(folder)") 2> /dev/null || true
 

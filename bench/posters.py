@@ -22,6 +22,7 @@ from typing import Dict
 
 from trirast import poster
 from trirast.poster._index import Index
+from trirast.poster._strips import cut_to_windows
 from trirast.poster._threads import rows_by_threads
 from trirast.poster._windows import Windows
 
@@ -75,6 +76,7 @@ def time_drawing(path: str, window: int, threads: int) -> None:
     scene = poster.scene_of(path)
     windows = Windows(scene.sheet, window)
     begun, used = time.perf_counter(), processor_seconds(resource.RUSAGE_SELF)
+    scene = cut_to_windows(scene, windows, threads)
     index = Index.of(scene, windows, threads)
     indexed = time.perf_counter()
     for _ in rows_by_threads(scene, index, windows, 0, threads, lambda span: None):

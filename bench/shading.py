@@ -1,12 +1,15 @@
 """Times shading on a canvas and by llvmpipe, Mesa's software driver, with the same triangles, texels and shader.
 
-    python3 -m bench.shading [--scenes ring back front dust] [--threads 1 4] [--frames 9] [--level x86-64-v3] [--probe]
+    python3 -m bench.shading [--scenes ring back front dust] [--threads 1 4] [--frames 9] [--level x86-64-v3] [--write]
+    python3 -m bench.shading --probe
 
 A frame of 1280 by 720 pixels with four samples goes from the model's vertices to pixels in memory: textured triangles
 under a light, and five panes of glass. The frames of both take turns in one process; the least of each counts. The
 parts of ours are shares of its processor time: setup is clipping, projection and look-up tables; ids with the clear;
 shading, of which `plain` is that by one colour, and `calls` are the two calls of the library for tiles; glass; resolve.
-The last column is the share of pixels of which a channel is more than 4 away.
+`by in place's` is the time by calls, divided by what would be left if the two calls took none: at most what a layout in
+place could save. The last column is the share of pixels of which a channel is more than 4 away. Below the table stands
+which of the aims are missed. --write puts all of it into docs/shading.md.
 
 --probe asks llvmpipe where it takes w when it shades each sample. It needs `make library`, g++, libegl-dev and
 libgl-dev. Exit status 2 if a program cannot be built or ends with an error.
@@ -16,19 +19,24 @@ from __future__ import annotations
 
 import argparse
 import os
+import re
 import subprocess
 import sys
+from typing import Iterator, NamedTuple
 
 from bench.run import load, processor_name
-from tools.places import BENCH_OUT, EXAMPLES, INCLUDE, LEVEL, LIB, SHARED_LIBRARY, TOP, is_built
+from tools.places import BENCH_OUT, EXAMPLES, INCLUDE, LEVEL, LIB, SHARED_LIBRARY, TOP, is_built, text_of
 
 SCENES = ("ring", "back", "front", "dust")
 SOURCES = os.path.join(TOP, "bench")
 PARTS = ("setup", "ids", "shading", "plain", "calls", "glass", "resolve")
 COLUMNS = (
-    "scene", "triangles", "rate", "threads", "frame, ms", "by llvmpipe's", "processor, ms", "by llvmpipe's", *PARTS,
-    "pixels more than 4 away",
+    "scene", "triangles", "rate", "threads", "frame, ms", "by llvmpipe's", "times one thread", "processor, ms",
+    "by llvmpipe's", *PARTS, "by in place's", "pixels more than 4 away",
 )
+# The aims: of llvmpipe's frame at each rate, of the frame in place, and four threads by one.
+MOST, MOST_BY_CALLS, LEAST_BY_FOUR = {"pixel": 0.5, "sample": 0.4}, 1.06, 3.2
+PAGE = os.path.join(TOP, "docs", "shading.md")
 
 
 def built(name: str, level: str) -> str:
@@ -56,13 +64,57 @@ def rows_of(program: str, scene: str, threads: int, frames: int) -> tuple[str, l
     return renderer.partition(" ")[2], list(map(numbers_in, lines))
 
 
-def cells(scene: str, threads: int, row: dict[str, str]) -> list[str]:
-    wall, processor = float(row["wall"]), float(row["processor"])
-    whole = sum(float(row[name]) for name in ("setup", "ids", "shading", "glass", "resolve"))
-    shares = [f"{float(row[name]) / whole:.2f}" for name in PARTS]
-    ratios = wall / float(row["their_wall"]), processor / float(row["their_processor"])
-    times = [f"{wall:.2f}", f"{ratios[0]:.2f}", f"{processor:.2f}", f"{ratios[1]:.2f}"]
-    return [scene, row["triangles"], row["rate"], str(threads), *times, *shares, f"{float(row['far']):.2f} %"]
+class Frame(NamedTuple):
+    """A row of the table."""
+    scene: str
+    threads: int
+    row: dict[str, str]
+    alone: float  # the frame by one thread, in milliseconds; 0 if there is none
+
+    def number(self, name: str) -> float:
+        return float(self.row[name])
+
+    def whole(self) -> float:
+        return sum(map(self.number, ("setup", "ids", "shading", "glass", "resolve")))
+
+    def by_llvmpipe(self, name: str = "wall") -> float:
+        return self.number(name) / self.number(f"their_{name}")
+
+    def by_in_place(self) -> float:
+        return self.whole() / (self.whole() - self.number("calls"))
+
+    def times_one(self) -> float:
+        return self.alone / self.number("wall")
+
+    def cells(self) -> list[str]:
+        times_one = f"{self.times_one():.2f}" if self.threads > 1 and self.alone else ""
+        wall = [f"{self.number('wall'):.2f}", f"{self.by_llvmpipe():.2f}", times_one]
+        processor = [f"{self.number('processor'):.2f}", f"{self.by_llvmpipe('processor'):.2f}"]
+        shares = [f"{self.number(name) / self.whole():.2f}" for name in PARTS]
+        first = [self.scene, self.row["triangles"], self.row["rate"], str(self.threads)]
+        return [*first, *wall, *processor, *shares, f"{self.by_in_place():.2f}", f"{self.number('far'):.2f} %"]
+
+    def missed(self) -> Iterator[str]:
+        rate = self.row["rate"]
+        name = f"{self.scene} at each {rate} by {self.threads} threads"
+        if self.by_llvmpipe() > MOST[rate]:
+            yield f"{name}: {self.by_llvmpipe():.2f} of llvmpipe's frame, and not {MOST[rate]}"
+        if self.by_in_place() > MOST_BY_CALLS:
+            yield f"{name}: {self.by_in_place():.2f} of a frame in place, and not {MOST_BY_CALLS}"
+        if self.threads == 4 and self.alone and self.times_one() < LEAST_BY_FOUR:
+            yield f"{name}: {self.times_one():.2f} times one thread, and not {LEAST_BY_FOUR}"
+
+
+def frames_of(options: argparse.Namespace, program: str) -> Iterator[tuple[str, Frame]]:
+    """The renderer, and the frames as they are timed."""
+    for scene in options.scenes:
+        alone: dict[str, float] = {}
+        for threads in options.threads:
+            renderer, rows = rows_of(program, scene, threads, options.frames)
+            for row in rows:
+                if threads == 1:
+                    alone[row["rate"]] = float(row["wall"])
+                yield renderer, Frame(scene, threads, row, alone.get(row["rate"], 0))
 
 
 def parsed() -> argparse.Namespace:
@@ -71,21 +123,40 @@ def parsed() -> argparse.Namespace:
     parser.add_argument("--threads", type=int, nargs="+", default=(1, 4), help="default 1 4")
     parser.add_argument("--frames", type=int, default=9, help="frames of which the least counts (default 9)")
     parser.add_argument("--level", default=LEVEL, help=f"the level for which headers are compiled (default {LEVEL})")
+    parser.add_argument("--write", action="store_true", help="put the table into docs/shading.md")
     parser.add_argument("--probe", action="store_true", help="ask llvmpipe for w, and time nothing")
     return parser.parse_args()
 
 
-def print_table(options: argparse.Namespace) -> None:
+def lines_of(options: argparse.Namespace) -> Iterator[str]:
+    """The table, and below it the aims that are missed."""
     program, renderer = built("shading", options.level), ""
-    print(f"Machine: {processor_name()}, {os.cpu_count()} processors; load before the run {load()}. ", end="")
-    print(f"Headers for {options.level}.\n")
-    print("| " + " | ".join(COLUMNS) + " |\n" + "|---" * len(COLUMNS) + "|")
-    for scene in options.scenes:
-        for threads in options.threads:
-            renderer, rows = rows_of(program, scene, threads, options.frames)
-            for row in rows:
-                print("| " + " | ".join(cells(scene, threads, row)) + " |", flush=True)
-    print(f"\nRenderer: {renderer}. Load after the run {load()}.")
+    machine = f"{processor_name()}, {os.cpu_count()} processors; load before the run {load()}"
+    yield f"Machine: {machine}. Headers for {options.level}.\n\n| {' | '.join(COLUMNS)} |\n{'|---' * len(COLUMNS)}|\n"
+    missed: list[str] = []
+    for renderer, frame in frames_of(options, program):
+        missed += frame.missed()
+        yield f"| {' | '.join(frame.cells())} |\n"
+    yield f"\nRenderer: {renderer}. Load after the run {load()}. "
+    yield f"Missed: {'; '.join(missed) or 'nothing'}.\n"
+
+
+def write(text: str) -> None:
+    """Puts the table into the page, in place of the one that is there."""
+    page = text_of(PAGE)
+    pattern = r"(?<=\n## Times\n)(.*?)^Machine: .*?^Renderer: [^\n]*\n"
+    (_found,) = re.findall(pattern, page, re.DOTALL | re.MULTILINE)
+    with open(PAGE, "w", encoding="utf-8") as file:
+        file.write(re.sub(pattern, lambda found: found[1] + text, page, count=1, flags=re.DOTALL | re.MULTILINE))
+
+
+def print_table(options: argparse.Namespace) -> None:
+    text = ""
+    for line in lines_of(options):
+        print(line, end="", flush=True)
+        text += line
+    if options.write:
+        write(text)
 
 
 def main() -> int:

@@ -32,11 +32,11 @@ class Equation(NamedTuple):
 
 
 FACTORS = {
-    "zero": 1, "one": 2, "source colour": 3, "inverse source colour": 4, "source alpha": 5, "inverse source alpha": 6,
-    "stored alpha": 7, "inverse stored alpha": 8, "stored colour": 9, "inverse stored colour": 10, "source alpha saturated": 11,
-    "constant": 14, "inverse constant": 15,
+    "zero": 1, "one": 2, "source_color": 3, "inverse_source_color": 4, "source_alpha": 5, "inverse_source_alpha": 6, "stored_alpha": 7,
+    "inverse_stored_alpha": 8, "stored_color": 9, "inverse_stored_color": 10, "source_alpha_saturated": 11, "constant": 14,
+    "inverse_constant": 15,
 }
-OPERATIONS = {"add": 1, "subtract": 2, "reverse subtract": 3, "min": 4, "max": 5}
+OPERATIONS = {"add": 1, "subtract": 2, "reverse_subtract": 3, "min": 4, "max": 5}
 ADD, SUBTRACT, REVERSE_SUBTRACT, MIN, MAX = OPERATIONS.values()
 NONE = Equation(2, 1, ADD, 2, 1, ADD)
 OVER = Equation(5, 6, ADD, 2, 6, ADD)

@@ -178,7 +178,7 @@ class Equations(unittest.TestCase):
     def test_halves_and_ends(self) -> None:
         # x is rounded to the q with 255 q <= x + 127 < 255 (q + 1), then clamped.
         for x, q in ((127, 0), (128, 1), (-128, 0), (255 * 255, 255), (2 * 255 * 255, 255), (-255 * 255, 0)):
-            equation = OPERATIONS["add"] if x >= 0 else OPERATIONS["reverse subtract"]
+            equation = OPERATIONS["add"] if x >= 0 else OPERATIONS["reverse_subtract"]
             one, two = (abs(x), 0) if abs(x) <= 255 else (255, 255 if abs(x) == 65025 else 510)
             value = blending.channel_of(one, 0, 1, 0, equation) if two == 0 else blending.channel_of(one, 0, two, 0, equation)
             self.assertEqual(value, q, x)
@@ -186,9 +186,9 @@ class Equations(unittest.TestCase):
     def test_each_factor(self) -> None:
         new, old, constant = (200, 100, 50, 64), (10, 20, 30, 230), (1, 2, 3, 4)
         values = {
-            "zero": (0, 0), "one": (255, 255), "source colour": (100, 64), "inverse source colour": (155, 191), "source alpha": (64, 64),
-            "inverse source alpha": (191, 191), "stored alpha": (230, 230), "inverse stored alpha": (25, 25), "stored colour": (20, 230),
-            "inverse stored colour": (235, 25), "source alpha saturated": (25, 255), "constant": (2, 4), "inverse constant": (253, 251),
+            "zero": (0, 0), "one": (255, 255), "source_color": (100, 64), "inverse_source_color": (155, 191), "source_alpha": (64, 64),
+            "inverse_source_alpha": (191, 191), "stored_alpha": (230, 230), "inverse_stored_alpha": (25, 25), "stored_color": (20, 230),
+            "inverse_stored_color": (235, 25), "source_alpha_saturated": (25, 255), "constant": (2, 4), "inverse_constant": (253, 251),
         }
         self.assertEqual(set(values), set(FACTORS))
         for name, pair in values.items():
@@ -197,7 +197,7 @@ class Equations(unittest.TestCase):
 
     def test_by_fractions(self) -> None:
         """The rule in rational numbers: a sum of products, rounded to the nearest integer, then clamped."""
-        signs = {"add": (1, 1), "subtract": (1, -1), "reverse subtract": (-1, 1)}
+        signs = {"add": (1, 1), "subtract": (1, -1), "reverse_subtract": (-1, 1)}
         rng = random.Random("fractions")
         for _ in range(200):
             equation = any_equation(rng)
@@ -225,7 +225,7 @@ class Equations(unittest.TestCase):
 
     def test_operations(self) -> None:
         made = {name: blending.channel_of(100, 40, 255, 255, number) for name, number in OPERATIONS.items()}
-        self.assertEqual(made, {"add": 140, "subtract": 60, "reverse subtract": 0, "min": 40, "max": 100})
+        self.assertEqual(made, {"add": 140, "subtract": 60, "reverse_subtract": 0, "min": 40, "max": 100})
 
     def test_over_is_that_of_draw_lists(self) -> None:
         rows = [shape for n in range(8) for shape in rectangle(0, n, 8, n + 1, (31 * n, 255 - n, 128), alpha=36 * n)]

@@ -16,8 +16,9 @@
  * - Memory. The caller owns all memory that it passes. A call keeps no pointer, and frees all that it allocates before
  *   it returns. It allocates by malloc, realloc and free; a program that replaces one of these replaces all three. The
  *   calls trirast_canvas_* and trirast_edges_* allocate nothing.
- * - NULL. An array is a pointer and a count of elements; if the count is 0, the pointer may be NULL. `error` may be
- *   NULL, and so may each pointer of which the call's text says so. Every other pointer points to a valid object.
+ * - NULL. An array is a pointer and a count of elements; if the count is 0, the pointer may be NULL, but of the indices
+ *   of a batch that says that there are none: trirast_batch. `error` may be NULL, and so may each pointer of which the
+ *   call's text says so. Every other pointer points to a valid object.
  * - Strides are in bytes: from the beginning of one element or row to that of the next. 0 is without a gap.
  * - Reading and writing. A call writes to its non-const pointers alone. The memory behind them must not overlap with
  *   any other memory that is passed to the same call, and no other thread may use it during the call.
@@ -66,14 +67,14 @@ const char *trirast_version_string(void);
 uint32_t trirast_interface(void);
 
 /* Bytes of stack that are enough for each call, and for a call that reads a draw list: docs/library.md. */
-#define TRIRAST_STACK 262144
+#define TRIRAST_STACK 327680
 #define TRIRAST_STACK_TEXT 196608
 
 /* No index: what the error names is not in a draw, or no element. */
 #define TRIRAST_NONE ((size_t)-1)
 
 /* Bytes that are enough for each message of trirast_error_message with its zero byte. */
-#define TRIRAST_ERROR_MESSAGE_SIZE 96
+#define TRIRAST_ERROR_MESSAGE_SIZE 128
 
 /* ---- Errors ---- */
 
@@ -95,8 +96,9 @@ typedef enum trirast_status {
     TRIRAST_STATUS_BAD_PIXEL = 13,       /* the picture has no such pixel */
     TRIRAST_STATUS_BAD_TRIANGLE = 14,    /* the list has no such draw, or the draw no such triangle */
     TRIRAST_STATUS_BAD_BATCH = 15,       /* the batch cannot be drawn: `cause`, `draw` and `element` of the error say why and where */
-    TRIRAST_STATUS_BAD_STRIDE = 16,      /* a stride is too short or not aligned, or there are no indices of this size */
-    TRIRAST_STATUS_BAD_TILE = 17         /* the tile rows have no such tile */
+    TRIRAST_STATUS_BAD_STRIDE = 16,      /* a stride is too short, too long or not aligned */
+    TRIRAST_STATUS_BAD_TILE = 17,        /* the tile rows have no such tile */
+    TRIRAST_STATUS_BAD_INDEX_SIZE = 18   /* an index has none of these sizes: 2 or 4 bytes */
 } trirast_status;
 
 /* Why a text is no draw list: the numbers and names of docs/draw-list.md. */
@@ -117,18 +119,27 @@ typedef enum trirast_list_cause {
 typedef enum trirast_batch_cause {
     TRIRAST_BATCH_TOO_FEW_VERTICES = 1, /* fewer vertices are left than the draw has */
     TRIRAST_BATCH_TOO_FEW_INDICES = 2,  /* fewer indices are left than the draw has */
-    TRIRAST_BATCH_BAD_STATE = 3,        /* a number of the draw is outside of its range */
-    TRIRAST_BATCH_NOT_WHOLE = 4,        /* the indices of the draw make no whole triangles or quads */
+    TRIRAST_BATCH_BAD_STATE = 3,        /* not reported: 15 to 23 say which number is outside of its range */
+    TRIRAST_BATCH_NOT_WHOLE = 4,        /* the indices of the draw, or without any its vertices, make no whole triangles or quads */
     TRIRAST_BATCH_TOO_MANY_IDS = 5,     /* the id of a triangle would be greater than 16,777,215 (trirast_canvas_draw_ids) */
-    TRIRAST_BATCH_BAD_INDEX = 6,        /* an index is not less than the draw's vertex_count */
-    TRIRAST_BATCH_BAD_POSITION = 7,     /* a vertex that an index names, or a corner, is too far away; element: the corner */
-    TRIRAST_BATCH_NOT_CONVEX = 8,       /* a quad is not strictly convex */
+    TRIRAST_BATCH_BAD_INDEX = 6,        /* an index is not less than the draw's vertex_count; element: its place; value */
+    TRIRAST_BATCH_BAD_POSITION = 7,     /* a vertex that an index names, or a corner, is too far away; element: the vertex or corner */
+    TRIRAST_BATCH_NOT_CONVEX = 8,       /* a quad is not strictly convex; element: the quad */
     TRIRAST_BATCH_LEFT_OVER = 9,        /* a vertex or an index is in no draw, or a corner or a ring is in no polygon */
     TRIRAST_BATCH_TOO_MANY_CORNERS = 10, /* polygons have 2^32 corners or more */
     TRIRAST_BATCH_BAD_RING = 11,        /* a ring ends before it begins, or behind the last corner; element: the ring */
     TRIRAST_BATCH_BAD_POLYGON = 12,     /* a polygon ends before it begins, or behind the last ring; element: the polygon */
     TRIRAST_BATCH_TOO_FEW_COLORS = 13,  /* there are fewer colours than polygons */
-    TRIRAST_BATCH_TOO_FEW_DEPTHS = 14   /* there are depths, but fewer than polygons */
+    TRIRAST_BATCH_TOO_FEW_DEPTHS = 14,  /* there are depths, but fewer than polygons */
+    TRIRAST_BATCH_BAD_TOPOLOGY = 15,    /* topology is no trirast_topology */
+    TRIRAST_BATCH_BAD_CULL = 16,        /* cull is no trirast_cull */
+    TRIRAST_BATCH_BAD_DEPTH_TEST = 17,  /* depth_test is no trirast_depth_test */
+    TRIRAST_BATCH_BAD_DEPTH_WRITE = 18, /* depth_write is neither 0 nor 1 */
+    TRIRAST_BATCH_BAD_KEEP = 19,        /* a bit of keep is no trirast_keep */
+    TRIRAST_BATCH_BAD_SCISSOR_ENABLE = 20, /* scissor_enable is neither 0 nor 1 */
+    TRIRAST_BATCH_BAD_FACTOR = 21,      /* a factor of the blend is no trirast_factor */
+    TRIRAST_BATCH_BAD_OPERATION = 22,   /* an operation of the blend is no trirast_operation */
+    TRIRAST_BATCH_BAD_FILL_RULE = 23    /* the polygons' fill_rule is no trirast_fill_rule */
 } trirast_batch_cause;
 
 /* Why a call failed. */
@@ -136,8 +147,9 @@ typedef struct trirast_error {
     uint32_t status; /* the trirast_status that the call returned */
     uint32_t cause;  /* a trirast_list_cause or a trirast_batch_cause if the status is one of a list or of a batch, else 0 */
     size_t draw;     /* the index of the draw in which the error is, from 0; TRIRAST_NONE if it is in none */
-    size_t element;  /* which one of the draw's indices, vertices or quads it is, from 0; TRIRAST_NONE if it is none. Not yet:
-                      * TRIRAST_NONE always */
+    size_t element;  /* which one of the draw's indices, vertices or quads it is, or of the polygons' corners, rings or polygons,
+                      * from 0: the cause says of which. TRIRAST_NONE if it is none */
+    size_t value;    /* the index itself if the cause is TRIRAST_BATCH_BAD_INDEX, else TRIRAST_NONE */
 } trirast_error;
 
 /* Returns a string for a status, without a line feed, as "out of memory".
@@ -163,13 +175,14 @@ inline const char *trirast_status_string(trirast_status status) {
     case TRIRAST_STATUS_BAD_BATCH: return "wrong batch";
     case TRIRAST_STATUS_BAD_STRIDE: return "wrong stride";
     case TRIRAST_STATUS_BAD_TILE: return "no such tile";
+    case TRIRAST_STATUS_BAD_INDEX_SIZE: return "no such index size";
     }
     return "unknown status";
 }
 
 /* Writes a line that says what went wrong, without a line feed and with a zero byte behind it, or as much of it as
- * fits: "out of memory", "draw 3: one index is not less than the number of vertices", "list fault 6 BadIndex in draw 1".
- * So the habits are those of snprintf.
+ * fits: "out of memory", "draw 3: index 17 is 9, which is not less than the number of vertices", where 17 is the place
+ * and 9 the value, or "list fault 6 BadIndex in draw 1". So the habits are those of snprintf.
  *
  * @error: what a call wrote; not NULL.
  * @buffer: where the line goes. Bytes behind its zero byte are unchanged.
@@ -180,10 +193,10 @@ size_t trirast_error_message(const trirast_error *error, char *buffer, size_t si
 
 /* ---- What is drawn: draws with their vertices and indices ---- */
 
-/* What the indices of a draw are. */
+/* What the indices of a draw are, or without any its vertices in their order. */
 typedef enum trirast_topology {
     TRIRAST_TOPOLOGY_TRIANGLES = 0, /* three indices each */
-    TRIRAST_TOPOLOGY_STRIP = 1,     /* a triangle strip */
+    TRIRAST_TOPOLOGY_STRIP = 1,     /* a triangle strip: docs/rules.md, Order; fewer than three indices are none */
     TRIRAST_TOPOLOGY_QUADS = 2      /* strictly convex quads, four indices each */
 } trirast_topology;
 
@@ -316,19 +329,62 @@ typedef struct trirast_draw {
     trirast_blend blend;    /* what the new colour does to the stored one */
 } trirast_draw;
 
+/* The greatest vertex_stride: D3D11_REQ_MULTI_ELEMENT_STRUCTURE_SIZE_IN_BYTES. */
+#define TRIRAST_MAX_STRIDE 2048
+
 /* Draws with their vertices and indices. If draw_count is 0, they are one draw of {0} with all vertices and indices. */
 typedef struct trirast_batch {
     uint32_t struct_size;   /* 0 or sizeof(trirast_batch) */
-    uint32_t vertex_stride; /* bytes from a vertex to the next: 0 or 16. Not yet: other strides */
-    uint32_t index_size;    /* bytes of an index: 0 or 4. Not yet: 2 */
+    uint32_t vertex_stride; /* bytes from a vertex to the next, a multiple of 4 from 16 to TRIRAST_MAX_STRIDE; 0 is 16 */
+    uint32_t index_size;    /* bytes of an index: 2 or 4; 0 is 4 */
     const trirast_draw *draws; /* in the order in which they are drawn */
     size_t draw_count;
-    const void *vertices;   /* trirast_vertex, of all draws, one draw's after another's; aligned to 4 */
+    const void *vertices;   /* trirast_vertex, of all draws, one draw's after another's; aligned to 4. With a vertex_stride each lies
+                             * in the 16 bytes at its index times that, and nothing else is read */
     size_t vertex_count;
-    const void *indices;    /* uint32_t, of all draws, one draw's after another's; 0 is the first vertex of the draw. Not yet:
-                             * draws without indices, of their vertices in their order */
+    const void *indices;    /* uint32_t or uint16_t by index_size, of all draws, one draw's after another's; 0 is the first vertex of
+                             * the draw. NULL if there are none at all: each draw has its vertices in their order */
     size_t index_count;
 } trirast_batch;
+
+/* If indices is NULL and index_count is 0, each draw is of its vertices in their order, and its own index_count has to be
+ * 0: else it is TRIRAST_BATCH_TOO_FEW_INDICES. So whoever has indices, but in this batch none, as behind clipping, passes
+ * a pointer that is not NULL, or no vertices: then nothing is drawn. A draw without indices in a batch that has some
+ * draws nothing. */
+
+/* A batch as the functions that are proved take it. trirast_canvas_draw makes it of its caller's. */
+typedef struct trirast_proved_batch {
+    uint32_t struct_size;   /* of the caller's trirast_batch */
+    uint32_t vertex_stride;
+    uint32_t index_size;
+    uint32_t in_order;      /* 0 if there are indices; else each draw has its vertices in their order */
+    const trirast_draw *draws;
+    size_t draw_count;
+    const void *vertices;      /* trirast_vertex; none if vertex_stride is neither 0 nor 16 */
+    size_t vertex_count;
+    const void *strided;       /* the bytes in which the vertices lie; none if vertex_stride is 0 or 16 */
+    size_t strided_size;
+    const void *indices;       /* uint32_t; none if index_size is 2 */
+    size_t index_count;
+    const void *short_indices; /* uint16_t; none if index_size is not 2 */
+    size_t short_index_count;
+} trirast_proved_batch;
+
+inline trirast_proved_batch trirast_proved_batch_of(const trirast_batch *batch) {
+    const int is_short = batch->index_size == 2;
+    const size_t stride = batch->vertex_stride;
+    const int is_packed = stride == 0 || stride == sizeof(trirast_vertex);
+    const int is_strided = stride > sizeof(trirast_vertex) && stride <= TRIRAST_MAX_STRIDE && stride % 4 == 0;
+    /* The last vertex has its 16 bytes, and none behind them. */
+    const size_t size = is_strided && batch->vertex_count ? (batch->vertex_count - 1) * stride + sizeof(trirast_vertex) : 0;
+    const trirast_proved_batch proved = {
+        batch->struct_size, batch->vertex_stride, batch->index_size, batch->indices || batch->index_count ? 0u : 1u,
+        batch->draws, batch->draw_count, is_packed ? batch->vertices : NULL, is_packed ? batch->vertex_count : 0,
+        size ? batch->vertices : NULL, size,
+        is_short ? NULL : batch->indices, is_short ? 0 : batch->index_count,
+        is_short ? batch->indices : NULL, is_short ? batch->index_count : 0};
+    return proved;
+}
 
 /* ---- Canvases: samples that stay in the caller's memory ---- */
 
@@ -351,7 +407,7 @@ typedef struct trirast_canvas {
     uint32_t width;       /* of the whole canvas, in pixels: 1 to 4096 */
     uint32_t height;      /* of the whole canvas, in pixels: 1 to 4096 */
     uint32_t samples;     /* samples of a pixel: 1, 2, 4, 8 or 16; 0 for 1 */
-    uint32_t channels;    /* 3, without alpha; 0 for 3. Not yet: 4, with alpha, for which there is no canvas so far */
+    uint32_t channels;    /* 3, without alpha; 0 for 3; 4, with alpha */
     int32_t origin_x;     /* the pixel of the screen at which the upper left one of the canvas lies; 0, 0 without a window */
     int32_t origin_y;
     uint32_t first;       /* the first of these tile rows. trirast_canvas_init sets this and what follows, for the whole canvas */
@@ -364,13 +420,14 @@ typedef struct trirast_canvas {
 /* The width and height of a tile of a canvas, in pixels. */
 #define TRIRAST_TILE_SIZE 64
 
-/* Bytes of one sample index over a block of 8 by 8 pixels, 64 samples of 5 bytes: the unit of a canvas's memory. */
-#define TRIRAST_PLANE_BYTES 320
+/* Bytes of one sample index over a block of 8 by 8 pixels, 64 samples of 6 bytes: the unit of a canvas's memory. A canvas
+ * without alpha has room for it too, which is not touched after it was cleared. */
+#define TRIRAST_PLANE_BYTES 384
 
 /* Returns the bytes of the samples of a whole canvas, by struct_size, width, height, samples and channels alone.
  * Returns 0 if there is no such canvas. The bytes are a multiple of 64. A tile takes (1 + 65 * samples) *
- * TRIRAST_PLANE_BYTES bytes, so the largest canvas takes 87 MB with one sample, 172 MB with 2, 342 MB with 4, 683 MB
- * with 8 and 1.36 GB with 16. */
+ * TRIRAST_PLANE_BYTES bytes, so the largest canvas takes 104 MB with one sample, 206 MB with 2, 411 MB with 4, 819 MB
+ * with 8 and 1.64 GB with 16. */
 size_t trirast_canvas_size(const trirast_canvas *canvas);
 
 /* Returns the number of tile rows of a whole canvas: height / TRIRAST_TILE_SIZE, rounded up. Returns 0 if there is no
@@ -444,7 +501,7 @@ trirast_status trirast_proved_canvas_clear(trirast_canvas *canvas, const trirast
 /* Makes each sample of these tile rows one of this colour and depth.
  *
  * @canvas: the tile rows.
- * @clear: the colour and the depth. NULL is black, alpha 0 and depth 65535.
+ * @clear: the colour, with alpha if the canvas has it, and the depth. NULL is black, alpha 0 and depth 65535.
  *
  * Returns TRIRAST_STATUS_OK, or the first check that fails. */
 inline trirast_status trirast_canvas_clear(trirast_canvas *canvas, const trirast_clear *clear) {
@@ -452,11 +509,22 @@ inline trirast_status trirast_canvas_clear(trirast_canvas *canvas, const trirast
     return trirast_proved_canvas_clear(canvas, clear ? clear : &black);
 }
 
-/* How the colour of a pixel lies in bytes, in the order of the name. Alpha is written as 255, and is not read. */
+/* How the colour of a pixel lies in bytes, in the order of the name. The first three have channels as they are stored.
+ * The other two are what image files have: colours are divided by alpha when they are written, and multiplied by it
+ * when they are loaded, so that a canvas that was cleared to 0, 0, 0 and alpha 0, and drawn on with TRIRAST_BLEND_OVER
+ * or TRIRAST_BLEND_PREMULTIPLIED, is the picture of what was drawn, without a background. A channel c with alpha a is
+ * written as 0 where a is 0, else as the q with a q <= 255 c + a / 2 < a (q + 1), of which a / 2 is rounded down, or as
+ * 255 if that is less; and it is loaded as the q with 255 q <= c a + 127 < 255 (q + 1). What was written of colours that
+ * are at most alpha, is loaded as it was stored.
+ *
+ * A canvas without alpha has 255 there since it was cleared, which is written, and alpha that is loaded is not stored. A
+ * picture in RGB8 is loaded with alpha 255. */
 typedef enum trirast_format {
     TRIRAST_FORMAT_RGB8 = 0,
     TRIRAST_FORMAT_RGBA8 = 1,
-    TRIRAST_FORMAT_BGRA8 = 2
+    TRIRAST_FORMAT_BGRA8 = 2,
+    TRIRAST_FORMAT_RGBA8_STRAIGHT = 3,
+    TRIRAST_FORMAT_BGRA8_STRAIGHT = 4
 } trirast_format;
 
 /* Makes a picture the colour of all samples of its pixels. Depths are unchanged.
@@ -474,23 +542,24 @@ typedef enum trirast_format {
 trirast_status trirast_canvas_load(trirast_canvas *canvas, trirast_format format, const void *pixels, size_t size,
                                    size_t stride);
 
-trirast_status trirast_proved_canvas_draw(trirast_canvas *canvas, const trirast_batch *batch, trirast_error *error);
+trirast_status trirast_proved_canvas_draw(trirast_canvas *canvas, const trirast_proved_batch *batch, trirast_error *error);
 
 /* Draws a batch over what is stored: each sample ends as the batch's triangles make it, one after another, in the order
  * in which they stand. So a picture does not depend on the batches into which its triangles are split.
  *
- * Only vertices that an index names are looked at. A batch may have any number of vertices, triangles and draws.
+ * Only vertices that an index names are looked at; without indices, all. A batch may have any number of vertices, triangles and draws.
  *
  * @canvas: the tile rows.
  * @batch: what is drawn on them.
  * @error: why nothing was drawn, or NULL.
  *
  * Returns TRIRAST_STATUS_OK; or the first check that fails, then TRIRAST_STATUS_BAD_STRUCT_SIZE of the batch, then
- * TRIRAST_STATUS_BAD_STRIDE by its vertex_stride and index_size, then TRIRAST_STATUS_BAD_BATCH with the first error of
- * the first draw that has one:
+ * TRIRAST_STATUS_BAD_STRIDE by its vertex_stride, then TRIRAST_STATUS_BAD_INDEX_SIZE, then TRIRAST_STATUS_BAD_BATCH with
+ * the first error of the first draw that has one:
  * - TRIRAST_BATCH_TOO_FEW_VERTICES or TRIRAST_BATCH_TOO_FEW_INDICES if fewer are left than the draw has;
- * - TRIRAST_BATCH_BAD_STATE if a number of the draw is outside of its range;
- * - TRIRAST_BATCH_NOT_WHOLE if its indices make no whole triangles or quads;
+ * - TRIRAST_BATCH_BAD_TOPOLOGY, _CULL, _DEPTH_TEST, _DEPTH_WRITE, _KEEP, _SCISSOR_ENABLE, _FACTOR or _OPERATION, in this
+ *   order, if that number of the draw is outside of its range;
+ * - TRIRAST_BATCH_NOT_WHOLE if its indices, or without any its vertices, make no whole triangles or quads;
  * - TRIRAST_BATCH_TOO_MANY_IDS if the id of a triangle would be greater than 16,777,215, or first_id is greater than
  *   16,777,216 (trirast_canvas_draw_ids alone);
  * - TRIRAST_BATCH_BAD_INDEX if an index is not less than its vertex_count;
@@ -499,22 +568,25 @@ trirast_status trirast_proved_canvas_draw(trirast_canvas *canvas, const trirast_
  * - TRIRAST_BATCH_NOT_CONVEX if a quad is not strictly convex;
  * or, outside of the draws, TRIRAST_BATCH_LEFT_OVER if a vertex or an index is in no draw. */
 inline trirast_status trirast_canvas_draw(trirast_canvas *canvas, const trirast_batch *batch, trirast_error *error) {
+    const trirast_proved_batch proved = trirast_proved_batch_of(batch);
     trirast_error unread;
-    return trirast_proved_canvas_draw(canvas, batch, error ? error : &unread);
+    return trirast_proved_canvas_draw(canvas, &proved, error ? error : &unread);
 }
 
-trirast_status trirast_proved_canvas_draw_ids(trirast_canvas *canvas, const trirast_batch *batch, uint32_t first_id,
+trirast_status trirast_proved_canvas_draw_ids(trirast_canvas *canvas, const trirast_proved_batch *batch, uint32_t first_id,
                                               trirast_error *error);
 
 /* Draws a batch in the same way, and stores in place of a colour the id of each triangle: first_id and its index in the
- * batch, counted over all draws. What a draw keeps and its blending are not used. So each sample has the id of the last
+ * batch, counted over all draws. What a draw keeps and its blending are not used, but that alpha, if there is any, is 255
+ * afterwards unless it is kept. So each sample has the id of the last
  * triangle that passed there, or the number of the colour to which it was cleared: white is 16,777,215.
  *
  * @first_id: the id of the first triangle. */
 inline trirast_status trirast_canvas_draw_ids(trirast_canvas *canvas, const trirast_batch *batch, uint32_t first_id,
                                               trirast_error *error) {
+    const trirast_proved_batch proved = trirast_proved_batch_of(batch);
     trirast_error unread;
-    return trirast_proved_canvas_draw_ids(canvas, batch, first_id, error ? error : &unread);
+    return trirast_proved_canvas_draw_ids(canvas, &proved, first_id, error ? error : &unread);
 }
 
 /* ---- Polygons: rings of corners, in one colour each ---- */
@@ -585,7 +657,8 @@ trirast_status trirast_proved_canvas_draw_polygons(trirast_canvas *canvas, const
  * TRIRAST_STATUS_BAD_POSITION if origin_x or origin_y of the canvas is not -32768 to 28672, then
  * TRIRAST_STATUS_BUFFER_TOO_SMALL if the scratch memory is too small or not aligned to 8, then TRIRAST_STATUS_BAD_BATCH
  * with the first error of the polygons:
- * - TRIRAST_BATCH_BAD_STATE if the rule or a number of the state is outside of its range;
+ * - TRIRAST_BATCH_BAD_FILL_RULE if there is no such rule, or the cause of a number of the state that is outside of its
+ *   range, as trirast_canvas_draw names it;
  * - TRIRAST_BATCH_TOO_MANY_CORNERS if there are 2^32 corners or more;
  * - TRIRAST_BATCH_BAD_RING if a ring ends before it begins, or behind the last corner; element: its index;
  * - TRIRAST_BATCH_LEFT_OVER if the last ring ends before the last corner;
@@ -601,9 +674,10 @@ inline trirast_status trirast_canvas_draw_polygons(trirast_canvas *canvas, const
     const size_t columns = trirast_polygons_scratch(canvas, TRIRAST_FILL_EVEN_ODD) / TRIRAST_FLAGS_BYTES;
     const int fits = (uintptr_t)scratch % 8 == 0 && scratch_size >= trirast_polygons_scratch(canvas, (trirast_fill_rule)polygons->fill_rule);
     const size_t counters = fits && polygons->fill_rule != TRIRAST_FILL_EVEN_ODD ? columns : 0;
+    /* Scratch memory of no bytes may be NULL, to which nothing is added. */
+    void *behind = fits && columns ? (unsigned char *)scratch + columns * TRIRAST_FLAGS_BYTES : scratch;
     trirast_error unread;
-    return trirast_proved_canvas_draw_polygons(canvas, polygons, scratch, fits ? columns : 0,
-                                               (unsigned char *)scratch + (fits ? columns * TRIRAST_FLAGS_BYTES : 0), counters,
+    return trirast_proved_canvas_draw_polygons(canvas, polygons, scratch, fits ? columns : 0, behind, counters,
                                                error ? error : &unread);
 }
 
@@ -620,9 +694,10 @@ inline trirast_status trirast_canvas_draw_polygon_ids(trirast_canvas *canvas, co
     const size_t columns = trirast_polygons_scratch(canvas, TRIRAST_FILL_EVEN_ODD) / TRIRAST_FLAGS_BYTES;
     const int fits = (uintptr_t)scratch % 8 == 0 && scratch_size >= trirast_polygons_scratch(canvas, (trirast_fill_rule)polygons->fill_rule);
     const size_t counters = fits && polygons->fill_rule != TRIRAST_FILL_EVEN_ODD ? columns : 0;
+    /* Scratch memory of no bytes may be NULL, to which nothing is added. */
+    void *behind = fits && columns ? (unsigned char *)scratch + columns * TRIRAST_FLAGS_BYTES : scratch;
     trirast_error unread;
-    return trirast_proved_canvas_draw_polygon_ids(canvas, polygons, first_id, scratch, fits ? columns : 0,
-                                                  (unsigned char *)scratch + (fits ? columns * TRIRAST_FLAGS_BYTES : 0), counters,
+    return trirast_proved_canvas_draw_polygon_ids(canvas, polygons, first_id, scratch, fits ? columns : 0, behind, counters,
                                                   error ? error : &unread);
 }
 
@@ -680,7 +755,7 @@ trirast_status trirast_canvas_ids(const trirast_canvas *canvas, uint32_t sample,
 trirast_status trirast_canvas_colors(const trirast_canvas *canvas, uint32_t sample, trirast_format format, void *pixels,
                                      size_t size, size_t stride);
 
-/* Makes a picture the colour of one sample of its pixels. Depths and other samples are unchanged, and alpha is not read.
+/* Makes a picture the colour of one sample of its pixels. Depths and other samples are unchanged.
  * What trirast_canvas_colors then writes are the same colours.
  *
  * @canvas, @sample, @format, @size, @stride: as for trirast_canvas_colors.
@@ -712,7 +787,7 @@ trirast_status trirast_canvas_tile_ids(const trirast_canvas *canvas, uint32_t co
                                        size_t count, uint32_t *uniform);
 
 /* Stores the colours of all samples of one tile, red + 256 * green + 65536 * blue each; the upper byte is not read.
- * Depths and other tiles are unchanged. Storing what trirast_canvas_tile_ids wrote changes nothing, and what was stored
+ * Depths, alpha and other tiles are unchanged. Storing what trirast_canvas_tile_ids wrote changes nothing, and what was stored
  * is what it then writes.
  *
  * @canvas, @column, @row: as for trirast_canvas_tile_ids.
@@ -917,7 +992,7 @@ typedef enum trirast_reason {
 /* How a sample fails the top-left rule at an edge. */
 typedef enum trirast_failure {
     TRIRAST_FAILURE_NONE = 0,    /* it passes; or the triangle has zero area, and the sample is not on the edge's line */
-    TRIRAST_FAILURE_OUTSIDE = 1, /* the edge function is negative: its sign differs from that of the doubled area */
+    TRIRAST_FAILURE_OUTSIDE = 1, /* the signs of the edge function and of the doubled area are opposite */
     TRIRAST_FAILURE_ON_EDGE = 2  /* the edge function is zero, and the edge is neither a top nor a left edge */
 } trirast_failure;
 

@@ -58,6 +58,7 @@ inline constexpr std::size_t part_lanes = 8, double_part_lanes = 4;
 using FloatPart = float __attribute__((vector_size(32)));
 using IntegerPart = std::int32_t __attribute__((vector_size(32)));
 using DoublePart = double __attribute__((vector_size(32)));
+using FourIntegers = std::int32_t __attribute__((vector_size(16)));
 #elif TRIRAST_VECTORS
 inline constexpr std::size_t part_lanes = 4, double_part_lanes = 2;
 using FloatPart = float __attribute__((vector_size(16)));
@@ -143,6 +144,27 @@ struct Integers : detail::Parts<detail::IntegerPart, detail::part_lanes> {
 
     static TRIRAST_INLINE Integers load(const void *eight) noexcept { return detail::parts_from<Integers>(eight); }
     TRIRAST_INLINE void store(void *eight) const noexcept { detail::parts_to(*this, eight); }
+
+    /* The first four and the last four numbers each from a place of their own, and to it. */
+    static TRIRAST_INLINE Integers load_halves(const void *first, const void *last) noexcept {
+        Integers found;
+#if TRIRAST_VECTORS && defined(__AVX__)
+        found.part[0] = __builtin_shufflevector(detail::loaded<detail::FourIntegers>(first),
+                                                detail::loaded<detail::FourIntegers>(last), 0, 1, 2, 3, 4, 5, 6, 7);
+#else
+        std::memcpy(found.part, first, 16), std::memcpy(found.part + count / 2, last, 16);
+#endif
+        return found;
+    }
+    TRIRAST_INLINE void store_halves(void *first, void *last) const noexcept {
+#if TRIRAST_VECTORS && defined(__AVX__)
+        const detail::FourIntegers low = __builtin_shufflevector(part[0], part[0], 0, 1, 2, 3),
+                                   high = __builtin_shufflevector(part[0], part[0], 4, 5, 6, 7);
+        std::memcpy(first, &low, 16), std::memcpy(last, &high, 16);
+#else
+        std::memcpy(first, part, 16), std::memcpy(last, part + count / 2, 16);
+#endif
+    }
 
     TRIRAST_INLINE std::int32_t operator[](std::size_t lane) const noexcept {
 #if TRIRAST_VECTORS
@@ -370,11 +392,61 @@ TRIRAST_INLINE unsigned bits(const Integers &mask) noexcept {
 /* Whether the mask is -1 in a lane. */
 TRIRAST_INLINE bool any(const Integers &mask) noexcept { return bits(mask) != 0; }
 
+/* Whether all lanes are the same number. */
+TRIRAST_INLINE bool are_alike(const Integers &v) noexcept { return bits(v == v[0]) == (1u << lane_count) - 1; }
+
+namespace detail {
+
+/* The first lane whose bit is 1, of which there is one. */
+TRIRAST_INLINE std::size_t first_lane(unsigned bits) noexcept {
+#if defined(__GNUC__)
+    return static_cast<std::size_t>(__builtin_ctz(bits));
+#else
+    std::size_t lane = 0;
+    while (!(bits >> lane & 1)) lane++;
+    return lane;
+#endif
+}
+
+} // namespace detail
+
 /* ---- Functions ---- */
 
 /* The lesser and the greater number of each lane; b if one is not a number. */
-TRIRAST_INLINE Floats min(const Floats &a, const Floats &b) noexcept { return choose(a < b, a, b); }
-TRIRAST_INLINE Floats max(const Floats &a, const Floats &b) noexcept { return choose(b < a, a, b); }
+TRIRAST_INLINE Floats min(const Floats &a, const Floats &b) noexcept {
+#if TRIRAST_VECTORS && defined(__AVX__)
+    const auto of = [](auto x, auto y) { return detail::FloatPart(_mm256_min_ps(__m256(x), __m256(y))); };
+    return detail::made<Floats>(of, a, b);
+#elif TRIRAST_VECTORS && defined(__SSE2__)
+    const auto of = [](auto x, auto y) { return detail::FloatPart(_mm_min_ps(__m128(x), __m128(y))); };
+    return detail::made<Floats>(of, a, b);
+#else
+    return choose(a < b, a, b);
+#endif
+}
+TRIRAST_INLINE Floats max(const Floats &a, const Floats &b) noexcept {
+#if TRIRAST_VECTORS && defined(__AVX__)
+    const auto of = [](auto x, auto y) { return detail::FloatPart(_mm256_max_ps(__m256(x), __m256(y))); };
+    return detail::made<Floats>(of, a, b);
+#elif TRIRAST_VECTORS && defined(__SSE2__)
+    const auto of = [](auto x, auto y) { return detail::FloatPart(_mm_max_ps(__m128(x), __m128(y))); };
+    return detail::made<Floats>(of, a, b);
+#else
+    return choose(b < a, a, b);
+#endif
+}
+
+/* The greatest whole numbers that are not above the numbers, which have to be within -2^31 to below 2^31. */
+TRIRAST_INLINE Floats floor(const Floats &v) noexcept {
+#if TRIRAST_VECTORS && defined(__AVX__)
+    return detail::made<Floats>([](auto x) { return detail::FloatPart(_mm256_floor_ps(__m256(x))); }, v);
+#elif TRIRAST_VECTORS && defined(__SSE4_1__)
+    return detail::made<Floats>([](auto x) { return detail::FloatPart(_mm_floor_ps(__m128(x))); }, v);
+#else
+    /* -0 stays what it is. */
+    return floats_of_bits(bits_of(to_floats(floor_to_integers(v))) | (bits_of(v) & INT32_MIN));
+#endif
+}
 
 TRIRAST_INLINE Floats sqrt(const Floats &v) noexcept {
     Floats found;
@@ -414,6 +486,46 @@ TRIRAST_INLINE Integers gather(const std::uint32_t *from, const Integers &index)
     return joined;
 #else
     return Integers::load(found);
+#endif
+}
+
+/* Of each lane the one of eight numbers whose index, 0 to 7, it has. */
+TRIRAST_INLINE Integers look_up(const Integers &eight, const Integers &index) noexcept {
+#if TRIRAST_VECTORS && defined(__AVX2__)
+    const auto of = [](auto x, auto y) {
+        return detail::IntegerPart(_mm256_permutevar8x32_epi32(__m256i(x), __m256i(y)));
+    };
+    return detail::made<Integers>(of, eight, index);
+#else
+    std::uint32_t numbers[lane_count];
+    eight.store(numbers);
+    return gather(numbers, index);
+#endif
+}
+
+/* Of each lane the number of this index and the one behind it: two texels that are neighbours take one load. */
+TRIRAST_INLINE void gather_two(const std::uint32_t *from, const Integers &index, Integers &first,
+                               Integers &second) noexcept {
+#if TRIRAST_VECTORS
+    using Two = std::int64_t __attribute__((vector_size(16)));
+    const auto at = [&](std::size_t lane) {
+        return detail::loaded<std::int64_t>(from + static_cast<std::uint32_t>(index[lane]));
+    };
+    const auto pairs = [&](std::size_t lane) { return Two{at(lane), at(lane + 1)}; };
+    using Numbers = std::int32_t __attribute__((vector_size(16)));
+    const Numbers a = Numbers(pairs(0)), b = Numbers(pairs(2)), c = Numbers(pairs(4)), d = Numbers(pairs(6));
+    const Numbers first_low = __builtin_shufflevector(a, b, 0, 2, 4, 6),
+                  first_high = __builtin_shufflevector(c, d, 0, 2, 4, 6),
+                  second_low = __builtin_shufflevector(a, b, 1, 3, 5, 7),
+                  second_high = __builtin_shufflevector(c, d, 1, 3, 5, 7);
+#if defined(__AVX__)
+    first.part[0] = __builtin_shufflevector(first_low, first_high, 0, 1, 2, 3, 4, 5, 6, 7);
+    second.part[0] = __builtin_shufflevector(second_low, second_high, 0, 1, 2, 3, 4, 5, 6, 7);
+#else
+    first.part[0] = first_low, first.part[1] = first_high, second.part[0] = second_low, second.part[1] = second_high;
+#endif
+#else
+    first = gather(from, index), second = gather(from + 1, index);
 #endif
 }
 

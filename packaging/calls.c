@@ -7,6 +7,7 @@ extern inline trirast_status trirast_canvas_init(trirast_canvas *canvas, void *m
 extern inline trirast_status trirast_canvas_split(const trirast_canvas *whole, uint32_t first, uint32_t end,
                                                   trirast_canvas *piece);
 extern inline trirast_status trirast_canvas_clear(trirast_canvas *canvas, const trirast_clear *clear);
+extern inline trirast_proved_batch trirast_proved_batch_of(const trirast_batch *batch);
 extern inline trirast_status trirast_canvas_draw(trirast_canvas *canvas, const trirast_batch *batch,
                                                  trirast_error *error);
 extern inline trirast_status trirast_canvas_draw_ids(trirast_canvas *canvas, const trirast_batch *batch,

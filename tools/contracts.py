@@ -4,8 +4,9 @@
 
 BEFORE and AFTER are folders of checkouts, as `git worktree add out/before REVISION` makes one. AFTER is this one if it
 is left out. A public call is found by its owner and name, and a definition by its name, in whichever file they stand. What
-moved from crate OLD to NEW is found by --crate OLD=NEW, and other names that were changed by --rename OLD=NEW. Prints a diff
-of each that is not the same, then the counts. Exit status 1 if a contract or a definition differs or is gone.
+moved from crate OLD to NEW is found by --crate OLD=NEW, and other names that were changed by --rename OLD=NEW. Where lines
+break does not count. Prints a diff of each that is not the same, then the counts. Exit status 1 if a contract or a
+definition differs or is gone.
 """
 
 from __future__ import annotations
@@ -54,6 +55,12 @@ def mapped(text: str, words: dict[str, str], moved: dict[str, str]) -> str:
     return "\n".join(" ".join(line.split()) for line in text.splitlines())
 
 
+def flat(text: str) -> str:
+    """The text without its layout: on one line, with no space beside a bracket, and with no comma or semicolon before one that closes."""
+    text = re.sub(r"\s*([()\[\]{}])\s*", r"\1", " ".join(text.split()))
+    return re.sub(r"[,;](?=[)\]}])", "", text)
+
+
 def lines_of(texts: list[str]) -> list[str]:
     return "\n".join(texts).split("\n")
 
@@ -66,7 +73,7 @@ def compare(before: Items, after: Items, words: dict[str, str], moved: dict[str,
     same = changed = gone = 0
     for name, texts in sorted(before.items()):
         old, new = sorted(mapped(text, {}, moved) for text in texts), sorted(renamed.get(name, []))
-        if old == new:
+        if sorted(map(flat, old)) == sorted(map(flat, new)):
             same += 1
         elif new:
             changed += 1

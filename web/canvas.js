@@ -4,7 +4,7 @@ import { CANVAS, CLEAR, ERROR, BATCH, DRAW, VERTEX } from './structs.js';
 import { INT32, UINT16, UINT32, UINT8, integer, integers } from './numbers.js';
 
 const TILE_SIZE = 64;
-const PLANE_BYTES = 320;
+const PLANE_BYTES = 384;
 const BAD_BATCH = 15;
 const RGB8 = 0;
 const MAX_SIDE = 4096;
@@ -44,11 +44,11 @@ function checkDraw(draw, k) {
   integers(`draws[${k}].indices`, indices, UINT32);
 }
 
-/** The members of a draw in C. Without any index C would take the vertices in their order, so none is passed then. */
-function membersOf({ state: { scissor, blend, ...numbers }, vertices, indices }, hasIndices) {
+/** The members of a draw in C. */
+function membersOf({ state: { scissor, blend, ...numbers }, vertices, indices }) {
   const [scissor_left, scissor_top, scissor_right, scissor_bottom] = scissor ?? [0, 0, 0, 0];
   const members = { ...numbers, scissor_enable: Number(Boolean(scissor)), scissor_left, scissor_top, scissor_right, scissor_bottom };
-  return { ...members, vertex_count: hasIndices ? vertices.length : 0, index_count: indices.length, blend: blend ?? [] };
+  return { ...members, vertex_count: vertices.length, index_count: indices.length, blend: blend ?? [] };
 }
 
 /** Draws with their vertices and indices, in the core's memory. */
@@ -62,10 +62,9 @@ export class Batch {
     const indices = draws.flatMap((draw) => [...draw.indices]);
     const keys = Object.keys(CORNER);
     const corners = draws.flatMap((draw) => draw.vertices).map((row) => Object.fromEntries(keys.map((key, place) => [key, row[place]])));
-    const hasIndices = indices.length > 0;
     this.address = BATCH.put(core, {
-      draws: DRAW.putAll(core, draws.map((draw) => membersOf(draw, hasIndices))), draw_count: draws.length,
-      vertices: VERTEX.putAll(core, corners), vertex_count: hasIndices ? corners.length : 0,
+      draws: DRAW.putAll(core, draws.map(membersOf)), draw_count: draws.length,
+      vertices: VERTEX.putAll(core, corners), vertex_count: corners.length,
       indices: core.put(Uint32Array, indices), index_count: indices.length,
     });
   }

@@ -55,7 +55,7 @@ class Struct {
   }
 }
 
-export const ERROR = new Struct({ status: 'u32', cause: 'u32', draw: 'size', element: 'size' });
+export const ERROR = new Struct({ status: 'u32', cause: 'u32', draw: 'size', element: 'size', value: 'size' });
 
 export const CLEAR = new Struct({ red: 'u8', green: 'u8', blue: 'u8', alpha: 'u8', depth: 'u16', unused: 'u16' });
 
@@ -68,9 +68,10 @@ export const DRAW = new Struct({
   scissor_enable: 'u8', skip_samples: 'u16', scissor_left: 'i32', scissor_top: 'i32', scissor_right: 'i32', scissor_bottom: 'i32', blend: 10,
 });
 
+/** trirast_proved_batch: without any index, and `in_order` 0, nothing is drawn. */
 export const BATCH = new Struct({
-  struct_size: 'u32', vertex_stride: 'u32', index_size: 'u32', draws: 'size', draw_count: 'size', vertices: 'size', vertex_count: 'size',
-  indices: 'size', index_count: 'size',
+  struct_size: 'u32', vertex_stride: 'u32', index_size: 'u32', in_order: 'u32', draws: 'size', draw_count: 'size', vertices: 'size',
+  vertex_count: 'size', strided: 'size', strided_size: 'size', indices: 'size', index_count: 'size', short_indices: 'size', short_index_count: 'size',
 });
 
 export const CANVAS = new Struct({

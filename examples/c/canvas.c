@@ -41,7 +41,7 @@ int main(void) {
     trirast_canvas canvas = {.width = WIDTH, .height = HEIGHT, .samples = SAMPLES};
     const size_t size = trirast_canvas_size(&canvas);
     void *memory = malloc(size);
-    trirast_error error = {.draw = TRIRAST_NONE, .element = TRIRAST_NONE};
+    trirast_error error = {.draw = TRIRAST_NONE, .element = TRIRAST_NONE, .value = TRIRAST_NONE};
 
     /* Memory that is NULL is refused here. */
     trirast_status status = trirast_canvas_init(&canvas, memory, size);

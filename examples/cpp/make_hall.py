@@ -75,12 +75,15 @@ def add_hall(found: Obj) -> None:
 
 
 def add_pillar(found: Obj, x: float, z: float) -> None:
+    """A closed body: nobody sees its ends, but the layers of a closed model can be counted."""
+    turns = [2 * math.pi * k / ROUND for k in range(ROUND)]
+    low, high = ([(x + RADIUS * math.sin(t), y, z + RADIUS * math.cos(t)) for t in turns] for y in (0.0, HEIGHT))
     for k in range(ROUND):
-        a, b = (2 * math.pi * n / ROUND for n in (k, k + 1))
-        left, right = ((x + RADIUS * math.sin(t), z + RADIUS * math.cos(t)) for t in (a, b))
-        low, high = (left[0], 0.0, left[1]), (right[0], HEIGHT, right[1])
         places = [(k / 8, 0.0), ((k + 1) / 8, 0.0), ((k + 1) / 8, 2.0), (k / 8, 2.0)]
-        found.face([low, (right[0], 0.0, right[1]), high, (left[0], HEIGHT, left[1])], places)
+        after = (k + 1) % ROUND
+        found.face([low[k], low[after], high[after], high[k]], places)
+    found.face(high, ROUND * [(0.0, 0.0)])
+    found.face(low[::-1], ROUND * [(0.0, 0.0)])
 
 
 def main() -> None:

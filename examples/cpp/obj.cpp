@@ -6,7 +6,8 @@
 //
 // W, A, S and D walk, the arrows turn, and Escape ends. Walls go past the eye and through the near plane, so each frame
 // is cut in clip space. --heading is in degrees from the direction of -z, to the right. --path walks along a closed
-// path, and counts the samples that show no triangle: of a closed model none.
+// path, and counts samples: those that show no triangle, and those at which layers are missing or doubled. Of a closed
+// model there are none.
 //
 //     python3 make_hall.py hall && ./obj hall/hall.obj         # a hall to walk through
 //     c++ -std=c++17 -O3 -march=native obj.cpp $(pkg-config --cflags --libs trirast sdl2) -pthread
@@ -112,6 +113,23 @@ public:
         return found;
     }
 
+    // The samples at which a layer is missing or drawn twice, also one that others hide. If the model is closed, a ray
+    // from the eye meets one face more from its front, from where it is counterclockwise, than from behind: that through
+    // which it leaves the room.
+    std::size_t cracks(const Eye &eye) {
+        look(eye);
+        for (trirast_vertex &vertex : seen_.vertices) vertex.red = vertex.green = 1, vertex.alpha = 255;
+        canvas_.clear({0, 0, 0});
+        // Clockwise on the screen is front-facing for a canvas. They are counted in red, and the others in green.
+        count_layers(TRIRAST_CULL_BACK, TRIRAST_KEEP_GREEN), count_layers(TRIRAST_CULL_FRONT, TRIRAST_KEEP_RED);
+        std::size_t found = 0;
+        for (std::uint32_t s = 0; s < options_.samples; s++) {
+            const std::vector<std::uint8_t> colors = canvas_.colors(s, TRIRAST_FORMAT_RGB8);
+            for (std::size_t k = 0; k < colors.size(); k += 3) found += colors[k + 1] != colors[k] + 1;
+        }
+        return found;
+    }
+
     const trirast::Canvas &canvas() const { return canvas_; }
     std::size_t cuts() const { return seen_.cuts.size(); }
 
@@ -145,6 +163,12 @@ private:
         state.depth_test = TRIRAST_DEPTH_LESS, state.depth_write = true;
         rows.clear({255, 255, 255});
         rows.draw_ids(seen_.vertices, seen_.indices, 0, state);
+    }
+
+    void count_layers(trirast_cull cull, trirast_keep keep) {
+        trirast::State state;
+        state.cull = cull, state.keep = keep, state.blend = trirast::blend_add;
+        canvas_.draw(seen_.vertices, seen_.indices, state);
     }
 
     void shade(const Eye &eye) {
@@ -203,15 +227,16 @@ void run(Renderer &renderer, const Options &options) {
 
 // A round that comes close to walls, looking to all sides.
 void walk_path(Renderer &renderer, const Options &options) {
-    std::size_t holes = 0, cuts = 0;
+    std::size_t holes = 0, cracks = 0, cuts = 0;
     for (std::uint32_t frame = 0; frame < options.path; frame++) {
         const double turn = 360.0 * frame / options.path;
         Eye eye = options.eye;
         eye.at.x += 2.7 * std::sin(DEGREE * turn), eye.at.z -= 5.7 * std::sin(2 * DEGREE * turn);
         eye.heading += 5 * turn, eye.tilt = 50 * std::sin(7 * DEGREE * turn);
-        holes += renderer.holes(eye), cuts += renderer.cuts();
+        holes += renderer.holes(eye), cracks += renderer.cracks(eye), cuts += renderer.cuts();
     }
-    std::cout << options.path << " frames, " << cuts << " cuts, " << holes << " samples without a triangle\n";
+    std::cout << options.path << " frames, " << cuts << " cuts, " << holes << " samples without a triangle, " << cracks
+              << " with a crack\n";
 }
 
 Options read_options(const std::vector<std::string> &words) {

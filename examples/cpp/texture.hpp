@@ -16,45 +16,50 @@ using trirast::Floats;
 using trirast::Integers;
 
 // The logarithm to the base 2 of positive numbers, within 3e-6 of what it is: the exponent, and a polynomial of the
-// rest.
+// rest. Its products do not all wait for each other.
 TRIRAST_INLINE Floats logarithm(const Floats &v) {
     const Integers bits = bits_of(v);
     const Floats exponent = to_floats((bits >> 23) - 127);
-    const Floats t = trirast::floats_of_bits((bits & 0x7FFFFF) | 0x3F800000) - 1.0f;
-    Floats sum = 0.02001665f * t - 0.0946268097f;
-    sum = sum * t + 0.213943212f, sum = sum * t - 0.338377198f, sum = sum * t + 0.477496364f;
-    sum = sum * t - 0.721144092f, sum = sum * t + 1.44269298f;
-    return exponent + sum * t;
+    const Floats t = trirast::floats_of_bits((bits & 0x7FFFFF) | 0x3F800000) - 1.0f, square = t * t;
+    const Floats low = (0.477496364f * t - 0.721144092f) * t + 1.44269298f;
+    const Floats high = (0.02001665f * t - 0.0946268097f) * square + (0.213943212f * t - 0.338377198f);
+    return exponent + (high * (square * t) + low) * t;
 }
 
-// The texels of all levels. Each level has its first column once more behind the last and its first row once more
-// below, so that the texture repeats: the four texels round a point are always beside each other.
+// The texels of all levels, one level below another in rows of one length. Each level has its first column once more
+// behind the last and its first row once more below, so that the texture repeats: the four texels round a point are
+// always beside each other.
 class Texels {
 public:
-    explicit Texels(const Texture &texture) : top_(static_cast<std::int32_t>(texture.levels.size()) - 1) {
+    explicit Texels(const Texture &texture)
+        : top_(static_cast<std::int32_t>(texture.levels.size()) - 1), most_(static_cast<float>(top_)),
+          area_(static_cast<float>(texture.side) * static_cast<float>(texture.side)) {
+        const std::size_t row = texture.side + 1;
         std::uint32_t side = texture.side;
-        for (std::size_t level = 0; level < texture.levels.size(); level++, side /= 2) {
-            first_[level] = static_cast<std::uint32_t>(texels_.size());
-            for (std::uint32_t y = 0; y <= side; y++)
+        for (std::size_t level = 0; level < texture.levels.size(); level++, side /= 2)
+            for (std::uint32_t y = 0; y <= side; y++) {
+                const std::size_t first = texels_.size();
+                texels_.resize(first + row);
                 for (std::uint32_t x = 0; x <= side; x++) {
                     const std::uint8_t *from = &texture.levels[level][4 * (std::size_t{y % side} * side + x % side)];
-                    texels_.push_back(from[0] | std::uint32_t{from[1]} << 8 | std::uint32_t{from[2]} << 16);
+                    texels_[first + x] = from[0] | std::uint32_t{from[1]} << 8 | std::uint32_t{from[2]} << 16;
                 }
-        }
+            }
     }
 
     // The colours at u, v, of which each whole number is a texture. `step` is the square of the distance to the next
     // pixel, in textures: a level is taken whose texels are about as far from each other.
     TRIRAST_INLINE void colors(const Floats &u, const Floats &v, const Floats &step, trirast::Colors &out) const {
-        const float side = static_cast<float>(std::uint32_t{1} << top_), most = static_cast<float>(top_);
         // Half of the logarithm of a square. A step of nothing, or of no number, takes the largest level.
-        const Floats wanted = min(max(0.5f * logarithm(max(step * (side * side), 1e-30f)), 0.0f), most);
+        const Floats wanted = min(max(0.5f * logarithm(max(step * area_, 1e-30f)), 0.0f), most_);
         const Integers level = to_integers(wanted);
-        const Floats share = wanted - to_floats(level);
-        const Four near = four(u, v, level), far = four(u, v, level - (level < top_)); // a comparison that holds is -1
-        out.red = between(near.channel(0), far.channel(0), share);
-        out.green = between(near.channel(8), far.channel(8), share);
-        out.blue = between(near.channel(16), far.channel(16), share);
+        const Floats share = wanted - to_floats(level), x = u - floor(u), y = v - floor(v);
+        const Four near = four(x, y, level);
+        out.red = near.channel(0), out.green = near.channel(8), out.blue = near.channel(16);
+        if (!any(share > 0.0f)) return; // of near triangles the largest level is enough
+        const Four far = four(x, y, level - (level < top_)); // a comparison that holds is -1
+        out.red = between(out.red, far.channel(0), share), out.green = between(out.green, far.channel(8), share);
+        out.blue = between(out.blue, far.channel(16), share);
     }
 
 private:
@@ -75,27 +80,25 @@ private:
         }
     };
 
+    // Those of a level round a place in the texture, from 0 to 1.
     TRIRAST_INLINE Four four(const Floats &u, const Floats &v, const Integers &level) const {
         // The side of a level is a power of two, whose exponent is top - level.
         const Floats side = trirast::floats_of_bits((top_ - level + 127) << 23);
-        const Integers whole = to_integers(side), row = whole + 1;
-        const Floats x = (u - to_floats(floor_to_integers(u))) * side - 0.5f,
-                     y = (v - to_floats(floor_to_integers(v))) * side - 0.5f;
-        const Integers i = floor_to_integers(x), j = floor_to_integers(y);
-        // Masked, so that no number leads out of the level.
-        const Integers first = trirast::gather(first_, level) + (j & (whole - 1)) * row + (i & (whole - 1)),
-                       below = first + row;
-        const std::uint32_t *texels = texels_.data();
-        return {trirast::gather(texels, first),
-                trirast::gather(texels, first + 1),
-                trirast::gather(texels, below),
-                trirast::gather(texels, below + 1),
-                x - to_floats(i),
-                y - to_floats(j)};
+        const Floats x = u * side - 0.5f, y = v * side - 0.5f, left = floor(x), upper = floor(y);
+        const Integers whole = to_integers(side), within = whole - 1;
+        // Masked, so that no number leads out of the level. Levels before this one have 2 (largest side - side) rows,
+        // and one more each; a row has one texel more than the largest side.
+        const Integers row = (to_integers(upper) & within) - (whole << 1) + level + (2 << top_);
+        const Integers first = (row << top_) + row + (to_integers(left) & within);
+        Four found;
+        gather_two(texels_.data(), first, found.upper_left, found.upper_right);
+        gather_two(texels_.data() + (1 << top_) + 1, first, found.lower_left, found.lower_right);
+        found.x = x - left, found.y = y - upper;
+        return found;
     }
 
     std::int32_t top_;
-    std::uint32_t first_[16] = {};
+    float most_, area_;
     std::vector<std::uint32_t> texels_;
 };
 

@@ -25,10 +25,20 @@ Array = Any
 
 
 class Rings(NamedTuple):
-    """Rings one after another: their corners (x, y) in 1/256 pixel, the corners of each, and the level of each."""
+    """Rings one after another: their corners (x, y) in 1/256 pixel, the corners of each, and the level and the bin of each."""
 
     corners: Array
     lengths: Array
+    levels: Array
+    bins: Array
+
+
+class Cells(NamedTuple):
+    """Polygons that share the map among them: the arrays of trirast's draw_polygons, and of each polygon the level, 0 of the sea."""
+
+    corners: Array
+    ring_ends: Array
+    polygon_ends: Array
     levels: Array
 
 
@@ -145,6 +155,7 @@ def read_rings(resolution: str, width: int) -> Rings:
     bins = Bins(resolution)
     rings: List[Array] = []
     levels: List[int] = []
+    places: List[int] = []
     for number in range(bins.columns * bins.rows):
         column, row = number % bins.columns, bins.rows - 1 - number // bins.columns
         corners, chords = bins.corner_levels(number), bins.chords(number)
@@ -153,8 +164,9 @@ def read_rings(resolution: str, width: int) -> Rings:
             for ring in rings_of_bin(chords.get(level, []), [corner >= level for corner in corners]):
                 rings.append(ring + np.array((left * UNIT, row * UNIT)))
                 levels.append(level)
+                places.append(number)
     lengths = np.array([len(ring) for ring in rings], np.int32)
-    return Rings(snapped(np.concatenate(rings), bins, width), lengths, np.array(levels, np.int8))
+    return Rings(snapped(np.concatenate(rings), bins, width), lengths, np.array(levels, np.int8), np.array(places, np.int32))
 
 
 def snapped(points: Array, bins: Bins, width: int) -> Array:
@@ -166,11 +178,32 @@ def snapped(points: Array, bins: Bins, width: int) -> Array:
     return np.minimum(np.stack((x, y), 1), FARTHEST).astype(np.int32)
 
 
-def borders(resolution: str, width: int) -> Tuple[Array, Array]:
-    """The x and y of the borders of bins: corners there are shared by rings of two bins."""
-    bins = Bins(resolution)
-    columns = np.arange(-(bins.columns // 2), bins.columns // 2 + 1)
-    rows = np.arange(bins.rows + 1)
-    x = snapped(np.stack((columns * UNIT, np.zeros_like(columns)), 1), bins, width)[:, 0]
-    y = snapped(np.stack((np.zeros_like(rows), rows * UNIT), 1), bins, width)[:, 1]
-    return x, y
+def read_cells(resolution: str, width: int) -> Cells:
+    """The rings as a partition of the map. A bin has up to five polygons: the sea is its rectangle and the rings of level 1, land the rings
+    of levels 1 and 2, lakes those of levels 2 and 3, and so on. So each ring is in two polygons, and neighbours share all their edges."""
+    bins, found = Bins(resolution), read_rings(resolution, width)
+    of_bins: Dict[int, List[int]] = {}
+    for ring, number in enumerate(found.bins.tolist()):
+        of_bins.setdefault(number, []).append(ring)
+    levels, each = found.levels.tolist(), np.split(found.corners, np.cumsum(found.lengths)[:-1])
+    rings: List[Array] = []
+    polygon_ends: List[int] = []
+    of_polygons: List[int] = []
+    for number in range(bins.columns * bins.rows):
+        mine = of_bins.get(number, [])
+        for level in (0, *LEVELS):
+            around = [rectangle(bins, number, width)] if level == 0 else []
+            around += [each[ring] for ring in mine if levels[ring] in (level, level + 1)]
+            if around:
+                rings += around
+                polygon_ends.append(len(rings))
+                of_polygons.append(level)
+    ring_ends = np.cumsum([len(ring) for ring in rings], dtype=np.uint32)
+    return Cells(np.concatenate(rings), ring_ends, np.array(polygon_ends, np.uint32), np.array(of_polygons, np.int8))
+
+
+def rectangle(bins: Bins, number: int, width: int) -> Array:
+    """The corners of a bin on the sheet."""
+    column, row = number % bins.columns, bins.rows - 1 - number // bins.columns
+    left = column - bins.columns if column >= bins.columns // 2 else column
+    return snapped(np.array(CORNERS, np.int64) + np.array((left * UNIT, row * UNIT)), bins, width)

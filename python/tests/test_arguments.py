@@ -44,7 +44,7 @@ class Numbers(Refusals):
         self.must_say(
             (lambda: make(3, 3, origin=(1.9, "-2")), TypeError, "origin: an integer, and not 1.9"),
             (lambda: make(3, 3, origin=(1, "-2")), TypeError, "origin: an integer, and not '-2'"),
-            (lambda: make(3, 3, origin=7), TypeError, "origin: 2 values, and not 7"),
+            (lambda: make(3, 3, origin=7), TypeError, "origin: a sequence of 2 values, and not 7"),
             (lambda: make(3, 3, origin=(1, 1 << 31)), ValueError, "origin: -2147483648 to 2147483647, and not 2147483648"),
             (lambda: make(3.5, 3), TypeError, "width: an integer, and not 3.5"),
             (lambda: make(3, None), TypeError, "height: an integer, and not None"),
@@ -52,7 +52,7 @@ class Numbers(Refusals):
             (lambda: make(3, 3, memory=b"123"), ValueError, f"{memory}, and not uint8 of the shape (3,), read-only"),
             (lambda: make(3, 3, memory=5), TypeError, f"{memory}, and not 5"),
             (lambda: canvas.clear((1, 2)), ValueError, "color: 3 values, and not 2"),
-            (lambda: canvas.clear((0.1, 0.2, 0.3)), TypeError, "color: an integer, and not 0.1"),
+            (lambda: canvas.clear((0.1, 0.2, 0.3)), TypeError, "color: an integer of 0 to 255, and not 0.1"),
             (lambda: canvas.clear((1, 2, 256)), ValueError, "color: 0 to 255, and not 256"),
             (lambda: canvas.clear((1, 2, 3), -1), ValueError, "depth: 0 to 65535, and not -1"),
             (lambda: canvas.clear((1, 2, 3), 0.5), TypeError, "depth: an integer, and not 0.5"),
@@ -60,7 +60,8 @@ class Numbers(Refusals):
             (lambda: canvas.rgb(threads=2.0), TypeError, "threads: an integer, and not 2.0"),
             (lambda: canvas.ids("0"), TypeError, "sample: an integer, and not '0'"),
             (lambda: canvas.draw(VERTICES, [], first_id=1.5), TypeError, "first_id: an integer, and not 1.5"),
-            (lambda: canvas.load(bytes(27), format="bgr"), ValueError, "format: one of rgb, rgba, bgra, and not 'bgr'"),
+            (lambda: canvas.draw(VERTICES, [], first_id=-1), ValueError, "first_id: 0 to 16777216, and not -1"),
+            (lambda: canvas.load(bytes(27), format="bgr"), ValueError, "format: one of rgb, rgba, bgra, rgba_straight, bgra_straight, and not 'bgr'"),
             (lambda: canvas.draw_batch(5), TypeError, "draws: a sequence of trirast.Draw, and not 5"),
             (lambda: canvas.draw_batch([5]), TypeError, "draws: draw 0: a trirast.Draw, and not 5"),
         )
@@ -102,7 +103,7 @@ class Numbers(Refusals):
             (lambda: why(DRAW_LIST, 1, 0, all_triangles="yes"), TypeError, "all_triangles: True or False, and not 'yes'"),
             (lambda: edges_at((0, 0), (1, 0), (0, 1.5), []), TypeError, "c: an integer, and not 1.5"),
             (lambda: edges_at((0, 0), (1, 0), (0, 1), [(0, 1 << 31)]), ValueError, "points: row 0, y: -8388608 to 8388607, and not 2147483648"),
-            (lambda: edges_at((0, 0), (1, 0), (0, 1), (0, 0)), TypeError, "points: row 0: 2 values, and not 0"),
+            (lambda: edges_at((0, 0), (1, 0), (0, 1), (0, 0)), TypeError, "points: row 0: a sequence of 2 values, and not 0"),
             (lambda: edges_at((0, 0), (1, 0, 0), (0, 1), []), ValueError, "b: 2 values, and not 3"),
             (lambda: draw(DRAW_LIST).pixel(0.0, 1), TypeError, "column: an integer, and not 0.0"),
         )
@@ -126,11 +127,11 @@ class Rows(Refusals):
 
         self.must_say(
             (draw([[0] * 7, [0, 0.5] + [0] * 5]), TypeError, "vertices: row 1, y: an integer in 1/256 pixel, and not 0.5" + SNAP),
-            (draw([[0] * 3 + [0.5] + [0] * 3]), TypeError, "vertices: row 0, red: an integer, and not 0.5"),
+            (draw([[0] * 3 + [0.5] + [0] * 3]), TypeError, "vertices: row 0, red: an integer of 0 to 255, and not 0.5"),
             (draw([[0] * 7, [1 << 31] + [0] * 6]), ValueError, "vertices: row 1, x: -8388608 to 8388607, and not 2147483648"),
             (draw([[0] * 7, [0] * 6]), ValueError, "vertices: row 1: 7 values, and not 6"),
             (draw([[0] * 3]), ValueError, "vertices: row 0: 2 or 7 values, and not 3"),
-            (draw([[0] * 7, 5]), TypeError, "vertices: row 1: 7 values, and not 5"),
+            (draw([[0] * 7, 5]), TypeError, "vertices: row 1: a sequence of 7 values, and not 5"),
             (draw(5), TypeError, "vertices: rows of 2 or 7 integers, and not 5"),
             (draw(array("d", [0] * 7)), ValueError, "vertices: rows of 2 or 7 integers, and not the shape (7,)"),
             (draw(memoryview(array("d", [0, 0])).cast("B").cast("d", shape=[1, 2])), TypeError,
@@ -152,12 +153,16 @@ class Rows(Refusals):
 
         self.must_say(
             (draw(colors=(1, 2, 256)), ValueError, "colors: 0 to 255, and not 256"),
-            (draw(colors=(0.5, 1.0, 0.0)), TypeError, "colors: an integer, and not 0.5"),
+            (draw(colors=(0.5, 1.0, 0.0)), TypeError, "colors: an integer of 0 to 255, and not 0.5"),
             (draw(colors=[(1, 2, 3)] * 2), ValueError, "colors: 3 rows, and not 2"),
             (draw(colors=[(1, 2, 3), (1, 2, 3), (1, 2, 300)]), ValueError, "colors: row 2, blue: 0 to 255, and not 300"),
             (draw(colors=[(1, 2)] * 3), ValueError, "colors: row 0: 3 or 4 values, and not 2"),
             (draw(colors="red"), ValueError, "colors: row 0: 3 or 4 values, and not 1"),
             (draw(colors=5), TypeError, "colors: rows of 3 or 4 integers, and not 5"),
+            (draw(colors=memoryview(array("f", [1] * 9)).cast("B").cast("f", shape=[3, 3])), TypeError,
+             "colors: integers of 0 to 255, and not float32"),
+            (draw(colors=[(1, 2, 3), (1, 0.5, 3), (1, 2, 3)]), TypeError, "colors: row 1, green: an integer of 0 to 255, and not 0.5"),
+            (draw(quads=[0, 1, 2, 0]), TypeError, "quads: row 0: a sequence of 4 values, and not 0"),
             (draw(depth=65536), ValueError, "depth: 0 to 65535, and not 65536"),
             (draw(depth=0.5), TypeError, "depth: integers, and not 0.5"),
             (draw(depth=[1, 2]), ValueError, "depth: 3 rows, and not 2"),
@@ -211,28 +216,25 @@ class Rows(Refusals):
         far[2][0] = 1 << 23
         canvas, window, other = cleared(), cleared(origin=(40000, 0)), cleared(origin=(-5, 0))
         triangle = [[0, 1, 2]]
-        band = "x and y from -8388608 to 8388607"
         cases: List[Tuple[Callable[[], Any], str, int, Any, str]] = [
-            (lambda: canvas.draw(VERTICES, triangle * 5 + [[0, 3, 2]]), "BadIndex", 0, 16,
-             "triangles: row 5, index 1: one of 3 vertices, and not 3"),
-            (lambda: canvas.draw(VERTICES, strip=[0, 1, 9]), "BadIndex", 0, 2, "strip: row 2, index 0: one of 3 vertices, and not 9"),
+            (lambda: canvas.draw(VERTICES, triangle * 5 + [[0, 3, 2]]), "BadIndex", 0, 16, "index 16 is 3, which is not less than the number of vertices"),
+            (lambda: canvas.draw(VERTICES, strip=[0, 1, 9]), "BadIndex", 0, 2, "index 2 is 9, which is not less than the number of vertices"),
             (lambda: canvas.draw_batch([trirast.Draw(VERTICES, triangle), trirast.Draw(VERTICES, quads=[[0, 1, 2, 7]])]), "BadIndex", 1, 3,
-             "quads: row 0, index 3: one of 3 vertices, and not 7"),
-            (lambda: canvas.draw(far, triangle, threads=2), "BadPosition", 0, 2, f"vertices: row 2: {band}, and not 8388608, 640"),
-            (lambda: canvas.draw(far), "BadPosition", 0, 2, f"vertices: row 2: {band}, and not 8388608, 640"),
-            (lambda: other.draw(far, triangle), "BadPosition", 0, 2,
-             f"vertices: row 2: {band}, also as seen from the origin (-5, 0), and not 8388608, 640"),
-            (lambda: window.draw(VERTICES, triangle), "BadPosition", 0, 0,
-             f"vertices: row 0: {band}, also as seen from the origin (40000, 0), and not 128, 128"),
-            (lambda: canvas.draw(VERTICES + [[0, 640] + [0] * 5], quads=[[2, 3, 0, 1], [0, 1, 2, 0]]), "NotConvex", 0, 1, ""),
-            (lambda: canvas.draw(VERTICES[:2]), "NotWhole", 0, None, ""),
+             "index 3 is 7, which is not less than the number of vertices"),
+            (lambda: canvas.draw(far, triangle, threads=2), "BadPosition", 0, 2, "vertex 2 is out of range"),
+            (lambda: canvas.draw(far), "BadPosition", 0, 2, "vertex 2 is out of range"),
+            (lambda: other.draw(far, triangle), "BadPosition", 0, 2, "vertex 2 is out of range"),
+            (lambda: window.draw(VERTICES, triangle), "BadPosition", 0, 0, "vertex 0 is out of range"),
+            (lambda: canvas.draw(VERTICES + [[0, 640] + [0] * 5], quads=[[2, 3, 0, 1], [0, 1, 2, 0]]), "NotConvex", 0, 1,
+             "quad 1 is not strictly convex"),
+            (lambda: canvas.draw(VERTICES[:2]), "NotWhole", 0, None, "the indices make no whole triangles or quads"),
         ]
-        for call, name, draw, element, reason in cases:
+        for call, name, draw, element, line in cases:
             with self.assertRaises(trirast.BatchError) as caught:
                 call()
             error = caught.exception
             self.assertEqual((error.name, error.draw, error.element), (name, draw, element))
-            self.assertTrue(str(error).startswith(f"draw {draw}: ") and str(error).endswith(reason), error)
+            self.assertEqual(str(error), f"draw {draw}: {line}")
         self.assertEqual(bytes_of(canvas.rgb()), bytes(27))
 
 

@@ -1,10 +1,15 @@
 """Canvases."""
 
+import os
+import pickle
+import tempfile
 import unittest
+import zlib
 from array import array
-from typing import Any, Callable, List
+from typing import Any, Callable, Dict, List, Tuple
 
 import trirast
+from trirast._canvas import Format
 
 from .common import PIXELS, VERTICES, bytes_of
 
@@ -142,17 +147,68 @@ class Pictures(unittest.TestCase):
             canvas.draw(LARGE, [[0, 1, 2]], colors=(5, 6, 7), keep=keep)
             self.assertEqual(bytes_of(canvas.rgb()), bytes(wanted) * 9)
 
-    def test_there_is_no_stored_alpha_yet(self) -> None:
-        with self.assertRaisesRegex(NotImplementedError, "^alpha: "):
-            trirast.Canvas(3, 3, alpha=True)
-        self.assertEqual(trirast.Canvas(3, 3, 16, alpha=False).samples, 16)
+    def test_alpha_is_stored(self) -> None:
+        canvas = cleared(alpha=True)
+        self.assertTrue(canvas.alpha)
+        self.assertEqual(bytes_of(canvas.rgba()), bytes(36))
+        canvas.draw(LARGE, [[0, 1, 2]], colors=(200, 100, 0, 128), blend="over")
+        self.assertEqual(bytes_of(canvas.rgba()), bytes((100, 50, 0, 128)) * 9)
+        self.assertEqual(bytes_of(canvas.rgba(straight=True)), bytes((199, 100, 0, 128)) * 9)
+        self.assertEqual(bytes_of(canvas.bgra(straight=True)), bytes((0, 100, 199, 128)) * 9)
+        self.assertEqual(bytes_of(canvas.colors(format="rgba")), bytes((100, 50, 0, 128)) * 9)
+        canvas.draw(LARGE, [[0, 1, 2]], colors=(1, 2, 3, 4), keep="a")
+        self.assertEqual(bytes_of(canvas.rgba()), bytes((1, 2, 3, 128)) * 9)
+        copied = pickle.loads(pickle.dumps(canvas))
+        self.assertTrue(copied.alpha)
+        self.assertEqual(bytes_of(copied.rgba()), bytes((1, 2, 3, 128)) * 9)
+
+    def test_alpha_of_a_colour_to_which_a_canvas_is_cleared(self) -> None:
+        canvas = trirast.Canvas(1, 1, alpha=True)
+        for color, wanted in (((9, 8, 7), 255), ((9, 8, 7, 6), 6)):
+            canvas.clear(color)
+            self.assertEqual(bytes_of(canvas.rgba()), bytes((9, 8, 7, wanted)))
+        without = trirast.Canvas(1, 1)
+        without.clear((9, 8, 7, 6))
+        self.assertEqual((without.alpha, bytes_of(without.rgba())), (False, bytes((9, 8, 7, 255))))
+
+    def test_images_with_alpha_are_loaded(self) -> None:
+        canvas = cleared(1, 1, alpha=True)
+        wanted_of: Dict[Format, Tuple[int, ...]] = {
+            "rgb": (9, 8, 7, 255), "rgba": (9, 8, 7, 51), "bgra": (7, 8, 9, 51), "rgba_straight": (2, 2, 1, 51),
+        }
+        for format, wanted in wanted_of.items():
+            image = bytes((9, 8, 7, 51)[: 3 if format == "rgb" else 4])
+            canvas.load(image, format=format)
+            self.assertEqual(bytes_of(canvas.rgba()), bytes(wanted), format)
+            canvas.clear()
+            canvas.store(image, format=format)
+            self.assertEqual(bytes_of(canvas.rgba()), bytes(wanted), format)
+        without = cleared(1, 1)
+        without.load(bytes((9, 8, 7, 51)), format="rgba")
+        self.assertEqual(bytes_of(without.rgba()), bytes((9, 8, 7, 255)))
+
+    def test_a_picture_with_alpha_is_a_png_file(self) -> None:
+        canvas = cleared(2, 1, alpha=True)
+        canvas.draw(LARGE, [[0, 1, 2]], colors=(200, 100, 0, 128), blend="over", scissor=(0, 0, 1, 1))
+        with tempfile.TemporaryDirectory() as folder:
+            path = os.path.join(folder, "x.png")
+            canvas.save(path)
+            with open(path, "rb") as file:
+                data = file.read()
+            with self.assertRaisesRegex(ValueError, "^path: an end of .png, for a picture with alpha"):
+                canvas.save(os.path.join(folder, "x.ppm"))
+        self.assertEqual(data, canvas._repr_png_())
+        # Eight bits of red, green, blue and alpha.
+        self.assertEqual(data[24:26], bytes((8, 6)))
+        packed = data[data.index(b"IDAT") + 4 : data.index(b"IEND") - 8]
+        self.assertEqual(zlib.decompress(packed), bytes((0, 199, 100, 0, 128, 0, 0, 0, 0)))
 
     def test_the_memory_is_the_callers(self) -> None:
         memory = bytearray(trirast.Canvas.size(3, 3))
         canvas = trirast.Canvas(3, 3, memory=memory)
         canvas.clear((7, 7, 7), 0x0101)
         # Behind the plane of marks lie the samples to which the tile was cleared.
-        self.assertEqual(set(memory[320:640]), {1, 7})
+        self.assertEqual(set(memory[384 : 384 + 320]), {1, 7})
         del canvas
         with self.assertRaises(ValueError):
             trirast.Canvas(3, 3, memory=bytearray(9))
@@ -168,10 +224,10 @@ class Refused(unittest.TestCase):
         canvas = cleared()
         with self.assertRaises(trirast.BatchError) as caught:
             canvas.draw(VERTICES, [[0, 1, 2], [0, 1, 3]])
-        self.assertEqual((caught.exception.name, caught.exception.draw, caught.exception.element), ("BadIndex", 0, 5))
+        self.assertEqual((caught.exception.name, caught.exception.draw, caught.exception.element, caught.exception.value), ("BadIndex", 0, 5, 3))
         with self.assertRaises(trirast.BatchError) as caught:
             canvas.draw(VERTICES, [[0, 1, 2]], first_id=WHITE_ID + 1)
-        self.assertEqual((caught.exception.name, caught.exception.draw, caught.exception.element), ("TooManyIds", 0, None))
+        self.assertEqual((caught.exception.name, caught.exception.draw, caught.exception.element, caught.exception.value), ("TooManyIds", 0, None, None))
         self.assertEqual(bytes_of(canvas.rgb()), bytes(27))
         with self.assertRaises(trirast.SampleError):
             canvas.ids(1)

@@ -40,7 +40,7 @@ class Errors(unittest.TestCase):
 
     def test_each_status_has_its_exception(self) -> None:
         for status, kind in {**_errors.BY_STATUS, **_errors.PLACED}.items():
-            given = _ffi.CError(status, 1, _errors.NONE, _errors.NONE)
+            given = _ffi.CError(status, 1, _errors.NONE, _errors.NONE, _errors.NONE)
             with self.assertRaises(kind) as raised:
                 _ffi.raise_error(status, None, (given,))
             self.assertIsInstance(raised.exception, trirast.Error)
@@ -55,7 +55,7 @@ class Errors(unittest.TestCase):
         names = [name for name in dir(trirast) if name.endswith("Error") and name != "Error"]
         kinds = {*_errors.BY_STATUS.values(), *_errors.PLACED.values()}
         self.assertEqual(sorted(kind.__name__ for kind in kinds), sorted(names))
-        self.assertEqual(sorted({**_errors.BY_STATUS, **_errors.PLACED}), list(range(1, 18)))
+        self.assertEqual(sorted({**_errors.BY_STATUS, **_errors.PLACED}), list(range(1, 19)))
 
     def test_structs_of_other_sizes_are_refused(self) -> None:
         canvas = trirast.Canvas(3, 3)

@@ -119,6 +119,39 @@ class Places(unittest.TestCase):
             canvas.fragments(vertices, triangles, w, rate="pixels")  # type: ignore[arg-type]
 
 
+class Refused(unittest.TestCase):
+    def setUp(self) -> None:
+        self.canvas, self.vertices, self.triangles, self.w = drawn(13, 2)
+        self.at = self.canvas.fragments(self.vertices, self.triangles, self.w)
+
+    def test_values_of_too_few_vertices(self) -> None:
+        last = self.at.corners.max()
+        self.at.value(np.ones(last + 1))
+        for given in (np.ones(last), np.ones((last, 2)), 1.0):
+            for look_up in (self.at.value, self.at.to_right, self.at.to_below):
+                with self.assertRaisesRegex(ValueError, f"^values: {last + 1} rows at least, .*Clipped.attributes"):
+                    look_up(given)
+
+    def test_fragments_of_other_arrays(self) -> None:
+        with self.assertRaisesRegex(TypeError, "^vertices: an array with the fields x and y"):
+            self.canvas.fragments([(0, 0), (1, 0), (0, 1)], [(0, 1, 2)], [1, 1, 1])
+        with self.assertRaisesRegex(ValueError, r"^w: 180 numbers, one for each vertex, and not the shape \(5,\)"):
+            self.canvas.fragments(self.vertices, self.triangles, self.w[:5])
+        with self.assertRaisesRegex(ValueError, "^triangles: row 0, index 2: an index of 180 vertices, and not 180"):
+            self.canvas.fragments(self.vertices, [(0, 1, 180)], self.w)
+
+    def test_colours_and_canvases_that_do_not_fit(self) -> None:
+        before, count = self.canvas.colors().copy(), len(self.at.id)
+        for shape in ((count,), (count, 4), (count - 1, 3), (3,)):
+            with self.assertRaisesRegex(ValueError, f"^colors: {count} rows of red, green and blue, "):
+                self.canvas.shade(self.at, np.zeros(shape))
+        self.assertTrue(np.array_equal(self.canvas.colors(), before))
+        for width, samples in ((WIDTH - 1, 2), (WIDTH, 1), (WIDTH, 4)):
+            other = trirast.Canvas(width, HEIGHT, samples=samples)
+            with self.assertRaisesRegex(ValueError, rf"^fragments: .*\({samples}, {HEIGHT}, {width}\), and not \(2, "):
+                other.shade(self.at, np.zeros((count, 3)))
+
+
 class Shaded(unittest.TestCase):
     def test_colours_take_the_place_of_ids(self) -> None:
         canvas, vertices, triangles, w = drawn(10, 4)
@@ -149,6 +182,56 @@ class Shaded(unittest.TestCase):
         self.assertEqual((len(at.id), at.weights.shape), (0, (0, 3)))
         canvas.shade(at, np.zeros((0, 3)), (1, 2, 3))
         self.assertEqual(canvas.rgb()[5, 6].tolist(), [1, 2, 3])
+
+    def test_tiles_are_those_of_the_whole(self) -> None:
+        for samples in (1, 4, 8):
+            for rate in RATES:
+                canvas, vertices, triangles, w = drawn(13, samples, ORIGIN)
+                whole = canvas.fragments(vertices, triangles, w, rate=rate)
+                other, *_scene = drawn(13, samples, ORIGIN)
+                for tile in ((0, 0), (1, 0), (0, 1), (1, 1)):
+                    at = other.fragments(vertices, triangles, w, rate=rate, tile=tile)
+                    (left, top), (height, width) = (64 * tile[0], 64 * tile[1]), at.index.shape[1:]
+                    rows = whole.index[:, top : top + height, left : left + width]
+                    self.assertTrue(np.array_equal(rows >= 0, at.index >= 0))
+                    shown = rows[rows >= 0], at.index[at.index >= 0]
+                    for one, part in zip(whole[:7], at[:7]):
+                        self.assertTrue(np.array_equal(one[shown[0]], part[shown[1]]))
+                    other.shade(at, np.stack([at.id, at.y % 256, at.x % 256], 1), (9, 8, 7))
+                canvas.shade(whole, np.stack([whole.id, whole.y % 256, whole.x % 256], 1), (9, 8, 7))
+                for sample in range(samples):
+                    self.assertTrue(np.array_equal(canvas.colors(sample), other.colors(sample)))
+                    self.assertTrue(np.array_equal(canvas.depth(sample), other.depth(sample)))
+
+    def test_a_tile_alone_is_shaded(self) -> None:
+        canvas, vertices, triangles, w = drawn(14, 4)
+        before = [canvas.ids(sample) for sample in range(4)]
+        at = canvas.fragments(vertices, triangles, w, tile=(1, 0))
+        self.assertEqual((at.tile, at.index.shape), ((1, 0), (4, 64, WIDTH - 64)))
+        canvas.shade(at, np.full((len(at.id), 3), 50))
+        for sample in range(4):
+            kept = canvas.ids(sample)
+            self.assertTrue(np.array_equal(kept[:, :64], before[sample][:, :64]))
+            self.assertTrue(np.array_equal(kept[64:], before[sample][64:]))
+            self.assertEqual(set(kept[:64, 64:].ravel().tolist()) - {0, 50 * 0x010101}, set())
+
+    def test_a_cleared_tile(self) -> None:
+        canvas, vertices, triangles, w = drawn(15, 4)
+        canvas.clear((255, 255, 255))
+        at = canvas.fragments(vertices, triangles, w, tile=(0, 1))
+        self.assertEqual(len(at.id), 0)
+        canvas.shade(at, np.zeros((0, 3)), (1, 2, 3))
+        self.assertEqual((canvas.rgb()[66, 6].tolist(), canvas.rgb()[63, 6].tolist()), ([1, 2, 3], [255, 255, 255]))
+
+    def test_tiles_that_are_not_there(self) -> None:
+        canvas, vertices, triangles, w = drawn(16, 2)
+        for tile in ((2, 0), (0, 2), (1 << 31, 0), (-1, 0)):
+            with self.assertRaises(trirast.TileError):
+                canvas.fragments(vertices, triangles, w, tile=tile)
+        wrong: Any
+        for wrong in ((0,), (0, 0, 0), 5, (0, "0")):
+            with self.assertRaisesRegex((TypeError, ValueError), "^tile"):
+                canvas.fragments(vertices, triangles, w, tile=wrong)
 
 
 if __name__ == "__main__":

@@ -134,8 +134,17 @@ def of_records(data: Data, rows: Rows, columns: int) -> Any:
     forms: List[Callable[[], Any]] = [
         lambda: own, lambda: np.repeat(own, 2)[::2], lambda: other, lambda: np.frombuffer(own.tobytes(), own.dtype),
         lambda: np.frombuffer(b"12" + own.tobytes(), np.uint8)[2:].view(own.dtype),
+        lambda: among_others(own, [("before", "u4")], [("behind", "u1", 4 * len(own))]),
     ]
     return data.draw(st.sampled_from(forms))()
+
+
+def among_others(own: Any, before: List[Any], behind: List[Any]) -> Any:
+    """The same records with other members before and behind each."""
+    made = np.full(len(own), 7, before + trirast.VERTEX + behind)
+    for name, _kind in trirast.VERTEX:
+        made[name] = own[name]
+    return made
 
 
 def of_ctypes(data: Data, rows: Rows, columns: int) -> Any:

@@ -18,7 +18,7 @@ from matplotlib.patches import Circle
 from matplotlib.tri import Triangulation
 from matplotlib.transforms import IdentityTransform
 
-from trirast.matplotlib import FigureCanvasTrirast, RendererTrirast, _drawing, _triangles
+from trirast.matplotlib import FigureCanvasTrirast, RendererTrirast, _drawing, _renderer, _samples, _triangles
 from trirast.matplotlib._triangles import REACH, Box, Triangles
 
 # Its functions have no types.
@@ -149,6 +149,18 @@ class Meshes(unittest.TestCase):
         figure.savefig(file, format="rgba", dpi=100)
         self.assertEqual(off_color(np.frombuffer(file.getvalue(), np.uint8).reshape(240, 320, 4)), 0)
 
+    def test_one_figure_of_another_backend_is_saved_by_this_one(self) -> None:
+        saved = []
+        for canvas_class in (FigureCanvasTrirast, FigureCanvasAgg):
+            figure = Figure(figsize=SIZE)
+            canvas_class(figure)
+            pcolormesh(one_color, alpha=0.5)(figure.add_subplot())
+            file = io.BytesIO()
+            figure.savefig(file, format="png", backend="module://trirast.matplotlib")
+            saved.append(file.getvalue())
+            self.assertIs(type(figure.canvas), canvas_class)
+        self.assertEqual(*saved)
+
 
 class Filters(unittest.TestCase):
     """Filters of pixels where matplotlib first measures what it will draw."""
@@ -175,10 +187,11 @@ class Filters(unittest.TestCase):
         )
         for draw in meshes:
             for layout, bbox in ((None, None), (None, "tight"), ("constrained", None)):
-                with mock.patch("trirast.matplotlib.draw_triangles", wraps=_drawing.draw_triangles) as called:
+                # An opaque figure's by samples, and the transparent picture of a filter by itself.
+                with mock.patch.object(_renderer, "draw_triangles") as alone, mock.patch.object(_samples.Samples, "draw_triangles") as sampled:
                     self.saved(FigureCanvasTrirast, layout, bbox, draw)
                 # Once by the drawing alone, and not where matplotlib measures.
-                self.assertEqual(called.call_count, 1, (layout, bbox))
+                self.assertEqual(alone.call_count + sampled.call_count, 1, (layout, bbox))
 
 
 class Clips(unittest.TestCase):
@@ -208,7 +221,10 @@ class Clips(unittest.TestCase):
             mesh = axes.tripcolor(whole, np.zeros(3), shading="gouraud", cmap="gray", vmin=0, vmax=1)
             mesh.set_clip_path(Circle((0.5, 0.5), 0.3, transform=axes.transAxes))
 
-        self.assertLess(farthest(drawn(clipped), drawn(clipped, FigureCanvasAgg)), 3)
+        # A sixteenth is the least share of an edge.
+        self.assertLess(farthest(drawn(clipped), drawn(clipped, FigureCanvasAgg)), 48)
+        ours, agg = (drawn(clipped, each, facecolor=(1, 1, 1, 0.99)) for each in (FigureCanvasTrirast, FigureCanvasAgg))
+        self.assertLess(farthest(ours, agg), 3)
 
 
 class Transparent(unittest.TestCase):
@@ -237,7 +253,10 @@ class Transparent(unittest.TestCase):
 
         clear, opaque = drawn(clipped, facecolor="none"), drawn(clipped)
         share = clear[..., 3:] / 255
-        self.assertLess(farthest(share * clear[..., :3] + (1 - share) * 255, opaque[..., :3]), 2)
+        # An opaque figure's clip path has edges of sixteenths.
+        difference = np.abs(share * clear[..., :3] + (1 - share) * 255 - opaque[..., :3]).max(2)
+        self.assertLess(difference.max(), 24)
+        self.assertLess(int((difference >= 2).sum()), 500)
         corner = slice(31, 50), slice(41, 60)
         self.assertEqual(clear[corner].tobytes(), drawn(lambda axes: None, facecolor="none")[corner].tobytes())
 

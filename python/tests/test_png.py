@@ -108,7 +108,7 @@ class Saved(Files):
                     save(self.path("a.png"), dpi=dpi)
                 self.assertEqual(str(caught.exception), message)
         for save, name in ((picture.save, "a.ppm"), (drawn().save, "A.PPM"), (trirast.draw(DEPTHS).save, "a.pgm")):
-            with self.assertRaisesRegex(ValueError, f"^dpi: only for a PNG file, and not for .*{name}'$"):
+            with self.assertRaisesRegex(ValueError, f"^dpi: only for a name that ends in .png, and not for .*{name}'$"):
                 save(self.path(name), dpi=300)
         self.assertEqual(os.listdir(self.folder), [])
 
@@ -142,9 +142,9 @@ class Posters(Files):
     def test_other_files_have_none(self) -> None:
         scene = random_scene(7)
         for name in ("a.ppm", "a"):
-            with self.assertRaisesRegex(ValueError, f"^dpi: only for a PNG file, and not for '.*{name}'$"):
+            with self.assertRaisesRegex(ValueError, f"^dpi: only for a name that ends in .png, .tif, .tiff, and not for '.*{name}'$"):
                 poster.draw_poster(scene, self.path(name), dpi=300)
-        with self.assertRaisesRegex(ValueError, "^dpi: only for a PNG file, and not for tiles$"):
+        with self.assertRaisesRegex(ValueError, "^dpi: only for a name that ends in .png, .tif, .tiff, and not for tiles$"):
             poster.draw_poster(scene, tiles=self.path("tiles"), dpi=300)
         self.assertEqual(os.listdir(self.folder), [])
 
@@ -156,7 +156,7 @@ class Posters(Files):
         errors = io.StringIO()
         with redirect_stderr(errors):
             self.assertEqual(_command.main([self.path("a.npz"), "-o", self.path("a.ppm"), "--dpi", "300"]), 1)
-        message = f"dpi: only for a PNG file, and not for {self.path('a.ppm')!r}"
+        message = f"dpi: only for a name that ends in .png, .tif, .tiff, and not for {self.path('a.ppm')!r}"
         self.assertEqual(errors.getvalue(), f"poster: ValueError: {message}\n")
 
 

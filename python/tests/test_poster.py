@@ -138,8 +138,18 @@ class Windows(unittest.TestCase):
             self.assertEqual([piece.area for piece in part.pieces], [area for area, _ in wanted])
             for piece, (_, counts) in zip(part.pieces, wanted):
                 draws = [(count, draw) for count, draw in zip(counts, ({"blend": "over"}, {})) if count]
-                self.assertEqual([(draw.triangles, dict(draw.state)) for draw in piece.draws], draws)
-                self.assertEqual(part.triangles[piece.first].tolist(), [0, 1, 2] if counts[0] else [3, 4, 5])
+                self.assertEqual([(draw.end - draw.first, dict(draw.state)) for draw in piece.draws], draws)
+                self.assertEqual(part.triangles[piece.draws[0].first].tolist(), [0, 1, 2] if counts[0] else [3, 4, 5])
+
+    def test_tile_rows_go_on_only_with_the_same_triangles(self) -> None:
+        # The first triangle meets two tile rows. The third is in the first of them, and the second in the other, in the same columns.
+        places = ((10, 10), (20, 10), (10, 120), (10, 70), (20, 70), (10, 90), (10, 10), (20, 10), (10, 40))
+        vertices = np.array([[256 * x, 256 * y, 0, 9, 9, 9, 9] for x, y in places])
+        scene = poster.scene_of_arrays(vertices, np.arange(9).reshape(-1, 3), {"width": 64, "height": 128, "draws": [{"triangles": 3}]})
+        windows = _windows.Windows(scene.sheet, 128)
+        part = _part.part_of(scene, _index.Index.of(scene, windows), windows.span(0, 0, 1))
+        drawn = [part.triangles[draw.first : draw.end, 0].tolist() for piece in part.pieces for draw in piece.draws]
+        self.assertEqual(drawn, [[0, 6], [0, 3]])
 
     def test_rows_are_cut_into_spans(self) -> None:
         scene = random_scene(2, width=3000, triangles=1000, reach=300)

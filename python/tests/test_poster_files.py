@@ -91,7 +91,7 @@ class Outputs(Runs):
         self.must_refuse("OutputError", "-o", "")
 
     def test_an_end_of_no_format_is_refused(self) -> None:
-        for name in ("a.tif", "a.jpg", "a.PNG.bak"):
+        for name in ("a.gif", "a.jpg", "a.PNG.bak"):
             self.must_refuse("OutputError", "-o", self.path(name))
 
     def test_the_list_is_not_replaced(self) -> None:

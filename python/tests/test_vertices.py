@@ -19,7 +19,7 @@ RECORDS = b"".join(struct.pack("=iiHBBBB2x", *row) for row in VERTICES)
 
 def records(*given: Any, **more: Any) -> List[Any]:
     """The records that are made of vertices, each as its seven numbers."""
-    return list(struct.iter_unpack("=iiHBBBB2x", bytes(_vertices.vertices_of(*given, **more))))
+    return list(struct.iter_unpack("=iiHBBBB2x", bytes(_vertices.packed(_vertices.vertices_of(*given, **more)))))
 
 
 class Forms(unittest.TestCase):
@@ -77,10 +77,57 @@ class Forms(unittest.TestCase):
         self.assertEqual(records(other), [tuple(row) for row in VERTICES])
         given = own.copy()
         self.assertTrue(np.shares_memory(_vertices.vertices_of(given), given))
-        for copied in (wide[:, 0], given[::2], unaligned):
-            self.assertFalse(np.shares_memory(_vertices.vertices_of(copied), copied))
+        self.assertFalse(np.shares_memory(_vertices.vertices_of(unaligned), unaligned))
         self.assertEqual(records(given, colors=(1, 2, 3, 4), depth=5), [(*row[:2], 5, 1, 2, 3, 4) for row in VERTICES])
         self.assertEqual(bytes_of(given), RECORDS)
+
+    def test_among_other_members_are_read_where_they_lie(self) -> None:
+        if NUMPY is None:
+            self.skipTest("there is no numpy")
+        np = NUMPY
+        own = np.frombuffer(RECORDS, trirast.VERTEX)
+        before, behind = [("u", "f4"), ("v", "f4")], [("normal", "f4", 3), ("name", "S4")]
+        first = np.zeros(3, trirast.VERTEX + behind)
+        middle = np.zeros(3, before + trirast.VERTEX + behind)
+        nested = np.zeros((3, 5), trirast.VERTEX)[:, 2]
+        widest = np.zeros(3, before + trirast.VERTEX + [("more", "u1", 2048 - 24)])
+        for vertices in (first, middle, nested, widest, widest.view(np.recarray), np.zeros(6, middle.dtype)[::2]):
+            for name, _kind in trirast.VERTEX:
+                vertices[name] = own[name]
+            found = _vertices.vertices_of(vertices)
+            self.assertIs(found.array, vertices)
+            self.assertEqual(found.stride, vertices.strides[0])
+            self.assertEqual(drawn(vertices, TRIANGLE), PIXELS)
+            self.assertEqual(drawn(vertices, None), PIXELS)
+            self.assertEqual(records(vertices), [tuple(row) for row in VERTICES])
+            self.assertEqual(records(vertices, depth=5)[0][2], 5)
+            canvas = trirast.Canvas(3, 3)
+            canvas.clear()
+            canvas.draw_batch([trirast.Draw(vertices[:0], []), trirast.Draw(vertices), trirast.Draw(own, TRIANGLE), trirast.Draw(vertices, TRIANGLE)])
+            self.assertEqual(bytes_of(canvas.rgb()), PIXELS)
+            vertices["x"] = 1 << 23
+            with self.assertRaises(trirast.BatchError) as caught:
+                canvas.draw(vertices, TRIANGLE)
+            self.assertEqual((caught.exception.name, caught.exception.element), ("BadPosition", 0))
+
+    def test_that_cannot_be_read_where_they_lie_are_copied(self) -> None:
+        if NUMPY is None:
+            self.skipTest("there is no numpy")
+        np = NUMPY
+        own = np.frombuffer(RECORDS, trirast.VERTEX)
+        too_wide = np.zeros(3, trirast.VERTEX + [("more", "u1", 2048 - 12)])
+        odd = np.zeros(3, trirast.VERTEX + [("more", "u1", 3)])
+        turned = np.zeros(3, [*trirast.VERTEX[1::-1], *trirast.VERTEX[2:], ("more", "u4")])
+        cut = np.zeros(3, [("more", "u4"), *trirast.VERTEX[:-1]])
+        swapped = np.zeros(3, [*trirast.VERTEX, ("more", "u4")]).astype([(name, kind.newbyteorder()) for name, (kind, _place) in
+                                                                       np.dtype([*trirast.VERTEX, ("more", "u4")]).fields.items()])
+        padded = np.zeros(3, [*trirast.VERTEX, ("more", "u4")])
+        for vertices in (too_wide, odd, turned, cut, swapped, padded[::-1]):
+            for name, _kind in trirast.VERTEX:
+                if name in vertices.dtype.names:
+                    vertices[name] = own[name]
+            self.assertIsInstance(_vertices.vertices_of(vertices), bytearray)
+            self.assertEqual(drawn(vertices, TRIANGLE), PIXELS)
 
     def test_that_are_none_draw_nothing(self) -> None:
         empty: List[Any] = [([], []), (VERTICES, []), (b"", b""), (RECORDS, array("I")), (VERTICES, array("d")), ([], None)]

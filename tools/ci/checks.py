@@ -104,8 +104,8 @@ CHECKS = (
     ),
     Check(
         name="edits",
-        about="must-fail edits by name, and the statuses of header, Rust and Python",
-        command="pytest tools/sources/test_edits.py tools/sources/test_statuses.py", seconds=1,
+        about="must-fail edits by name, the statuses of header, Rust and Python, names that two crates have, and how contracts are compared",
+        command="pytest tools/sources --ignore tools/sources/test_statement.py", seconds=2,
     ),
     Check(
         name="schema",
@@ -147,9 +147,9 @@ CHECKS = (
     ),
     Check(
         name="compare-canvas",
-        about="generated lists on canvases, split into batches, against program and second renderer",
-        command="tools.reference.compare_canvas --lists 200", seconds=15,
-        long="--lists 1000", long_seconds=60,
+        about="generated lists on canvases, split into batches, by Python and by C, against program and second renderer",
+        command="tools.reference.compare_canvas --lists 200", seconds=20,
+        long="--lists 1000", long_seconds=90,
         runs=EVERYTHING, needs=COMPILER,
     ),
     Check(
@@ -228,7 +228,7 @@ CHECKS = (
     Check(
         name="package",
         about="the tests of the Python package",
-        command="pytest python/tests", seconds=28,
+        command="pytest python/tests", seconds=60,
         runs=EVERYTHING, needs=COMPILER,
     ),
     Check(
@@ -240,9 +240,9 @@ CHECKS = (
     ),
     Check(
         name="shade",
-        about="shading in C++: weights and pictures beside exact ones, the same bytes by every compiler, wrong edits",
-        command="pytest tools/checks/shade", seconds=55,
-        long="-m 'long or not long'", long_seconds=420,
+        about="shading in C and C++: weights and pictures beside exact ones, the same bytes by every compiler, wrong edits",
+        command="pytest tools/checks/shade", seconds=85,
+        long="-m 'long or not long'", long_seconds=600,
         runs=("library",), needs=(*COMPILER, "g++"),
     ),
     Check(

@@ -28,6 +28,12 @@ LIMIT = re.compile(
 )
 
 
+def is_judged(ran: Ran) -> bool:
+    """Whether a check read all sources, and refused something by a proof."""
+    is_unread = UNREAD.search(ran.text) or UNKNOWN.search(ran.text)
+    return ran.status == 1 and bool(JUDGED.search(ran.text)) and not is_unread
+
+
 def judged(ran: Ran) -> tuple[bool, str]:
     """Whether a check refused the edit by a proof, and what it said."""
     if ran.status == 0:
@@ -36,8 +42,8 @@ def judged(ran: Ran) -> tuple[bool, str]:
         return False, f"NOT TRIED: the check had not ended after {SECONDS} seconds"
     if ran.status == 3 and (limit := LIMIT.search(ran.text)):
         return True, f"refused by a limit of the prover: {limit[0]}"
-    reason, is_unread = REASON.search(ran.text), UNREAD.search(ran.text) or UNKNOWN.search(ran.text)
-    if ran.status != 1 or not JUDGED.search(ran.text) or is_unread or not reason:
+    reason = REASON.search(ran.text)
+    if not is_judged(ran) or not reason:
         return False, f"BAD EDIT: it did not get as far as a proof (status {ran.status})"
     return True, f"refused: {reason[0][:120]}"
 

@@ -67,7 +67,12 @@ class Run:
         self.seconds = 0.0
 
     def tell(self, ended: Ended) -> None:
-        """Prints and counts what came of a task."""
+        """Prints and counts what came of a task, or of each of its parts."""
+        for each in ended.each():
+            self.tell_one(each)
+        self.keep_what_was_seen()
+
+    def tell_one(self, ended: Ended) -> None:
         outcome, name = ended.outcome, ended.task.name
         print(f"{clock(ended.at)} {outcome.seconds:7.1f}  {name}: {outcome.remark}", flush=True)
         self.seconds += outcome.seconds
@@ -80,7 +85,6 @@ class Run:
             crate, edit = name.split("/")
             made = tried.Tried(self.sums.of_edit(crate, edit), round(outcome.seconds))
             self.refused.setdefault(crate, {})[edit] = made
-            self.keep_what_was_seen()
 
     def tasks(self, crates: Sequence[str], names: Sequence[str], known: dict[str, int]) -> list[Task]:
         """The tasks of these crates, lowest first, with these edits."""

@@ -5,8 +5,8 @@ from __future__ import annotations
 import threading
 import time
 from concurrent.futures import FIRST_COMPLETED, Future, ThreadPoolExecutor, wait
-from dataclasses import dataclass, field
-from typing import Callable, Iterable
+from dataclasses import dataclass, field, replace
+from typing import Callable, Iterable, Mapping
 
 from tools.counts import Counts
 
@@ -27,6 +27,8 @@ class Outcome:
     details: tuple[str, ...] = ()
     # What it counts for, if that is not one.
     counts: Counts | None = None
+    # How its parts ended, by their names.
+    parts: Mapping[str, Outcome] = field(default_factory=dict)
 
     def number(self) -> Counts:
         return Counts(int(self.has_passed), int(not self.has_passed)) if self.counts is None else self.counts
@@ -43,6 +45,8 @@ class Task:
     seconds: float = 1.0
     # Whether it can use more than one processor.
     is_wide: bool = False
+    # The names of what it consists of, each of which is printed and counted.
+    parts: tuple[str, ...] = ()
 
 
 @dataclass
@@ -53,6 +57,11 @@ class Ended:
     outcome: Outcome
     # By the clock, from the first task on.
     at: float = 0.0
+
+    def each(self) -> list[Ended]:
+        """Its parts, each with its own outcome, or the task itself if it has none."""
+        parts = self.outcome.parts
+        return [Ended(replace(self.task, name=name, parts=()), parts.get(name, self.outcome), self.at) for name in self.task.parts] or [self]
 
 
 @dataclass

@@ -1,8 +1,8 @@
 """A tree of small crates for the tests of CI, and a program that stands for rt in it.
 
 The crates are `low`, `high` above it, the program `app` above that, and `apart`. What the stand-in refuses is written
-into their sources: a check of a crate whose sources have the word WRONG is refused by a proof, and one with BROKEN does
-not get that far.
+into their sources: a check of a crate whose sources have the word WRONG is refused by the proof of the function in which it
+stands, and one with BROKEN does not get that far. A function with the word CALLS stands on one that is not proved, if any is.
 """
 
 from __future__ import annotations
@@ -52,10 +52,10 @@ FILES = {
     "crates/apart/src/lib.rt": "".join(f"pub fn f{k}() -> u32\n    ensures {{ result ≡ {k} }}\n{{\n    {k}\n}}\n" for k in range(FUNCTIONS)),
 }
 for k in range(FUNCTIONS):
-    FILES[f"crates/apart/must-fail/lib.f{k}.gives_another.edit"] = EDIT.format(f"pub fn f{k}() -> u32", f"pub fn f{k}() -> u32 // WRONG")
+    FILES[f"crates/apart/must-fail/lib.f{k}.gives_another.edit"] = EDIT.format(f"    {k}", f"    {k} + 1 // WRONG")
 
 STAND_IN = r"""
-import os, shutil, sys
+import os, re, shutil, sys
 verb = sys.argv[1]
 if verb == "version":
     sys.exit(print("stand-in 1"))
@@ -70,7 +70,13 @@ if verb == "fmt":
 if "BROKEN" in text:
     sys.exit(print("src/lib.rt:1:1: error[syntax]: no\nlogic=not-proved") or 1)
 if "WRONG" in text or "= ?" in text:
-    sys.exit(print("note: src/lib.rt:1:1: it is not proved\nfn f: not proved\nlogic=not-proved") or 1)
+    print("note: src/lib.rt:1:1: it is not proved")
+    for function, body in re.findall(r"fn (\w+)(.*?)(?=fn |\Z)", text, re.DOTALL):
+        if "WRONG" in body:
+            print(f"fn {name}::{function}: not proved; it calls another")
+        elif "CALLS" in body:
+            print(f"fn {name}::{function}: no proof: it calls another, which is not proved")
+    sys.exit(print("logic=not-proved") or 1)
 os.makedirs(f"out/rlib/{name}.rlib", exist_ok=True)
 os.makedirs("out/incremental", exist_ok=True)
 if "EMPTY" in text and "--empty-contracts" in sys.argv:

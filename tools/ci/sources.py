@@ -74,6 +74,31 @@ def without_bodies(words: list[str]) -> list[str]:
     return kept
 
 
+def bodies(words: list[str]) -> list[tuple[str, list[str]]]:
+    """The names of the functions of a source, each with the words from its name to the end of its body."""
+    found: list[tuple[str, list[str]]] = []
+    at = 0
+    while at < len(words):
+        if words[at] == "fn" and at + 1 < len(words) and NAME.fullmatch(words[at + 1]):
+            name = words[at + 1]
+            head, at = head_of_function(words, at, keeps_body=True)
+            found.append((name, head))
+        else:
+            at += 1
+    return found
+
+
+def changed_bodies(old: str, new: str) -> list[str] | None:
+    """The names of the functions whose bodies differ between two texts of a source, if nothing else does and each of them has a name
+    of its own."""
+    before, after = words_of(old), words_of(new)
+    if without_bodies(before) != without_bodies(after):
+        return None
+    names = [name for name, _body in bodies(before)]
+    changed = [name for (name, body), (_name, other) in zip(bodies(before), bodies(after)) if body != other]
+    return changed if all(names.count(name) == 1 for name in changed) else None
+
+
 def normal(path: str, is_below: bool) -> str:
     """What a checksum takes of a file: all that a check can read, or what a crate above can."""
     text = text_of(path)

@@ -78,14 +78,19 @@ class Steps:
                 faults = faults_of(ran.text, self.handles)
                 if ran.status != 0 or faults:
                     return failed("; ".join(faults) or "NOT PROVED", ran)
-                laid_out = self.rt(folder, "fmt", seconds=SECONDS)
-                if laid_out.status != 0 or "rt: formatted" in laid_out.text:
-                    return failed("run rt fmt in its folder", laid_out)
+                laid_out, fault = self.layout(folder)
+                if fault:
+                    return failed(fault, laid_out)
                 self.rooms.take_over(crate, folder)
             number = verdict_of(ran.text).get("functions", "0")
             return Outcome(True, f"{number} functions stand proved", ran.seconds + laid_out.seconds)
 
         return self.kept(crate, "stand", "incremental", run)
+
+    def layout(self, folder: str) -> tuple[Ran, str]:
+        """Lays a crate out in its room, and says what is wrong if that changes anything."""
+        ran = self.rt(folder, "fmt", seconds=SECONDS)
+        return ran, "run rt fmt in its folder" if ran.status != 0 or "rt: formatted" in ran.text else ""
 
     def archive(self, crate: str, jobs: int) -> Outcome:
         """Builds a static library over what is proved."""
@@ -121,11 +126,14 @@ class Steps:
         return calls_beyond(program, self.handles) if has_nm() and os.path.isfile(program) else []
 
     def run(self, crate: str, jobs: int) -> Outcome:
-        """Proves a program, builds it by each compiler, and compares what each writes."""
+        """Proves a program, builds it by each compiler, and compares what each writes; looks at its layout before."""
 
         def run() -> Outcome:
             seconds, said = 0.0, []
             with self.rooms.room(crate) as folder:
+                laid_out, fault = self.layout(folder)
+                if fault:
+                    return failed(fault, laid_out)
                 for backend, *flags in BACKENDS:
                     ran, fault = self.run_by(folder, crate, [*flags, "--jobs", str(jobs)])
                     seconds += ran.seconds

@@ -6,7 +6,7 @@ import os
 from functools import partial
 from typing import Callable, Mapping, Sequence
 
-from tools.ci.edit_trial import try_edit
+from tools.ci.edit_batch import batches, try_batch
 from tools.ci.schedule import Outcome, Task
 from tools.ci.steps import Steps
 from tools.sources.crates import PARTS, Tree, files_in
@@ -24,8 +24,8 @@ def likely_seconds(tree: Tree, crate: str) -> float:
     return CHECK_SECONDS + SECONDS_A_BYTE * sum(os.path.getsize(path) for path in paths)
 
 
-def tried(steps: Steps, crate: str, edit: str, _jobs: int) -> Outcome:
-    return try_edit(steps.rooms, steps.rt, crate, edit)
+def tried(steps: Steps, crate: str, edits: Sequence[str], _jobs: int) -> Outcome:
+    return try_batch(steps.rooms, steps.rt, crate, edits)
 
 
 def steps_of(crate: str, steps: Steps, has_edits: bool, known: Mapping[str, int]) -> list[Task]:
@@ -53,8 +53,9 @@ def steps_of(crate: str, steps: Steps, has_edits: bool, known: Mapping[str, int]
 def tasks_of(crate: str, steps: Steps, edits: Sequence[str], known: Mapping[str, int]) -> list[Task]:
     """The tasks of a crate, each behind those that it needs. Its edits are tried once it stands, beside its tests."""
     made = steps_of(crate, steps, bool(edits), known)
-    for edit in edits:
-        name = f"{crate}/{edit}"
-        seconds = known.get(name, EDIT_SECONDS)
-        made.append(Task(name, partial(tried, steps, crate, edit), (f"{crate}: as it stands",), seconds))
+    for number, batch in enumerate(batches(edits), 1):
+        parts = tuple(f"{crate}/{edit}" for edit in batch)
+        seconds = sum(known.get(name, EDIT_SECONDS) for name in parts)
+        run = partial(tried, steps, crate, batch)
+        made.append(Task(f"{crate}: edits {number}", run, (f"{crate}: as it stands",), seconds, parts=parts))
     return made

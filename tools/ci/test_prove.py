@@ -46,6 +46,7 @@ def test_a_tree_that_is_proved_passes(tree: SmallTree, capsys: pytest.CaptureFix
     ("crates/high/must-fail/lib.last.adds_one.edit", "WRONG", "BROKEN", "high/lib.last.adds_one.edit"),
     ("crates/low/src/tests.rt", "{}", "{} // FAILS", "low: tests"),
     ("crates/low/src/lib.rt", "// A sum.", "// CROOKED", "low: as it stands"),
+    ("crates/app/src/main.rt", "{}", "{} // CROOKED", "app: program"),
     ("crates/low/src/lib.rt", "// A sum.", "// EMPTY", "low: as it stands"),
     ("crates/low/src/lib.rt", "// A sum.", "// SAYS:hides=1", "low: as it stands"),
     ("crates/low/src/lib.rt", "// A sum.", "// SAYS:foreign=1", "low: as it stands"),

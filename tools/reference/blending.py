@@ -1,8 +1,8 @@
-"""Blending on canvases by the words of its rule, in whole numbers, one channel at a time.
+"""Blending on canvases by the words of its rule, in whole numbers, one channel at a time, and colours by their alpha.
 
 Channels are 0 to 255. s is the new channel and a the new alpha, d the stored channel and e the stored alpha, which is
-255 on a canvas without alpha, and k the constant's channel. A factor is a number of 255ths. f is s by its factor, and g
-is d by its factor.
+255 on a canvas without alpha, and k the constant's channel; in the equation of alpha s is a, and d is e. A factor is a
+number of 255ths. f is s by its factor, and g is d by its factor.
 """
 
 from __future__ import annotations
@@ -25,6 +25,10 @@ FACTORS: dict[str, Factor] = {
     "inverse_constant": lambda s, a, d, e, k: 255 - k,
     "source_alpha_saturated": lambda s, a, d, e, k: min(a, 255 - e),
 }
+# The factors that are others in the equation of alpha.
+ALPHA_FACTORS: dict[str, Factor] = {"source_alpha_saturated": lambda s, a, d, e, k: 255}
+# The number of alpha among the channels.
+ALPHA = 3
 OPERATIONS: dict[str, Callable[[int, int], int]] = {
     "add": lambda f, g: f + g, "subtract": lambda f, g: f - g, "reverse_subtract": lambda f, g: g - f,
 }
@@ -55,14 +59,29 @@ PRESETS = {
 
 
 def blended(given: str | Equation, channel: int, s: int, a: int, d: int, e: int = 255) -> int:
-    """The new value of red, green or blue, whose number is `channel`, by an equation or by the one of a name."""
+    """The new value of a channel, of 0 to 3 for red, green, blue and alpha, by an equation or by the one of a name."""
     equation = PRESETS[given] if isinstance(given, str) else given
-    if equation.color_operation in ENDS:
-        return ENDS[equation.color_operation](s, d)
+    source, stored, operation = equation[3:6] if channel == ALPHA else equation[:3]
+    if operation in ENDS:
+        return ENDS[operation](s, d)
+    factors = {**FACTORS, **ALPHA_FACTORS} if channel == ALPHA else FACTORS
     k = equation.constant[channel]
-    f = s * FACTORS[equation.color_source](s, a, d, e, k)
-    g = d * FACTORS[equation.color_stored](s, a, d, e, k)
-    x = OPERATIONS[equation.color_operation](f, g)
+    f = s * factors[source](s, a, d, e, k)
+    g = d * factors[stored](s, a, d, e, k)
+    x = OPERATIONS[operation](f, g)
     # The q with 255 q <= x + 127 < 255 (q + 1).
     q = (x + 127) // 255
     return min(max(q, 0), 255)
+
+
+def straight(c: int, a: int) -> int:
+    """A channel that was multiplied by its alpha, divided by it."""
+    if a == 0:
+        return 0
+    # The q with a q <= 255 c + a / 2 < a (q + 1), where a / 2 is rounded down.
+    return min((255 * c + a // 2) // a, 255)
+
+
+def multiplied(c: int, a: int) -> int:
+    """A channel multiplied by its alpha: the q with 255 q <= c a + 127 < 255 (q + 1)."""
+    return (c * a + 127) // 255

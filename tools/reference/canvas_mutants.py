@@ -28,6 +28,8 @@ MASK = "triangle.state.sample_mask"
 MASKED = f"if {MASK} >> s & 1]"
 POSITION = "p = (256 * i + ox, 256 * j + oy)"
 SCISSOR = "triangle.state.scissor"
+FAILED = "(depth, old[3]):\n        return old"
+FAILED_WITH_ALPHA = "(depth, old[3]):\n        return old[:4] + tuple([value(6)] if len(old) > 4 else [])"
 MEAN = "out.append((sum(sample[channel] for sample in pixel) + count // 2) // count)"
 
 # The mutants: the name of the mistake, the numbers of samples that can show it, the text of the rule in tools/reference/renderer.py, and what
@@ -56,6 +58,13 @@ MUTANTS: list[tuple[str, Sequence[int], str, str]] = [
     ("halves rounded down", (2, 8, 16), MEAN, MEAN.replace("count // 2", "(count - 1) // 2")),
     ("the mean of sixteen samples by eight", (16,), MEAN, "out.append(min(255, sum(sample[channel] for sample in pixel) // 8))"),
     ("the mean of the first four samples", (8, 16), MEAN, "out.append((sum(sample[channel] for sample in pixel[:4]) + 2) // 4)"),
+    ("stored alpha taken as 0 without alpha", (1, 4), "OPAQUE = 255", "OPAQUE = 0"),
+    ("the new alpha read by colours", (1, 4), "stored_alpha = old[4] if len(old) > 4 else OPAQUE", "stored_alpha = value(6) if len(old) > 4 else OPAQUE"),
+    ("alpha written that is kept", (1, 4), "if len(old) > 4 and state.write[3]:", "if len(old) > 4:"),
+    ("keep taken for write at alpha", (1, 4), "if len(old) > 4 and state.write[3]:", "if len(old) > 4 and not state.write[3]:"),
+    ("alpha never written", (1, 4), "if len(old) > 4 and state.write[3]:", "if False:"),
+    ("alpha stored where the depth test failed", (1, 4), FAILED, FAILED_WITH_ALPHA),
+    ("the clear's alpha dropped", (1, 4), "[scene.clear] *", "[scene.clear[:4] + (0,) * (len(scene.clear) - 4)] *"),
     ("positions seen from a window's corner", (1, 2, 4, 8, 16), POSITION, "p = (256 * (i - scene.origin[0]) + ox, 256 * j + oy)"),
     ("a scissor seen from a window's corner", (1, 2, 4, 8, 16), SCISSOR, f"(edge + scene.origin[k % 2] for k, edge in enumerate({SCISSOR}))"),
 ]
@@ -63,7 +72,7 @@ MUTANTS: list[tuple[str, Sequence[int], str, str]] = [
 
 # Those of tools/reference/blending.py.
 BLENDING: list[tuple[str, str, str]] = [
-    ("two factors in each other's place", "s * FACTORS[equation.color_source]", "s * FACTORS[equation.color_stored]"),
+    ("two factors in each other's place", "s * factors[source]", "s * factors[stored]"),
     ("an inverse taken from 256", "k: 255 - a,", "k: 256 - a,"),
     ("the inverse of a colour taken from 256", "k: 255 - d,", "k: 256 - d,"),
     ("the rounding dropped", "(x + 127) // 255", "x // 255"),
@@ -71,21 +80,26 @@ BLENDING: list[tuple[str, str, str]] = [
     ("rounding towards zero", "q = (x + 127) // 255", "q = int((x + 127) / 255) if x >= -127 else 1"),
     ("the upper clamp left out", "min(max(q, 0), 255)", "max(q, 0) % 256"),
     ("the lower clamp left out", "min(max(q, 0), 255)", "min(q % 256 if q < 0 else q, 255)"),
-    ("stored alpha taken as 0", "e: int = 255) -> int", "e: int = 0) -> int"),
     ("the alpha of the constant for its channels", "equation.constant[channel]", "equation.constant[3]"),
     ("red and blue of the constant in each other's place", "equation.constant[channel]", "equation.constant[2 - channel]"),
     ("the inverse of the constant forgotten", "k: 255 - k,", "k: k,"),
     ("the new colour subtracted from the stored one", '"subtract": lambda f, g: f - g', '"subtract": lambda f, g: g - f'),
     ("the difference without a sign", '"reverse_subtract": lambda f, g: g - f', '"reverse_subtract": lambda f, g: abs(g - f)'),
     ("the lesser for the greater", '"max": max', '"max": min'),
-    ("min with factors", "[equation.color_operation](s, d)", "[equation.color_operation](s, d) * equation.constant[channel] // 255"),
+    ("min with factors", "ENDS[operation](s, d)", "ENDS[operation](s, d) * equation.constant[channel] // 255"),
     ("a saturated alpha that is not", "min(a, 255 - e)", "a"),
     ("multiply by the new colour", '"multiply": Equation("stored_color"', '"multiply": Equation("source_color"'),
     ("add without alpha", '"add": Equation("source_alpha"', '"add": Equation("one"'),
     ("premultiplied as over", '"premultiplied": Equation("one"', '"premultiplied": Equation("source_alpha"'),
     ("keep as none", '"keep": Equation("zero", "one"', '"keep": Equation("one", "zero"'),
-    ("alpha's equation for colours", "FACTORS[equation.color_stored]", "FACTORS[equation.alpha_stored]"),
-    ("alpha's operation for colours", "x = OPERATIONS[equation.color_operation]", "x = OPERATIONS.get(equation.alpha_operation, max)"),
+    ("alpha's equation for colours", "equation[:3]", "equation[3:6]"),
+    ("alpha blended as a colour", "equation[3:6] if channel == ALPHA else equation[:3]", "equation[:3]"),
+    ("colours blended as alpha", "equation[3:6] if channel == ALPHA else equation[:3]", "equation[3:6]"),
+    ("alpha saturated as a colour", "{**FACTORS, **ALPHA_FACTORS} if channel == ALPHA else FACTORS", "FACTORS"),
+    ("colours divided by alpha and rounded down", "(255 * c + a // 2) // a", "255 * c // a"),
+    ("colours divided by alpha without an end", "min((255 * c + a // 2) // a, 255)", "(255 * c + a // 2) // a % 256"),
+    ("colours left where alpha is 0", "    if a == 0:\n        return 0", "    if a == 0:\n        return c"),
+    ("alpha's operation for colours", "x = OPERATIONS[operation]", "x = OPERATIONS.get(equation.alpha_operation, max)"),
 ]
 
 
@@ -100,7 +114,7 @@ class Canvases:
         """The list `number` with so many samples a pixel as a scene, and what a canvas has of it."""
         key = number, samples
         if key not in self.known:
-            listed = generated_lists.canvas_list(self.seed, number, samples)
+            listed = generated_lists.canvas_list(self.seed, number, samples, number % 3 > 0)
             size = listed["width"], listed["height"]
             origin = an_origin(random.Random(f"{self.seed} {number}"), listed) if number % 2 else (0, 0)
             scene = replace(renderer.read(encode(listed), renderer.CANVAS), origin=origin)

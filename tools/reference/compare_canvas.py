@@ -2,10 +2,12 @@
 
     python3 -m tools.reference.compare_canvas [--lists 1000] [--seed 1] [--samples 1 2 4 8 16]
 
-Each list of tools/reference/generated_lists.py has one of these numbers of samples a pixel, masks of 16 bits and any
-blend equations (tools/reference/blending.py). It is split at random into batches, one triangle a batch among them, and
-drawn on a canvas by some threads, with and without a window. Every pixel, and of every sample the colour, the depth and
-the id of the last triangle that passes there, is compared with the reference's; with one or four samples, and no other
+Each list of tools/reference/generated_lists.py has one of these numbers of samples a pixel, alpha or none, masks of 16
+bits and any blend equations (tools/reference/blending.py). It is split at random into batches, one triangle a batch among them, and
+drawn on a canvas by some threads, with and without a window, by the Python package and by a program in C. Some batches
+have no indices, but the vertices of each triangle in their order, and those in C have vertices with strides. Every
+pixel, with colours as they are stored and divided by alpha, and of every sample the colour, alpha, the depth and the id
+of the last triangle that passes there, is compared with the reference's; with one or four samples, and no other
 blending than a list has, every pixel and depth also with the program's. Exit status 1 on any difference; the list is
 then left in out/compare/.
 """
@@ -21,7 +23,7 @@ from dataclasses import replace
 from typing import Any, NamedTuple, Sequence
 
 from tools import answers, picture_file
-from tools.reference import generated_lists, renderer
+from tools.reference import canvas_in_c, generated_lists, renderer
 from tools.draw_list import Draw, DrawList, encode, triangles_of
 from tools.checks.library.commands import PACKAGE_ENVIRONMENT
 from tools.checks.library.lists import indices_of
@@ -31,6 +33,8 @@ LISTS = 1000
 LOWEST, HIGHEST = -8388608, 8388607
 WHITE = (255, 255, 255)
 CLEARED = 0xFFFFFF
+# The alpha to which a canvas without alpha is cleared.
+UNREAD = 77
 
 
 # ---- Batches
@@ -57,6 +61,13 @@ def split(pick: random.Random, draws: list[Draw]) -> list[list[Draw]]:
     return batches + ([whole] if whole else [])
 
 
+def without_indices(draw: Draw) -> Draw:
+    """The same triangles, whose vertices stand in the order in which they are drawn."""
+    state = {key: value for key, value in draw.items() if key not in ("triangles", "strip", "quads")}
+    vertices = [draw["vertices"][k] for triangle in triangles_of(draw) for k in triangle]
+    return {**state, "vertices": vertices}
+
+
 def count_of(batch: list[Draw]) -> int:
     return sum(len(triangles_of(draw)) for draw in batch)
 
@@ -79,10 +90,13 @@ class Difference(Exception):
 
 
 class Readings(NamedTuple):
-    """The pixels of a picture, and for each sample index the colours as numbers and the depths of all pixels."""
+    """The pixels of a picture with alpha, their colours as they are stored and divided by alpha, and for each sample index the
+    colours with alpha, the ids and the depths of all pixels."""
 
     pixels: bytes
-    colours: list[list[int]]
+    straight: bytes
+    colours: list[bytes]
+    ids: list[list[int]]
     depths: list[list[int]]
 
 
@@ -92,17 +106,22 @@ def drawn(
     """A canvas of this size at this origin, on which the batches of a list are drawn."""
     import trirast
 
-    canvas = trirast.Canvas(*size, samples=scene.get("samples", 1), origin=origin)
-    colour = WHITE if by_ids else scene.get("clear", (0, 0, 0))
-    canvas.clear(colour, scene.get("clear_depth", 65535), threads=threads)
+    canvas = trirast.Canvas(*size, samples=scene.get("samples", 1), alpha="clear_alpha" in scene, origin=origin)
+    canvas.clear(cleared_to(scene, by_ids), scene.get("clear_depth", 65535), threads=threads)
     before = 0
-    for batch in batches:
+    for number, batch in enumerate(batches):
+        draws = [without_indices(draw) for draw in batch] if number % 4 == 3 else batch
         try:
-            canvas.draw_batch([draw_of(draw) for draw in batch], first_id=before if by_ids else None, threads=threads)
+            canvas.draw_batch([draw_of(draw) for draw in draws], first_id=before if by_ids else None, threads=threads)
         except trirast.Error as error:
             raise Difference(f"a canvas at {origin} refuses a batch: {error}") from error
         before += count_of(batch)
     return canvas
+
+
+def cleared_to(scene: DrawList, by_ids: bool) -> tuple[int, ...]:
+    """Red, green, blue and alpha. A canvas without alpha does not look at that."""
+    return (*(WHITE if by_ids else scene.get("clear", (0, 0, 0))), scene.get("clear_alpha", UNREAD))
 
 
 def draw_of(draw: Draw) -> Any:
@@ -112,23 +131,38 @@ def draw_of(draw: Draw) -> Any:
     given = {key: value for key, value in draw.items() if key != "write"}
     if isinstance(draw.get("blend"), dict):
         given["blend"] = trirast.Blend(**draw["blend"])
-    keep = "".join(letter for letter, is_written in zip("rgb", draw.get("write", ())) if not is_written)
+    keep = "".join(letter for letter, is_written in zip("rgba", draw.get("write", ())) if not is_written)
     return trirast.Draw(keep=keep, **given)
 
 
 def of_canvas(canvas: Any, threads: int) -> Readings:
     samples = range(canvas.samples)
-    colours = [memoryview(bytes_of(canvas.ids(s, threads=threads))).cast("I").tolist() for s in samples]
+    colours = [bytes_of(canvas.colors(s, format="rgba", threads=threads)) for s in samples]
+    ids = [memoryview(bytes_of(canvas.ids(s, threads=threads))).cast("I").tolist() for s in samples]
     depths = [memoryview(bytes_of(canvas.depth(s, threads=threads))).cast("H").tolist() for s in samples]
-    return Readings(bytes_of(canvas.rgb(threads=threads)), colours, depths)
+    stored, straight = (bytes_of(canvas.rgba(straight=is_straight, threads=threads)) for is_straight in (False, True))
+    return Readings(stored, straight, colours, ids, depths)
+
+
+def in_c(
+    scene: DrawList, batches: list[list[Draw]], size: tuple[int, int], origin: tuple[int, int], threads: int, by_ids: bool = False
+) -> Readings:
+    """The same canvas by the calls of C."""
+    clear = (*cleared_to(scene, by_ids), scene.get("clear_depth", 65535))
+    counts = [count_of(batch) for batch in batches]
+    try:
+        return Readings(*canvas_in_c.drawn(scene, batches, counts, size, origin, threads, clear, by_ids))
+    except ValueError as error:
+        raise Difference(f"a canvas in C at {origin}: {error}") from error
 
 
 def of_reference(rules: Any, scene: renderer.Scene) -> Readings:
     """What these rules make of a scene: tools/reference/renderer.py, or a mutant of it."""
     samples, count = rules.drawn(scene), scene.samples
-    colours = [[number_of(sample) for sample in samples[s::count]] for s in range(count)]
-    depths = [[sample[3] for sample in samples[s::count]] for s in range(count)]
-    return Readings(rules.resolve(samples, count), colours, depths)
+    each = [samples[s::count] for s in range(count)]
+    stored, straight = (rules.pixels(samples, count, layout) for layout in ("rgba", "rgba_straight"))
+    ids, depths = [list(map(number_of, own)) for own in each], [[sample[3] for sample in own] for own in each]
+    return Readings(stored, straight, [rules.pixels(own, 1, "rgba") for own in each], ids, depths)
 
 
 def number_of(sample: Sequence[int]) -> int:
@@ -141,9 +175,10 @@ def with_ids(scene: renderer.Scene) -> renderer.Scene:
     triangles = []
     for number, triangle in enumerate(scene.triangles):
         colour = (number % 256, number // 256 % 256, number // 65536, 255)
-        state = replace(triangle.state, write=(True, True, True), blend="none")
+        # Alpha may be kept.
+        state = replace(triangle.state, write=(True, True, True, *triangle.state.write[3:]), blend="none")
         triangles.append(replace(triangle, vertices=tuple(vertex[:3] + colour for vertex in triangle.vertices), state=state))
-    return replace(scene, triangles=tuple(triangles), clear=(*WHITE, scene.clear[3]))
+    return replace(scene, triangles=tuple(triangles), clear=(*WHITE, *scene.clear[3:]))
 
 
 def bytes_of(buffer: Any) -> bytes:
@@ -155,23 +190,30 @@ def bytes_of(buffer: Any) -> bytes:
 
 def compare_readings(what: str, found: Readings, wanted: Readings) -> int:
     """Returns the number of values that were compared."""
-    for s, (colours, depths) in enumerate(zip(wanted.colours, wanted.depths)):
-        if found.colours[s] != colours:
-            raise Difference(f"{what}: other colours of sample {s}")
-        if found.depths[s] != depths:
-            raise Difference(f"{what}: other depths of sample {s}")
+    for name in ("colours", "ids", "depths"):
+        for s, (there, here) in enumerate(zip(getattr(wanted, name), getattr(found, name))):
+            if there != here:
+                raise Difference(f"{what}: other {name} of sample {s}")
     if found.pixels != wanted.pixels:
         raise Difference(f"{what}: other pixels")
-    return len(found.pixels) // 3 + 2 * sum(map(len, found.colours))
+    if found.straight != wanted.straight:
+        raise Difference(f"{what}: other pixels divided by alpha")
+    return len(found.pixels) // 2 + 3 * sum(map(len, found.ids))
 
 
 def file_of(scene: DrawList, output: str) -> bytes:
     """The pixels of the program's file."""
-    draws = [{**draw, "sample_mask": draw.get("sample_mask", 15) & 15} for draw in scene["draws"]]
-    answer = answers.drawn(PROGRAM, encode({**scene, "draws": draws, "output": output}), [])
+    listed = {key: value for key, value in scene.items() if key != "clear_alpha"}
+    answer = answers.drawn(PROGRAM, encode({**listed, "draws": list(map(of_list, scene["draws"])), "output": output}), [])
     if answer.status != 0:
         raise Difference(f"the program refuses the list: {answer}")
     return picture_file.decode(answer.output).pixel_data
+
+
+def of_list(draw: Draw) -> Draw:
+    """A draw of a canvas as one of a list, which has no more than four samples and no alpha to be kept."""
+    write = {"write": draw["write"][:3]} if "write" in draw else {}
+    return {**draw, "sample_mask": draw.get("sample_mask", 15) & 15, **write}
 
 
 def same(what: str, wanted: bytes, found: bytes, size: tuple[int, int], part: tuple[int, int], origin: tuple[int, int], unit: int) -> int:
@@ -220,19 +262,24 @@ def compare(scene: DrawList, pick: random.Random) -> int:
     for part, origin in ((size, (0, 0)), (window, an_origin(pick, scene))):
         seen = replace(read, width=part[0], height=part[1], origin=origin)
         canvas = drawn(scene, batches, part, origin, pick.randint(1, 4))
-        found = of_canvas(canvas, pick.randint(1, 3))
-        compared += compare_readings(f"a canvas at {origin}", found, of_reference(renderer, seen))
+        found, wanted = of_canvas(canvas, pick.randint(1, 3)), of_reference(renderer, seen)
+        compared += compare_readings(f"a canvas at {origin}", found, wanted)
+        compared += compare_readings(f"a canvas in C at {origin}", in_c(scene, batches, part, origin, pick.randint(1, 9)), wanted)
         if read.samples in renderer.LIST.counts and is_of_list(scene):
             compared += compare_with_program(scene, canvas)
+        wanted = of_reference(renderer, with_ids(seen))
         found = of_canvas(drawn(scene, batches, part, origin, pick.randint(1, 4), by_ids=True), 1)
-        compared += compare_readings(f"ids of a canvas at {origin}", found, of_reference(renderer, with_ids(seen)))
+        compared += compare_readings(f"ids of a canvas at {origin}", found, wanted)
+        found = in_c(scene, batches, part, origin, pick.randint(1, 9), by_ids=True)
+        compared += compare_readings(f"ids of a canvas in C at {origin}", found, wanted)
     return compared
 
 
 def compare_lists(lists: int, seed: int, counts: list[int]) -> int:
     compared = differences = 0
     for number in range(lists):
-        scene = generated_lists.canvas_list(seed, number, counts[number % len(counts)])
+        has_alpha = random.Random(f"alpha {seed} {number}").random() < 0.6
+        scene = generated_lists.canvas_list(seed, number, counts[number % len(counts)], has_alpha)
         try:
             compared += compare(scene, random.Random(f"canvas {seed} {number}"))
         except Difference as difference:

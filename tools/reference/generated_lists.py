@@ -205,7 +205,7 @@ def a_state(pick: random.Random, width: int, height: int, limits: renderer.Limit
     elif pick.random() < 0.6:
         state["blend"] = pick.choice(("none", "over", "over"))
     if pick.random() < 0.3:
-        state["write"] = [pick.random() < 0.6 for _ in range(3)]
+        state["write"] = [pick.random() < 0.6 for _ in range(limits.channels)]
     if pick.random() < 0.4:
         state["sample_mask"] = a_mask(pick, limits)
     if pick.random() < 0.4:
@@ -225,10 +225,14 @@ def a_list(pick: random.Random) -> DrawList:
     return list_of(pick, width, height, pick.choice(renderer.LIST.counts), renderer.LIST)
 
 
-def a_canvas_list(pick: random.Random, samples: int) -> DrawList:
-    """What is drawn on a canvas with so many samples a pixel, as a list: its masks have 16 bits."""
+def a_canvas_list(pick: random.Random, samples: int, has_alpha: bool) -> DrawList:
+    """What is drawn on a canvas with so many samples a pixel, as a list: its masks have 16 bits. With alpha it has one to which it is
+    cleared."""
     width, height = a_size(pick, MAX_SAMPLES // max(samples, 4))
-    return list_of(pick, width, height, samples, renderer.CANVAS)
+    listed = list_of(pick, width, height, samples, renderer.CANVAS)
+    if has_alpha:
+        listed["clear_alpha"] = pick.choice((0, 0, 1, 128, 255, pick.randint(0, 255)))
+    return listed
 
 
 def list_of(pick: random.Random, width: int, height: int, samples: int, limits: renderer.Limits) -> DrawList:
@@ -376,9 +380,9 @@ def accepted_text(seed: int, number: int) -> bytes:
     return json.dumps(a_list(random.Random(f"list {seed} {number}"))).encode()
 
 
-def canvas_list(seed: int, number: int, samples: int) -> DrawList:
-    """List `number` of a seed for canvases with so many samples a pixel."""
-    return a_canvas_list(random.Random(f"canvas {seed} {number} {samples}"), samples)
+def canvas_list(seed: int, number: int, samples: int, has_alpha: bool = False) -> DrawList:
+    """List `number` of a seed for canvases with so many samples a pixel, without alpha or with it."""
+    return a_canvas_list(random.Random(f"canvas {seed} {number} {samples}"), samples, has_alpha)
 
 
 def broken_text(seed: int, number: int) -> bytes:

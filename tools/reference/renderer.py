@@ -25,7 +25,7 @@ Kind = tuple[int, str]
 Point = tuple[int, ...]
 # x, y, z, red, green, blue and alpha.
 Vertex = tuple[int, ...]
-# Red, green, blue and depth.
+# Red, green, blue and depth, and behind them alpha where it is stored.
 Sample = tuple[int, ...]
 # Triangles by the indices of their vertices.
 Faces = list[list[int]]
@@ -44,6 +44,8 @@ TWO_LISTS = (9, "TwoLists")
 NOT_CONVEX = (10, "NotConvex")
 
 TOP_KEYS = ("width", "height", "samples", "clear", "clear_depth", "output", "draws")
+# A canvas has alpha if it is said to which it is cleared.
+CANVAS_KEYS = TOP_KEYS + ("clear_alpha",)
 STATE_KEYS = ("cull", "depth_test", "depth_write", "blend", "write", "sample_mask", "scissor")
 FACE_KEYS = ("triangles", "strip", "quads")
 DRAW_KEYS = STATE_KEYS + ("vertices",) + FACE_KEYS
@@ -97,17 +99,19 @@ class InputTooLong(Exception):
 @dataclass(frozen=True)
 class Limits:
     """The numbers of samples that a pixel may have, the greatest sample mask, the least and the greatest edge of a
-    scissor, and whether there is blending by any equation."""
+    scissor, the channels of a write mask, the keys beside draws, and whether there is blending by any equation."""
 
     counts: tuple[int, ...]
     mask: int
     edges: tuple[int, int]
+    channels: int
+    keys: tuple[str, ...]
     has_equations: bool
 
 
 # Those of a draw list, and those of a canvas, which a list's value describes as well. A canvas may begin left of the screen or above it.
-LIST = Limits((1, 4), 15, (0, 4096), False)
-CANVAS = Limits((1, 2, 4, 8, 16), 65535, (-(2**31), 2**31 - 1), True)
+LIST = Limits((1, 4), 15, (0, 4096), 3, TOP_KEYS, False)
+CANVAS = Limits((1, 2, 4, 8, 16), 65535, (-(2**31), 2**31 - 1), 4, CANVAS_KEYS, True)
 
 
 @dataclass(frozen=True)
@@ -294,13 +298,21 @@ def read_blend(value: Any, draw: int, limits: Limits) -> str | blending.Equation
     return check_word(value, blending.PRESETS if limits.has_equations else ("none", "over"), draw)
 
 
+def read_write(value: Any, draw: int, limits: Limits) -> tuple[bool, ...]:
+    """The write mask. On a canvas the flag of alpha may be left out: then it is set."""
+    given = value.get("write", [True] * limits.channels)
+    number = len(RGB) if isinstance(given, list) and len(given) == len(RGB) else limits.channels
+    found = tuple(check_truth(channel, draw) for channel in check_array(given, number, draw))
+    return found + (True,) * (limits.channels - number)
+
+
 def read_state(value: Any, draw: int, limits: Limits) -> State:
     return State(
         cull=check_word(value.get("cull", "none"), ("none", "front", "back"), draw),
         depth_test=check_word(value.get("depth_test", "always"), DEPTH_TESTS, draw),
         depth_write=check_truth(value.get("depth_write", False), draw),
         blend=read_blend(value.get("blend", "none"), draw, limits),
-        write=tuple(check_truth(c, draw) for c in check_array(value.get("write", [True] * 3), 3, draw)),
+        write=read_write(value, draw, limits),
         sample_mask=check_whole(value.get("sample_mask", limits.mask), 0, limits.mask, draw),
         scissor=check_wholes(value["scissor"], 4, *limits.edges, draw) if "scissor" in value else 2 * limits.edges[:1] + 2 * limits.edges[1:],
     )
@@ -319,7 +331,7 @@ def read(data: bytes, limits: Limits = LIST) -> Scene:
     if len(data) > INPUT_LIMIT:
         raise InputTooLong
     value = parse(data)
-    check_keys(value, TOP_KEYS, ("width", "height", "draws"), None)
+    check_keys(value, limits.keys, ("width", "height", "draws"), None)
     width = check_whole(value["width"], 1, 4096, None)
     height = check_whole(value["height"], 1, 4096, None)
     samples = check_whole(value.get("samples", 1), -(2**63), 2**64, None)
@@ -327,6 +339,8 @@ def read(data: bytes, limits: Limits = LIST) -> Scene:
         raise ListFault(OUT_OF_RANGE)
     clear = check_wholes(value.get("clear", [0, 0, 0]), 3, 0, 255, None)
     clear += (check_whole(value.get("clear_depth", 65535), 0, 65535, None),)
+    if "clear_alpha" in value:
+        clear += (check_whole(value["clear_alpha"], 0, 255, None),)
     output = check_word(value.get("output", "color"), ("color", "depth"), None)
     triangles: list[Triangle] = []
     for draw, description in enumerate(check_list(value["draws"], 1024, None)):
@@ -369,6 +383,13 @@ def over(source: int, alpha: int, stored: int) -> int:
     return (source * alpha + stored * (255 - alpha) + 127) // 255
 
 
+# The places of the channels in a sample with alpha.
+RGB = (0, 1, 2)
+RGBA = (0, 1, 2, 4)
+# The alpha of what stores none.
+OPAQUE = 255
+
+
 def shade(triangle: Triangle, weights: tuple[int, int, int], size: int, old: Sample) -> Sample:
     """What a covered sample, not masked away, takes from a triangle."""
     state = triangle.state
@@ -380,13 +401,16 @@ def shade(triangle: Triangle, weights: tuple[int, int, int], size: int, old: Sam
     if not DEPTH_TESTS[state.depth_test](depth, old[3]):
         return old
     new = list(old)
+    stored_alpha = old[4] if len(old) > 4 else OPAQUE
     for channel in range(3):
         if state.write[channel]:
             source = value(3 + channel)
             if state.blend in ("none", "over"):
                 new[channel] = over(source, value(6), old[channel]) if state.blend == "over" else source
             else:
-                new[channel] = blending.blended(state.blend, channel, source, value(6), old[channel])
+                new[channel] = blending.blended(state.blend, channel, source, value(6), old[channel], stored_alpha)
+    if len(old) > 4 and state.write[3]:
+        new[4] = blending.blended(state.blend, blending.ALPHA, value(6), value(6), stored_alpha, stored_alpha)
     if state.depth_write:
         new[3] = depth
     return tuple(new)
@@ -430,15 +454,29 @@ def draw(triangle: Triangle, scene: Scene, samples: list[Sample]) -> None:
                 samples[index] = shade(triangle, weights, abs(area), samples[index])
 
 
-def resolve(samples: list[Sample], count: int) -> bytes:
+def resolve(samples: list[Sample], count: int, channels: Sequence[int] = RGB) -> bytes:
     """The bytes of the picture from its samples: the means of each pixel's, halves rounded up."""
     if count == 1:
-        return bytes(channel for sample in samples for channel in sample[:3])
+        return bytes(sample[channel] for sample in samples for channel in channels)
     out = bytearray()
     for first in range(0, len(samples), count):
         pixel = samples[first : first + count]
-        for channel in range(3):
+        for channel in channels:
             out.append((sum(sample[channel] for sample in pixel) + count // 2) // count)
+    return bytes(out)
+
+
+def pixels(samples: list[Sample], count: int, layout: str) -> bytes:
+    """The bytes of the picture as a canvas writes them: the letters of the channels of a pixel in their order, and behind
+    them "_straight" if colours are divided by alpha. Alpha is 255 where none is stored."""
+    letters, _, kind = layout.partition("_")
+    rgba = resolve([(*sample[:4], *(sample[4:] or (OPAQUE,))) for sample in samples], count, RGBA)
+    out = bytearray()
+    for first in range(0, len(rgba), 4):
+        *colour, alpha = rgba[first : first + 4]
+        if kind:
+            colour = [blending.straight(channel, alpha) for channel in colour]
+        out += bytes((*colour, alpha)["rgba".index(letter)] for letter in letters)
     return bytes(out)
 
 

@@ -202,6 +202,66 @@ class OnCanvases(unittest.TestCase):
                 renderer.read(text, renderer.CANVAS)
 
 
+class Alpha(unittest.TestCase):
+    """Alpha, which a canvas may store."""
+
+    # Each sample of one pixel, and what stays of the pixel beside it.
+    WIDE = [vertex(0, 0, 0, (200, 100, 0), 128), vertex(512, 0, 0, (200, 100, 0), 128), vertex(0, 512, 0, (200, 100, 0), 128)]
+
+    def samples_of(self, *draws: Draw, alpha: int | None = 0, samples: int = 1, **top: Any) -> list[renderer.Sample]:
+        cleared = {} if alpha is None else {"clear_alpha": alpha}
+        value = scene(1, 1, *draws, samples=samples, **cleared, **top)
+        return renderer.drawn(renderer.read(json.dumps(value).encode(), renderer.CANVAS))
+
+    def one(self, *draws: Draw, **top: Any) -> renderer.Sample:
+        (sample,) = self.samples_of(*draws, **top)
+        return sample
+
+    def test_of_a_canvas_alone(self) -> None:
+        self.assertEqual(error_of(scene(1, 1, clear_alpha=0)), "2 UnknownKey")
+        self.assertEqual(self.one(alpha=7), (0, 0, 0, 65535, 7))
+        self.assertEqual(self.one(alpha=None), (0, 0, 0, 65535))
+
+    def test_replaces(self) -> None:
+        self.assertEqual(self.one(draw(self.WIDE)), (200, 100, 0, 65535, 128))
+        self.assertEqual(self.one(draw(self.WIDE), alpha=None), (200, 100, 0, 65535))
+
+    def test_over(self) -> None:
+        over = draw(self.WIDE, blend="over")
+        # Colours that are multiplied by their alpha: 200 * 128 / 255, and on it again 100 * 127 / 255 more.
+        self.assertEqual(self.one(over), (100, 50, 0, 65535, 128))
+        self.assertEqual(self.one(over, over), (150, 75, 0, 65535, 192))
+        self.assertEqual(self.one(over, alpha=255), (100, 50, 0, 65535, 255))
+
+    def test_colours_read_the_alpha_before(self) -> None:
+        equation = {"color_source": "stored_alpha", "color_stored": "zero", "alpha_source": "one", "alpha_stored": "zero"}
+        self.assertEqual(self.one(draw(self.WIDE, blend=equation), alpha=51), (40, 20, 0, 65535, 128))
+        self.assertEqual(self.one(draw(self.WIDE, blend=equation), alpha=None), (200, 100, 0, 65535))
+        saturated = {"color_source": "source_alpha_saturated", "color_stored": "one", "alpha_source": "source_alpha_saturated", "alpha_stored": "one"}
+        self.assertEqual(self.one(draw(self.WIDE, blend=saturated), alpha=204), (40, 20, 0, 65535, 255))
+
+    def test_kept(self) -> None:
+        kept = draw(self.WIDE, write=[True, True, True, False])
+        self.assertEqual(self.one(kept, alpha=9), (200, 100, 0, 65535, 9))
+        alone = draw(self.WIDE, write=[False, False, False, True])
+        self.assertEqual(self.one(alone, alpha=9), (0, 0, 0, 65535, 128))
+
+    def test_where_the_depth_test_fails(self) -> None:
+        self.assertEqual(self.one(draw(self.WIDE, depth_test="greater"), alpha=9), (0, 0, 0, 65535, 9))
+
+    def test_resolved(self) -> None:
+        half = self.samples_of(draw(self.WIDE, sample_mask=1, blend="over"), samples=2)
+        self.assertEqual(renderer.pixels(half, 2, "rgba").hex(" "), "32 19 00 40")
+        self.assertEqual(renderer.pixels(half, 2, "bgra").hex(" "), "00 19 32 40")
+        self.assertEqual(renderer.pixels(half, 2, "rgb").hex(" "), "32 19 00")
+        # 255 * 50 / 64 = 199.2, 255 * 25 / 64 = 99.6.
+        self.assertEqual(renderer.pixels(half, 2, "rgba_straight").hex(" "), "c7 64 00 40")
+        opaque = self.samples_of(draw(self.WIDE), alpha=None)
+        self.assertEqual(renderer.pixels(opaque, 1, "bgra_straight").hex(" "), "00 64 c8 ff")
+        nothing = self.samples_of(alpha=0, clear=[9, 9, 9])
+        self.assertEqual(renderer.pixels(nothing, 1, "rgba_straight").hex(" "), "00 00 00 00")
+
+
 class Merging(unittest.TestCase):
     def test_values_are_rounded_down(self) -> None:
         colours = [(0, 255, 0), (3, 0, 0), (0, 0, 0)]

@@ -33,15 +33,22 @@ class Function:
 def head_of(lines: list[str], indent: str) -> str:
     """A function's head and clauses, of the lines from its first one on: up to its body."""
     taken: list[str] = []
+    # The braces that a clause has open, of which a record has some.
+    depth = 0
     for line in lines:
         if line.lstrip().startswith("//"):
             continue
         if line in (indent + "{", indent + "{}"):
             break
         taken.append(line.strip())
+        if depth or re.match(r"\s*(requires|ensures)", line):
+            depth += line.count("{") - line.count("}")
+            if depth == 0 and line.endswith(";"):
+                break
+            continue
         if len(taken) > 1 and line.startswith(indent + "}"):
             break
-        if re.search(r"[);>\w] \{$", line) and not re.match(r"\s*(requires|ensures)", line) or line.endswith(";"):
+        if re.search(r"[);>\w] \{$", line) or line.endswith(";"):
             break
     return "\n".join(taken).removesuffix(" {")
 

@@ -15,10 +15,11 @@ from tools import places
 from tools.ci.edit import applied, pairs_in
 from tools.places import TOP, text_of
 from tools.sources.public_calls import CRATES, calls_of
+from tools.sources.rattle import functions_in
 
 # The rows of the table of wrong bodies, and the edits and tests that they name: a wrong body that was named once stays named. Raise them
 # with each new row or name.
-ROWS, NAMES = 92, 272
+ROWS, NAMES = 97, 342
 
 
 def edits() -> list[str]:
@@ -117,3 +118,8 @@ class PublicFunctions(unittest.TestCase):
         self.assertEqual(every - with_edit(is_by_file=False) - said_to_have_none(), set(), "a public function without an edit")
         self.assertEqual(said_to_have_none() - every, set(), "no public function")
         self.assertEqual(said_to_have_none() & with_edit(is_by_file=True), set(), "a public function that has an edit")
+
+    def test_a_clause_with_a_record_is_read_whole(self) -> None:
+        text = "pub fn f() -> R\n    ensures { result ≡ record {\n      a = 1;\n    } }\n    ensures last { A }\n{\n    g()\n}\n"
+        (call,) = functions_in(text)
+        self.assertEqual(call.text.split("\n")[1:], ["ensures { result ≡ record {", "a = 1;", "} }", "ensures last { A }"])

@@ -46,8 +46,8 @@ fn run_into<R: Threads + Wait + Sync, G: Gate>(
     (result, output.into_inner(), failures)
 }
 
-/// Asserts that a run over this writer ends so, that it has taken this part of the file, was flushed so often, and was not called
-/// after it had returned that it takes no more.
+/// Asserts that a run over this writer ends so, that it has taken this part of the file, was flushed so often, and was
+/// not called after it had returned that it takes no more.
 fn ends<R: Threads + Wait + Sync + Abort>(
     rt: &R,
     alloc: Global,

@@ -1,5 +1,5 @@
 -- The vertices of a draw in the caller's array.
-use Rattle.std.proofs.Common.{◌≡◌, refl, ℕ, zero, suc, ℤ, pos, List, [], ◌∷◌, map, take}
+use Rattle.std.proofs.Common.{◌≡◌, refl, Bool, ℕ, zero, suc, ℤ, pos, Option, List, [], ◌∷◌, map, take}
 use Rattle.std.specs.Prelude.{slice_index, slice_index_or}
 use Rattle.shade.specs.declared.placed.Placed.{Placed}
 use Rattle.model.specs.declared.draw.Vertex.{Vertex}
@@ -23,7 +23,7 @@ listed_at (v ∷ vs) zero = refl
 listed_at (v ∷ vs) (suc k) = listed_at vs k
 
 -- a triangle of a draw, made of three vertices as they are seen
-module _ (x y : ℤ) (d : BatchDraw) (vs : List BatchVertex) (is : List ℕ) where
+module _ (has_alpha : Bool) (x y : ℤ) (d : BatchDraw) (vs : List BatchVertex) (is : Option (List ℕ)) where
   abbrev own : List BatchVertex
   own = take d.vertices vs
 
@@ -31,15 +31,15 @@ module _ (x y : ℤ) (d : BatchDraw) (vs : List BatchVertex) (is : List ℕ) whe
   seen_at triangle i = vertex_seen x y (vertex_at own (slice_index triangle i))
 
   abbrev seen : List ℕ → Placed
-  seen triangle = triangle_of (moved_state x y (state_listed d)) (seen_at triangle 0) (seen_at triangle 1) (seen_at triangle 2)
+  seen triangle = triangle_of (moved_state x y (state_listed has_alpha d)) (seen_at triangle 0) (seen_at triangle 1) (seen_at triangle 2)
 
-  seen_is : (triangle : List ℕ) → seen triangle ≡ moved x y (placed (draw_listed d vs is) triangle)
+  seen_is : (triangle : List ℕ) → seen triangle ≡ moved x y (placed (draw_listed has_alpha d vs is) triangle)
   seen_is triangle =
       let a = listed_at own (slice_index triangle 0) in
       let b = listed_at own (slice_index triangle 1) in
       let c = listed_at own (slice_index triangle 2) in
       rw (a, b, c) refl
 
-  pub seen_all : (triangles : List (List ℕ)) → map seen triangles ≡ map (moved x y) (map (placed (draw_listed d vs is)) triangles)
+  pub seen_all : (triangles : List (List ℕ)) → map seen triangles ≡ map (moved x y) (map (placed (draw_listed has_alpha d vs is)) triangles)
   seen_all [] = refl
   seen_all (triangle ∷ triangles) = rw (seen_is triangle, seen_all triangles) refl

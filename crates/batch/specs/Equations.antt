@@ -1,5 +1,5 @@
 -- Blend equations by the numbers of Direct3D 11, with 0 for the default.
-use Rattle.std.specs.Prelude.{ℕ, Option, None, Some, ◌==◌, if◌then◌else◌, IsSome, unwrap_or}
+use Rattle.std.specs.Prelude.{ℕ, Bool, Option, None, Some, ◌==◌, if◌then◌else◌, IsSome, unwrap_or}
 use Rattle.shade.specs.Presets.{replace}
 use Rattle.shade.specs.declared.blend.Blend.{Blend}
 use Rattle.shade.specs.declared.equation.Equation.{Equation}
@@ -50,15 +50,27 @@ equation_with None stored operation = None
 abbrev pub equation_numbered : ℕ → ℕ → ℕ → Option Equation
 equation_numbered source stored operation = equation_with (factor_numbered source One) (factor_numbered stored Zero) (operation_numbered operation)
 
--- Each number of the caller's blending is one of a factor or of an operation.
-pub record IsBlendInRange (b : BatchBlend) : Type 0 where
-  pub colour : IsSome (equation_numbered b.color_source b.color_stored b.color_operation)
-  pub alpha : IsSome (equation_numbered b.alpha_source b.alpha_stored b.alpha_operation)
+-- There is a factor with this number.
+abbrev pub IsFactor : ℕ → Type 0
+IsFactor n = IsSome (factor_numbered n One)
 
--- The blend state by the caller's numbers.
-abbrev pub blend_numbered : BatchBlend → Blend
-blend_numbered b = record {
+-- Each factor of the caller's blending is one that there is.
+pub record HasFactors (b : BatchBlend) : Type 0 where
+  pub color_source : IsFactor b.color_source
+  pub color_stored : IsFactor b.color_stored
+  pub alpha_source : IsFactor b.alpha_source
+  pub alpha_stored : IsFactor b.alpha_stored
+
+-- Both operations of the caller's blending are ones that there are.
+pub record HasOperations (b : BatchBlend) : Type 0 where
+  pub color_operation : IsSome (operation_numbered b.color_operation)
+  pub alpha_operation : IsSome (operation_numbered b.alpha_operation)
+
+-- The blend state by the caller's numbers, with alpha written or not.
+abbrev pub blend_numbered : BatchBlend → Bool → Blend
+blend_numbered b write_alpha = record {
   colour = unwrap_or (equation_numbered b.color_source b.color_stored b.color_operation) replace;
   alpha = unwrap_or (equation_numbered b.alpha_source b.alpha_stored b.alpha_operation) replace;
   constant = b.constant;
+  write_alpha = write_alpha;
 }

@@ -1,5 +1,5 @@
 -- What a caller's arrays list.
-use Rattle.std.specs.Prelude.{ℕ, ◌-◌, ◌/◌, ◌%◌, ◌==◌, pos, negsuc, if◌then◌else◌, Bool, List, [], ◌∷◌, length, map, take, drop}
+use Rattle.std.specs.Prelude.{ℕ, ◌-◌, ◌/◌, ◌%◌, ◌==◌, pos, negsuc, if◌then◌else◌, Bool, false, Option, List, [], ◌∷◌, length, map, take, drop}
 use Rattle.std.specs.Simd.{first_chunks}
 use Rattle.grid.specs.declared.cull.Cull.{Cull}
 use Rattle.grid.specs.declared.cull.Cull.TheVariants as cull
@@ -13,6 +13,7 @@ use Rattle.model.specs.Listing.{DrawListing}
 use Rattle.batch.specs.declared.draw.BatchDraw.{BatchDraw}
 use Rattle.batch.specs.declared.vertex.BatchVertex.{BatchVertex}
 use Rattle.batch.specs.Equations.{blend_numbered}
+use Rattle.batch.specs.OwnIndices.{count_of_indices, indices_behind, own_indices}
 
 -- ---- numbers for words
 
@@ -53,14 +54,15 @@ scissor_listed d =
     if d.scissor_enable == 0 then everywhere
     else record { x0 = d.scissor_left; y0 = d.scissor_top; x1 = d.scissor_right; y1 = d.scissor_bottom }
 
--- The state of a draw by the caller's numbers. A sample is drawn if its bit is not set among those that are skipped.
-abbrev pub state_listed : BatchDraw → State
-state_listed d = record {
+-- The state of a draw by the caller's numbers, on a canvas that has alpha or not. A sample is drawn if its bit is not set among those
+-- that are skipped.
+abbrev pub state_listed : Bool → BatchDraw → State
+state_listed has_alpha d = record {
   merge = record {
     test = depth_test_listed d.depth_test;
     depth_write = d.depth_write == 1;
     write = is_written d.keep 1 ∷ is_written d.keep 2 ∷ is_written d.keep 4 ∷ [];
-    blend = blend_numbered d.blend;
+    blend = blend_numbered d.blend (if has_alpha then is_written d.keep 8 else false);
   };
   cull = cull_listed d.cull;
   sample_mask = 65535 - d.skip_samples;
@@ -71,27 +73,31 @@ state_listed d = record {
 abbrev pub corners_of : ℕ → ℕ
 corners_of topology = if topology == 0 then 3 else (if topology == 1 then 1 else 4)
 
+-- The quads of indices, four each.
+abbrev pub quads_of : List ℕ → List (List ℕ)
+quads_of indices = first_chunks 4 (length indices / 4) indices
+
 -- The primitives of a topology with these indices, one primitive's after another's.
 abbrev pub primitives_listed : ℕ → List ℕ → PrimitiveListing
 primitives_listed topology indices =
     if topology == 0 then triangle_list (first_chunks 3 (length indices / 3) indices)
     else (if topology == 1 then triangle_strip indices
-    else quad_list (first_chunks 4 (length indices / 4) indices))
+    else quad_list (quads_of indices))
 
 -- ---- draws
 
--- A draw, whose vertices and indices are the first of these.
-abbrev pub draw_listed : BatchDraw → List BatchVertex → List ℕ → DrawListing
-draw_listed d vertices indices = record {
-  state = state_listed d;
+-- A draw on a canvas that has alpha or not, whose vertices and indices are the first of these.
+abbrev pub draw_listed : Bool → BatchDraw → List BatchVertex → Option (List ℕ) → DrawListing
+draw_listed has_alpha d vertices indices = record {
+  state = state_listed has_alpha d;
   vertices = map vertex_listed (take d.vertices vertices);
-  primitives = primitives_listed d.topology (take d.indices indices);
+  primitives = primitives_listed d.topology (own_indices d indices);
 }
 
 -- Draws in their order: the vertices and indices of each follow those of the draw before it.
-abbrev pub draws_listed : List BatchDraw → List BatchVertex → List ℕ → List DrawListing
-draws_listed [] vertices indices = []
-draws_listed (d ∷ ds) vertices indices = draw_listed d vertices indices ∷ draws_listed ds (drop d.vertices vertices) (drop d.indices indices)
+abbrev pub draws_listed : Bool → List BatchDraw → List BatchVertex → Option (List ℕ) → List DrawListing
+draws_listed has_alpha [] vertices indices = []
+draws_listed has_alpha (d ∷ ds) vertices indices = draw_listed has_alpha d vertices indices ∷ draws_listed has_alpha ds (drop d.vertices vertices) (indices_behind d.indices indices)
 
 -- One draw of these vertices and indices, whose other numbers are zero.
 abbrev pub whole_draw : ℕ → ℕ → BatchDraw
@@ -121,6 +127,6 @@ whole_draw vertices indices = record {
 }
 
 -- The draws of a batch: those of the caller, or else one of all vertices and indices.
-abbrev pub draws_of : List BatchDraw → List BatchVertex → List ℕ → List BatchDraw
-draws_of [] vertices indices = whole_draw (length vertices) (length indices) ∷ []
+abbrev pub draws_of : List BatchDraw → List BatchVertex → Option (List ℕ) → List BatchDraw
+draws_of [] vertices indices = whole_draw (length vertices) (count_of_indices indices) ∷ []
 draws_of (d ∷ ds) vertices indices = d ∷ ds

@@ -1,5 +1,5 @@
 -- The vertices and triangles of a batch, as seen from the corner of pixel (x, y) of the screen.
-use Rattle.std.specs.Prelude.{ℕ, ℤ, pos, ◌<◌, List, length, map, slice_index_or}
+use Rattle.std.specs.Prelude.{ℕ, Bool, ℤ, pos, ◌<◌, Option, List, length, map, slice_index_or}
 use Rattle.std.specs.List.{All, flat_map}
 use Rattle.grid.specs.Position.{IsInGuardBand}
 use Rattle.shade.specs.declared.placed.Placed.{Placed}
@@ -34,9 +34,9 @@ abbrev pub vertex_seen : ℤ → ℤ → BatchVertex → Vertex
 vertex_seen x y v = record (vertex_listed v) { at = moved_position x y (record { x = v.x; y = v.y }) }
 
 -- The triangles of draws in draw order, as a draw list has them, seen from the corner of pixel (x, y).
-abbrev pub draws_seen : ℤ → ℤ → List BatchDraw → List BatchVertex → List ℕ → List Placed
-draws_seen x y draws vertices indices = map (moved x y) (flat_map placed_all (draws_listed draws vertices indices))
+abbrev pub draws_seen : Bool → ℤ → ℤ → List BatchDraw → List BatchVertex → Option (List ℕ) → List Placed
+draws_seen has_alpha x y draws vertices indices = map (moved x y) (flat_map placed_all (draws_listed has_alpha draws vertices indices))
 
--- The triangles of a batch.
-abbrev pub triangles_seen : ℤ → ℤ → List BatchDraw → List BatchVertex → List ℕ → List Placed
-triangles_seen x y draws vertices indices = draws_seen x y (draws_of draws vertices indices) vertices indices
+-- The triangles of a batch on a canvas that has alpha or not.
+abbrev pub triangles_seen : Bool → ℤ → ℤ → List BatchDraw → List BatchVertex → Option (List ℕ) → List Placed
+triangles_seen has_alpha x y draws vertices indices = draws_seen has_alpha x y (draws_of draws vertices indices) vertices indices

@@ -1,7 +1,8 @@
-//! Blend equations by the numbers of Direct3D 11. It leaves 0 free, which stands for the default here: one for the new channel, zero for
-//! the stored one, and add. So a struct of zeros is the blend state in which the new colour replaces the stored one.
+//! Blend equations by the numbers of Direct3D 11. It leaves 0 free, which stands for the default here: one for the new
+//! channel, zero for the stored one, and add. So a struct of zeros is the blend state in which the new colour replaces
+//! the stored one.
 ghost use Rattle.std.specs.Prelude.{◌≡◌, ◌↔◌, IsTrue};
-ghost use Rattle.batch.specs.Equations.{factor_numbered, operation_numbered, equation_numbered, blend_numbered, IsBlendInRange};
+ghost use Rattle.batch.specs.Equations.{factor_numbered, operation_numbered, equation_numbered, blend_numbered, IsFactor, HasFactors, HasOperations};
 
 use shade::{Blend, BlendFactor, BlendOperation, Equation};
 
@@ -47,6 +48,13 @@ fn factor_of(number: u8, default: BlendFactor) -> Option<BlendFactor>
         _ => return None,
     };
     Some(factor)
+}
+
+/// Whether there is a factor with this number.
+fn is_factor(number: u8) -> bool
+    ensures { IsTrue result ↔ IsFactor number }
+{
+    factor_of(number, BlendFactor::One).is_some()
 }
 
 /// The operation with a number of `D3D11_BLEND_OP`, or `Add` for 0. Returns `None` if there is no such operation.
@@ -103,21 +111,30 @@ impl BatchBlend {
         equation_of(self.alpha_source, self.alpha_stored, self.alpha_operation)
     }
 
-    /// Whether each number is one of a factor or of an operation.
-    pub(crate) fn is_in_range(&self) -> bool
-        ensures { IsTrue result ↔ IsBlendInRange self.now }
+    /// Whether each factor is one that there is.
+    pub(crate) fn has_factors(&self) -> bool
+        ensures { IsTrue result ↔ HasFactors self.now }
     {
-        self.colour().is_some() && self.alpha().is_some()
+        let of_colours = is_factor(self.color_source) && is_factor(self.color_stored);
+        of_colours && is_factor(self.alpha_source) && is_factor(self.alpha_stored)
     }
 
-    /// The blend state; an equation whose numbers are not known replaces the stored channel.
-    pub(crate) fn blend(&self) -> Blend
-        ensures { result ≡ blend_numbered self.now }
+    /// Whether both operations are ones that there are.
+    pub(crate) fn has_operations(&self) -> bool
+        ensures { IsTrue result ↔ HasOperations self.now }
+    {
+        operation_of(self.color_operation).is_some() && operation_of(self.alpha_operation).is_some()
+    }
+
+    /// The blend state, with alpha written or not; an equation whose numbers are not known replaces the stored channel.
+    pub(crate) fn blend(&self, write_alpha: bool) -> Blend
+        ensures { result ≡ blend_numbered self.now write_alpha }
     {
         Blend {
             colour: self.colour().unwrap_or(Equation::REPLACE),
             alpha: self.alpha().unwrap_or(Equation::REPLACE),
             constant: self.constant,
+            write_alpha,
         }
     }
 }

@@ -1,114 +1,223 @@
 //! The checks of a batch, before anything is drawn.
-ghost use Rattle.std.specs.Prelude.{◌↔◌, IsTrue, ⊤};
+ghost use Rattle.std.specs.Prelude.{◌≡◌, ◌<◌, ◌≤◌, ◌/◌, [], length, slice_index_or, ⊤};
 ghost use Rattle.model.specs.Checking.{IsJudged};
-ghost use Rattle.batch.specs.Listed.{primitives_listed};
-ghost use Rattle.batch.specs.Checks.{AreQuadsSeen, primitives_checks, draw_checks, draws_checks};
+ghost use Rattle.model.specs.Primitives.{quad_list};
+ghost use Rattle.batch.specs.Listed.{quads_of, primitives_listed};
+ghost use Rattle.batch.specs.OwnIndices.{indices_given, count_of_indices, own_indices};
+ghost use Rattle.batch.specs.Checks.{index_checks, position_checks, quad_checks, element_checks, primitives_checks, draw_checks, draws_checks};
 
 use crate::draw::BatchDraw;
-use crate::fault::{BatchCause, BatchFault};
+use crate::fault::{BatchCause, BatchFault, DrawFault};
 use crate::ids::{after, has_ids};
-use crate::primitives::{corners, triangle_count};
-use crate::vertex::BatchVertex;
-use crate::vertices::{are_quads_seen, are_seen};
+use crate::indices::{BatchIndices, Halves, InOrder, Indices, Words};
+use crate::primitives::{corners, triangle_count, triangles_of_draw};
+use crate::seen::{is_quad_seen, is_seen};
+use crate::vertices::Vertices;
 use canvas::Origin;
-use model::name_vertices;
 
-/// Whether the vertices of quads can be seen and each quad is strictly convex, if the primitives are quads.
-fn are_convex(topology: u8, vertices: &[BatchVertex], indices: &[u32], origin: &Origin) -> bool
-    ensures { IsTrue result ↔ AreQuadsSeen origin.now.x origin.now.y vertices.now (primitives_listed topology indices.now) }
+/// Checks that each index names one of `count` vertices.
+fn check_indices<I: Indices>(indices: &I, count: usize) -> Result<(), DrawFault>
+    ensures { IsJudged (index_checks count (I.listed indices.now)) (λ done. ⊤) result }
 {
-    match topology {
-        0 => true,
-        1 => true,
-        _ => are_quads_seen(vertices, indices.as_chunks::<4>().0, origin),
-    }
-}
-
-/// Checks the primitives of a draw of these vertices.
-fn check_primitives(
-    topology: u8,
-    vertices: &[BatchVertex],
-    indices: &[u32],
-    origin: &Origin,
-    ids: Option<u32>,
-) -> Result<(), BatchCause>
-    ensures { IsJudged (primitives_checks origin.now.x origin.now.y ids vertices.now topology indices.now) (λ done. ⊤) result }
-{
-    if indices.len() % corners(topology) != 0 {
-        return Err(BatchCause::NotWhole);
-    }
-    if !has_ids(ids, triangle_count(topology, indices)) {
-        return Err(BatchCause::TooManyIds);
-    }
-    if !name_vertices(indices, vertices.len()) {
-        return Err(BatchCause::BadIndex);
-    }
-    if !are_seen(vertices, indices, origin) {
-        return Err(BatchCause::BadPosition);
-    }
-    if !are_convex(topology, vertices, indices, origin) {
-        return Err(BatchCause::NotConvex);
+    for place in 0..indices.count() {
+        let index = indices.at(place);
+        if index >= count {
+            return Err(DrawFault::bad_index(place, index));
+        }
     }
     Ok(())
 }
 
-/// Checks a draw, whose vertices and indices are the first of these.
-fn check_draw(
-    draw: &BatchDraw,
-    vertices: &[BatchVertex],
-    indices: &[u32],
+/// Checks that each vertex that an index names can be seen.
+fn check_positions<V: Vertices, I: Indices>(
+    vertices: &V,
+    indices: &I,
+    origin: &Origin,
+) -> Result<(), DrawFault>
+    ensures { IsJudged (position_checks origin.now.x origin.now.y (V.listed vertices.now) (I.listed indices.now)) (λ done. ⊤)
+        result }
+{
+    for place in 0..indices.count() {
+        let vertex = indices.at(place);
+        if !is_seen(vertices, vertex, origin) {
+            return Err(DrawFault::at_element(BatchCause::BadPosition, vertex));
+        }
+    }
+    Ok(())
+}
+
+/// The quad of this number.
+fn quad<I: Indices>(indices: &I, number: usize) -> [usize; 4]
+    requires number { number < length (I.listed indices.now) / 4 }
+    requires fits { length (I.listed indices.now) ≤ 18446744073709551615 }
+    ensures { result ≡ slice_index_or (quads_of (I.listed indices.now)) number [] }
+{
+    let first = 4 * number;
+    let (a, b) = (indices.at(first), indices.at(first + 1));
+    let (c, d) = (indices.at(first + 2), indices.at(first + 3));
+    [a, b, c, d]
+}
+
+/// Checks that the vertices of each quad can be seen, and that it is strictly convex.
+fn check_each_quad<V: Vertices, I: Indices>(
+    vertices: &V,
+    indices: &I,
+    origin: &Origin,
+) -> Result<(), DrawFault>
+    ensures { IsJudged (quad_checks origin.now.x origin.now.y (V.listed vertices.now)
+        (quad_list (quads_of (I.listed indices.now)))) (λ done. ⊤) result }
+{
+    for number in 0..indices.count() / 4 {
+        if !is_quad_seen(vertices, quad(indices, number), origin) {
+            return Err(DrawFault::at_element(BatchCause::NotConvex, number));
+        }
+    }
+    Ok(())
+}
+
+/// Checks the quads, if the primitives are quads.
+fn check_quads<V: Vertices, I: Indices>(
+    topology: u8,
+    vertices: &V,
+    indices: &I,
+    origin: &Origin,
+) -> Result<(), DrawFault>
+    ensures { IsJudged (quad_checks origin.now.x origin.now.y (V.listed vertices.now)
+        (primitives_listed topology (I.listed indices.now))) (λ done. ⊤) result }
+{
+    match topology {
+        0 => Ok(()),
+        1 => Ok(()),
+        _ => check_each_quad(vertices, indices, origin),
+    }
+}
+
+/// Checks the indices of a draw of these vertices, then the vertices that they name, then its quads.
+fn check_elements<V: Vertices, I: Indices>(
+    topology: u8,
+    vertices: &V,
+    indices: &I,
+    origin: &Origin,
+) -> Result<(), DrawFault>
+    ensures { IsJudged (element_checks origin.now.x origin.now.y (V.listed vertices.now) topology (I.listed indices.now))
+        (λ done. ⊤) result }
+{
+    if let Err(fault) = check_indices(indices, vertices.count()) {
+        return Err(fault);
+    }
+    if let Err(fault) = check_positions(vertices, indices, origin) {
+        return Err(fault);
+    }
+    check_quads(topology, vertices, indices, origin)
+}
+
+/// Checks the primitives of a draw of these vertices.
+fn check_primitives<V: Vertices, I: Indices>(
+    topology: u8,
+    vertices: &V,
+    indices: &I,
     origin: &Origin,
     ids: Option<u32>,
-) -> Result<(), BatchCause>
-    ensures { IsJudged (draw_checks origin.now.x origin.now.y ids draw.now vertices.now indices.now) (λ done. ⊤) result }
+) -> Result<(), DrawFault>
+    ensures { IsJudged (primitives_checks origin.now.x origin.now.y ids (V.listed vertices.now) topology (I.listed indices.now))
+        (λ done. ⊤) result }
 {
-    let (own_vertices, own_indices) = (draw.vertices, draw.indices);
-    if own_vertices > vertices.len() {
-        return Err(BatchCause::TooFewVertices);
+    let count = indices.count();
+    if count % corners(topology) != 0 {
+        return Err(DrawFault::of_draw(BatchCause::NotWhole));
     }
-    if own_indices > indices.len() {
-        return Err(BatchCause::TooFewIndices);
+    if !has_ids(ids, triangle_count(topology, count)) {
+        return Err(DrawFault::of_draw(BatchCause::TooManyIds));
     }
-    if !draw.is_in_range() {
-        return Err(BatchCause::BadState);
+    check_elements(topology, vertices, indices, origin)
+}
+
+/// Checks the primitives of a draw of these vertices, whose indices are the first of these.
+fn check_own<V: Vertices>(
+    draw: &BatchDraw,
+    vertices: &V,
+    indices: &BatchIndices<'_>,
+    origin: &Origin,
+    ids: Option<u32>,
+) -> Result<(), DrawFault>
+    requires { draw.now.indices ≤ count_of_indices (indices_given indices.now) }
+    ensures { IsJudged (primitives_checks origin.now.x origin.now.y ids (V.listed vertices.now) draw.now.topology
+        (own_indices draw.now (indices_given indices.now))) (λ done. ⊤) result }
+{
+    let topology = draw.topology;
+    match indices {
+        BatchIndices::Words(all) => {
+            let own = Words {
+                indices: &all[..draw.indices],
+            };
+            check_primitives(topology, vertices, &own, origin, ids)
+        }
+        BatchIndices::Halves(all) => {
+            let own = Halves {
+                indices: &all[..draw.indices],
+            };
+            check_primitives(topology, vertices, &own, origin, ids)
+        }
+        BatchIndices::InOrder => {
+            let own = InOrder {
+                count: draw.vertices,
+            };
+            check_primitives(topology, vertices, &own, origin, ids)
+        }
     }
-    check_primitives(
-        draw.topology,
-        &vertices[..own_vertices],
-        &indices[..own_indices],
-        origin,
-        ids,
-    )
+}
+
+/// Checks a draw, whose vertices and indices are the first of these.
+fn check_draw<V: Vertices>(
+    draw: &BatchDraw,
+    vertices: &V,
+    indices: &BatchIndices<'_>,
+    origin: &Origin,
+    ids: Option<u32>,
+) -> Result<(), DrawFault>
+    ensures { IsJudged (draw_checks origin.now.x origin.now.y ids draw.now (V.listed vertices.now) (indices_given indices.now))
+        (λ done. ⊤) result }
+{
+    let own_vertices = draw.vertices;
+    if own_vertices > vertices.count() {
+        return Err(DrawFault::of_draw(BatchCause::TooFewVertices));
+    }
+    if draw.indices > indices.count() {
+        return Err(DrawFault::of_draw(BatchCause::TooFewIndices));
+    }
+    if let Err(cause) = draw.check_state() {
+        return Err(DrawFault::of_draw(cause));
+    }
+    check_own(draw, &vertices.first(own_vertices), indices, origin, ids)
 }
 
 /// Checks draws. Returns the fault of the first check that fails.
-pub(crate) fn check_draws(
+pub(crate) fn check_draws<V: Vertices>(
     draws: &[BatchDraw],
-    vertices: &[BatchVertex],
-    indices: &[u32],
+    vertices: &V,
+    indices: &BatchIndices<'_>,
     origin: &Origin,
     ids: Option<u32>,
 ) -> Result<(), BatchFault>
-    ensures { IsJudged (draws_checks origin.now.x origin.now.y 0 ids draws.now vertices.now indices.now) (λ done. ⊤) result }
+    ensures { IsJudged (draws_checks origin.now.x origin.now.y 0 ids draws.now (V.listed vertices.now) (indices_given indices.now))
+        (λ done. ⊤) result }
 {
     let mut next_ids = ids;
-    let (mut vertices_left, mut indices_left) = (vertices, indices);
+    let (mut vertices_left, mut indices_left) = (*vertices, *indices);
     for (number, draw) in draws.iter().enumerate() {
-        if let Err(cause) = check_draw(draw, vertices_left, indices_left, origin, next_ids) {
-            return Err(BatchFault {
-                cause,
-                draw: Some(number),
-            });
+        if let Err(fault) = check_draw(draw, &vertices_left, &indices_left, origin, next_ids) {
+            return Err(fault.in_draw(number));
         }
-        let (own, rest) = indices_left.split_at(draw.indices);
-        next_ids = after(next_ids, triangle_count(draw.topology, own));
-        indices_left = rest;
-        (_, vertices_left) = vertices_left.split_at(draw.vertices);
+        next_ids = after(next_ids, triangles_of_draw(draw, &indices_left));
+        indices_left = indices_left.behind(draw.indices);
+        vertices_left = vertices_left.behind(draw.vertices);
     }
-    if !vertices_left.is_empty() || !indices_left.is_empty() {
+    if vertices_left.count() > 0 || indices_left.count() > 0 {
         return Err(BatchFault {
             cause: BatchCause::LeftOver,
             draw: None,
+            element: None,
+            value: None,
         });
     }
     Ok(())

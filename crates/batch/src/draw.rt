@@ -1,13 +1,15 @@
-ghost use Rattle.std.specs.Prelude.{◌≡◌, ◌↔◌, IsTrue};
+ghost use Rattle.std.specs.Prelude.{◌≡◌, ⊤};
+ghost use Rattle.model.specs.Checking.{IsJudged};
 ghost use Rattle.batch.specs.Listed.{cull_listed, depth_test_listed, scissor_listed, state_listed, whole_draw};
-ghost use Rattle.batch.specs.Ranges.{IsDrawInRange};
+ghost use Rattle.batch.specs.States.{state_checks};
 
 use crate::blend::BatchBlend;
+use crate::fault::BatchCause;
 use grid::{Cull, PixelBox};
 use shade::{DepthTest, Merge, State};
 
-/// A draw: how many of the batch's vertices and indices are its own, what primitives the indices are, and the state in which these
-/// are drawn. It is laid out as in C.
+/// A draw: how many of the batch's vertices and indices are its own, what primitives the indices are, and the state in
+/// which these are drawn. It is laid out as in C.
 #[repr(C)]
 #[derive(Clone, Copy, Debug, PartialEq, Eq)]
 pub struct BatchDraw {
@@ -19,7 +21,8 @@ pub struct BatchDraw {
     pub topology: u8,
     /// Which triangles are dropped: 0 none, 1 those that face the front, 2 those that face the back.
     pub cull: u8,
-    /// When a new depth passes: 0 always, 1 never, 2 less, 3 equal, 4 less or equal, 5 greater, 6 not equal, 7 greater or equal.
+    /// When a new depth passes: 0 always, 1 never, 2 less, 3 equal, 4 less or equal, 5 greater, 6 not equal, 7 greater
+    /// or equal.
     pub depth_test: u8,
     /// 1 if the new depth is stored when the test passes, else 0.
     pub depth_write: u8,
@@ -99,13 +102,35 @@ impl BatchDraw {
         }
     }
 
-    /// Whether each number of the state is in its range.
-    pub fn is_in_range(&self) -> bool
-        ensures { IsTrue result ↔ IsDrawInRange self.now }
+    /// Checks the numbers of the state. Returns the cause of the first one that is outside of its range.
+    pub fn check_state(&self) -> Result<(), BatchCause>
+        ensures { IsJudged (state_checks self.now) (λ done. ⊤) result }
     {
-        let tests = self.topology <= 2 && self.cull <= 2 && self.depth_test <= 7;
-        let merge = self.depth_write <= 1 && self.keep <= 15 && self.blend.is_in_range();
-        tests && merge && self.scissor_enable <= 1
+        if self.topology > 2 {
+            return Err(BatchCause::BadTopology);
+        }
+        if self.cull > 2 {
+            return Err(BatchCause::BadCull);
+        }
+        if self.depth_test > 7 {
+            return Err(BatchCause::BadDepthTest);
+        }
+        if self.depth_write > 1 {
+            return Err(BatchCause::BadDepthWrite);
+        }
+        if self.keep > 15 {
+            return Err(BatchCause::BadKeep);
+        }
+        if self.scissor_enable > 1 {
+            return Err(BatchCause::BadScissorEnable);
+        }
+        if !self.blend.has_factors() {
+            return Err(BatchCause::BadFactor);
+        }
+        if !self.blend.has_operations() {
+            return Err(BatchCause::BadOperation);
+        }
+        Ok(())
     }
 
     /// The pixels of the screen that are drawn.
@@ -123,9 +148,9 @@ impl BatchDraw {
         }
     }
 
-    /// The state.
-    pub fn state(&self) -> State
-        ensures { result ≡ state_listed self.now }
+    /// The state, on a canvas that has alpha or not.
+    pub fn state(&self, has_alpha: bool) -> State
+        ensures { result ≡ state_listed has_alpha self.now }
     {
         State {
             merge: Merge {
@@ -136,7 +161,7 @@ impl BatchDraw {
                     self.keep / 2 % 2 == 0,
                     self.keep / 4 % 2 == 0,
                 ],
-                blend: self.blend.blend(),
+                blend: self.blend.blend(has_alpha && self.keep / 8 % 2 == 0),
             },
             cull: cull(self.cull),
             sample_mask: u16::MAX - self.skip_samples,

@@ -36,7 +36,7 @@ pub record TileBins : Type 0 where
   pub bins : List (List ℕ)
 
 -- Tile k is one of those whose bins these are.
-pub record HasTile (b : TileBins) (k : ℕ) : Type 0 where
+pub record HasBin (b : TileBins) (k : ℕ) : Type 0 where
   pub from : b.first ≤ k
   pub below : k < b.first + length b.bins
 
@@ -48,4 +48,4 @@ bin_of b k = slice_index_or b.bins (k - b.first) []
 pub record AreBins (l : Scene) (g : TileGrid) (first_row rows : ℕ) (b : TileBins) : Type 0 where
   pub first : b.first ≡ first_row * columns_of g
   pub number : length b.bins ≡ rows * columns_of g
-  pub each : (k : ℕ) → HasTile b k → IsBinOf l g k (bin_of b k)
+  pub each : (k : ℕ) → HasBin b k → IsBinOf l g k (bin_of b k)

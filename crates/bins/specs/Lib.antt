@@ -5,13 +5,13 @@
 --   IsBin: The bin is strictly ascending, and has numbers of triangles, among them that of each triangle that is needed.
 --   IsBinOf: A bin of tile k: it has each triangle that meets a sample of the tile.
 --   TileBins: The bins of consecutive tiles, and the number of the first of these tiles.
---   HasTile: Tile k is one of those whose bins these are.
+--   HasBin: Tile k is one of those whose bins these are.
 --   bin_of: The bin of tile k, and an empty one if the tile has none here.
 --   AreBins: The bins of these tile rows, each with the triangles that meet its tile.
 --
 -- Parts.antt
 --   part_of: Part k of a list, which goes from its start to the start of the next.
---   parts_of: All parts of a list, in their order.
+--   all_parts: All parts of a list, in their order.
 --   ArePartStarts: The starts cut the numbers: none is less than the one before it, or past the end.
 --
 -- TileRuns.antt

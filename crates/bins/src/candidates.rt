@@ -7,8 +7,8 @@ use model::{DrawList, RowSpan};
 use std::alloc::{AllocError, Global};
 use tiling::Tiling;
 
-/// Whether one of these rows of pixels lies between `top` and before `bottom`. There is one comparison and one branch: half of all
-/// triangles begin above the bottom, and half end below the top, but few do both.
+/// Whether one of these rows of pixels lies between `top` and before `bottom`. There is one comparison and one branch:
+/// half of all triangles begin above the bottom, and half end below the top, but few do both.
 #[inline]
 fn has_row(rows: RowSpan, top: u32, bottom: u32) -> bool
     ensures all { (row : ℕ) → rows.first ≤ row → row < rows.end → top ≤ row → row < bottom → IsTrue result }
@@ -28,7 +28,8 @@ pub(crate) fn candidates_of(
     requires { first_row + rows ≤ rows_of tiling.now }
     ensures limits { IsWithinLimits tiling.now }
     ensures few { length list.now.triangles ≤ 65536 }
-    ensures numbers { IfOk result (λ numbers. AreCandidates list.now tiling.now first_row rows (length list.now.triangles) numbers.items) }
+    ensures numbers { IfOk result (λ numbers. AreCandidates list.now tiling.now first_row rows
+        (length list.now.triangles) numbers.items) }
 {
     let (top, bottom) = tiling.pixel_rows(first_row, rows);
     let mut numbers = Vec::new(alloc);

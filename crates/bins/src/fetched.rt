@@ -8,8 +8,9 @@ use model::{DrawList, Placed};
 /// The number of triangles that are fetched together.
 const TOGETHER: usize = 16;
 
-/// Triangles whose numbers stand one after another, fetched together. They lie far from each other in memory. If triangles are fetched
-/// one after another, the waiting for memory overlaps; if each is drawn before the next is fetched, it does not.
+/// Triangles whose numbers stand one after another, fetched together. They lie far from each other in memory. If
+/// triangles are fetched one after another, the waiting for memory overlaps; if each is drawn before the next is
+/// fetched, it does not.
 #[derive(Drop)]
 pub struct Fetched {
     triangles: [Placed; TOGETHER],
@@ -34,8 +35,8 @@ impl Fetched {
         })
     }
 
-    /// Goes on to this place of the numbers, which is the one after the place before. Behind the last triangle that was fetched the
-    /// next ones are fetched.
+    /// Goes on to this place of the numbers, which is the one after the place before. Behind the last triangle that was
+    /// fetched the next ones are fetched.
     #[inline(always)]
     pub fn go_on(&mut self, list: &DrawList, numbers: &[u32], place: usize)
         requires numbers { All (λ number. number < length list.now.triangles) numbers.now }

@@ -9,8 +9,8 @@ use reach::{columns_met, tiles_met};
 use std::alloc::{AllocError, Global};
 use tiling::Tiling;
 
-/// Consecutive tiles of a row which a triangle can meet, from `first` to before `end`. They are counted from the first tile of
-/// the rows that are asked for.
+/// Consecutive tiles of a row which a triangle can meet, from `first` to before `end`. They are counted from the first
+/// tile of the rows that are asked for.
 #[derive(Clone, Copy, Debug, PartialEq, Eq)]
 pub(crate) struct TileRun {
     /// The triangle's number in draw order.
@@ -36,7 +36,8 @@ impl TileRun {
         requires few { length list.now.triangles ≤ 65536 }
         requires candidates { AreCandidates list.now tiling.now first_row rows (length list.now.triangles) numbers.now }
         ensures few { IfOk result (λ runs. length runs.items ≤ 2 ^ 25) }
-        ensures runs { IfOk result (λ runs. AreTileRuns list.now tiling.now first_row rows (length list.now.triangles) 0 runs.items) }
+        ensures runs { IfOk result (λ runs. AreTileRuns list.now tiling.now first_row rows (length list.now.triangles) 0
+            runs.items) }
     {
         let mut runs = Vec::new(alloc);
         let Some(mut fetched) = Fetched::of(list, numbers) else {

@@ -13,7 +13,7 @@ use Rattle.c_abi.specs.declared.error.Error.{Error}
 use Rattle.c_abi.specs.declared.status.Status.{Status}
 use Rattle.c_abi.specs.declared.status.Status.TheVariants.{BadList, BadBatch, InputTooLong, OutOfMemory}
 use Rattle.c_abi.specs.Errors.{list_fault, alone, error_of}
-use Rattle.c_abi.specs.Statuses.{number_of}
+use Rattle.c_abi.specs.Statuses.{status_number}
 
 -- The error names what is wrong with the list or the batch if the status is that of one, and then its first error.
 abbrev pub IsFaultOf : (Fault → Type 0) → Status → Option Fault → Type 0
@@ -32,18 +32,18 @@ IsCall checks IsFirst P result = MatchResult result (λ x. Pass checks × P x) (
 -- The status and the error that the caller gets of a call that ended so.
 abbrev pub IsReported : Result ⊤ CallError → ℕ → Error → Type 0
 IsReported (Ok done) status error = (status ≡ 0) × (error ≡ alone 0)
-IsReported (Err e) status error = (status ≡ number_of e.status) × (error ≡ error_of e)
+IsReported (Err e) status error = (status ≡ status_number e.status) × (error ≡ error_of e)
 
 -- The status and the error are those of the first check that fails, and none if each holds. So the checks say exactly when each
 -- status comes.
 abbrev pub IsReport : Checks Status → (Fault → Type 0) → ℕ → Error → Type 0
 IsReport checks IsFirst status error =
     (Pass checks × (status ≡ 0) × (error ≡ alone 0))
-    ⊎ ((e : CallError) × IsFirstError checks IsFirst e × (status ≡ number_of e.status) × (error ≡ error_of e))
+    ⊎ ((e : CallError) × IsFirstError checks IsFirst e × (status ≡ status_number e.status) × (error ≡ error_of e))
 
 -- The same of a call that has no error beside its status.
 abbrev pub IsStatus : Checks Status → ℕ → Type 0
-IsStatus checks status = (Pass checks × (status ≡ 0)) ⊎ ((failed : Status) × FirstIs checks failed × (status ≡ number_of failed))
+IsStatus checks status = (Pass checks × (status ≡ 0)) ⊎ ((failed : Status) × FirstIs checks failed × (status ≡ status_number failed))
 
 -- The checks of a list that the caller gives: that there is one, for which memory is allocated, and then those of the list.
 abbrev pub list_checks : (Scene → Type 0) → Checks Status → Checks Status

@@ -1,6 +1,6 @@
 -- Why a call failed.
 use Rattle.std.specs.Prelude.{◌≡◌, ◌≢◌, ◌⊎◌, ℕ, Option, Some, None}
-use Rattle.model.specs.Fault.{number_of as list_number_of}
+use Rattle.model.specs.Fault.{kind_number as list_number_of}
 use Rattle.model.specs.declared.fault.ReadFault.{ReadFault}
 use Rattle.model.specs.declared.fault.ReadKind.TheVariants.{OutOfMemory as NoMemory}
 use Rattle.c_abi.specs.declared.call_error.CallError.{CallError}
@@ -8,11 +8,11 @@ use Rattle.c_abi.specs.declared.error.Error.{Error}
 use Rattle.c_abi.specs.declared.fault.Fault.{Fault}
 use Rattle.c_abi.specs.declared.status.Status.{Status}
 use Rattle.c_abi.specs.declared.status.Status.TheVariants.{BadList, BadBatch, OutOfMemory}
-use Rattle.c_abi.specs.Statuses.{number_of}
+use Rattle.c_abi.specs.Statuses.{status_number}
 
 -- What is wrong with a list, by its numbers. No element is named.
 abbrev pub list_fault : ReadFault → Fault
-list_fault fault = record { cause = list_number_of fault.kind; draw = fault.draw; element = None }
+list_fault fault = record { cause = list_number_of fault.kind; draw = fault.draw; element = None; value = None }
 
 -- An error of which the status says all.
 abbrev pub of_status : Status → CallError
@@ -37,13 +37,19 @@ index_or_none (Some index) = index
 
 -- What the caller gets if the status says all; with the status 0 there is no error.
 abbrev pub alone : ℕ → Error
-alone status = record { status = status; cause = 0; draw = index_or_none None; element = index_or_none None }
+alone status = record { status = status; cause = 0; draw = index_or_none None; element = index_or_none None; value = index_or_none None }
 
 -- What the caller gets if a call has this status, and this is wrong with its list or batch.
 abbrev pub reported : ℕ → Option Fault → Error
 reported status None = alone status
-reported status (Some fault) = record { status = status; cause = fault.cause; draw = index_or_none fault.draw; element = index_or_none fault.element }
+reported status (Some fault) = record {
+  status = status;
+  cause = fault.cause;
+  draw = index_or_none fault.draw;
+  element = index_or_none fault.element;
+  value = index_or_none fault.value;
+}
 
 -- What the caller gets of an error.
 abbrev pub error_of : CallError → Error
-error_of e = reported (number_of e.status) e.fault
+error_of e = reported (status_number e.status) e.fault

@@ -1,7 +1,7 @@
 -- The definitions of this crate, each file behind those that it uses; `python3 -m tools.definitions` writes these lines.
 --
 -- Statuses.antt
---   number_of: The number of each status in C.
+--   status_number: The number of each status in C.
 --
 -- Errors.antt
 --   list_fault: What is wrong with a list, by its numbers.

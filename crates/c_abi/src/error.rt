@@ -19,6 +19,8 @@ pub struct Error {
     pub draw: usize,
     /// Which one of the draw's indices, vertices or quads it is, or `NONE`.
     pub element: usize,
+    /// If it is an index, its value, else `NONE`.
+    pub value: usize,
 }
 
 /// The index, or the number that stands for none.
@@ -41,6 +43,7 @@ impl Error {
             cause: 0,
             draw: NONE,
             element: NONE,
+            value: NONE,
         }
     }
 
@@ -56,6 +59,7 @@ impl Error {
                 cause: fault.cause,
                 draw: index_of(fault.draw),
                 element: index_of(fault.element),
+                value: index_of(fault.value),
             },
         }
     }

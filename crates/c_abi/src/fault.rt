@@ -9,6 +9,8 @@ pub struct Fault {
     pub draw: Option<usize>,
     /// Which one of the draw's indices, vertices or quads it is, or `None`.
     pub element: Option<usize>,
+    /// If it is an index, its value, else `None`.
+    pub value: Option<usize>,
 }
 
 impl Fault {
@@ -26,6 +28,7 @@ impl Fault {
                 Some(draw) => Some(draw as usize),
             },
             element: None,
+            value: None,
         }
     }
 }

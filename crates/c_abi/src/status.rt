@@ -1,5 +1,5 @@
 ghost use Rattle.std.specs.Prelude.{◌≡◌, ◌↔◌, ◌<◌, ◌≤◌, length, IsOk, IfSome, MatchResult};
-ghost use Rattle.c_abi.specs.Statuses.{number_of};
+ghost use Rattle.c_abi.specs.Statuses.{status_number};
 
 use grid::OutOfMemory;
 
@@ -36,16 +36,18 @@ pub enum Status {
     BadTriangle = 14,
     /// The batch cannot be drawn.
     BadBatch = 15,
-    /// A stride is too short or not aligned, or there are no elements of this size.
+    /// A stride is too short, too long or not aligned.
     BadStride = 16,
     /// The canvas has no such tile.
     BadTile = 17,
+    /// There are no indices of this size.
+    BadIndexSize = 18,
 }
 
 impl Status {
     /// Its number.
     pub fn number(self) -> u32
-        ensures value { result ≡ number_of self }
+        ensures value { result ≡ status_number self }
         ensures some { 0 < result }
     {
         self as u32
@@ -53,7 +55,7 @@ impl Status {
 
     /// The status with this number.
     pub fn of_number(number: u32) -> Option<Status>
-        ensures { IfSome result (λ status. number_of status ≡ number) }
+        ensures { IfSome result (λ status. status_number status ≡ number) }
     {
         let status = match number {
             1 => Status::BadList,
@@ -73,6 +75,7 @@ impl Status {
             15 => Status::BadBatch,
             16 => Status::BadStride,
             17 => Status::BadTile,
+            18 => Status::BadIndexSize,
             _ => return None,
         };
         Some(status)
@@ -100,6 +103,7 @@ impl Status {
             Status::BadBatch => "wrong batch",
             Status::BadStride => "wrong stride",
             Status::BadTile => "no such tile",
+            Status::BadIndexSize => "no such index size",
         }
     }
 }
@@ -117,7 +121,7 @@ impl From<OutOfMemory> for Status {
 
 /// The status of a call that ended so: 0 if it succeeded.
 pub fn status_of(ended: Result<(), Status>) -> u32
-    ensures ended { MatchResult ended (λ done. result ≡ 0) (λ failed. result ≡ number_of failed) }
+    ensures ended { MatchResult ended (λ done. result ≡ 0) (λ failed. result ≡ status_number failed) }
     ensures done { result ≡ 0 ↔ IsOk ended }
 {
     match ended {

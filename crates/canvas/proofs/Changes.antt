@@ -1,17 +1,17 @@
 -- Samples that are changed one after another.
-use Rattle.std.proofs.Common.{◌≡◌, ◌≢◌, ◌⊎◌, ◌∙◌, inl, inr, refl, sym, ap, subst, ℕ, ◌+◌, ◌-◌, ◌*◌, ◌/◌, ◌%◌, ◌<◌, ◌≤◌, List, length, take, drop, slice_index, slice_set, arith}
+use Rattle.std.proofs.Common.{◌≡◌, Bool, ◌≢◌, ◌⊎◌, ◌∙◌, inl, inr, refl, sym, ap, subst, ℕ, ◌+◌, ◌-◌, ◌*◌, ◌/◌, ◌%◌, ◌<◌, ◌≤◌, List, length, take, drop, slice_index, slice_set, arith}
 use Rattle.std.specs.Prelude.{slice_index_or}
 use Rattle.std.proofs.lemmas.Bool.{cases_lt}
 use Rattle.std.proofs.lemmas.List.{get_or-set_same, get_or-set_other}
 use Rattle.std.proofs.lemmas.Nat.{same_from_place}
 use Rattle.grid.specs.Samples.{count_of}
 use Rattle.grid.specs.declared.sample_count.SampleCount.{SampleCount}
-use Rattle.shade.specs.declared.sample.Sample.{Sample}
+use Rattle.shade.specs.declared.sample.CanvasSample.{CanvasSample}
 use Rattle.lanes.specs.declared.block_samples.BlockSamples.{BlockSamples}
 use Rattle.lanes.specs.Block.{stored_at}
 use Rattle.canvas.specs.declared.canvas.Canvas.{Canvas}
 use Rattle.canvas.specs.declared.format.Format.{Format}
-use Rattle.canvas.specs.declared.format.Format.TheVariants.{Rgb8, Rgba8, Bgra8}
+use Rattle.canvas.specs.declared.format.Format.TheVariants.{Rgb8, Rgba8, Bgra8, Rgba8Straight, Bgra8Straight}
 use Rattle.canvas.specs.Layout.{IsStoredIn, planes_of_tile, planes_of_row, block_of, place_in_tile, stored, stored_in_tile}
 use Rattle.canvas.specs.Pixels.{pixel_bytes}
 use Rattle.canvas.specs.Loaded.{coloured, IsIndexIn, AreChanged}
@@ -30,10 +30,12 @@ abbrev pub pixel_in_block : ℕ → ℕ → ℕ
 pixel_in_block i j = 8 * (j % 8) + i % 8
 
 -- the same bytes are the same colour
-pub coloured_same : (format : Format) (f g : ℕ → ℕ) (sample : Sample) → ((k : ℕ) → k < pixel_bytes format → f k ≡ g k) → coloured format f sample ≡ coloured format g sample
-coloured_same Rgb8 f g sample same = let a : f 0 ≡ g 0 = same 0 (omega arith) in let b : f 1 ≡ g 1 = same 1 (omega arith) in let c : f 2 ≡ g 2 = same 2 (omega arith) in rw (a, b, c) refl
-coloured_same Rgba8 f g sample same = let a : f 0 ≡ g 0 = same 0 (omega arith) in let b : f 1 ≡ g 1 = same 1 (omega arith) in let c : f 2 ≡ g 2 = same 2 (omega arith) in rw (a, b, c) refl
-coloured_same Bgra8 f g sample same = let a : f 0 ≡ g 0 = same 0 (omega arith) in let b : f 1 ≡ g 1 = same 1 (omega arith) in let c : f 2 ≡ g 2 = same 2 (omega arith) in rw (a, b, c) refl
+pub coloured_same : (format : Format) (too : Bool) (f g : ℕ → ℕ) (sample : CanvasSample) → ((k : ℕ) → k < pixel_bytes format → f k ≡ g k) → coloured format too f sample ≡ coloured format too g sample
+coloured_same Rgb8 too f g sample same = let a : f 0 ≡ g 0 = same 0 (omega arith) in let b : f 1 ≡ g 1 = same 1 (omega arith) in let c : f 2 ≡ g 2 = same 2 (omega arith) in rw (a, b, c) refl
+coloured_same Rgba8 too f g sample same = let a : f 0 ≡ g 0 = same 0 (omega arith) in let b : f 1 ≡ g 1 = same 1 (omega arith) in let c : f 2 ≡ g 2 = same 2 (omega arith) in let d : f 3 ≡ g 3 = same 3 (omega arith) in rw (a, b, c, d) refl
+coloured_same Bgra8 too f g sample same = let a : f 0 ≡ g 0 = same 0 (omega arith) in let b : f 1 ≡ g 1 = same 1 (omega arith) in let c : f 2 ≡ g 2 = same 2 (omega arith) in let d : f 3 ≡ g 3 = same 3 (omega arith) in rw (a, b, c, d) refl
+coloured_same Rgba8Straight too f g sample same = let a : f 0 ≡ g 0 = same 0 (omega arith) in let b : f 1 ≡ g 1 = same 1 (omega arith) in let c : f 2 ≡ g 2 = same 2 (omega arith) in let d : f 3 ≡ g 3 = same 3 (omega arith) in rw (a, b, c, d) refl
+coloured_same Bgra8Straight too f g sample same = let a : f 0 ≡ g 0 = same 0 (omega arith) in let b : f 1 ≡ g 1 = same 1 (omega arith) in let c : f 2 ≡ g 2 = same 2 (omega arith) in let d : f 3 ≡ g 3 = same 3 (omega arith) in rw (a, b, c, d) refl
 
 -- ---- the samples of one pixel, in the planes of its tile
 -- its planes are not the tile's first
@@ -48,13 +50,17 @@ same_sample count state filled i j s i' j' s' h h' e k =
     let blocks : j % 64 / 8 * 8 + i % 64 / 8 ≡ j' % 64 / 8 * 8 + i' % 64 / 8 = omega (arith, block.0, block_changed state i j filled, block_changed state i' j' filled) in
     (omega (arith, blocks, k), omega (arith, blocks, k), block.1)
 
+-- the places of a pixel's samples are the same whatever stands in such a tile's first plane
+pub same_place : (count : SampleCount) (one other : BlockSamples) (i j s : ℕ) → slice_index one.r 0 ≢ 1 → slice_index other.r 0 ≢ 1 → place_in_tile count one i j 0 + s ≡ place_in_tile count other i j s
+same_place count one other i j s filled filled' = omega (arith, ap (λ b. b * count_of count) (block_changed one i j filled ∙ sym (block_changed other i j filled')))
+
 -- the samples of pixel (i, j) from index `from` to before m end as f makes them, and all others are unchanged
-pub record IsPixelChanged (count : SampleCount) (i j from m : ℕ) (f : Sample → Sample) (old new : List BlockSamples) : Type 0 where
+pub record IsPixelChanged (count : SampleCount) (i j from m : ℕ) (f : CanvasSample → CanvasSample) (old new : List BlockSamples) : Type 0 where
   pub filled : slice_index (slice_index_or new 0 none).r 0 ≢ 1
   pub pixel : (s : ℕ) → s < count_of count → IsIndexIn from m s → stored_in_tile count new i j s ≡ f (stored_in_tile count old i j s)
   pub others : (column row s : ℕ) → s < count_of count → ((column % 64 ≡ i % 64) → (row % 64 ≡ j % 64) → IsIndexIn from m s → ⊥) → stored_in_tile count new column row s ≡ stored_in_tile count old column row s
 
-module _ (count : SampleCount) (i j from s : ℕ) (since : from ≤ s) (h : s < count_of count) (f : Sample → Sample) (old middle : List BlockSamples) (plane : BlockSamples) where
+module _ (count : SampleCount) (i j from s : ℕ) (since : from ≤ s) (h : s < count_of count) (f : CanvasSample → CanvasSample) (old middle : List BlockSamples) (plane : BlockSamples) where
   module _ (room : place_in_tile count (slice_index_or middle 0 none) i j s < length middle)
       (kept : (n : ℕ) → n < 64 → n ≢ pixel_in_block i j → stored_at plane n ≡ stored_at (slice_index_or middle (place_in_tile count (slice_index_or middle 0 none) i j s) none) n)
       (is : stored_at plane (pixel_in_block i j) ≡ f (stored_at (slice_index_or middle (place_in_tile count (slice_index_or middle 0 none) i j s) none) (pixel_in_block i j)))
@@ -107,7 +113,7 @@ module _ (count : SampleCount) (i j from s : ℕ) (since : from ≤ s) (h : s < 
     }
 
 -- the same, by a number that is the sample's place
-pub one_sample_more : (count : SampleCount) (i j from s : ℕ) → from ≤ s → s < count_of count → (f : Sample → Sample) (old middle : List BlockSamples) (plane : BlockSamples) (place : ℕ) → place ≡ place_in_tile count (slice_index_or middle 0 none) i j s → place < length middle
+pub one_sample_more : (count : SampleCount) (i j from s : ℕ) → from ≤ s → s < count_of count → (f : CanvasSample → CanvasSample) (old middle : List BlockSamples) (plane : BlockSamples) (place : ℕ) → place ≡ place_in_tile count (slice_index_or middle 0 none) i j s → place < length middle
     → ((n : ℕ) → n < 64 → n ≢ pixel_in_block i j → stored_at plane n ≡ stored_at (slice_index_or middle place none) n)
     → stored_at plane (pixel_in_block i j) ≡ f (stored_at (slice_index_or middle place none) (pixel_in_block i j))
     → IsPixelChanged count i j from s f old middle → IsPixelChanged count i j from (s + 1) f old (slice_set middle place plane)
@@ -120,7 +126,7 @@ one_sample_more count i j from s since h f old middle plane place at =
     (sym at)
     (λ room kept is before. one_sample_changed count i j from s since h f old middle plane room kept is before)
 
-pub no_sample_changed : (count : SampleCount) (i j from : ℕ) (f : Sample → Sample) (old new : List BlockSamples) → slice_index (slice_index_or new 0 none).r 0 ≢ 1
+pub no_sample_changed : (count : SampleCount) (i j from : ℕ) (f : CanvasSample → CanvasSample) (old new : List BlockSamples) → slice_index (slice_index_or new 0 none).r 0 ≢ 1
     → ((column row s : ℕ) → s < count_of count → stored_in_tile count new column row s ≡ stored_in_tile count old column row s) → IsPixelChanged count i j from from f old new
 no_sample_changed count i j from f old new filled same =
     record { filled = filled; pixel = λ s h index. (let since = index.from in let below = index.below in absurd (omega (arith, since, below))); others = λ column row s h _. same column row s h }
@@ -128,7 +134,7 @@ no_sample_changed count i j from f old new filled same =
 -- ---- a part that is put back changed
 module _ (c : Canvas) (xs part : List BlockSamples) (n a : ℕ) (room : a + n ≤ length xs) (long : length part ≡ n) where
   -- some samples of a tile
-  pub one_tile_changed : (column row : ℕ) (V : ℕ → ℕ → ℕ → Type 0) (f : ℕ → ℕ → ℕ → Sample → Sample) → n ≡ planes_of_tile c.count → a ≡ column * planes_of_tile c.count
+  pub one_tile_changed : (column row : ℕ) (V : ℕ → ℕ → ℕ → Type 0) (f : ℕ → ℕ → ℕ → CanvasSample → CanvasSample) → n ≡ planes_of_tile c.count → a ≡ column * planes_of_tile c.count
       → ((i j s : ℕ) → V i j s → (i / 64 ≡ column) × (j / 64 ≡ row))
       → ((i j s : ℕ) → s < count_of c.count → i / 64 ≡ column → j / 64 ≡ row → V i j s → stored_in_tile c.count part i j s ≡ f i j s (stored_in_tile c.count (take n (drop a xs)) i j s))
       → ((i j s : ℕ) → s < count_of c.count → i / 64 ≡ column → j / 64 ≡ row → ¬ V i j s → stored_in_tile c.count part i j s ≡ stored_in_tile c.count (take n (drop a xs)) i j s)
@@ -152,7 +158,7 @@ module _ (c : Canvas) (xs part : List BlockSamples) (n a : ℕ) (room : a + n �
       }
 
   -- some samples of a tile row
-  pub one_row_changed : (first end row : ℕ) (V : ℕ → ℕ → ℕ → Type 0) (end_of : ℕ → ℕ → ℕ → Sample → Sample) → first ≤ row → n ≡ planes_of_row c → a ≡ (row - first) * planes_of_row c
+  pub one_row_changed : (first end row : ℕ) (V : ℕ → ℕ → ℕ → Type 0) (end_of : ℕ → ℕ → ℕ → CanvasSample → CanvasSample) → first ≤ row → n ≡ planes_of_row c → a ≡ (row - first) * planes_of_row c
       → ((i j s : ℕ) → V i j s → j / 64 ≡ row) → AreChanged c row (row + 1) V end_of (take n (drop a xs)) part → AreChanged c first end V end_of xs (put xs part a n)
   one_row_changed first end row V end_of from many at in_row b =
       let here : (i j s : ℕ) → IsStoredIn c first end i j s → j / 64 ≡ row → IsStoredIn c row (row + 1) i j s =
@@ -171,10 +177,10 @@ module _ (c : Canvas) (xs part : List BlockSamples) (n a : ℕ) (room : a + n �
       }
 
 -- ---- some samples and then others
-module _ (c : Canvas) (first end : ℕ) (V W R : ℕ → ℕ → ℕ → Type 0) (before_of after_of end_of : ℕ → ℕ → ℕ → Sample → Sample) (old middle new : List BlockSamples) where
+module _ (c : Canvas) (first end : ℕ) (V W R : ℕ → ℕ → ℕ → Type 0) (before_of after_of end_of : ℕ → ℕ → ℕ → CanvasSample → CanvasSample) (old middle new : List BlockSamples) where
   pub joined_changes : AreChanged c first end V before_of old middle → AreChanged c first end W after_of middle new
       → ((i j s : ℕ) → V i j s → W i j s → ⊥) → ((i j s : ℕ) → R i j s → V i j s ⊎ W i j s) → ((i j s : ℕ) → V i j s → R i j s) → ((i j s : ℕ) → W i j s → R i j s)
-      → ((i j s : ℕ) (x : Sample) → V i j s → before_of i j s x ≡ end_of i j s x) → ((i j s : ℕ) (x : Sample) → W i j s → after_of i j s x ≡ end_of i j s x)
+      → ((i j s : ℕ) (x : CanvasSample) → V i j s → before_of i j s x ≡ end_of i j s x) → ((i j s : ℕ) (x : CanvasSample) → W i j s → after_of i j s x ≡ end_of i j s x)
       → AreChanged c first end R end_of old new
   joined_changes a b apart from left right as_before as_after = record {
     changed = λ i j s h r.
@@ -185,10 +191,10 @@ module _ (c : Canvas) (first end : ℕ) (V W R : ℕ → ℕ → ℕ → Type 0)
     kept = λ i j s h n. b.kept i j s h (λ w. n (right i j s w)) ∙ a.kept i j s h (λ v. n (left i j s v));
   }
 
-pub no_change : (c : Canvas) (first end : ℕ) (V : ℕ → ℕ → ℕ → Type 0) (end_of : ℕ → ℕ → ℕ → Sample → Sample) (xs : List BlockSamples) → ((i j s : ℕ) → V i j s → ⊥) → AreChanged c first end V end_of xs xs
+pub no_change : (c : Canvas) (first end : ℕ) (V : ℕ → ℕ → ℕ → Type 0) (end_of : ℕ → ℕ → ℕ → CanvasSample → CanvasSample) (xs : List BlockSamples) → ((i j s : ℕ) → V i j s → ⊥) → AreChanged c first end V end_of xs xs
 no_change c first end V end_of xs none_of = record { changed = λ i j s h v. absurd (none_of i j s v); kept = λ i j s h n. refl }
 
-pub changes_where : (c : Canvas) (first end : ℕ) (V W : ℕ → ℕ → ℕ → Type 0) (end_of : ℕ → ℕ → ℕ → Sample → Sample) (old new : List BlockSamples)
+pub changes_where : (c : Canvas) (first end : ℕ) (V W : ℕ → ℕ → ℕ → Type 0) (end_of : ℕ → ℕ → ℕ → CanvasSample → CanvasSample) (old new : List BlockSamples)
     → ((i j s : ℕ) → IsStoredIn c first end i j s → W i j s → V i j s) → ((i j s : ℕ) → IsStoredIn c first end i j s → V i j s → W i j s) → AreChanged c first end V end_of old new → AreChanged c first end W end_of old new
 changes_where c first end V W end_of old new from into a = record {
   changed = λ i j s h w. a.changed i j s h (from i j s h w);

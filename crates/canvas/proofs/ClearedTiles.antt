@@ -5,7 +5,7 @@ use Rattle.std.proofs.lemmas.Bool.{cases_lt}
 use Rattle.std.proofs.Math.Nat.{mul_comm}
 use Rattle.std.proofs.lemmas.Nat.{mul-add-lt, same_from_place}
 use Rattle.grid.specs.Samples.{count_of}
-use Rattle.shade.specs.declared.sample.Sample.{Sample}
+use Rattle.shade.specs.declared.sample.CanvasSample.{CanvasSample}
 use Rattle.lanes.specs.declared.block_samples.BlockSamples.{BlockSamples}
 use Rattle.canvas.proofs.Cut.{put, put_here, put_elsewhere}
 use Rattle.canvas.proofs.Places.{none, same_in}
@@ -20,7 +20,7 @@ tiles_before r columns column each k = grind arith
 pub all_tiles : (r columns each : ℕ) → r * (columns * each) ≡ r * columns * each
 all_tiles r columns each = grind arith
 
-module _ (c : Canvas) (first end : ℕ) (sample : Sample) where
+module _ (c : Canvas) (first end : ℕ) (sample : CanvasSample) where
   abbrev pub number_of : ℕ → ℕ → ℕ
   number_of i j = (j / 64 - first) * columns_of c + i / 64
 

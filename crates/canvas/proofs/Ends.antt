@@ -5,11 +5,11 @@ use Rattle.std.proofs.Math.Seq.{take-add}
 use Rattle.std.proofs.lemmas.List.{take_all}
 use Rattle.grid.specs.declared.pixels.TileSide.TheVariants.{T64}
 use Rattle.grid.specs.declared.sample_count.SampleCount.{SampleCount}
-use Rattle.shade.specs.declared.sample.Sample.{Sample}
+use Rattle.shade.specs.declared.sample.CanvasSample.{CanvasSample}
 use Rattle.lanes.specs.declared.block_samples.BlockSamples.{BlockSamples}
 use Rattle.shade.specs.declared.placed.Placed.{Placed}
-use Rattle.shade.specs.Ending.{Ends}
-use Rattle.shade.proofs.Endings.{ends_more, ends-append, ends-unique}
+use Rattle.shade.specs.Canvas.{CanvasEnds}
+use Rattle.shade.proofs.CanvasEndings.{ends_more, ends-append, ends-unique}
 use Rattle.raster.specs.declared.tile.Tile.{Tile}
 use Rattle.raster.specs.Samples.{IsSampleOf}
 use Rattle.raster.specs.Drawing.{DrawsTile}
@@ -20,7 +20,7 @@ use Rattle.canvas.specs.Drawing.{HaveEnds, TileEnds, TileHasEnds}
 use Rattle.canvas.proofs.Places.{row_of, tile_of, row_put, row_kept, tile_put, tile_kept}
 
 -- the same at equal arguments
-pub ends_at : (ts : List Placed) (n n' : SampleCount) (i i' j j' s : ℕ) (x x' y y' : Sample) → n ≡ n' → i ≡ i' → j ≡ j' → x ≡ x' → y ≡ y' → Ends ts n i j s x y → Ends ts n' i' j' s x' y'
+pub ends_at : (ts : List Placed) (n n' : SampleCount) (i i' j j' s : ℕ) (x x' y y' : CanvasSample) → n ≡ n' → i ≡ i' → j ≡ j' → x ≡ x' → y ≡ y' → CanvasEnds ts n i j s x y → CanvasEnds ts n' i' j' s x' y'
 ends_at ts n n' i i' j j' s x x' y y' count across down old new h = rw (← count, ← across, ← down, ← old, ← new) h
 
 -- ---- triangles at one tile
@@ -39,12 +39,12 @@ tile_ends ts tile n old new past h = rw (take_all n ts past) at h
 module _ (ts : List Placed) (c : Canvas) (first end : ℕ) (part_of_pixel : ℕ → ℕ → ℕ) where
   -- the parts before this one have been drawn, and the others are unchanged
   pub record AreDrawn (n : ℕ) (old new : List BlockSamples) : Type 0 where
-    pub drawn : (i j s : ℕ) → IsStoredIn c first end i j s → part_of_pixel i j < n → Ends ts c.count i j s (stored c first old i j s) (stored c first new i j s)
+    pub drawn : (i j s : ℕ) → IsStoredIn c first end i j s → part_of_pixel i j < n → CanvasEnds ts c.count i j s (stored c first old i j s) (stored c first new i j s)
     pub kept : (i j s : ℕ) → IsStoredIn c first end i j s → n ≤ part_of_pixel i j → stored c first new i j s ≡ stored c first old i j s
 
   -- none of the triangles meets a sample of these parts
   abbrev pub AreMissed : (ℕ → Type 0) → Type 0
-  AreMissed IsPart = (i j s : ℕ) → IsStoredIn c first end i j s → IsPart (part_of_pixel i j) → (x : Sample) → Ends ts c.count i j s x x
+  AreMissed IsPart = (i j s : ℕ) → IsStoredIn c first end i j s → IsPart (part_of_pixel i j) → (x : CanvasSample) → CanvasEnds ts c.count i j s x x
 
   pub none_drawn : (n : ℕ) (xs : List BlockSamples) → AreMissed (λ p. p < n) → AreDrawn n xs xs
   none_drawn n xs missed = record { drawn = λ i j s h l. missed i j s h l (stored c first xs i j s); kept = λ i j s h l. refl }
@@ -53,7 +53,7 @@ module _ (ts : List Placed) (c : Canvas) (first end : ℕ) (part_of_pixel : ℕ 
   one_missed n old new missed before = record {
     drawn = λ i j s h l. elim (cases_lt (part_of_pixel i j) n) [
       | inl less ↦ before.drawn i j s h less
-      | inr more ↦ subst (λ x. Ends ts c.count i j s (stored c first old i j s) x) (sym (before.kept i j s h more)) (let here : part_of_pixel i j ≡ n = omega (arith, l, more) in missed i j s h here (stored c first old i j s))
+      | inr more ↦ subst (λ x. CanvasEnds ts c.count i j s (stored c first old i j s) x) (sym (before.kept i j s h more)) (let here : part_of_pixel i j ≡ n = omega (arith, l, more) in missed i j s h here (stored c first old i j s))
     ];
     kept = λ i j s h l. before.kept i j s h (omega (arith, l));
   }
@@ -62,17 +62,17 @@ module _ (ts : List Placed) (c : Canvas) (first end : ℕ) (part_of_pixel : ℕ 
   all_drawn n old new missed d i j s h =
       elim (cases_lt (part_of_pixel i j) n) [
         | inl less ↦ d.drawn i j s h less
-        | inr more ↦ subst (λ x. Ends ts c.count i j s (stored c first old i j s) x) (sym (d.kept i j s h more)) (missed i j s h more (stored c first old i j s))
+        | inr more ↦ subst (λ x. CanvasEnds ts c.count i j s (stored c first old i j s) x) (sym (d.kept i j s h more)) (missed i j s h more (stored c first old i j s))
       ]
 
   pub one_drawn : (n : ℕ) (old middle new : List BlockSamples)
       → ((i j s : ℕ) → IsStoredIn c first end i j s → ¬ (part_of_pixel i j ≡ n) → stored c first new i j s ≡ stored c first middle i j s)
-      → ((i j s : ℕ) → IsStoredIn c first end i j s → part_of_pixel i j ≡ n → Ends ts c.count i j s (stored c first middle i j s) (stored c first new i j s))
+      → ((i j s : ℕ) → IsStoredIn c first end i j s → part_of_pixel i j ≡ n → CanvasEnds ts c.count i j s (stored c first middle i j s) (stored c first new i j s))
       → AreDrawn n old middle → AreDrawn (n + 1) old new
   one_drawn n old middle new stays ends before = record {
     drawn = λ i j s h l. elim (cases_lt (part_of_pixel i j) n) [
-      | inl less ↦ subst (λ x. Ends ts c.count i j s (stored c first old i j s) x) (sym (stays i j s h (λ e. omega (arith, e, less)))) (before.drawn i j s h less)
-      | inr more ↦ subst (λ x. Ends ts c.count i j s x (stored c first new i j s)) (before.kept i j s h more) (ends i j s h (omega (arith, l, more)))
+      | inl less ↦ subst (λ x. CanvasEnds ts c.count i j s (stored c first old i j s) x) (sym (stays i j s h (λ e. omega (arith, e, less)))) (before.drawn i j s h less)
+      | inr more ↦ subst (λ x. CanvasEnds ts c.count i j s x (stored c first new i j s)) (before.kept i j s h more) (ends i j s h (omega (arith, l, more)))
     ];
     kept = λ i j s h l. stays i j s h (λ e. omega (arith, e, l)) ∙ before.kept i j s h (omega (arith, l));
   }
@@ -103,7 +103,7 @@ module _ (ts : List Placed) (c : Canvas) (row : ℕ) where
       sample_kept : i / 64 ≢ column → stored c row (put middle part a n) i j s ≡ stored c row middle i j s
       sample_kept other = tile_kept c i j s middle part n a room long row in_row column many at h.is_sample other
 
-      sample_drawn : i / 64 ≡ column → Ends ts c.count i j s (stored c row middle i j s) (stored c row (put middle part a n) i j s)
+      sample_drawn : i / 64 ≡ column → CanvasEnds ts c.count i j s (stored c row middle i j s) (stored c row (put middle part a n) i j s)
       sample_drawn same =
           let in_tile_here : IsSampleOf tile (j % 64) (i % 64) s = record { high = rw is.2 (omega arith); wide = rw is.2 (omega arith); is_sample = rw is.3 h.is_sample } in
           let across : 8 * tile.bx + i % 64 ≡ i = omega (arith, is.0, same) in
@@ -131,7 +131,7 @@ module _ (ts : List Placed) (c : Canvas) (first end : ℕ) where
       sample_stays : j / 64 ≢ row → stored c first (put middle part a n) i j s ≡ stored c first middle i j s
       sample_stays other = row_kept c i j s middle part n a room long first row many at from h.from h.column h.is_sample other
 
-      sample_ends : j / 64 ≡ row → Ends ts c.count i j s (stored c first middle i j s) (stored c first (put middle part a n) i j s)
+      sample_ends : j / 64 ≡ row → CanvasEnds ts c.count i j s (stored c first middle i j s) (stored c first (put middle part a n) i j s)
       sample_ends same =
           let in_row : IsStoredIn c row (row + 1) i j s = record { column = h.column; from = omega (arith, same); below = omega (arith, same); is_sample = h.is_sample } in
           let old_is : stored c row (take n (drop a middle)) i j s ≡ stored c first middle i j s = (row_of c i j s row first middle n a same many (at ∙ ap (λ k. (k - first) * planes_of_row c) (sym same)) h.column h.is_sample) in

@@ -7,12 +7,12 @@ use Rattle.grid.specs.declared.cull.Cull.TheVariants.{None as Kept}
 use Rattle.grid.specs.declared.pixels.TileSide.TheVariants.{T64}
 use Rattle.grid.specs.Samples.{count_of}
 use Rattle.shade.specs.declared.depth.DepthTest.TheVariants.{Never}
-use Rattle.shade.specs.declared.sample.Sample.{Sample}
+use Rattle.shade.specs.declared.sample.CanvasSample.{CanvasSample}
 use Rattle.shade.specs.declared.placed.Placed.{Placed}
 use Rattle.shade.specs.Presets.{none_blend}
-use Rattle.shade.specs.Placed.{Meets, Draws}
-use Rattle.shade.specs.Ending.{Ends}
-use Rattle.shade.proofs.Endings.{ends_more, ends_past, append-ends}
+use Rattle.shade.specs.Placed.{Meets}
+use Rattle.shade.specs.Canvas.{CanvasDraws, CanvasEnds}
+use Rattle.shade.proofs.CanvasEndings.{ends_more, ends_past, append-ends}
 use Rattle.lanes.specs.declared.block_samples.BlockSamples.{BlockSamples}
 use Rattle.raster.specs.declared.tile.Tile.{Tile}
 use Rattle.raster.specs.Samples.{IsSampleOf}
@@ -76,13 +76,13 @@ module _ (ts : List Placed) (c : Canvas) (row : ℕ) where
     }
 
     -- a sample of a tile in none of the columns
-    pub row_unmet : AreOfRow ts c row (length ts) numbers firsts ends many span → (i j s : ℕ) → IsStoredIn c row (row + 1) i j s → ¬ IsInSpan span (i / 64) → (x : Sample) → Ends ts c.count i j s x x
+    pub row_unmet : AreOfRow ts c row (length ts) numbers firsts ends many span → (i j s : ℕ) → IsStoredIn c row (row + 1) i j s → ¬ IsInSpan span (i / 64) → (x : CanvasSample) → CanvasEnds ts c.count i j s x x
     row_unmet a i j s h outside x =
-        let unmet : Ends (numbered ts nothing (take many numbers)) c.count i j s x x = ends_unmet (numbered ts nothing (take many numbers)) c.count i j s x
+        let unmet : CanvasEnds (numbered ts nothing (take many numbers)) c.count i j s x x = ends_unmet (numbered ts nothing (take many numbers)) c.count i j s x
         (λ p t found m.
         let there = numbered_from ts nothing numbers many a.below p t found in
         outside (a.columns p t there.0 there.1 i j s h m).1) in
-        let made : Ends (take (length ts) ts) c.count i j s x x = a.makes nothing i j s h x x unmet in
+        let made : CanvasEnds (take (length ts) ts) c.count i j s x x = a.makes nothing i j s h x x unmet in
         rw (take_all (length ts) ts (omega arith)) at made
 
     -- one more
@@ -91,13 +91,13 @@ module _ (ts : List Placed) (c : Canvas) (row : ℕ) where
         (numbers_kept : (p : ℕ) → p ≢ many → slice_index new_numbers p ≡ slice_index numbers p) (firsts_kept : (p : ℕ) → p ≢ many → slice_index new_firsts p ≡ slice_index firsts p)
         (ends_kept : (p : ℕ) → p ≢ many → slice_index new_ends p ≡ slice_index ends p) (in_span : (n : ℕ) → IsInSpan columns n → IsInSpan new_span n) (span_kept : (n : ℕ) → IsInSpan span n → IsInSpan new_span n)
         (reached : (t : Placed) (i j s : ℕ) → slice_get ts k ≡ Some t → IsStoredIn c row (row + 1) i j s → Meets t c.count i j s → IsInSpan columns (i / 64)) where
-      one_makes : (none : Placed) (i j s : ℕ) (x y : Sample) → (Ends (numbered ts none (take many numbers)) c.count i j s x y → Ends (take k ts) c.count i j s x y) → Ends (numbered ts none (take many numbers ++ k ∷ [])) c.count i j s x y
-          → ((z : Sample) → Ends (numbered ts none (take many numbers)) c.count i j s x z → Ends (take k ts) c.count i j s x z) → Ends (take (k + 1) ts) c.count i j s x y
+      one_makes : (none : Placed) (i j s : ℕ) (x y : CanvasSample) → (CanvasEnds (numbered ts none (take many numbers)) c.count i j s x y → CanvasEnds (take k ts) c.count i j s x y) → CanvasEnds (numbered ts none (take many numbers ++ k ∷ [])) c.count i j s x y
+          → ((z : CanvasSample) → CanvasEnds (numbered ts none (take many numbers)) c.count i j s x z → CanvasEnds (take k ts) c.count i j s x z) → CanvasEnds (take (k + 1) ts) c.count i j s x y
       one_makes none i j s x y here e before =
           let f : ℕ → Placed = λ n. slice_index_or ts n none in
-          let joined : Ends (map f (take many numbers) ++ (f k ∷ [])) c.count i j s x y = subst (λ us. Ends us c.count i j s x y) (map-append f (take many numbers) (k ∷ [])) e in
+          let joined : CanvasEnds (map f (take many numbers) ++ (f k ∷ [])) c.count i j s x y = subst (λ us. CanvasEnds us c.count i j s x y) (map-append f (take many numbers) (k ∷ [])) e in
           let parts = append-ends c.count i j s (map f (take many numbers)) (f k ∷ []) x y joined in
-          let draws : Draws (f k) c.count i j s parts.0 y = subst (λ z. Draws (f k) c.count i j s parts.0 z) (sym parts.2.2) parts.2.1 in
+          let draws : CanvasDraws (f k) c.count i j s parts.0 y = subst (λ z. CanvasDraws (f k) c.count i j s parts.0 z) (sym parts.2.2) parts.2.1 in
           ends_more c.count i j s ts k (f k) x parts.0 y within (slice_get-get_or ts k none within) (before parts.0 parts.1) draws
 
       pub row_more : AreOfRow ts c row k numbers firsts ends many span → AreOfRow ts c row (k + 1) new_numbers new_firsts new_ends (many + 1) new_span
@@ -124,7 +124,7 @@ module _ (ts : List Placed) (c : Canvas) (row : ℕ) where
               let at_end : slice_index new_ends p ≡ columns.end = ap (slice_index new_ends) here ∙ end in
               (record { from = omega (arith, low, at_first); below = omega (arith, high, at_end) }, in_span (i / 64) there)
         ];
-        makes = λ none i j s h x y e. one_makes none i j s x y (a.makes none i j s h x y) (subst (λ ns. Ends (numbered ts none ns) c.count i j s x y) added e) (λ z. a.makes none i j s h x z);
+        makes = λ none i j s h x y e. one_makes none i j s x y (a.makes none i j s h x y) (subst (λ ns. CanvasEnds (numbered ts none ns) c.count i j s x y) added e) (λ z. a.makes none i j s h x z);
       }
 
   -- ---- from the bounds of sixteen triangles
@@ -216,7 +216,7 @@ module _ (ts : List Placed) (c : Canvas) (row column : ℕ) (numbers firsts ends
 
 -- a sample of a tile row in which no triangle is
 pub outside_bounds : (ts : List Placed) (c : Canvas) (first end : ℕ) → end ≤ rows_of c → (column_firsts column_ends row_firsts row_ends : List ℕ) (span : Span) → AreBounds ts (length ts) column_firsts column_ends row_firsts row_ends span
-    → (i j s : ℕ) → IsStoredIn c first end i j s → ¬ IsInSpan span (j / 64) → (x : Sample) → Ends ts c.count i j s x x
+    → (i j s : ℕ) → IsStoredIn c first end i j s → ¬ IsInSpan span (j / 64) → (x : CanvasSample) → CanvasEnds ts c.count i j s x x
 outside_bounds ts c first end within column_firsts column_ends row_firsts row_ends span bounds i j s h outside x =
     let width = c.width_fits in
     let height = c.height_fits in

@@ -9,7 +9,7 @@ use Rattle.grid.specs.declared.pixels.TileSide.TheVariants.{T64}
 use Rattle.lanes.specs.declared.block_samples.BlockSamples.{BlockSamples}
 use Rattle.shade.specs.declared.placed.Placed.{Placed}
 use Rattle.shade.specs.Placed.{Meets}
-use Rattle.shade.proofs.Endings.{ends_more}
+use Rattle.shade.proofs.CanvasEndings.{ends_more}
 use Rattle.raster.specs.declared.tile.Tile.{Tile}
 use Rattle.raster.specs.Samples.{IsSampleOf}
 use Rattle.reach.specs.declared.marks.Reached.{Reached}

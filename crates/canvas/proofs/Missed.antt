@@ -1,10 +1,10 @@
 -- Tiles and tile rows that no triangle reaches.
 use Rattle.std.proofs.Common.{◌≡◌, refl, ℕ, ◌+◌, ◌/◌, ◌<◌, ◌≤◌, List, [], ◌∷◌, zero, suc, min, max, slice_get, slice_index, Some, bit_and, arith}
 use Rattle.grid.specs.declared.sample_count.SampleCount.{SampleCount}
-use Rattle.shade.specs.declared.sample.Sample.{Sample}
+use Rattle.shade.specs.declared.sample.CanvasSample.{CanvasSample}
 use Rattle.shade.specs.declared.placed.Placed.{Placed}
 use Rattle.shade.specs.Placed.{Meets}
-use Rattle.shade.specs.Ending.{Ends}
+use Rattle.shade.specs.Canvas.{CanvasEnds}
 use Rattle.reach.specs.declared.marks.Reached.{Reached}
 use Rattle.reach.specs.Reach.{IsMarked, MeetsOnScreen, AreReached}
 use Rattle.reach.proofs.Bits.{both_set, no_bit}
@@ -12,14 +12,14 @@ use Rattle.canvas.specs.declared.canvas.Canvas.{Canvas}
 use Rattle.canvas.specs.Layout.{IsStoredIn, columns_of, rows_of}
 use Rattle.canvas.proofs.Ends.{AreMissed, column_of, row_of_tiles}
 
-pub ends_unmet : (ts : List Placed) (count : SampleCount) (i j s : ℕ) (x : Sample) → ((k : ℕ) (t : Placed) → slice_get ts k ≡ Some t → ¬ Meets t count i j s) → Ends ts count i j s x x
+pub ends_unmet : (ts : List Placed) (count : SampleCount) (i j s : ℕ) (x : CanvasSample) → ((k : ℕ) (t : Placed) → slice_get ts k ≡ Some t → ¬ Meets t count i j s) → CanvasEnds ts count i j s x x
 ends_unmet [] count i j s x unmet = refl
 ends_unmet (t ∷ ts) count i j s x unmet =
     (x, record { met = λ m. absurd (unmet zero t refl m); missed = λ _. refl }, ends_unmet ts count i j s x (λ k u found. unmet (suc k) u found))
 
 module _ (ts : List Placed) (c : Canvas) (r : Reached) (first end : ℕ) (within : end ≤ rows_of c) (reached : AreReached ts r) where
   -- a sample in a column of tiles and a tile row of which no triangle has marked both
-  ends_unmarked : (i j s : ℕ) → IsStoredIn c first end i j s → ((k : ℕ) → IsMarked r.columns (i / 64) k → ¬ IsMarked r.rows (j / 64) k) → (x : Sample) → Ends ts c.count i j s x x
+  ends_unmarked : (i j s : ℕ) → IsStoredIn c first end i j s → ((k : ℕ) → IsMarked r.columns (i / 64) k → ¬ IsMarked r.rows (j / 64) k) → (x : CanvasSample) → CanvasEnds ts c.count i j s x x
   ends_unmarked i j s h unmarked x =
       let width = c.width_fits in
       let height = c.height_fits in

@@ -7,11 +7,11 @@ use Rattle.grid.specs.Edge.{side, left_excess, IsTopEdge, IsLeftEdge, PassesEdge
 use Rattle.grid.specs.Triangle.{doubled_area, Covers}
 use Rattle.grid.specs.Pixels.{IsInBox}
 use Rattle.grid.specs.declared.sample_count.SampleCount.{SampleCount}
-use Rattle.shade.specs.declared.sample.Sample.{Sample}
+use Rattle.shade.specs.declared.sample.CanvasSample.{CanvasSample}
 use Rattle.shade.specs.declared.placed.Placed.{Placed}
 use Rattle.shade.specs.Value.{weighted_sum, IsValueAt}
-use Rattle.shade.specs.Placed.{channel, IsInterpolated, IsDrawnAt, Meets, Draws}
-use Rattle.shade.specs.Ending.{Ends}
+use Rattle.shade.specs.Placed.{channel, IsInterpolated, Meets}
+use Rattle.shade.specs.Canvas.{IsCanvasDrawnAt, CanvasDraws, CanvasEnds}
 use Rattle.canvas.specs.Window.{moved}
 
 -- q is p, moved by (x, y)
@@ -115,7 +115,7 @@ module _ (x y : ℤ) (t u : Placed) (m : IsMoved x y t u) (count : SampleCount) 
   value_moved : (values : List ℕ) (q : ℕ) → IsInterpolated t (sample_position i j s count) values q → IsInterpolated u (sample_position i' j' s count) values q
   value_moved values q = value_same x y t.tri.a t.tri.b t.tri.c (sample_position i j s count) u.tri.a u.tri.b u.tri.c (sample_position i' j' s count) m.a m.b m.c at (slice_index values 0) (slice_index values 1) (slice_index values 2) q
 
-  drawn_moved : (old new : Sample) → IsDrawnAt t (sample_position i j s count) old new → IsDrawnAt u (sample_position i' j' s count) old new
+  drawn_moved : (old new : CanvasSample) → IsCanvasDrawnAt t (sample_position i j s count) old new → IsCanvasDrawnAt u (sample_position i' j' s count) old new
   drawn_moved old new (f, is, applied) = (
     f,
     record {
@@ -129,7 +129,7 @@ module _ (x y : ℤ) (t u : Placed) (m : IsMoved x y t u) (count : SampleCount) 
   )
 
   pub draws_moved : (IsInBox t.state.scissor i j → IsInBox u.state.scissor i' j') → (IsInBox u.state.scissor i' j' → IsInBox t.state.scissor i j) → (Meets u count i' j' s → Meets t count i j s)
-      → (old new : Sample) → Draws t count i j s old new → Draws u count i' j' s old new
+      → (old new : CanvasSample) → CanvasDraws t count i j s old new → CanvasDraws u count i' j' s old new
   draws_moved box unbox unmeets old new d = record {
     met = λ h. drawn_moved old new (d.met (unmeets h));
     missed = λ h. d.missed (λ k. h (meets_moved box k));
@@ -174,20 +174,20 @@ module _ (x y : ℤ) (count : SampleCount) (i j i' j' s : ℕ) (wide : i < 4096)
   returned : (t : Placed) → IsMoved (pos 0 -ℤ X) (pos 0 -ℤ Y) (moved x y t) t
   returned t = moved_back X Y t (moved x y t) (is_moved t)
 
-  one_moves : (t : Placed) (old new : Sample) → Draws t count i' j' s old new → Draws (moved x y t) count i j s old new
+  one_moves : (t : Placed) (old new : CanvasSample) → CanvasDraws t count i' j' s old new → CanvasDraws (moved x y t) count i j s old new
   one_moves t old new =
       draws_moved X Y t (moved x y t) (is_moved t) count s i' j' i j sample_moves (box_moves t) (box_returns t)
       (meets_moved (pos 0 -ℤ X) (pos 0 -ℤ Y) (moved x y t) t (returned t) count s i j i' j' sample_returns (box_returns t)) old new
 
-  one_returns : (t : Placed) (old new : Sample) → Draws (moved x y t) count i j s old new → Draws t count i' j' s old new
+  one_returns : (t : Placed) (old new : CanvasSample) → CanvasDraws (moved x y t) count i j s old new → CanvasDraws t count i' j' s old new
   one_returns t old new =
       draws_moved (pos 0 -ℤ X) (pos 0 -ℤ Y) (moved x y t) t (returned t) count s i j i' j' sample_returns (box_returns t) (box_moves t)
       (meets_moved X Y t (moved x y t) (is_moved t) count s i' j' i j sample_moves (box_moves t)) old new
 
-  pub all_move : (ts : List Placed) (start end : Sample) → Ends ts count i' j' s start end → Ends (map (moved x y) ts) count i j s start end
+  pub all_move : (ts : List Placed) (start end : CanvasSample) → CanvasEnds ts count i' j' s start end → CanvasEnds (map (moved x y) ts) count i j s start end
   all_move [] start end h = h
   all_move (t ∷ ts) start end h = (h.0, one_moves t start h.0 h.1, all_move ts h.0 end h.2)
 
-  pub all_return : (ts : List Placed) (start end : Sample) → Ends (map (moved x y) ts) count i j s start end → Ends ts count i' j' s start end
+  pub all_return : (ts : List Placed) (start end : CanvasSample) → CanvasEnds (map (moved x y) ts) count i j s start end → CanvasEnds ts count i' j' s start end
   all_return [] start end h = h
   all_return (t ∷ ts) start end h = (h.0, one_returns t start h.0 h.1, all_return ts h.0 end h.2)

@@ -14,7 +14,7 @@ use Rattle.canvas.specs.declared.canvas.Canvas.{Canvas}
 use Rattle.canvas.specs.Layout.{columns_of, planes_of_tile, planes_of_row, block_of, place_in_tile, sample_in, plane_of, stored, stored_in_tile}
 
 abbrev pub none : BlockSamples
-none = record { z = []; r = []; g = []; b = [] }
+none = record { z = []; r = []; g = []; b = []; alpha = [] }
 
 -- ---- places
 one_of : (b : Bool) (n : ℕ) → n ≤ 64 → (if b then 0 else n) ≤ 64

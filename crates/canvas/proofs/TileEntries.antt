@@ -7,7 +7,7 @@ use Rattle.std.proofs.lemmas.List.{get_or-set_same, get_or-set_other}
 use Rattle.grid.specs.Samples.{count_of}
 use Rattle.grid.specs.declared.sample_count.SampleCount.{SampleCount}
 use Rattle.grid.specs.declared.sample_count.SampleCount.TheVariants.{One, Two, Four, Eight, Sixteen}
-use Rattle.shade.specs.declared.sample.Sample.{Sample}
+use Rattle.shade.specs.declared.sample.CanvasSample.{CanvasSample}
 use Rattle.shade.proofs.Resolved.{some_samples}
 use Rattle.lanes.specs.declared.block_samples.BlockSamples.{BlockSamples}
 use Rattle.lanes.specs.Block.{stored_at}
@@ -138,8 +138,8 @@ plane_in_row c column row xs k wide h =
 
 -- ---- planes whose colours are stored one after another
 -- the sample with these channels
-abbrev pub with_channels : ℕ → ℕ → ℕ → Sample → Sample
-with_channels r g b old = record { r = r; g = g; b = b; z = old.z }
+abbrev pub with_channels : ℕ → ℕ → ℕ → CanvasSample → CanvasSample
+with_channels r g b old = record { r = r; g = g; b = b; alpha = old.alpha; z = old.z }
 
 -- the planes from `from` to before `place` have the colours that f says, and their depths; all others are unchanged
 pub record AreRecoloured (from place : ℕ) (f : ℕ → ℕ → ℕ) (old new : List BlockSamples) : Type 0 where
@@ -181,7 +181,7 @@ sample_recoloured count from place colour f old new i j s behind h l is all =
     ∙ ap (λ n. with_colour n (stored_at (slice_index_or old at none) (pixel_in_block i j))) is
 
 -- the colour of a number, channel by channel
-pub in_channels : (r g b n : ℕ) (x y : Sample) → r ≡ n % 256 → g ≡ n / 256 % 256 → b ≡ n / 65536 % 256 → x ≡ y → with_channels r g b x ≡ with_colour n y
+pub in_channels : (r g b n : ℕ) (x y : CanvasSample) → r ≡ n % 256 → g ≡ n / 256 % 256 → b ≡ n / 65536 % 256 → x ≡ y → with_channels r g b x ≡ with_colour n y
 in_channels r g b n x y red green blue same =
     ap (λ r. with_channels r g b x) red
     ∙ ap (λ g. with_channels (n % 256) g b x) green

@@ -7,7 +7,7 @@ use Rattle.std.proofs.lemmas.List.{get_or-set_same, get_or-set_other}
 use Rattle.grid.specs.Samples.{count_of}
 use Rattle.grid.specs.declared.sample_count.SampleCount.{SampleCount}
 use Rattle.grid.specs.declared.sample_count.SampleCount.TheVariants.{One, Two, Four, Eight, Sixteen}
-use Rattle.shade.specs.declared.sample.Sample.{Sample}
+use Rattle.shade.specs.declared.sample.CanvasSample.{CanvasSample}
 use Rattle.shade.proofs.Resolved.{some_samples}
 use Rattle.lanes.specs.declared.block_samples.BlockSamples.{BlockSamples}
 use Rattle.lanes.specs.Block.{stored_at}
@@ -43,7 +43,7 @@ module _ (count : SampleCount) (xs : List BlockSamples) (i j s : ℕ) where
   at_changed e = ap (λ b. stored_at (slice_index_or xs (1 + b * count_of count + s) none) pixel) (block_changed (slice_index_or xs 0 none) i j e)
 
 -- ---- cleared
-pub tile_cleared : (count : SampleCount) (xs : List BlockSamples) (plane : BlockSamples) (sample : Sample) → slice_index (slice_index_or xs 0 none).r 0 ≡ 1
+pub tile_cleared : (count : SampleCount) (xs : List BlockSamples) (plane : BlockSamples) (sample : CanvasSample) → slice_index (slice_index_or xs 0 none).r 0 ≡ 1
     → ((s : ℕ) → s < count_of count → slice_index_or xs (1 + s) none ≡ plane) → ((k : ℕ) → k < 64 → stored_at plane k ≡ sample)
     → (i j s : ℕ) → s < count_of count → stored_in_tile count xs i j s ≡ sample
 tile_cleared count xs plane sample e planes all i j s h =

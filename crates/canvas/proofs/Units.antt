@@ -6,7 +6,7 @@ use Rattle.std.proofs.lemmas.List.{get_or-set_same, get_or-set_other}
 use Rattle.std.proofs.lemmas.Nat.{mul-add-lt}
 use Rattle.canvas.specs.declared.canvas.Canvas.{Canvas}
 use Rattle.canvas.specs.declared.format.Format.{Format}
-use Rattle.canvas.specs.declared.format.Format.TheVariants.{Rgb8, Rgba8, Bgra8}
+use Rattle.canvas.specs.declared.format.Format.TheVariants.{Rgb8, Rgba8, Bgra8, Rgba8Straight, Bgra8Straight}
 use Rattle.canvas.specs.declared.pixel_rows.PixelRow.{PixelRow}
 use Rattle.canvas.specs.Layout.{HasPixel}
 use Rattle.canvas.specs.Pixels.{pixel_bytes, shown_rows, entry_of, IsPixelRow, AreWritten}
@@ -30,6 +30,8 @@ pub entry_in : (format : Format) (width n : ℕ) → n < width * pixel_bytes for
 entry_in Rgb8 width n l = record { i = n / 3; k = n % 3; inside = omega arith; small = omega arith; is = omega arith }
 entry_in Rgba8 width n l = record { i = n / 4; k = n % 4; inside = omega arith; small = omega arith; is = omega arith }
 entry_in Bgra8 width n l = record { i = n / 4; k = n % 4; inside = omega arith; small = omega arith; is = omega arith }
+entry_in Rgba8Straight width n l = record { i = n / 4; k = n % 4; inside = omega arith; small = omega arith; is = omega arith }
+entry_in Bgra8Straight width n l = record { i = n / 4; k = n % 4; inside = omega arith; small = omega arith; is = omega arith }
 
 -- ---- entries one after another
 -- one entry more is as f says

@@ -3,13 +3,13 @@ use Rattle.std.specs.Prelude.{◌≡◌, ℕ, ◌+◌, ◌*◌, ◌<◌, List, s
 use Rattle.grid.specs.declared.sample_count.SampleCount.{SampleCount}
 use Rattle.lanes.specs.declared.block_samples.BlockSamples.{BlockSamples}
 use Rattle.shade.specs.Resolve.{IsResolved}
-use Rattle.shade.specs.declared.sample.Sample.{Sample}
+use Rattle.shade.specs.declared.sample.CanvasSample.{CanvasSample}
 use Rattle.raster.specs.declared.tile.Tile.{Tile}
-use Rattle.raster.specs.Colours.{IsColourAt}
+use Rattle.raster.specs.Colours.{IsColourAt, IsAlphaAt}
 use Rattle.canvas.specs.declared.canvas.Canvas.{Canvas}
 use Rattle.canvas.specs.declared.format.Format.{Format}
 use Rattle.canvas.specs.Layout.{stored, stored_in_tile}
-use Rattle.canvas.specs.Pixels.{pixel_bytes, pixel_of, AreWritten}
+use Rattle.canvas.specs.Pixels.{pixel_bytes, pixel_of, HasAlpha, AreWritten}
 
 -- The colour of pixel (i, j): each channel resolved from the pixel's samples, in planes from tile row `first` on.
 pub record IsColourOfPixel (c : Canvas) (first : ℕ) (samples : List BlockSamples) (i j : ℕ) (r g b : ℕ) : Type 0 where
@@ -23,38 +23,53 @@ pub record IsColourIn (count : SampleCount) (samples : List BlockSamples) (i j :
   pub green : IsResolved count (λ s. (stored_in_tile count samples i j s).g) g
   pub blue : IsResolved count (λ s. (stored_in_tile count samples i j s).b) b
 
--- The bytes have this colour in the format.
-abbrev pub AreBytesOfColour : Format → ℕ → ℕ → ℕ → (ℕ → ℕ) → Type 0
-AreBytesOfColour format r g b bytes = (k : ℕ) → k < pixel_bytes format → bytes k ≡ slice_index (pixel_of format r g b) k
+-- The bytes have this colour and this alpha in the format.
+abbrev pub AreBytesOfColour : Format → ℕ → ℕ → ℕ → ℕ → (ℕ → ℕ) → Type 0
+AreBytesOfColour format r g b a bytes = (k : ℕ) → k < pixel_bytes format → bytes k ≡ slice_index (pixel_of format r g b a) k
+
+-- The alpha of pixel (i, j), resolved from the pixel's samples, in planes from tile row `first` on.
+abbrev pub IsAlphaOfPixel : Canvas → ℕ → List BlockSamples → ℕ → ℕ → ℕ → Type 0
+IsAlphaOfPixel c first samples i j = IsResolved c.count (λ s. (stored c first samples i j s).alpha)
+
+-- The alpha of pixel (i, j), resolved from the pixel's samples, in the planes of its tile.
+abbrev pub IsAlphaIn : SampleCount → List BlockSamples → ℕ → ℕ → ℕ → Type 0
+IsAlphaIn count samples i j = IsResolved count (λ s. (stored_in_tile count samples i j s).alpha)
 
 -- The bytes of pixel (i, j) in the format.
 pub record IsPixelOf (c : Canvas) (first : ℕ) (samples : List BlockSamples) (format : Format) (i j : ℕ) (bytes : ℕ → ℕ) : Type 0 where
   pub r : ℕ
   pub g : ℕ
   pub b : ℕ
+  pub a : ℕ
   pub colour : IsColourOfPixel c first samples i j r g b
-  pub order : AreBytesOfColour format r g b bytes
+  pub alpha : HasAlpha format → IsAlphaOfPixel c first samples i j a
+  pub order : AreBytesOfColour format r g b a bytes
 
 -- The bytes of pixel (i, j) in the format, by the planes of its tile.
 pub record IsPixelIn (count : SampleCount) (samples : List BlockSamples) (format : Format) (i j : ℕ) (bytes : ℕ → ℕ) : Type 0 where
   pub r : ℕ
   pub g : ℕ
   pub b : ℕ
+  pub a : ℕ
   pub colour : IsColourIn count samples i j r g b
-  pub order : AreBytesOfColour format r g b bytes
+  pub alpha : HasAlpha format → IsAlphaIn count samples i j a
+  pub order : AreBytesOfColour format r g b a bytes
 
 -- The bytes of the pixel in a row and a column of a tile, in the format.
 pub record IsTilePixel (tile : Tile) (samples : List BlockSamples) (format : Format) (row column : ℕ) (bytes : ℕ → ℕ) : Type 0 where
   pub r : ℕ
   pub g : ℕ
   pub b : ℕ
+  pub a : ℕ
   pub colour : IsColourAt tile samples row column r g b
-  pub order : AreBytesOfColour format r g b bytes
+  pub alpha : HasAlpha format → IsAlphaAt tile samples row column a
+  pub order : AreBytesOfColour format r g b a bytes
 
--- The bytes of eight pixels in the format, by those of the same pixels as red, green and blue.
-abbrev pub AreArranged : Format → List ℕ → List ℕ → Type 0
-AreArranged format rgb bytes =
-    (i : ℕ) → i < 8 → AreBytesOfColour format (slice_index rgb (3 * i)) (slice_index rgb (3 * i + 1)) (slice_index rgb (3 * i + 2)) (λ k. slice_index bytes (i * pixel_bytes format + k))
+-- The bytes of eight pixels in the format, by those of the same pixels as red, green and blue, and by their alphas.
+abbrev pub AreArranged : Format → List ℕ → List ℕ → List ℕ → Type 0
+AreArranged format rgb alphas bytes =
+    (i : ℕ) → i < 8
+    → AreBytesOfColour format (slice_index rgb (3 * i)) (slice_index rgb (3 * i + 1)) (slice_index rgb (3 * i + 2)) (slice_index alphas i) (λ k. slice_index bytes (i * pixel_bytes format + k))
 
 -- The bytes of each pixel of the picture in these tile rows are its colour in the format, and all other bytes are unchanged.
 abbrev pub AreResolved : Canvas → ℕ → ℕ → List BlockSamples → Format → ℕ → List ℕ → List ℕ → Type 0
@@ -62,11 +77,11 @@ AreResolved c first end samples format stride old new =
     AreWritten c first end (pixel_bytes format) stride (λ i j bytes. IsPixelOf c first samples format i j bytes) old new
 
 -- The id that is stored in place of a colour: red is its lowest byte.
-abbrev pub id_of : Sample → ℕ
+abbrev pub id_of : CanvasSample → ℕ
 id_of sample = sample.r + 256 * sample.g + 65536 * sample.b
 
 -- In these tile rows the entry of each pixel of the picture is what `entry` says of its sample s. All other entries are unchanged.
-abbrev pub AreEntries : (Sample → ℕ) → Canvas → ℕ → ℕ → List BlockSamples → ℕ → ℕ → List ℕ → List ℕ → Type 0
+abbrev pub AreEntries : (CanvasSample → ℕ) → Canvas → ℕ → ℕ → List BlockSamples → ℕ → ℕ → List ℕ → List ℕ → Type 0
 AreEntries entry c first end samples s stride old new =
     AreWritten c first end 1 stride (λ i j entries. entries 0 ≡ entry (stored c first samples i j s)) old new
 
@@ -79,8 +94,8 @@ abbrev pub AreIds : Canvas → ℕ → ℕ → List BlockSamples → ℕ → ℕ
 AreIds c first end samples s stride old new = AreEntries id_of c first end samples s stride old new
 
 -- The bytes are the colour of the sample in the format.
-abbrev pub IsSampleColour : Format → Sample → (ℕ → ℕ) → Type 0
-IsSampleColour format sample bytes = AreBytesOfColour format sample.r sample.g sample.b bytes
+abbrev pub IsSampleColour : Format → CanvasSample → (ℕ → ℕ) → Type 0
+IsSampleColour format sample bytes = AreBytesOfColour format sample.r sample.g sample.b sample.alpha bytes
 
 -- In these tile rows the bytes of each pixel of the picture are the colour of its sample s in the format. All other bytes are unchanged.
 abbrev pub AreColours : Canvas → ℕ → ℕ → List BlockSamples → ℕ → Format → ℕ → List ℕ → List ℕ → Type 0

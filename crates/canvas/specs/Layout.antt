@@ -2,7 +2,7 @@
 use Rattle.std.specs.Prelude.{ℕ, ◌+◌, ◌-◌, ◌*◌, ◌/◌, ◌%◌, ◌<◌, ◌≤◌, ◌==◌, if◌then◌else◌, List, [], slice_index, slice_index_or}
 use Rattle.grid.specs.Samples.{count_of}
 use Rattle.grid.specs.declared.sample_count.SampleCount.{SampleCount}
-use Rattle.shade.specs.declared.sample.Sample.{Sample}
+use Rattle.shade.specs.declared.sample.CanvasSample.{CanvasSample}
 use Rattle.lanes.specs.declared.block_samples.BlockSamples.{BlockSamples}
 use Rattle.lanes.specs.Block.{stored_at}
 use Rattle.canvas.specs.declared.canvas.Canvas.{Canvas}
@@ -67,18 +67,18 @@ abbrev pub place_in_tile : SampleCount → BlockSamples → ℕ → ℕ → ℕ 
 place_in_tile count state i j s = 1 + block_of state i j * count_of count + s
 
 -- Sample s of pixel (i, j), by the planes of its tile. A plane has one sample of each pixel of the block, row by row.
-abbrev pub sample_in : SampleCount → (ℕ → BlockSamples) → ℕ → ℕ → ℕ → Sample
+abbrev pub sample_in : SampleCount → (ℕ → BlockSamples) → ℕ → ℕ → ℕ → CanvasSample
 sample_in count planes i j s = stored_at (planes (place_in_tile count (planes 0) i j s)) (8 * (j % 8) + i % 8)
 
 -- Plane k of the tile of pixel (i, j), among those of the tile rows from `first` on. Tiles lie from left to right.
 abbrev pub plane_of : Canvas → ℕ → List BlockSamples → ℕ → ℕ → ℕ → BlockSamples
 plane_of c first samples i j k =
-    slice_index_or samples ((j / 64 - first) * planes_of_row c + i / 64 * planes_of_tile c.count + k) (record { z = []; r = []; g = []; b = [] })
+    slice_index_or samples ((j / 64 - first) * planes_of_row c + i / 64 * planes_of_tile c.count + k) (record { z = []; r = []; g = []; b = []; alpha = [] })
 
 -- Sample s of pixel (i, j), as it is stored.
-abbrev pub stored : Canvas → ℕ → List BlockSamples → ℕ → ℕ → ℕ → Sample
+abbrev pub stored : Canvas → ℕ → List BlockSamples → ℕ → ℕ → ℕ → CanvasSample
 stored c first samples i j s = sample_in c.count (plane_of c first samples i j) i j s
 
 -- Sample s of the pixel in a column and a row of a tile, as it is stored in the tile's planes.
-abbrev pub stored_in_tile : SampleCount → List BlockSamples → ℕ → ℕ → ℕ → Sample
-stored_in_tile count samples i j s = sample_in count (λ k. slice_index_or samples k (record { z = []; r = []; g = []; b = [] })) i j s
+abbrev pub stored_in_tile : SampleCount → List BlockSamples → ℕ → ℕ → ℕ → CanvasSample
+stored_in_tile count samples i j s = sample_in count (λ k. slice_index_or samples k (record { z = []; r = []; g = []; b = []; alpha = [] })) i j s

@@ -23,9 +23,15 @@
 --   TileEnds: Each sample of the tile ends as what the triangles make, one after another, of what was stored in the tile's planes.
 --   TileHasEnds: Each sample of the tile's own blocks ends as what the triangles make, one after another, of what was stored there.
 --
+-- Straight.antt
+--   straight_of: A channel c that was multiplied by alpha, divided by it: the nearest of 0 to 255, halves upwards.
+--   multiplied_by: A channel c multiplied by alpha, to the nearest.
+--
 -- Pixels.antt
 --   pixel_bytes: How many bytes a pixel has in a format.
---   pixel_of: The bytes of a pixel of this red, green and blue, which is opaque if the format has alpha.
+--   pixel_of: The bytes of a pixel of this red, green, blue and alpha.
+--   HasAlpha: A pixel has alpha in the format.
+--   IsAsStored: The channels of a pixel are those that are stored.
 --   shown_rows: How many rows of pixels of the picture stand in the tile rows from `first` to before `end`.
 --   IsLargeEnough: A row of pixels, of `unit` entries each, fits between the starts of two rows, and the last row ends within the slice.
 --   entry_of: The index of the first entry of pixel (i, j), of which there are `unit`.
@@ -39,11 +45,13 @@
 -- Colours.antt
 --   IsColourOfPixel: The colour of pixel (i, j): each channel resolved from the pixel's samples, in planes from tile row `first` on.
 --   IsColourIn: The colour of pixel (i, j): each channel resolved from the pixel's samples, in the planes of its tile.
---   AreBytesOfColour: The bytes have this colour in the format.
+--   AreBytesOfColour: The bytes have this colour and this alpha in the format.
+--   IsAlphaOfPixel: The alpha of pixel (i, j), resolved from the pixel's samples, in planes from tile row `first` on.
+--   IsAlphaIn: The alpha of pixel (i, j), resolved from the pixel's samples, in the planes of its tile.
 --   IsPixelOf: The bytes of pixel (i, j) in the format.
 --   IsPixelIn: The bytes of pixel (i, j) in the format, by the planes of its tile.
 --   IsTilePixel: The bytes of the pixel in a row and a column of a tile, in the format.
---   AreArranged: The bytes of eight pixels in the format, by those of the same pixels as red, green and blue.
+--   AreArranged: The bytes of eight pixels in the format, by those of the same pixels as red, green and blue, and by their alphas.
 --   AreResolved: The bytes of each pixel of the picture in these tile rows are its colour in the format, and all other bytes are unchanged.
 --   id_of: The id that is stored in place of a colour: red is its lowest byte.
 --   AreEntries: In these tile rows the entry of each pixel of the picture is what `entry` says of its sample s.
@@ -60,13 +68,15 @@
 --
 -- Hidden.antt
 --   ReplacesColours: A triangle in this state gives its colour to each sample that it covers in its scissor.
---   Hides: The triangle hides the colours that are stored in the tile: what it makes of a sample, it makes of each other of the same depth.
---   KeepsDepths: The triangle changes no depth in the tile.
---   FirstKeepDepths: The first n triangles change no depth in the tile.
---   CanBegin: The tile can begin with triangle k: it hides the colours that are stored there, and those before it change no depth.
+--   Hides: The triangle hides the colours that are stored in the tile.
+--   KeepsDepths: The triangle changes no depth and no alpha in the tile.
+--   FirstKeepDepths: The first n triangles change no depth and no alpha in the tile.
+--   CanBegin: The tile can begin with triangle k: it hides the colours that are stored there, and those before it no depth and no alpha.
 --
 -- Loaded.antt
---   coloured: The sample in the colour of these bytes of a pixel.
+--   colour_in: Red, green and blue of these bytes of a pixel, as they are stored.
+--   alpha_in: Alpha of these bytes.
+--   coloured: The sample in the colour of these bytes of a pixel, and with their alpha if alpha is stored too.
 --   IsIndexIn: The sample index s is one of those from `first` to before `end`.
 --   AreChanged: The samples of some pixels in these tile rows end as `end_of` makes them, and all other samples are unchanged.
 --   AreLoaded: All samples of each pixel of the picture in these tile rows have the colour of the pixel's bytes.
@@ -91,7 +101,7 @@
 --
 -- Ids.antt
 --   colour_of_id: An id as red, green, blue and alpha: red is its lowest byte, and alpha is opaque.
---   replacing: The state in which a colour replaces what is stored.
+--   replacing: The state in which a colour replaces what is stored, in red, green and blue, and in alpha if the draw writes it.
 --   with_id: The triangle in the colour of its id, which replaces what is stored.
 --   with_ids: The triangles in the colours of their ids, which are counted from n on.
 --   PassesAt: The triangle passes at sample s of pixel (i, j), at which `stored` is stored.
@@ -116,6 +126,7 @@
 
 pub mod Layout
 pub mod Drawing
+pub mod Straight
 pub mod Pixels
 pub mod Entries
 pub mod Colours

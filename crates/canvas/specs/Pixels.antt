@@ -2,8 +2,9 @@
 use Rattle.std.specs.Prelude.{◌≡◌, ◌≢◌, ℕ, ◌+◌, ◌-◌, ◌*◌, ◌/◌, ◌<◌, ◌≤◌, min, List, [], ◌∷◌, slice_index}
 use Rattle.canvas.specs.declared.canvas.Canvas.{Canvas}
 use Rattle.canvas.specs.declared.format.Format.{Format}
-use Rattle.canvas.specs.declared.format.Format.TheVariants.{Rgb8, Rgba8, Bgra8}
+use Rattle.canvas.specs.declared.format.Format.TheVariants.{Rgb8, Rgba8, Bgra8, Rgba8Straight, Bgra8Straight}
 use Rattle.canvas.specs.declared.pixel_rows.PixelRow.{PixelRow}
+use Rattle.canvas.specs.Straight.{straight_of}
 use Rattle.canvas.specs.Layout.{HasPixel, planes_of_row, planes_of_rows}
 
 -- How many bytes a pixel has in a format.
@@ -11,12 +12,32 @@ abbrev pub pixel_bytes : Format → ℕ
 pixel_bytes Rgb8 = 3
 pixel_bytes Rgba8 = 4
 pixel_bytes Bgra8 = 4
+pixel_bytes Rgba8Straight = 4
+pixel_bytes Bgra8Straight = 4
 
--- The bytes of a pixel of this red, green and blue, which is opaque if the format has alpha.
-abbrev pub pixel_of : Format → ℕ → ℕ → ℕ → List ℕ
-pixel_of Rgb8 r g b = r ∷ g ∷ b ∷ []
-pixel_of Rgba8 r g b = r ∷ g ∷ b ∷ 255 ∷ []
-pixel_of Bgra8 r g b = b ∷ g ∷ r ∷ 255 ∷ []
+-- The bytes of a pixel of this red, green, blue and alpha. The last two formats have colours divided by alpha.
+abbrev pub pixel_of : Format → ℕ → ℕ → ℕ → ℕ → List ℕ
+pixel_of Rgb8 r g b a = r ∷ g ∷ b ∷ []
+pixel_of Rgba8 r g b a = r ∷ g ∷ b ∷ a ∷ []
+pixel_of Bgra8 r g b a = b ∷ g ∷ r ∷ a ∷ []
+pixel_of Rgba8Straight r g b a = straight_of r a ∷ straight_of g a ∷ straight_of b a ∷ a ∷ []
+pixel_of Bgra8Straight r g b a = straight_of b a ∷ straight_of g a ∷ straight_of r a ∷ a ∷ []
+
+-- A pixel has alpha in the format.
+abbrev pub HasAlpha : Format → Type 0
+HasAlpha Rgb8 = ⊥
+HasAlpha Rgba8 = Unit {0}
+HasAlpha Bgra8 = Unit {0}
+HasAlpha Rgba8Straight = Unit {0}
+HasAlpha Bgra8Straight = Unit {0}
+
+-- The channels of a pixel are those that are stored.
+abbrev pub IsAsStored : Format → Type 0
+IsAsStored Rgb8 = Unit {0}
+IsAsStored Rgba8 = Unit {0}
+IsAsStored Bgra8 = Unit {0}
+IsAsStored Rgba8Straight = ⊥
+IsAsStored Bgra8Straight = ⊥
 
 -- How many rows of pixels of the picture stand in the tile rows from `first` to before `end`.
 abbrev pub shown_rows : Canvas → ℕ → ℕ → ℕ

@@ -1,9 +1,9 @@
 -- The tiles that many triangles can meet, row by row.
 use Rattle.std.specs.Prelude.{◌≡◌, ℕ, ◌+◌, ◌*◌, ◌/◌, ◌<◌, List, map, take, length, slice_get, slice_index, slice_index_or, Some, IsBitSet}
-use Rattle.shade.specs.declared.sample.Sample.{Sample}
+use Rattle.shade.specs.declared.sample.CanvasSample.{CanvasSample}
 use Rattle.shade.specs.declared.placed.Placed.{Placed}
 use Rattle.shade.specs.Placed.{Meets}
-use Rattle.shade.specs.Ending.{Ends}
+use Rattle.shade.specs.Canvas.{CanvasEnds}
 use Rattle.raster.specs.declared.tile.Tile.{Tile}
 use Rattle.raster.specs.Samples.{IsSampleOf}
 use Rattle.reach.specs.declared.span.Span.{Span}
@@ -28,8 +28,8 @@ pub record AreOfRow (ts : List Placed) (c : Canvas) (row n : ℕ) (numbers first
   pub below : (p : ℕ) → p < many → slice_index numbers p < length ts
   pub columns : (p : ℕ) (t : Placed) → p < many → slice_get ts (slice_index numbers p) ≡ Some t
       → (i j s : ℕ) → IsStoredIn c row (row + 1) i j s → Meets t c.count i j s → HasPlace firsts ends p (i / 64) × IsInSpan span (i / 64)
-  pub makes : (none : Placed) (i j s : ℕ) → IsStoredIn c row (row + 1) i j s → (x y : Sample)
-      → Ends (numbered ts none (take many numbers)) c.count i j s x y → Ends (take n ts) c.count i j s x y
+  pub makes : (none : Placed) (i j s : ℕ) → IsStoredIn c row (row + 1) i j s → (x y : CanvasSample)
+      → CanvasEnds (numbered ts none (take many numbers)) c.count i j s x y → CanvasEnds (take n ts) c.count i j s x y
 
 -- Those of the triangles of these numbers that meet a sample of the tile have its column among theirs.
 abbrev pub AreOfTile : List Placed → List ℕ → List ℕ → List ℕ → ℕ → ℕ → Tile → Type 0

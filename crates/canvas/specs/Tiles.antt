@@ -2,7 +2,7 @@
 use Rattle.std.specs.Prelude.{◌≡◌, ◌⊎◌, ℕ, ◌+◌, ◌-◌, ◌*◌, ◌/◌, ◌%◌, ◌<◌, ◌≤◌, ◌==◌, if◌then◌else◌, List, [], length, take, drop, slice_index, slice_index_or}
 use Rattle.grid.specs.Samples.{count_of}
 use Rattle.grid.specs.declared.sample_count.SampleCount.{SampleCount}
-use Rattle.shade.specs.declared.sample.Sample.{Sample}
+use Rattle.shade.specs.declared.sample.CanvasSample.{CanvasSample}
 use Rattle.lanes.specs.declared.block_samples.BlockSamples.{BlockSamples}
 use Rattle.canvas.specs.declared.canvas.Canvas.{Canvas}
 use Rattle.canvas.specs.declared.misfit.Misfit.{Misfit}
@@ -49,7 +49,7 @@ AreTileIds c first end column row samples ids =
 
 -- The tile with these planes is unchanged since it was cleared, and all of its samples have one id.
 pub record IsUniformTile (count : SampleCount) (samples : List BlockSamples) : Type 0 where
-  pub mark : slice_index (slice_index_or samples 0 (record { z = []; r = []; g = []; b = [] })).r 0 ≡ 1
+  pub mark : slice_index (slice_index_or samples 0 (record { z = []; r = []; g = []; b = []; alpha = [] })).r 0 ≡ 1
   pub one : (i j s : ℕ) → s < count_of count → id_of (stored_in_tile count samples i j s) ≡ id_of (stored_in_tile count samples 0 0 0)
 
 -- The planes of the tile in a column and a row of tiles.
@@ -66,9 +66,9 @@ abbrev pub IsWritten : Canvas → ℕ → ℕ → ℕ → List BlockSamples → 
 IsWritten c first column row samples many =
     ((many ≡ 1) × IsUniform c first column row samples) ⊎ ((many ≡ tile_entries c.count) × ¬ IsUniform c first column row samples)
 
--- The sample in the colour of this number, red its lowest byte. Its depth is unchanged, and what is above the third byte is not read.
-abbrev pub with_colour : ℕ → Sample → Sample
-with_colour n old = record { r = n % 256; g = n / 256 % 256; b = n / 65536 % 256; z = old.z }
+-- The sample in the colour of this number, red its lowest byte. Its depth and its alpha are unchanged, and what is above the third byte is not read.
+abbrev pub with_colour : ℕ → CanvasSample → CanvasSample
+with_colour n old = record { r = n % 256; g = n / 256 % 256; b = n / 65536 % 256; alpha = old.alpha; z = old.z }
 
 -- The samples of a tile have the colours that the entries say, and the depths that they had. All other samples are unchanged.
 abbrev pub AreTileColours : Canvas → ℕ → ℕ → ℕ → ℕ → List ℕ → List BlockSamples → List BlockSamples → Type 0
@@ -76,7 +76,7 @@ AreTileColours c first end column row colours old new =
     AreChanged c first end (λ i j s. IsInTile column row i j) (λ i j s sample. with_colour (said_of c.count colours i j s) sample) old new
 
 -- The channels of the sample are bytes.
-pub record HasBytes (sample : Sample) : Type 0 where
+pub record HasBytes (sample : CanvasSample) : Type 0 where
   pub red : sample.r < 256
   pub green : sample.g < 256
   pub blue : sample.b < 256

@@ -6,7 +6,7 @@ use Rattle.grid.specs.declared.pixels.PixelBox.{PixelBox}
 use Rattle.lanes.specs.declared.block_samples.BlockSamples.{BlockSamples}
 use Rattle.shade.specs.declared.placed.Placed.{Placed}
 use Rattle.shade.specs.declared.state.State.{State}
-use Rattle.shade.specs.Ending.{Ends}
+use Rattle.shade.specs.Canvas.{CanvasEnds}
 use Rattle.canvas.specs.declared.canvas.Canvas.{Canvas}
 use Rattle.canvas.specs.declared.window.Origin.{Origin}
 use Rattle.canvas.specs.Layout.{IsStoredIn, stored}
@@ -45,4 +45,4 @@ pub record CanMove (x y : ℤ) (t : Placed) : Type 0 where
 abbrev pub HaveEndsOnScreen : Origin → List Placed → Canvas → ℕ → ℕ → List BlockSamples → List BlockSamples → Type 0
 HaveEndsOnScreen origin ts c first end old new =
     (i j s column row : ℕ) → IsStoredIn c first end i j s → pos column ≡ pos i +ℤ origin.x → pos row ≡ pos j +ℤ origin.y
-    → Ends ts c.count column row s (stored c first old i j s) (stored c first new i j s)
+    → CanvasEnds ts c.count column row s (stored c first old i j s) (stored c first new i j s)

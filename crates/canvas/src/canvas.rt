@@ -78,7 +78,8 @@ impl Canvas {
     pub fn tile(&self, column: u32, row: u32) -> Tile
         requires column { column < columns_of self.now }
         requires row { row < rows_of self.now }
-        ensures { (result.bx ≡ 8 * column) × (result.by ≡ 8 * row) × (result.side ≡ T64) × (result.count ≡ self.now.count) }
+        ensures { (result.bx ≡ 8 * column) × (result.by ≡ 8 * row) × (result.side ≡ T64) ×
+            (result.count ≡ self.now.count) }
     {
         Tile {
             bx: 8 * column,

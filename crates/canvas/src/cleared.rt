@@ -1,5 +1,6 @@
 //! Samples that are all the same.
 ghost use Rattle.std.specs.Prelude.{◌≡◌, ◌-◌, ◌*◌, ◌≤◌, length};
+ghost use Rattle.shade.specs.Canvas.{with_alpha};
 ghost use Rattle.canvas.specs.Layout.{columns_of, planes_of_rows};
 ghost use Rattle.canvas.specs.Drawing.{AreCleared};
 
@@ -17,15 +18,21 @@ impl TileRows {
         (self.end - self.first) as usize * self.canvas.column_count() as usize
     }
 
-    /// Makes each sample of these tile rows the given one.
-    pub(crate) fn clear_all(&self, sample: Sample, samples: &mut [BlockSamples])
+    /// Makes each sample of these tile rows the given one, with this alpha if alpha is stored.
+    pub(crate) fn clear_all(&self, sample: Sample, alpha: u8, samples: &mut [BlockSamples])
         requires { length samples.old ≡ planes_of_rows self.now.canvas self.now.first self.now.end }
-        ensures { AreCleared self.now.canvas self.now.first self.now.end sample samples.new }
+        ensures { AreCleared self.now.canvas self.now.first self.now.end (with_alpha sample alpha)
+            samples.new }
     {
         let each = self.canvas.planes_of_tile();
         for number in 0..self.tiles() {
             let from = number * each;
-            clear_tile(self.canvas.count, sample, &mut samples[from..from + each]);
+            clear_tile(
+                self.canvas.count,
+                sample,
+                alpha,
+                &mut samples[from..from + each],
+            );
         }
     }
 }

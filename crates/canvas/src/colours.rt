@@ -16,11 +16,11 @@ use crate::tile_planes::is_cleared;
 use crate::view::View;
 use grid::{SampleCount, TileSide};
 use lanes::BlockSamples;
-use raster::{Tile, colours_by};
+use raster::{Tile, alphas_by, colours_by};
 use std::simd::prelude::*;
 
-/// Copies the first bytes of `run` to all of `bytes`. If this is inlined, the lengths of eight whole pixels are known, so that
-/// these are stored as they are.
+/// Copies the first bytes of `run` to all of `bytes`. If this is inlined, the lengths of eight whole pixels are known,
+/// so that these are stored as they are.
 #[inline(always)]
 fn copy_first(run: u8x32, bytes: &mut [u8])
     requires whole { length run ≡ 32 }
@@ -40,7 +40,8 @@ fn copy_first(run: u8x32, bytes: &mut [u8])
     }
 }
 
-/// Writes the first `count` of the eight pixels in a row of the tile and in a column of its blocks. `MORE` is as in `colours_by`.
+/// Writes the first `count` of the eight pixels in a row of the tile and in a column of its blocks. `MORE` is as in
+/// `colours_by`.
 #[inline(always)]
 fn resolve_run<const MORE: bool>(
     tile: &Tile,
@@ -57,20 +58,36 @@ fn resolve_run<const MORE: bool>(
     requires count { count ≤ 8 }
     requires few { MORE ≡ false → (tile.now.count ≡ One) ⊎ (tile.now.count ≡ Four) }
     requires bytes { length bytes.old ≡ count * pixel_bytes format }
-    ensures { (i : ℕ) → i < count → IsTilePixel tile.now samples.now format row (8 * column + i) (λ k. slice_index bytes.new (i * pixel_bytes format + k)) }
+    ensures { (i : ℕ) → i < count →
+        IsTilePixel tile.now samples.now format row (8 * column + i)
+        (λ k. slice_index bytes.new (i * pixel_bytes format + k)) }
 {
     let rgb = colours_by::<MORE>(tile, samples, row, column);
-    // Each format by itself: a run that is chosen from three is put together byte by byte.
+    // Each format by itself: a run that is chosen from several is put together byte by byte.
     match format {
-        Format::Rgb8 => copy_first(arranged(Format::Rgb8, rgb), bytes),
-        Format::Rgba8 => copy_first(arranged(Format::Rgba8, rgb), bytes),
-        Format::Bgra8 => copy_first(arranged(Format::Bgra8, rgb), bytes),
+        Format::Rgb8 => copy_first(arranged(Format::Rgb8, rgb, rgb), bytes),
+        Format::Rgba8 => {
+            let alphas = alphas_by::<MORE>(tile, samples, row, column);
+            copy_first(arranged(Format::Rgba8, rgb, alphas), bytes);
+        }
+        Format::Bgra8 => {
+            let alphas = alphas_by::<MORE>(tile, samples, row, column);
+            copy_first(arranged(Format::Bgra8, rgb, alphas), bytes);
+        }
+        Format::Rgba8Straight => {
+            let alphas = alphas_by::<MORE>(tile, samples, row, column);
+            copy_first(arranged(Format::Rgba8Straight, rgb, alphas), bytes);
+        }
+        Format::Bgra8Straight => {
+            let alphas = alphas_by::<MORE>(tile, samples, row, column);
+            copy_first(arranged(Format::Bgra8Straight, rgb, alphas), bytes);
+        }
     }
 }
 
 impl Canvas {
-    /// Writes the first `count` of eight pixels of row `j`, from column 8 * `block` on, from the planes of their tile, whose own
-    /// blocks begin at plane `own`.
+    /// Writes the first `count` of eight pixels of row `j`, from column 8 * `block` on, from the planes of their tile,
+    /// whose own blocks begin at plane `own`.
     #[inline(always)]
     fn resolve_eight<const MORE: bool>(
         &self,
@@ -89,7 +106,9 @@ impl Canvas {
         requires own { own ≡ 1 + count_of self.now.count }
         requires few { MORE ≡ false → (self.now.count ≡ One) ⊎ (self.now.count ≡ Four) }
         requires bytes { length bytes.old ≡ count * pixel_bytes format }
-        ensures { (i : ℕ) → i < count → IsPixelIn self.now.count samples.now format (8 * block + i) j (λ k. slice_index bytes.new (i * pixel_bytes format + k)) }
+        ensures { (i : ℕ) → i < count →
+            IsPixelIn self.now.count samples.now format (8 * block + i) j
+            (λ k. slice_index bytes.new (i * pixel_bytes format + k)) }
     {
         if is_cleared(&samples[0]) {
             let cleared = Tile {
@@ -125,7 +144,8 @@ impl Canvas {
         requires few { MORE ≡ false → (self.now.count ≡ One) ⊎ (self.now.count ≡ Four) }
         requires samples { length samples.now ≡ planes_of_row self.now }
         requires bytes { length bytes.old ≡ self.now.width * pixel_bytes format }
-        ensures { (i : ℕ) → i < self.now.width → IsPixelOf self.now (j / 64) samples.now format i j (λ k. slice_index bytes.new (i * pixel_bytes format + k)) }
+        ensures { (i : ℕ) → i < self.now.width →
+            IsPixelOf self.now (j / 64) samples.now format i j (λ k. slice_index bytes.new (i * pixel_bytes format + k)) }
     {
         let each = self.planes_of_tile();
         let own = 1 + self.count.count() as usize;
@@ -151,7 +171,8 @@ impl Canvas {
         requires row { j < self.now.height }
         requires samples { length samples.now ≡ planes_of_row self.now }
         requires bytes { length bytes.old ≡ self.now.width * pixel_bytes format }
-        ensures { (i : ℕ) → i < self.now.width → IsPixelOf self.now (j / 64) samples.now format i j (λ k. slice_index bytes.new (i * pixel_bytes format + k)) }
+        ensures { (i : ℕ) → i < self.now.width →
+            IsPixelOf self.now (j / 64) samples.now format i j (λ k. slice_index bytes.new (i * pixel_bytes format + k)) }
     {
         match self.count {
             SampleCount::One | SampleCount::Four => {
@@ -171,7 +192,9 @@ impl Canvas {
         requires sample { s < count_of self.now.count }
         requires samples { length samples.now ≡ planes_of_row self.now }
         requires bytes { length bytes.old ≡ self.now.width * pixel_bytes format }
-        ensures { (i : ℕ) → i < self.now.width → IsSampleColour format (stored self.now (j / 64) samples.now i j s) (λ k. slice_index bytes.new (i * pixel_bytes format + k)) }
+        ensures { (i : ℕ) → i < self.now.width →
+            IsSampleColour format (stored self.now (j / 64) samples.now i j s)
+            (λ k. slice_index bytes.new (i * pixel_bytes format + k)) }
     {
         // A block of one sample a pixel resolves to that sample.
         let one = Tile {
@@ -199,12 +222,14 @@ impl Canvas {
 }
 
 impl View<'_> {
-    /// Writes the colour of each pixel of the picture in these tile rows, in the format, with alpha 255: the rows of pixels from
-    /// top to bottom, each `stride` bytes behind the one above, the pixels of a row from left to right. The bytes begin with the
-    /// first pixel of the first row. Bytes of no pixel are unchanged.
+    /// Writes the colour of each pixel of the picture in these tile rows, in the format: the rows of
+    /// pixels from top to bottom, each `stride` bytes behind the one above, the pixels of a row from left to right. The
+    /// bytes begin with the first pixel of the first row. Bytes of no pixel are unchanged.
     pub fn resolve(&self, bytes: &mut [u8], format: Format, stride: usize) -> Result<(), Misfit>
-        ensures fits { IsOk result ↔ IsLargeEnough self.now.rows.canvas self.now.rows.first self.now.rows.end (pixel_bytes format) stride (length bytes.old) }
-        ensures resolved { OnOk result (AreResolved self.now.rows.canvas self.now.rows.first self.now.rows.end self.now.planes.now format stride bytes.old bytes.new) }
+        ensures fits { IsOk result ↔ IsLargeEnough self.now.rows.canvas self.now.rows.first self.now.rows.end
+            (pixel_bytes format) stride (length bytes.old) }
+        ensures resolved { OnOk result (AreResolved self.now.rows.canvas self.now.rows.first self.now.rows.end
+            self.now.planes.now format stride bytes.old bytes.new) }
         ensures unfit { OnErr result (bytes.new ≡ bytes.old) }
         ensures reason { IfErr result (λ misfit. misfit ≡ Misfit.Pixels) }
     {
@@ -221,8 +246,8 @@ impl View<'_> {
         Ok(())
     }
 
-    /// Writes the colour of sample `s` of each pixel of the picture in these tile rows, in the format, with alpha 255, laid out as by
-    /// `resolve`. Nothing is resolved. Bytes of no pixel are unchanged.
+    /// Writes the colour of sample `s` of each pixel of the picture in these tile rows, in the format,
+    /// laid out as by `resolve`. Nothing is resolved. Bytes of no pixel are unchanged.
     pub fn colors(
         &self,
         s: u32,
@@ -230,10 +255,13 @@ impl View<'_> {
         format: Format,
         stride: usize,
     ) -> Result<(), Misfit>
-        ensures fits { IsOk result ↔ FitEntries self.now.rows.canvas self.now.rows.first self.now.rows.end s (pixel_bytes format) stride (length bytes.old) }
-        ensures colours { OnOk result (AreColours self.now.rows.canvas self.now.rows.first self.now.rows.end self.now.planes.now s format stride bytes.old bytes.new) }
+        ensures fits { IsOk result ↔ FitEntries self.now.rows.canvas self.now.rows.first self.now.rows.end s
+            (pixel_bytes format) stride (length bytes.old) }
+        ensures colours { OnOk result (AreColours self.now.rows.canvas self.now.rows.first self.now.rows.end
+            self.now.planes.now s format stride bytes.old bytes.new) }
         ensures unfit { OnErr result (bytes.new ≡ bytes.old) }
-        ensures reason { IfErr result (IsEntriesMisfit self.now.rows.canvas self.now.rows.first self.now.rows.end s (pixel_bytes format) stride (length bytes.old)) }
+        ensures reason { IfErr result (IsEntriesMisfit self.now.rows.canvas self.now.rows.first self.now.rows.end s
+            (pixel_bytes format) stride (length bytes.old)) }
     {
         let rows = self
             .rows

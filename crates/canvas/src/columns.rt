@@ -25,7 +25,9 @@ impl Canvas {
         requires first { columns.first ≤ 255 }
         ensures first { result.first ≤ 255 }
         ensures end { result.end ≤ 64 }
-        ensures all { (t : Placed) (i j s : ℕ) → slice_get (T.listed triangles.now) number ≡ Just t → IsStoredIn self.now row (row + 1) i j s → Meets t self.now.count i j s → IsInSpan columns (i / 64) → IsInSpan result (i / 64) }
+        ensures all { (t : Placed) (i j s : ℕ) → slice_get (T.listed triangles.now) number ≡ Just t →
+            IsStoredIn self.now row (row + 1) i j s → Meets t self.now.count i j s → IsInSpan columns (i / 64) →
+            IsInSpan result (i / 64) }
     {
         let columns = columns.up_to(self.column_count());
         if columns.end <= columns.first + 1 {

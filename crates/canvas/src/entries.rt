@@ -1,7 +1,7 @@
 //! The depths and the ids of the samples of one index, written to the caller's memory.
 ghost use Rattle.std.specs.Prelude.{◌≡◌, ◌↔◌, ℕ, ◌+◌, ◌/◌, ◌<◌, ◌≤◌, length, map, slice_index, IsOk, OnOk, OnErr, IfErr};
 ghost use Rattle.lanes.specs.Block.{stored_at};
-ghost use Rattle.shade.specs.declared.sample.Sample.{Sample};
+ghost use Rattle.shade.specs.declared.sample.CanvasSample.{CanvasSample};
 ghost use Rattle.grid.specs.Samples.{count_of};
 ghost use Rattle.canvas.specs.Layout.{stored, planes_of_row};
 ghost use Rattle.canvas.specs.Entries.{FitEntries, IsEntriesMisfit};
@@ -18,7 +18,7 @@ pub trait Entry: Copy {
     ghost number: { Self → ℕ };
 
     /// The number that is written of a sample.
-    ghost number_of: { Sample → ℕ };
+    ghost number_of: { CanvasSample → ℕ };
 
     /// The entry of the sample of pixel `k` of a block.
     fn of(plane: &BlockSamples, k: usize) -> Self
@@ -50,8 +50,8 @@ impl Entry for u32 {
     }
 }
 
-/// Writes the entries of the pixels of a block, from pixel `first` on. If this is inlined and their number is known, several are made at
-/// once.
+/// Writes the entries of the pixels of a block, from pixel `first` on. If this is inlined and their number is known,
+/// several are made at once.
 #[inline(always)]
 pub(crate) fn write_entries<E: Entry>(
     plane: &BlockSamples,
@@ -61,7 +61,8 @@ pub(crate) fn write_entries<E: Entry>(
 )
     requires pixels { first + many ≤ 64 }
     requires entries { length entries.old ≡ many }
-    ensures { (k : ℕ) → k < many → slice_index (map E.number entries.new) k ≡ E.number_of (stored_at plane.now (first + k)) }
+    ensures { (k : ℕ) → k < many → slice_index (map E.number entries.new) k ≡
+        E.number_of (stored_at plane.now (first + k)) }
 {
     for k in 0..many {
         entries[k] = E::of(plane, first + k);
@@ -72,7 +73,8 @@ pub(crate) fn write_entries<E: Entry>(
 #[inline(always)]
 fn write_run<E: Entry>(plane: &BlockSamples, first: usize, entries: &mut [E])
     requires pixels { first + length entries.old ≤ 64 }
-    ensures { (k : ℕ) → k < length entries.old → slice_index (map E.number entries.new) k ≡ E.number_of (stored_at plane.now (first + k)) }
+    ensures { (k : ℕ) → k < length entries.old → slice_index (map E.number entries.new) k ≡
+        E.number_of (stored_at plane.now (first + k)) }
 {
     let many = entries.len();
     if many == 8 {
@@ -88,7 +90,8 @@ impl Canvas {
         requires sample { s < count_of self.now.count }
         requires samples { length samples.now ≡ planes_of_row self.now }
         requires entries { length entries.old ≡ self.now.width }
-        ensures { (i : ℕ) → i < self.now.width → slice_index (map E.number entries.new) i ≡ E.number_of (stored self.now (j / 64) samples.now i j s) }
+        ensures { (i : ℕ) → i < self.now.width → slice_index (map E.number entries.new) i ≡
+            E.number_of (stored self.now (j / 64) samples.now i j s) }
     {
         for block in 0..(self.width + 7) / 8 {
             let many = (self.width - 8 * block).min(8) as usize;
@@ -104,14 +107,17 @@ impl Canvas {
 }
 
 impl View<'_> {
-    /// Writes the entry of sample `s` of each pixel of the picture in these tile rows: the rows of pixels from top to bottom, each
-    /// `stride` entries behind the one above, the pixels of a row from left to right. The entries begin with the first pixel of the
-    /// first row. Entries of no pixel are unchanged.
+    /// Writes the entry of sample `s` of each pixel of the picture in these tile rows: the rows of pixels from top to
+    /// bottom, each `stride` entries behind the one above, the pixels of a row from left to right. The entries begin
+    /// with the first pixel of the first row. Entries of no pixel are unchanged.
     pub fn entries<E: Entry>(&self, s: u32, entries: &mut [E], stride: usize) -> Result<(), Misfit>
-        ensures fits { IsOk result ↔ FitEntries self.now.rows.canvas self.now.rows.first self.now.rows.end s 1 stride (length entries.old) }
-        ensures entries { OnOk result (AreEntries E.number_of self.now.rows.canvas self.now.rows.first self.now.rows.end self.now.planes.now s stride (map E.number entries.old) (map E.number entries.new)) }
+        ensures fits { IsOk result ↔ FitEntries self.now.rows.canvas self.now.rows.first self.now.rows.end s 1 stride
+            (length entries.old) }
+        ensures entries { OnOk result (AreEntries E.number_of self.now.rows.canvas self.now.rows.first self.now.rows.end
+            self.now.planes.now s stride (map E.number entries.old) (map E.number entries.new)) }
         ensures unfit { OnErr result (entries.new ≡ entries.old) }
-        ensures reason { IfErr result (IsEntriesMisfit self.now.rows.canvas self.now.rows.first self.now.rows.end s 1 stride (length entries.old)) }
+        ensures reason { IfErr result (IsEntriesMisfit self.now.rows.canvas self.now.rows.first self.now.rows.end s 1
+            stride (length entries.old)) }
     {
         let rows = self.rows.entry_rows(s, 1, stride, entries.len())?;
         for index in 0..rows.count() {
@@ -124,24 +130,30 @@ impl View<'_> {
         Ok(())
     }
 
-    /// Writes the depth of sample `s` of each pixel of the picture in these tile rows, laid out as by `entries`. Entries of no pixel are
-    /// unchanged.
+    /// Writes the depth of sample `s` of each pixel of the picture in these tile rows, laid out as by `entries`.
+    /// Entries of no pixel are unchanged.
     pub fn depths(&self, s: u32, depths: &mut [u16], stride: usize) -> Result<(), Misfit>
-        ensures fits { IsOk result ↔ FitEntries self.now.rows.canvas self.now.rows.first self.now.rows.end s 1 stride (length depths.old) }
-        ensures depths { OnOk result (AreDepths self.now.rows.canvas self.now.rows.first self.now.rows.end self.now.planes.now s stride depths.old depths.new) }
+        ensures fits { IsOk result ↔ FitEntries self.now.rows.canvas self.now.rows.first self.now.rows.end s 1 stride
+            (length depths.old) }
+        ensures depths { OnOk result (AreDepths self.now.rows.canvas self.now.rows.first self.now.rows.end
+            self.now.planes.now s stride depths.old depths.new) }
         ensures unfit { OnErr result (depths.new ≡ depths.old) }
-        ensures reason { IfErr result (IsEntriesMisfit self.now.rows.canvas self.now.rows.first self.now.rows.end s 1 stride (length depths.old)) }
+        ensures reason { IfErr result (IsEntriesMisfit self.now.rows.canvas self.now.rows.first self.now.rows.end s 1
+            stride (length depths.old)) }
     {
         self.entries(s, depths, stride)
     }
 
-    /// Writes the id that is stored in place of the colour of sample `s`, red + 256 * green + 65536 * blue, of each pixel of the
-    /// picture in these tile rows, laid out as by `entries`. Entries of no pixel are unchanged.
+    /// Writes the id that is stored in place of the colour of sample `s`, red + 256 * green + 65536 * blue, of each
+    /// pixel of the picture in these tile rows, laid out as by `entries`. Entries of no pixel are unchanged.
     pub fn ids(&self, s: u32, ids: &mut [u32], stride: usize) -> Result<(), Misfit>
-        ensures fits { IsOk result ↔ FitEntries self.now.rows.canvas self.now.rows.first self.now.rows.end s 1 stride (length ids.old) }
-        ensures ids { OnOk result (AreIds self.now.rows.canvas self.now.rows.first self.now.rows.end self.now.planes.now s stride ids.old ids.new) }
+        ensures fits { IsOk result ↔ FitEntries self.now.rows.canvas self.now.rows.first self.now.rows.end s 1 stride
+            (length ids.old) }
+        ensures ids { OnOk result (AreIds self.now.rows.canvas self.now.rows.first self.now.rows.end self.now.planes.now
+            s stride ids.old ids.new) }
         ensures unfit { OnErr result (ids.new ≡ ids.old) }
-        ensures reason { IfErr result (IsEntriesMisfit self.now.rows.canvas self.now.rows.first self.now.rows.end s 1 stride (length ids.old)) }
+        ensures reason { IfErr result (IsEntriesMisfit self.now.rows.canvas self.now.rows.first self.now.rows.end s 1
+            stride (length ids.old)) }
     {
         self.entries(s, ids, stride)
     }

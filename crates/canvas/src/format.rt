@@ -1,7 +1,9 @@
 //! How the colours of pixels lie in bytes.
 ghost use Rattle.std.specs.Prelude.{◌≡◌, length};
 ghost use Rattle.canvas.specs.Colours.{AreArranged};
+ghost use Rattle.canvas.specs.declared.format.Format.TheVariants.{Rgba8, Bgra8};
 
+use crate::straight::straight_run;
 use std::simd::prelude::*;
 
 /// How the colour of a pixel lies in bytes, in the order of their places in memory. A channel is a byte.
@@ -13,6 +15,11 @@ pub enum Format {
     Rgba8,
     /// Blue, green, red and alpha.
     Bgra8,
+    /// Red, green, blue and alpha, of which the first three are divided by alpha when they are written, and multiplied by
+    /// it when they are loaded.
+    Rgba8Straight,
+    /// The same in the order blue, green, red and alpha.
+    Bgra8Straight,
 }
 
 impl Format {
@@ -25,39 +32,60 @@ impl Format {
     {
         match self {
             Format::Rgb8 => 3,
-            Format::Rgba8 => 4,
-            Format::Bgra8 => 4,
+            Format::Rgba8 | Format::Bgra8 | Format::Rgba8Straight | Format::Bgra8Straight => 4,
         }
     }
 }
 
-/// The bytes of eight pixels in the format, by the first 24 bytes of `rgb`, which are those of RGB8. Alpha is 255.
+/// Red, green, blue and alpha of eight pixels, by the first 24 bytes of `rgb`, which are their red, green and blue, and
+/// by the first eight of `alphas`.
 #[inline(always)]
-pub(crate) fn arranged(format: Format, rgb: u8x32) -> u8x32
-    requires { length rgb ≡ 32 }
+fn rgba_run(rgb: u8x32, alphas: u8x32) -> u8x32
+    requires rgb { length rgb ≡ 32 }
+    requires alphas { length alphas ≡ 32 }
     ensures whole { length result ≡ 32 }
-    ensures bytes { AreArranged format rgb result }
+    ensures bytes { AreArranged Rgba8 rgb alphas result }
 {
-    let opaque = u8x32::splat(255);
+    rgb.shuffle(
+        alphas,
+        [
+            0, 1, 2, 32, 3, 4, 5, 33, 6, 7, 8, 34, 9, 10, 11, 35, 12, 13, 14, 36, 15, 16, 17, 37,
+            18, 19, 20, 38, 21, 22, 23, 39,
+        ],
+    )
+}
+
+/// The same in the order blue, green, red and alpha.
+#[inline(always)]
+fn bgra_run(rgb: u8x32, alphas: u8x32) -> u8x32
+    requires rgb { length rgb ≡ 32 }
+    requires alphas { length alphas ≡ 32 }
+    ensures whole { length result ≡ 32 }
+    ensures bytes { AreArranged Bgra8 rgb alphas result }
+{
+    rgb.shuffle(
+        alphas,
+        [
+            2, 1, 0, 32, 5, 4, 3, 33, 8, 7, 6, 34, 11, 10, 9, 35, 14, 13, 12, 36, 17, 16, 15, 37,
+            20, 19, 18, 38, 23, 22, 21, 39,
+        ],
+    )
+}
+
+/// The bytes of eight pixels in the format, by the first 24 bytes of `rgb`, which are those of RGB8, and by the first
+/// eight of `alphas`.
+#[inline(always)]
+pub(crate) fn arranged(format: Format, rgb: u8x32, alphas: u8x32) -> u8x32
+    requires rgb { length rgb ≡ 32 }
+    requires alphas { length alphas ≡ 32 }
+    ensures whole { length result ≡ 32 }
+    ensures bytes { AreArranged format rgb alphas result }
+{
     match format {
         Format::Rgb8 => rgb,
-        Format::Rgba8 => {
-            rgb.shuffle(
-                opaque,
-                [
-                    0, 1, 2, 32, 3, 4, 5, 32, 6, 7, 8, 32, 9, 10, 11, 32, 12, 13, 14, 32, 15, 16,
-                    17, 32, 18, 19, 20, 32, 21, 22, 23, 32,
-                ],
-            )
-        }
-        Format::Bgra8 => {
-            rgb.shuffle(
-                opaque,
-                [
-                    2, 1, 0, 32, 5, 4, 3, 32, 8, 7, 6, 32, 11, 10, 9, 32, 14, 13, 12, 32, 17, 16,
-                    15, 32, 20, 19, 18, 32, 23, 22, 21, 32,
-                ],
-            )
-        }
+        Format::Rgba8 => rgba_run(rgb, alphas),
+        Format::Bgra8 => bgra_run(rgb, alphas),
+        Format::Rgba8Straight => rgba_run(straight_run(rgb, alphas), alphas),
+        Format::Bgra8Straight => bgra_run(straight_run(rgb, alphas), alphas),
     }
 }

@@ -1,5 +1,5 @@
 //! What a later triangle hides in a tile: the triangles before it are seen by nobody, and need not be drawn there.
-ghost use Rattle.std.specs.Prelude.{◌≡◌, ◌-◌, ◌%◌, ◌^◌, ◌<◌, ◌≤◌, length, IsTrue, IfSome};
+ghost use Rattle.std.specs.Prelude.{◌≡◌, false, ◌-◌, ◌%◌, ◌^◌, ◌<◌, ◌≤◌, length, IsTrue, IfSome};
 ghost use Rattle.grid.specs.Samples.{count_of};
 ghost use Rattle.cover.specs.Rasterized.{IsRasterized};
 ghost use Rattle.cover.specs.Square.{CoversAll};
@@ -11,7 +11,7 @@ use cover::Setup;
 use grid::{SampleCount, Tri};
 use raster::{Tile, covers_tile, holds_tile};
 use reach::next_bit;
-use shade::{DepthTest, Equation, Placed, State};
+use shade::{DepthTest, Equation, Merge, Placed, State};
 
 /// Whether all samples of a pixel are in the mask.
 fn has_all_samples(mask: u16, count: SampleCount) -> bool
@@ -26,7 +26,8 @@ fn has_all_samples(mask: u16, count: SampleCount) -> bool
     }
 }
 
-/// Whether a triangle in this state gives its colour to each sample of a pixel that it covers in its scissor, whatever is stored there.
+/// Whether a triangle in this state gives its colour to each sample of a pixel that it covers in its scissor, whatever
+/// is stored there.
 fn replaces_colours(state: &State, count: SampleCount) -> bool
     ensures { IsTrue result → ReplacesColours state.now count }
 {
@@ -46,14 +47,15 @@ fn replaces_colours(state: &State, count: SampleCount) -> bool
     }
 }
 
-/// Whether three coordinates lie on both sides of the pixels from `first` to before `end`, or in the outermost two of them.
+/// Whether three coordinates lie on both sides of the pixels from `first` to before `end`, or in the outermost two of
+/// them.
 fn are_round(a: i32, b: i32, c: i32, first: u32, end: u32) -> bool {
     let (low, high) = (a.min(b).min(c), a.max(b).max(c));
     i64::from(low) < 256 * i64::from(first) + 256 && 256 * i64::from(end) - 256 < i64::from(high)
 }
 
-/// Whether the box of the triangle's vertices is large enough for the tile. A smaller triangle does not cover it, and this takes less time
-/// than to make it ready.
+/// Whether the box of the triangle's vertices is large enough for the tile. A smaller triangle does not cover it, and
+/// this takes less time than to make it ready.
 fn is_large_enough(t: &Tri, tile: &Tile) -> bool {
     let side = tile.side.pixels();
     let (x, y) = (8 * tile.bx, 8 * tile.by);
@@ -85,7 +87,14 @@ fn hides(triangle: &Placed, tile: &Tile) -> bool
     holds_tile(&triangle.state.scissor, tile) && is_over(triangle, tile)
 }
 
-/// How many triangles of the chunk, from its first on, are seen to keep the depths of the tile.
+/// Whether a merge writes more than colours: depths or alphas.
+fn writes_beside_colours(merge: &Merge) -> bool
+    ensures { result ≡ false → (merge.now.depth_write ≡ false) × (merge.now.blend.write_alpha ≡ false) }
+{
+    merge.depth_write || merge.blend.write_alpha
+}
+
+/// How many triangles of the chunk, from its first on, are seen to keep the depths and the alphas of the tile.
 fn keeping_depths(chunk: &[Placed], mask: u64, tile: &Tile) -> usize
     requires mask { IsMaskOf chunk.now tile.now mask }
     requires few { length chunk.now ≤ 64 }
@@ -97,7 +106,7 @@ fn keeping_depths(chunk: &[Placed], mask: u64, tile: &Tile) -> usize
         if chunk.len() <= k {
             return chunk.len();
         }
-        if chunk[k].state.merge.depth_write {
+        if writes_beside_colours(&chunk[k].state.merge) {
             return k;
         }
         next = k + 1;
@@ -105,8 +114,9 @@ fn keeping_depths(chunk: &[Placed], mask: u64, tile: &Tile) -> usize
     chunk.len()
 }
 
-/// The number of the first triangle of the chunk that has to be drawn in the tile, since it hides those before it, or `None` if none is
-/// seen to hide any. Of triangles that follow one that writes depths none is taken.
+/// The number of the first triangle of the chunk that has to be drawn in the tile, since it hides those before it, or
+/// `None` if none is seen to hide any. Of triangles that follow one that writes depths or alphas none
+/// is taken.
 pub(crate) fn first_shown(chunk: &[Placed], mask: u64, tile: &Tile) -> Option<usize>
     requires mask { IsMaskOf chunk.now tile.now mask }
     requires few { length chunk.now ≤ 64 }

@@ -2,7 +2,7 @@
 ghost use Rattle.std.specs.Prelude.{◌≡◌, ◌↔◌, ◌+◌, ◌<◌, ◌≤◌, length, IsSome, IfSome};
 ghost use Rattle.canvas.specs.Ids.{colour_of_id as colour_of, replacing as replacing_of, with_id as with_id_of, with_ids};
 
-use shade::{Blend, Merge, Placed, State, Triangles};
+use shade::{Blend, Equation, Merge, Placed, State, Triangles};
 
 /// How many ids there are: one for each colour of 24 bits.
 const ID_COUNT: usize = 16_777_216;
@@ -19,7 +19,8 @@ pub fn colour_of_id(id: usize) -> [u8; 4]
     ]
 }
 
-/// The state in which a colour replaces what is stored, in all channels and without blending.
+/// The state in which a colour replaces what is stored without blending, in red, green and blue, and in alpha if the
+/// draw writes it.
 pub fn replacing(state: &State) -> State
     ensures { result ≡ replacing_of state.now }
 {
@@ -28,7 +29,12 @@ pub fn replacing(state: &State) -> State
             test: state.merge.test,
             depth_write: state.merge.depth_write,
             write: [true; 3],
-            blend: Blend::NONE,
+            blend: Blend {
+                colour: Equation::REPLACE,
+                alpha: Equation::REPLACE,
+                constant: [0; 4],
+                write_alpha: state.merge.blend.write_alpha,
+            },
         },
         cull: state.cull,
         sample_mask: state.sample_mask,
@@ -48,9 +54,9 @@ fn with_id(triangle: &Placed, id: usize) -> Placed
     }
 }
 
-/// The triangles of a source in the colours of their ids, which are counted from the first one on. They replace what is stored, without
-/// blending: id n is red n % 256, green n / 256 % 256 and blue n / 65536 % 256. So each sample at which they are drawn keeps the id of the
-/// last one that passed there (`tells_last`), and its depth.
+/// The triangles of a source in the colours of their ids, which are counted from the first one on. They replace what is
+/// stored, without blending: id n is red n % 256, green n / 256 % 256 and blue n / 65536 % 256. So each sample at which
+/// they are drawn keeps the id of the last one that passed there (`tells_last`), and its depth.
 #[derive(Drop)]
 pub struct Ids<'a, S: Triangles> {
     source: &'a S,
@@ -62,7 +68,8 @@ impl<'a, S: Triangles> Ids<'a, S> {
     /// The triangles of the source, of which the first has this id, or `None` if an id would be above 16,777,215.
     pub fn new(source: &'a S, first: u32) -> Option<Ids<'a, S>>
         ensures some { IsSome result ↔ (first + length (S.listed source.now) ≤ 16777216) }
-        ensures listed { IfSome result (λ ids. ⟦<Ids<'a, S> as Triangles>⟧.listed ids ≡ with_ids (S.listed source.now) first) }
+        ensures listed { IfSome result (λ ids. ⟦<Ids<'a, S> as Triangles>⟧.listed ids ≡
+            with_ids (S.listed source.now) first) }
     {
         let first = first as usize;
         if ID_COUNT < first || ID_COUNT - first < source.count() {

@@ -49,7 +49,8 @@ impl<'a> Indexed<'a> {
         state: State,
     ) -> Option<Indexed<'a>>
         ensures some { IsSome result ↔ All (AreIndices (length vertices.now)) triangles.now }
-        ensures listed { IfSome result (λ indexed. ⟦<Indexed<'a> as Triangles>⟧.listed indexed ≡ map (placed_by vertices.now state) triangles.now) }
+        ensures listed { IfSome result (λ indexed. ⟦<Indexed<'a> as Triangles>⟧.listed indexed ≡
+            map (placed_by vertices.now state) triangles.now) }
     {
         if !triangles
             .iter()

@@ -1,16 +1,16 @@
 //! Laws of what is drawn. Their functions do nothing.
-ghost use Rattle.std.specs.Prelude.{◌≡◌, ◌↔◌, ◌<◌, ◌≤◌, ◌^◌, ℕ, ◌+◌, ℤ, pos, ◌+ℤ◌, map, slice_index, List, ◌++◌, Option as Maybe, None as Nothing};
+ghost use Rattle.std.specs.Prelude.{Bool, ◌≡◌, ◌↔◌, ◌<◌, ◌≤◌, ◌^◌, ℕ, ◌+◌, ℤ, pos, ◌+ℤ◌, map, slice_index, List, ◌++◌, Option as Maybe, None as Nothing};
 ghost use Rattle.grid.specs.Samples.{count_of};
 ghost use Rattle.grid.specs.declared.sample_count.SampleCount.{SampleCount};
 ghost use Rattle.lanes.specs.declared.block_samples.BlockSamples.{BlockSamples};
-ghost use Rattle.shade.specs.declared.sample.Sample.{Sample};
+ghost use Rattle.shade.specs.declared.sample.CanvasSample.{CanvasSample};
 ghost use Rattle.shade.specs.declared.placed.Placed.{Placed};
-ghost use Rattle.shade.specs.Ending.{Ends};
+ghost use Rattle.shade.specs.Canvas.{CanvasEnds};
 ghost use Rattle.canvas.specs.declared.canvas.Canvas.{Canvas};
 ghost use Rattle.canvas.specs.declared.window.Origin.{Origin};
 ghost use Rattle.canvas.specs.declared.format.Format.{Format};
 ghost use Rattle.canvas.specs.Layout.{IsStoredIn, HasPixel, rows_of, stored};
-ghost use Rattle.canvas.specs.Pixels.{pixel_bytes, entry_of};
+ghost use Rattle.canvas.specs.Pixels.{IsAsStored, pixel_bytes, entry_of};
 ghost use Rattle.canvas.specs.Colours.{AreColours};
 ghost use Rattle.canvas.specs.Loaded.{AreStored};
 ghost use Rattle.canvas.specs.Tiles.{IsInTile, said_of, HasBytes, AreTileIds, AreTileColours};
@@ -18,45 +18,52 @@ ghost use Rattle.canvas.specs.Drawing.{HaveEnds};
 ghost use Rattle.canvas.specs.Window.{moved, HaveEndsOnScreen};
 ghost use Rattle.canvas.specs.Ids.{with_ids, IsLast, HasId};
 
-/// Triangles that are drawn in two calls make of each sample what all of them make of it in one call, and of a sample there is only one
-/// that they make.
+/// Triangles that are drawn in two calls make of each sample what all of them make of it in one call, and of a sample
+/// there is only one that they make.
 pub fn joins_batches()
     ensures joined { (ts us : List Placed) (c : Canvas) (first end : ℕ) (old middle new : List BlockSamples)
-        → HaveEnds ts c first end old middle → HaveEnds us c first end middle new → HaveEnds (ts ++ us) c first end old new }
+        → HaveEnds ts c first end old middle → HaveEnds us c first end middle new →
+        HaveEnds (ts ++ us) c first end old new }
     ensures one { (ts : List Placed) (c : Canvas) (first end : ℕ) (old new other : List BlockSamples)
         → HaveEnds ts c first end old new → HaveEnds ts c first end old other
         → (i j s : ℕ) → IsStoredIn c first end i j s → stored c first new i j s ≡ stored c first other i j s }
 {}
 
-/// What triangles in the colours of their ids make of a sample: it has the id of the last one that would have passed there, drawn
-/// in its own colour, and its old colour if none would have.
+/// What triangles in the colours of their ids make of a sample: it has the id of the last one that would have passed
+/// there, drawn in its own colour, and its old colour if none would have.
 pub fn tells_last()
-    ensures { (ts : List Placed) (n : ℕ) (count : SampleCount) (i j s : ℕ) (start end : Sample) → Ends (with_ids ts n) count i j s start end
+    ensures { (ts : List Placed) (n : ℕ) (count : SampleCount) (i j s : ℕ) (start end : CanvasSample) → CanvasEnds (with_ids ts n) count i j s start end
         → (last : Maybe ℕ) × IsLast ts n count i j s start Nothing last × HasId start end last }
 {}
 
-/// Triangles as seen from the corner of pixel (x, y) make of sample s of pixel (i, j) what the triangles themselves make of sample s of
-/// pixel (i + x, j + y) of the screen; and so of all samples of a canvas.
+/// Triangles as seen from the corner of pixel (x, y) make of sample s of pixel (i, j) what the triangles themselves
+/// make of sample s of pixel (i + x, j + y) of the screen; and so of all samples of a canvas.
 pub fn moves_by_pixels()
-    ensures sample { (x y : ℤ) (ts : List Placed) (count : SampleCount) (i j column row s : ℕ) (start end : Sample) → i < 4096 → j < 4096 → pos column ≡ pos i +ℤ x → pos row ≡ pos j +ℤ y
-        → (Ends (map (moved x y) ts) count i j s start end ↔ Ends ts count column row s start end) }
+    ensures sample { (x y : ℤ) (ts : List Placed) (count : SampleCount) (i j column row s : ℕ) (start end : CanvasSample) → i < 4096 → j < 4096 → pos column ≡ pos i +ℤ x → pos row ≡ pos j +ℤ y
+        → (CanvasEnds (map (moved x y) ts) count i j s start end ↔ CanvasEnds ts count column row s start end) }
     ensures canvas { (origin : Origin) (ts : List Placed) (c : Canvas) (first end : ℕ) (old new : List BlockSamples) → end ≤ rows_of c
-        → HaveEnds (map (moved origin.x origin.y) ts) c first end old new → HaveEndsOnScreen origin ts c first end old new }
+        → HaveEnds (map (moved origin.x origin.y) ts) c first end old new →
+        HaveEndsOnScreen origin ts c first end old new }
 {}
 
 /// Storing the ids that were read of a tile changes no sample, and what was stored in a tile is what is read of it.
 pub fn keeps_tiles()
     ensures ids { (c : Canvas) (first end column row : ℕ) (entries : List ℕ) (old new : List BlockSamples)
         → AreTileIds c first end column row old entries → AreTileColours c first end column row entries old new
-        → (i j s : ℕ) → IsStoredIn c first end i j s → HasBytes (stored c first old i j s) → stored c first new i j s ≡ stored c first old i j s }
+        → (i j s : ℕ) → IsStoredIn c first end i j s → HasBytes (stored c first old i j s) →
+        stored c first new i j s ≡ stored c first old i j s }
     ensures colours { (c : Canvas) (first end column row : ℕ) (entries back : List ℕ) (old new : List BlockSamples)
         → AreTileColours c first end column row entries old new → AreTileIds c first end column row new back
-        → (i j s : ℕ) → IsStoredIn c first end i j s → IsInTile column row i j → said_of c.count entries i j s < 2 ^ 24 → said_of c.count back i j s ≡ said_of c.count entries i j s }
+        → (i j s : ℕ) → IsStoredIn c first end i j s → IsInTile column row i j →
+        said_of c.count entries i j s < 2 ^ 24 → said_of c.count back i j s ≡ said_of c.count entries i j s }
 {}
 
-/// The colours that were stored for one sample index are those that are read of it: the first three bytes of each pixel are the same.
+/// The colours that were stored for one sample index are those that are read of it, in a format whose channels are those
+/// that are stored: the first three bytes of each pixel are the same.
 pub fn keeps_colours()
-    ensures { (c : Canvas) (first end s stride : ℕ) (format : Format) (bytes before after : List ℕ) (old new : List BlockSamples) → s < count_of c.count
-        → AreStored c first end s bytes format stride old new → AreColours c first end new s format stride before after
-        → (i j k : ℕ) → HasPixel c first end i j → k < 3 → slice_index after (entry_of first (pixel_bytes format) stride i j + k) ≡ slice_index bytes (entry_of first (pixel_bytes format) stride i j + k) }
+    ensures { (c : Canvas) (first end s stride : ℕ) (format : Format) (bytes before after : List ℕ) (too : Bool) (old new : List BlockSamples) → IsAsStored format → s < count_of c.count
+        → AreStored c first end s bytes format stride too old new → AreColours c first end new s format stride before after
+        → (i j k : ℕ) → HasPixel c first end i j → k < 3 →
+        slice_index after (entry_of first (pixel_bytes format) stride i j + k) ≡
+        slice_index bytes (entry_of first (pixel_bytes format) stride i j + k) }
 {}

@@ -1,5 +1,5 @@
-//! A canvas: samples that stay in the caller's memory, so that batch after batch of triangles is drawn over them, and colours,
-//! depths and ids are read back. No call allocates. Threads share a canvas by its tile rows.
+//! A canvas: samples that stay in the caller's memory, so that batch after batch of triangles is drawn over them, and
+//! colours, depths and ids are read back. No call allocates. Threads share a canvas by its tile rows.
 #![tactic(auto)]
 
 mod canvas;
@@ -20,6 +20,7 @@ mod pixel_rows;
 mod place;
 mod row_list;
 mod sample;
+mod straight;
 mod tile_ids;
 mod tile_planes;
 mod tile_rows;
@@ -38,6 +39,7 @@ pub use laws::{joins_batches, keeps_colours, keeps_tiles, moves_by_pixels, tells
 pub use misfit::Misfit;
 pub use piece::Piece;
 pub use shade::Triangles;
+pub use straight::{loads_what_was_written, multiplies_as_over};
 pub use tile_planes::fill_tile;
 pub use tile_rows::TileRows;
 pub use vertex::Vertex;

@@ -1,11 +1,12 @@
-//! A picture in the caller's memory, stored as the colours of samples: of all samples of its pixels, or of those of one index.
+//! A picture in the caller's memory, stored as the colours of samples: of all samples of its pixels, or of those of one
+//! index.
 ghost use Rattle.std.specs.Prelude.{◌≡◌, ◌≢◌, ◌↔◌, ◌⊎◌, ℕ, ◌+◌, ◌*◌, ◌/◌, ◌%◌, ◌<◌, ◌≤◌, length, slice_index, IsOk, OnOk, OnErr, IfErr};
 ghost use Rattle.lanes.specs.Block.{stored_at};
 ghost use Rattle.grid.specs.Samples.{count_of};
 ghost use Rattle.canvas.specs.Layout.{HasPixel, planes_of_tile, planes_of_row, planes_of_rows, stored_in_tile};
 ghost use Rattle.canvas.specs.Pixels.{pixel_bytes, entry_of, IsLargeEnough};
 ghost use Rattle.canvas.specs.Entries.{FitEntries, IsEntriesMisfit};
-ghost use Rattle.canvas.specs.Loaded.{coloured, IsIndexIn, AreChanged, AreLoaded, AreStored};
+ghost use Rattle.canvas.specs.Loaded.{coloured, colour_in, alpha_in, IsIndexIn, AreChanged, AreLoaded, AreStored};
 
 use crate::canvas::Canvas;
 use crate::format::Format;
@@ -13,6 +14,7 @@ use crate::misfit::Misfit;
 use crate::piece::Piece;
 use crate::pixel_rows::PixelRows;
 use crate::place::place_in_tile;
+use crate::straight::multiplied_colour;
 use crate::tile_planes::fill_tile;
 use crate::tile_rows::TileRows;
 use grid::SampleCount;
@@ -25,13 +27,16 @@ struct Indices {
     first: u32,
     /// The index behind the last one.
     end: u32,
+    /// Whether alpha is stored too.
+    alpha: bool,
 }
 
 /// Stores a colour in place of that of pixel `k` of a block.
 #[inline]
 pub(crate) fn set_colour(plane: &mut BlockSamples, k: usize, r: u8, g: u8, b: u8)
     requires { k < 64 }
-    ensures stored { stored_at plane.new k ≡ record { r = r; g = g; b = b; z = (stored_at plane.old k).z } }
+    ensures stored { stored_at plane.new k ≡
+        record { r = r; g = g; b = b; alpha = (stored_at plane.old k).alpha; z = (stored_at plane.old k).z } }
     ensures kept { (n : ℕ) → n < 64 → n ≢ k → stored_at plane.new n ≡ stored_at plane.old n }
 {
     plane.r[k] = r;
@@ -39,18 +44,45 @@ pub(crate) fn set_colour(plane: &mut BlockSamples, k: usize, r: u8, g: u8, b: u8
     plane.b[k] = b;
 }
 
-/// Stores the colour of these bytes in place of that of pixel `k` of a block.
+/// Red, green and blue of these bytes, as they are stored.
 #[inline]
-fn recolour(plane: &mut BlockSamples, k: usize, format: Format, pixel: &[u8])
-    requires index { k < 64 }
-    requires pixel { length pixel.now ≡ pixel_bytes format }
-    ensures stored { stored_at plane.new k ≡ coloured format (λ n. slice_index pixel.now n) (stored_at plane.old k) }
-    ensures kept { (n : ℕ) → n < 64 → n ≢ k → stored_at plane.new n ≡ stored_at plane.old n }
+fn colour_of(format: Format, pixel: &[u8]) -> (u8, u8, u8)
+    requires { length pixel.now ≡ pixel_bytes format }
+    ensures { result ≡ colour_in format (λ n. slice_index pixel.now n) }
 {
     match format {
-        Format::Rgb8 => set_colour(plane, k, pixel[0], pixel[1], pixel[2]),
-        Format::Rgba8 => set_colour(plane, k, pixel[0], pixel[1], pixel[2]),
-        Format::Bgra8 => set_colour(plane, k, pixel[2], pixel[1], pixel[0]),
+        Format::Rgb8 | Format::Rgba8 => (pixel[0], pixel[1], pixel[2]),
+        Format::Bgra8 => (pixel[2], pixel[1], pixel[0]),
+        Format::Rgba8Straight => multiplied_colour(pixel[0], pixel[1], pixel[2], pixel[3]),
+        Format::Bgra8Straight => multiplied_colour(pixel[2], pixel[1], pixel[0], pixel[3]),
+    }
+}
+
+/// Alpha of these bytes.
+#[inline]
+fn alpha_of(format: Format, pixel: &[u8]) -> u8
+    requires { length pixel.now ≡ pixel_bytes format }
+    ensures { result ≡ alpha_in format (λ n. slice_index pixel.now n) }
+{
+    match format {
+        Format::Rgb8 => 255,
+        Format::Rgba8 | Format::Bgra8 | Format::Rgba8Straight | Format::Bgra8Straight => pixel[3],
+    }
+}
+
+/// Stores the colour of these bytes in place of that of pixel `k` of a block.
+#[inline]
+fn recolour(plane: &mut BlockSamples, k: usize, format: Format, alpha: bool, pixel: &[u8])
+    requires index { k < 64 }
+    requires pixel { length pixel.now ≡ pixel_bytes format }
+    ensures stored { stored_at plane.new k ≡ coloured format alpha (λ n. slice_index pixel.now n)
+        (stored_at plane.old k) }
+    ensures kept { (n : ℕ) → n < 64 → n ≢ k → stored_at plane.new n ≡ stored_at plane.old n }
+{
+    let (r, g, b) = colour_of(format, pixel);
+    set_colour(plane, k, r, g, b);
+    if alpha {
+        plane.alpha[k] = alpha_of(format, pixel);
     }
 }
 
@@ -68,19 +100,30 @@ fn store_pixel(
     requires indices { (indices.first ≤ indices.end) × (indices.end ≤ count_of count) }
     requires bytes { length pixel.now ≡ pixel_bytes format }
     requires samples { length samples.old ≡ planes_of_tile count }
-    ensures pixel { (s : ℕ) → IsIndexIn indices.first indices.end s → stored_in_tile count samples.new i j s ≡ coloured format (λ k. slice_index pixel.now k) (stored_in_tile count samples.old i j s) }
-    ensures others { (column row s : ℕ) → s < count_of count → ((column % 64 ≡ i % 64) → (row % 64 ≡ j % 64) → IsIndexIn indices.first indices.end s → ⊥) → stored_in_tile count samples.new column row s ≡ stored_in_tile count samples.old column row s }
+    ensures pixel { (s : ℕ) → IsIndexIn indices.first indices.end s →
+        stored_in_tile count samples.new i j s ≡
+        coloured format indices.alpha (λ k. slice_index pixel.now k) (stored_in_tile count samples.old i j s) }
+    ensures others { (column row s : ℕ) → s < count_of count →
+        ((column % 64 ≡ i % 64) → (row % 64 ≡ j % 64) → IsIndexIn indices.first indices.end s → ⊥) →
+        stored_in_tile count samples.new column row s ≡ stored_in_tile count samples.old column row s }
 {
     fill_tile(count, samples);
     let k = (8 * (j % 8) + i % 8) as usize;
+    let place = place_in_tile(&samples[0], count, i, j, 0);
     for s in indices.first..indices.end {
-        let place = place_in_tile(&samples[0], count, i, j, s);
-        recolour(&mut samples[place], k, format, pixel);
+        recolour(
+            &mut samples[place + s as usize],
+            k,
+            format,
+            indices.alpha,
+            pixel,
+        );
     }
 }
 
 impl Canvas {
-    /// Stores the colours of these bytes in place of those of some samples of row `j` of pixels, in the planes of its tile row.
+    /// Stores the colours of these bytes in place of those of some samples of row `j` of pixels, in the planes of its
+    /// tile row.
     fn store_row(
         &self,
         j: u32,
@@ -94,7 +137,8 @@ impl Canvas {
         requires bytes { length bytes.now ≡ self.now.width * pixel_bytes format }
         requires samples { length samples.old ≡ planes_of_row self.now }
         ensures { AreChanged self.now (j / 64) (j / 64 + 1) (λ column row s. (column < self.now.width) × (row ≡ j) × IsIndexIn indices.first indices.end s)
-            (λ column row s sample. coloured format (λ k. slice_index bytes.now (column * pixel_bytes format + k)) sample) samples.old samples.new }
+            (λ column row s sample. coloured format indices.alpha (λ k. slice_index bytes.now (column * pixel_bytes format + k))
+            sample) samples.old samples.new }
     {
         let each = self.planes_of_tile();
         let unit = format.pixel_bytes();
@@ -115,7 +159,8 @@ impl Canvas {
 }
 
 impl TileRows {
-    /// Stores the colours of a picture, whose rows of pixels these are, in place of those of some samples of its pixels.
+    /// Stores the colours of a picture, whose rows of pixels these are, in place of those of some samples of its
+    /// pixels.
     fn store_rows(
         &self,
         rows: &PixelRows,
@@ -124,11 +169,14 @@ impl TileRows {
         format: Format,
         samples: &mut [BlockSamples],
     )
-        requires rows { (rows.now.tile_rows ≡ self.now) × (rows.now.unit ≡ pixel_bytes format) × (rows.now.size ≡ length bytes.now) }
+        requires rows { (rows.now.tile_rows ≡ self.now) × (rows.now.unit ≡ pixel_bytes format) ×
+            (rows.now.size ≡ length bytes.now) }
         requires indices { (indices.first ≤ indices.end) × (indices.end ≤ count_of self.now.canvas.count) }
         requires samples { length samples.old ≡ planes_of_rows self.now.canvas self.now.first self.now.end }
         ensures { AreChanged self.now.canvas self.now.first self.now.end (λ i j s. HasPixel self.now.canvas self.now.first self.now.end i j × IsIndexIn indices.first indices.end s)
-            (λ i j s sample. coloured format (λ k. slice_index bytes.now (entry_of self.now.first (pixel_bytes format) rows.now.stride i j + k)) sample) samples.old samples.new }
+            (λ i j s sample. coloured format indices.alpha
+            (λ k. slice_index bytes.now (entry_of self.now.first (pixel_bytes format) rows.now.stride i j + k)) sample)
+            samples.old samples.new }
     {
         for index in 0..rows.count() {
             let row = rows.row(index);
@@ -148,11 +196,14 @@ impl TileRows {
         bytes: &[u8],
         format: Format,
         stride: usize,
+        alpha: bool,
         samples: &mut [BlockSamples],
     ) -> Result<(), Misfit>
         requires { length samples.old ≡ planes_of_rows self.now.canvas self.now.first self.now.end }
-        ensures fits { IsOk result ↔ IsLargeEnough self.now.canvas self.now.first self.now.end (pixel_bytes format) stride (length bytes.now) }
-        ensures loaded { OnOk result (AreLoaded self.now.canvas self.now.first self.now.end bytes.now format stride samples.old samples.new) }
+        ensures fits { IsOk result ↔ IsLargeEnough self.now.canvas self.now.first self.now.end (pixel_bytes format)
+            stride (length bytes.now) }
+        ensures loaded { OnOk result (AreLoaded self.now.canvas self.now.first self.now.end bytes.now format stride
+            alpha samples.old samples.new) }
         ensures unfit { OnErr result (samples.new ≡ samples.old) }
         ensures reason { IfErr result (λ misfit. misfit ≡ Misfit.Pixels) }
     {
@@ -160,6 +211,7 @@ impl TileRows {
         let all = Indices {
             first: 0,
             end: self.canvas.count.count(),
+            alpha,
         };
         self.store_rows(&rows, all, bytes, format, samples);
         Ok(())
@@ -172,18 +224,23 @@ impl TileRows {
         bytes: &[u8],
         format: Format,
         stride: usize,
+        alpha: bool,
         samples: &mut [BlockSamples],
     ) -> Result<(), Misfit>
         requires { length samples.old ≡ planes_of_rows self.now.canvas self.now.first self.now.end }
-        ensures fits { IsOk result ↔ FitEntries self.now.canvas self.now.first self.now.end s (pixel_bytes format) stride (length bytes.now) }
-        ensures stored { OnOk result (AreStored self.now.canvas self.now.first self.now.end s bytes.now format stride samples.old samples.new) }
+        ensures fits { IsOk result ↔ FitEntries self.now.canvas self.now.first self.now.end s (pixel_bytes format)
+            stride (length bytes.now) }
+        ensures stored { OnOk result (AreStored self.now.canvas self.now.first self.now.end s bytes.now format stride
+            alpha samples.old samples.new) }
         ensures unfit { OnErr result (samples.new ≡ samples.old) }
-        ensures reason { IfErr result (IsEntriesMisfit self.now.canvas self.now.first self.now.end s (pixel_bytes format) stride (length bytes.now)) }
+        ensures reason { IfErr result (IsEntriesMisfit self.now.canvas self.now.first self.now.end s
+            (pixel_bytes format) stride (length bytes.now)) }
     {
         let rows = self.entry_rows(s, format.pixel_bytes(), stride, bytes.len())?;
         let one = Indices {
             first: s,
             end: s + 1,
+            alpha,
         };
         self.store_rows(&rows, one, bytes, format, samples);
         Ok(())
@@ -191,36 +248,51 @@ impl TileRows {
 }
 
 impl Piece<'_> {
-    /// Stores a picture in place of the colours: all samples of each pixel of the picture in these tile rows have the colour of the
-    /// pixel's bytes, which are laid out as `View::resolve` writes them. Depths are unchanged, and alpha is not read.
-    pub fn load(&mut self, bytes: &[u8], format: Format, stride: usize) -> Result<(), Misfit>
-        ensures fits { IsOk result ↔ IsLargeEnough self.old.rows.canvas self.old.rows.first self.old.rows.end (pixel_bytes format) stride (length bytes.now) }
-        ensures loaded { OnOk result (AreLoaded self.old.rows.canvas self.old.rows.first self.old.rows.end bytes.now format stride self.old.planes.now self.new.planes.now) }
+    /// Stores a picture in place of the colours: all samples of each pixel of the picture in these tile rows have the
+    /// colour of the pixel's bytes, which are laid out as `View::resolve` writes them. Depths are unchanged. With
+    /// `alpha` they have the alpha of the bytes too, 255 if the format has none; else alpha is unchanged.
+    pub fn load(
+        &mut self,
+        bytes: &[u8],
+        format: Format,
+        stride: usize,
+        alpha: bool,
+    ) -> Result<(), Misfit>
+        ensures fits { IsOk result ↔ IsLargeEnough self.old.rows.canvas self.old.rows.first self.old.rows.end
+            (pixel_bytes format) stride (length bytes.now) }
+        ensures loaded { OnOk result (AreLoaded self.old.rows.canvas self.old.rows.first self.old.rows.end bytes.now
+            format stride alpha self.old.planes.now self.new.planes.now) }
         ensures unfit { OnErr result (self.new.planes.now ≡ self.old.planes.now) }
         ensures reason { IfErr result (λ misfit. misfit ≡ Misfit.Pixels) }
         ensures rows { self.new.rows ≡ self.old.rows }
         ensures same { self.new.planes.ghost_name ≡ self.old.planes.ghost_name }
     {
-        self.rows.load_all(bytes, format, stride, self.planes)
+        self.rows
+            .load_all(bytes, format, stride, alpha, self.planes)
     }
 
-    /// Stores a picture in place of the colours of one sample index: sample `s` of each pixel of the picture in these tile rows has the
-    /// colour of the pixel's bytes, which are laid out as `View::colors` writes them. Depths and all other samples are unchanged, and alpha is
-    /// not read.
+    /// Stores a picture in place of the colours of one sample index: sample `s` of each pixel of the picture in these
+    /// tile rows has the colour of the pixel's bytes, which are laid out as `View::colors` writes them. Depths and all
+    /// other samples are unchanged. With `alpha` it has the alpha of the bytes too, as by `load`.
     pub fn store(
         &mut self,
         s: u32,
         bytes: &[u8],
         format: Format,
         stride: usize,
+        alpha: bool,
     ) -> Result<(), Misfit>
-        ensures fits { IsOk result ↔ FitEntries self.old.rows.canvas self.old.rows.first self.old.rows.end s (pixel_bytes format) stride (length bytes.now) }
-        ensures stored { OnOk result (AreStored self.old.rows.canvas self.old.rows.first self.old.rows.end s bytes.now format stride self.old.planes.now self.new.planes.now) }
+        ensures fits { IsOk result ↔ FitEntries self.old.rows.canvas self.old.rows.first self.old.rows.end s
+            (pixel_bytes format) stride (length bytes.now) }
+        ensures stored { OnOk result (AreStored self.old.rows.canvas self.old.rows.first self.old.rows.end s bytes.now
+            format stride alpha self.old.planes.now self.new.planes.now) }
         ensures unfit { OnErr result (self.new.planes.now ≡ self.old.planes.now) }
-        ensures reason { IfErr result (IsEntriesMisfit self.old.rows.canvas self.old.rows.first self.old.rows.end s (pixel_bytes format) stride (length bytes.now)) }
+        ensures reason { IfErr result (IsEntriesMisfit self.old.rows.canvas self.old.rows.first self.old.rows.end s
+            (pixel_bytes format) stride (length bytes.now)) }
         ensures rows { self.new.rows ≡ self.old.rows }
         ensures same { self.new.planes.ghost_name ≡ self.old.planes.ghost_name }
     {
-        self.rows.store_all(s, bytes, format, stride, self.planes)
+        self.rows
+            .store_all(s, bytes, format, stride, alpha, self.planes)
     }
 }

@@ -17,7 +17,8 @@ use raster::{Tile, draw_triangle};
 use reach::{Bounds, NOWHERE, Spans, next_bit};
 use shade::Triangles;
 
-/// Draws those of sixteen triangles of a tile row, from place `from` of its list on, that can meet the tile, one after another.
+/// Draws those of sixteen triangles of a tile row, from place `from` of its list on, that can meet the tile, one after
+/// another.
 fn draw_some<T: Triangles, const N: usize>(
     triangles: &T,
     list: &RowList<N>,
@@ -32,10 +33,12 @@ fn draw_some<T: Triangles, const N: usize>(
     requires from { from < list.now.count }
     requires column { column < 64 }
     requires below { (p : ℕ) → p < list.now.count → slice_index list.now.numbers p < length (T.listed triangles.now) }
-    requires columns { AreOfTile (T.listed triangles.now) list.now.numbers list.now.columns.firsts list.now.columns.ends list.now.count column tile.now }
+    requires columns { AreOfTile (T.listed triangles.now) list.now.numbers list.now.columns.firsts list.now.columns.ends
+        list.now.count column tile.now }
     requires samples { length samples.old ≡ planes_of tile.now.side tile.now.count }
     ensures { (none : Placed) (start : List Planes) → TileHasEnds (take from (numbered (T.listed triangles.now) none (take list.now.count list.now.numbers))) tile.now start samples.old
-        → TileHasEnds (take (from + 16) (numbered (T.listed triangles.now) none (take list.now.count list.now.numbers))) tile.now start samples.new }
+        → TileHasEnds (take (from + 16) (numbered (T.listed triangles.now) none (take list.now.count list.now.numbers)))
+        tile.now start samples.new }
 {
     let many = (list.count - from).min(16);
     let having = list.columns.having(from, column);
@@ -67,8 +70,10 @@ impl Canvas {
         requires fits { list.now.count ≤ N }
         requires whole { N % 16 ≡ 0 }
         requires few { N ≤ 65536 }
-        requires list { AreOfRow (T.listed triangles.now) self.now row (length (T.listed triangles.now)) list.now.numbers list.now.columns.firsts list.now.columns.ends list.now.count list.now.span }
-        requires tile { (tile.now.bx ≡ 8 * column) × (tile.now.by ≡ 8 * row) × (tile.now.side ≡ T64) × (tile.now.count ≡ self.now.count) }
+        requires list { AreOfRow (T.listed triangles.now) self.now row (length (T.listed triangles.now))
+            list.now.numbers list.now.columns.firsts list.now.columns.ends list.now.count list.now.span }
+        requires tile { (tile.now.bx ≡ 8 * column) × (tile.now.by ≡ 8 * row) × (tile.now.side ≡ T64) ×
+            (tile.now.count ≡ self.now.count) }
         requires samples { length samples.old ≡ planes_of_tile self.now.count }
         ensures { TileEnds (T.listed triangles.now) tile.now samples.old samples.new }
     {
@@ -93,7 +98,8 @@ impl Canvas {
         requires fits { list.now.count ≤ N }
         requires whole { N % 16 ≡ 0 }
         requires few { N ≤ 65536 }
-        requires list { AreOfRow (T.listed triangles.now) self.now row (length (T.listed triangles.now)) list.now.numbers list.now.columns.firsts list.now.columns.ends list.now.count list.now.span }
+        requires list { AreOfRow (T.listed triangles.now) self.now row (length (T.listed triangles.now))
+            list.now.numbers list.now.columns.firsts list.now.columns.ends list.now.count list.now.span }
         requires samples { length samples.old ≡ planes_of_row self.now }
         ensures { HaveEnds (T.listed triangles.now) self.now row (row + 1) samples.old samples.new }
     {

@@ -1,5 +1,6 @@
 //! Tile rows with the memory of their samples.
 ghost use Rattle.std.specs.Prelude.{◌≡◌, ◌↔◌, length, IsTrue};
+ghost use Rattle.shade.specs.Canvas.{with_alpha};
 ghost use Rattle.canvas.specs.Layout.{planes_of_rows};
 ghost use Rattle.canvas.specs.Drawing.{AreCleared, HaveEnds};
 
@@ -40,19 +41,22 @@ impl TileRows {
 }
 
 impl Piece<'_> {
-    /// Makes each sample of these tile rows the given one.
-    pub fn clear(&mut self, sample: Sample)
-        ensures cleared { AreCleared self.old.rows.canvas self.old.rows.first self.old.rows.end sample self.new.planes.now }
+    /// Makes each sample of these tile rows the given one, with this alpha if alpha is stored.
+    pub fn clear(&mut self, sample: Sample, alpha: u8)
+        ensures cleared { AreCleared self.old.rows.canvas self.old.rows.first self.old.rows.end
+            (with_alpha sample alpha) self.new.planes.now }
         ensures rows { self.new.rows ≡ self.old.rows }
         ensures same { self.new.planes.ghost_name ≡ self.old.planes.ghost_name }
     {
-        self.rows.clear_all(sample, self.planes);
+        self.rows.clear_all(sample, alpha, self.planes);
     }
 
-    /// Draws the triangles of a source at each sample of these tile rows, one after another: what stood there is what they begin with. So
-    /// the picture of many calls is that of all their triangles in the order of the calls (`joins_batches`).
+    /// Draws the triangles of a source at each sample of these tile rows, one after another: what stood there is what
+    /// they begin with. So the picture of many calls is that of all their triangles in the order of the calls
+    /// (`joins_batches`).
     pub fn draw<T: Triangles>(&mut self, triangles: &T)
-        ensures drawn { HaveEnds (T.listed triangles.now) self.old.rows.canvas self.old.rows.first self.old.rows.end self.old.planes.now self.new.planes.now }
+        ensures drawn { HaveEnds (T.listed triangles.now) self.old.rows.canvas self.old.rows.first self.old.rows.end
+            self.old.planes.now self.new.planes.now }
         ensures rows { self.new.rows ≡ self.old.rows }
         ensures same { self.new.planes.ghost_name ≡ self.old.planes.ghost_name }
     {

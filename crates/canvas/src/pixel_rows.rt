@@ -46,7 +46,8 @@ impl PixelRows {
     #[inline]
     pub(crate) fn row(&self, index: u32) -> PixelRow
         requires { index < shown_rows self.now.tile_rows.canvas self.now.tile_rows.first self.now.tile_rows.end }
-        ensures { IsPixelRow self.now.tile_rows.canvas self.now.tile_rows.first self.now.tile_rows.end self.now.unit self.now.stride self.now.size index result }
+        ensures { IsPixelRow self.now.tile_rows.canvas self.now.tile_rows.first self.now.tile_rows.end self.now.unit
+            self.now.stride self.now.size index result }
     {
         let canvas = &self.tile_rows.canvas;
         let each = canvas.planes_of_row();
@@ -75,7 +76,8 @@ impl TileRows {
             .saturating_sub(64 * self.first)
     }
 
-    /// Whether a slice of this size holds the rows of pixels, of `unit` entries a pixel, which begin `stride` entries behind each other.
+    /// Whether a slice of this size holds the rows of pixels, of `unit` entries a pixel, which begin `stride` entries
+    /// behind each other.
     pub(crate) fn is_large_enough(&self, unit: usize, stride: usize, size: usize) -> bool
         requires { unit ≤ 4 }
         ensures { IsTrue result ↔ IsLargeEnough self.now.canvas self.now.first self.now.end unit stride size }
@@ -85,8 +87,8 @@ impl TileRows {
         width <= stride && rows + width as u128 <= size as u128 + stride as u128
     }
 
-    /// The rows of pixels in a slice of `size` entries, `unit` of them a pixel, in which each row begins `stride` entries behind the one
-    /// above. Returns `Pixels` if the slice does not hold them.
+    /// The rows of pixels in a slice of `size` entries, `unit` of them a pixel, in which each row begins `stride`
+    /// entries behind the one above. Returns `Pixels` if the slice does not hold them.
     pub(crate) fn pixel_rows(
         &self,
         unit: usize,
@@ -95,7 +97,8 @@ impl TileRows {
     ) -> Result<PixelRows, Misfit>
         requires { unit ≤ 4 }
         ensures fits { IsOk result ↔ IsLargeEnough self.now.canvas self.now.first self.now.end unit stride size }
-        ensures rows { IfOk result (λ found. (found.tile_rows ≡ self.now) × (found.unit ≡ unit) × (found.stride ≡ stride) × (found.size ≡ size)) }
+        ensures rows { IfOk result (λ found. (found.tile_rows ≡ self.now) × (found.unit ≡ unit) ×
+            (found.stride ≡ stride) × (found.size ≡ size)) }
         ensures reason { IfErr result (λ misfit. misfit ≡ Misfit.Pixels) }
     {
         if !self.is_large_enough(unit, stride, size) {
@@ -119,7 +122,8 @@ impl TileRows {
     ) -> Result<PixelRows, Misfit>
         requires { unit ≤ 4 }
         ensures fits { IsOk result ↔ FitEntries self.now.canvas self.now.first self.now.end s unit stride size }
-        ensures rows { IfOk result (λ found. (found.tile_rows ≡ self.now) × (found.unit ≡ unit) × (found.stride ≡ stride) × (found.size ≡ size)) }
+        ensures rows { IfOk result (λ found. (found.tile_rows ≡ self.now) × (found.unit ≡ unit) ×
+            (found.stride ≡ stride) × (found.size ≡ size)) }
         ensures reason { IfErr result (IsEntriesMisfit self.now.canvas self.now.first self.now.end s unit stride size) }
     {
         if self.canvas.count.count() <= s {

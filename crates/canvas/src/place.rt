@@ -32,15 +32,17 @@ pub(crate) fn place_in_tile(
 }
 
 impl Canvas {
-    /// The index of the plane of sample `s` of pixel (i, j) among those of its tile row. The pixels to its right in its block have theirs there
-    /// too.
+    /// The index of the plane of sample `s` of pixel (i, j) among those of its tile row. The pixels to its right in its
+    /// block have theirs there too.
     #[inline]
     pub(crate) fn place(&self, samples: &[BlockSamples], i: u32, j: u32, s: u32) -> usize
         requires column { i / 64 < columns_of self.now }
         requires sample { s < count_of self.now.count }
         requires samples { length samples.now ≡ planes_of_row self.now }
         ensures within { result < planes_of_row self.now }
-        ensures stored { (k : ℕ) → i % 8 + k < 8 → stored_at (slice_index_or samples.now result (record { z = []; r = []; g = []; b = [] })) (8 * (j % 8) + (i % 8 + k)) ≡ stored self.now (j / 64) samples.now (i + k) j s }
+        ensures stored { (k : ℕ) → i % 8 + k < 8 →
+            stored_at (slice_index_or samples.now result (record { z = []; r = []; g = []; b = []; alpha = [] }))
+            (8 * (j % 8) + (i % 8 + k)) ≡ stored self.now (j / 64) samples.now (i + k) j s }
     {
         let first = (i / 64) as usize * self.planes_of_tile();
         first + place_in_tile(&samples[first], self.count, i, j, s)

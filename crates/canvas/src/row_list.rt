@@ -9,8 +9,8 @@ use crate::canvas::Canvas;
 use reach::{Bounds, NOWHERE, Span, Spans, next_bit};
 use shade::Triangles;
 
-/// The numbers of those of up to `N` triangles that can meet a sample of a tile row, in draw order, each with the columns of tiles
-/// in which it can.
+/// The numbers of those of up to `N` triangles that can meet a sample of a tile row, in draw order, each with the
+/// columns of tiles in which it can.
 #[derive(Drop)]
 pub(crate) struct RowList<const N: usize> {
     pub(crate) numbers: [u16; N],
@@ -31,12 +31,16 @@ impl<const N: usize> RowList<N> {
         requires end { columns.end ≤ 255 }
         ensures count { self.new.count ≡ self.old.count + 1 }
         ensures last { slice_index self.new.numbers self.old.count ≡ number }
-        ensures numbers { (n : ℕ) → n ≢ self.old.count → slice_index self.new.numbers n ≡ slice_index self.old.numbers n }
-        ensures number { take (self.old.count + 1) self.new.numbers ≡ take self.old.count self.old.numbers ++ number ∷ [] }
+        ensures numbers { (n : ℕ) → n ≢ self.old.count → slice_index self.new.numbers n ≡
+            slice_index self.old.numbers n }
+        ensures number { take (self.old.count + 1) self.new.numbers ≡
+            take self.old.count self.old.numbers ++ number ∷ [] }
         ensures first { slice_index self.new.columns.firsts self.old.count ≡ columns.first }
         ensures end { slice_index self.new.columns.ends self.old.count ≡ columns.end }
-        ensures firsts { (n : ℕ) → n ≢ self.old.count → slice_index self.new.columns.firsts n ≡ slice_index self.old.columns.firsts n }
-        ensures ends { (n : ℕ) → n ≢ self.old.count → slice_index self.new.columns.ends n ≡ slice_index self.old.columns.ends n }
+        ensures firsts { (n : ℕ) → n ≢ self.old.count → slice_index self.new.columns.firsts n ≡
+            slice_index self.old.columns.firsts n }
+        ensures ends { (n : ℕ) → n ≢ self.old.count → slice_index self.new.columns.ends n ≡
+            slice_index self.old.columns.ends n }
         ensures span { (n : ℕ) → IsInSpan columns n → IsInSpan self.new.span n }
         ensures kept { (n : ℕ) → IsInSpan self.old.span n → IsInSpan self.new.span n }
     {
@@ -62,12 +66,15 @@ impl<const N: usize> RowList<N> {
         requires whole { N % 16 ≡ 0 }
         requires place { from % 16 ≡ 0 }
         requires from { from < length (T.listed triangles.now) }
-        requires bounds { AreBounds (T.listed triangles.now) (length (T.listed triangles.now)) bounds.now.columns.firsts bounds.now.columns.ends bounds.now.rows.firsts bounds.now.rows.ends bounds.now.span }
+        requires bounds { AreBounds (T.listed triangles.now) (length (T.listed triangles.now)) bounds.now.columns.firsts
+            bounds.now.columns.ends bounds.now.rows.firsts bounds.now.rows.ends bounds.now.span }
         requires count { self.old.count ≤ from }
-        requires before { AreOfRow (T.listed triangles.now) canvas.now row from self.old.numbers self.old.columns.firsts self.old.columns.ends self.old.count self.old.span }
+        requires before { AreOfRow (T.listed triangles.now) canvas.now row from self.old.numbers self.old.columns.firsts
+            self.old.columns.ends self.old.count self.old.span }
         ensures count { self.new.count ≤ from + 16 }
         ensures fits { self.new.count ≤ N }
-        ensures after { AreOfRow (T.listed triangles.now) canvas.now row (from + 16) self.new.numbers self.new.columns.firsts self.new.columns.ends self.new.count self.new.span }
+        ensures after { AreOfRow (T.listed triangles.now) canvas.now row (from + 16) self.new.numbers
+            self.new.columns.firsts self.new.columns.ends self.new.count self.new.span }
     {
         let many = (triangles.count() - from).min(16);
         let having = bounds.rows.having(from, row);
@@ -95,9 +102,11 @@ impl<const N: usize> RowList<N> {
         requires few { length (T.listed triangles.now) ≤ N }
         requires most { N ≤ 65536 }
         requires whole { N % 16 ≡ 0 }
-        requires bounds { AreBounds (T.listed triangles.now) (length (T.listed triangles.now)) bounds.now.columns.firsts bounds.now.columns.ends bounds.now.rows.firsts bounds.now.rows.ends bounds.now.span }
+        requires bounds { AreBounds (T.listed triangles.now) (length (T.listed triangles.now)) bounds.now.columns.firsts
+            bounds.now.columns.ends bounds.now.rows.firsts bounds.now.rows.ends bounds.now.span }
         ensures fits { self.new.count ≤ N }
-        ensures row { AreOfRow (T.listed triangles.now) canvas.now row (length (T.listed triangles.now)) self.new.numbers self.new.columns.firsts self.new.columns.ends self.new.count self.new.span }
+        ensures row { AreOfRow (T.listed triangles.now) canvas.now row (length (T.listed triangles.now))
+            self.new.numbers self.new.columns.firsts self.new.columns.ends self.new.count self.new.span }
     {
         self.count = 0;
         self.span = NOWHERE;

@@ -4,14 +4,16 @@ ghost use Rattle.grid.specs.Samples.{count_of};
 ghost use Rattle.canvas.specs.Layout.{HasPixel, stored};
 
 use crate::view::View;
-use shade::Sample;
+use shade::CanvasSample;
 
 impl View<'_> {
-    /// Returns sample `s` of pixel (i, j). Returns `None` if the pixel is not in the picture or not in these tile rows, or if a pixel has no
-    /// such sample.
-    pub fn sample(&self, i: u32, j: u32, s: u32) -> Option<Sample>
-        ensures some { IsSome result ↔ (HasPixel self.now.rows.canvas self.now.rows.first self.now.rows.end i j × (s < count_of self.now.rows.canvas.count)) }
-        ensures value { IfSome result (λ sample. sample ≡ stored self.now.rows.canvas self.now.rows.first self.now.planes.now i j s) }
+    /// Returns sample `s` of pixel (i, j). Returns `None` if the pixel is not in the picture or not in these tile rows,
+    /// or if a pixel has no such sample.
+    pub fn sample(&self, i: u32, j: u32, s: u32) -> Option<CanvasSample>
+        ensures some { IsSome result ↔ (HasPixel self.now.rows.canvas self.now.rows.first self.now.rows.end i j ×
+            (s < count_of self.now.rows.canvas.count)) }
+        ensures value { IfSome result (λ sample. sample ≡
+            stored self.now.rows.canvas self.now.rows.first self.now.planes.now i j s) }
     {
         let canvas = &self.rows.canvas;
         if !self.rows.has_pixel(i, j) || canvas.count.count() <= s {

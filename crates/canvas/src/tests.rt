@@ -1,11 +1,11 @@
-//! Pictures of many triangles compared with the definition, drawn sample by sample: batches, pieces, formats, strides, ids, and
-//! calls that do nothing.
+//! Pictures of many triangles compared with the definition, drawn sample by sample: batches, pieces, formats, strides,
+//! ids, and calls that do nothing.
 use crate::{Canvas, Format, Ids, Indexed, Misfit, Origin, Piece, TileRows, Vertex, View, Window};
 use grid::{Cull, PixelBox, Point, SampleCount, Tri, sample_at};
 use lanes::BlockSamples;
 use shade::{
-    Blend, BlendFactor, BlendOperation, DepthTest, Equation, MAX_SAMPLES, Merge, Placed, Sample,
-    State, Stored, apply, resolved_colour,
+    Blend, BlendFactor, BlendOperation, CanvasSample, DepthTest, Equation, MAX_SAMPLES, Merge,
+    Placed, Sample, State, Stored, apply_on_canvas, resolved_colour,
 };
 use std::alloc::Global;
 use std::process::Abort;
@@ -18,6 +18,9 @@ const CLEAR: Sample = Sample {
     b: 30,
     z: 60000,
 };
+
+/// The alpha to which it is cleared.
+const CLEAR_ALPHA: u8 = 40;
 
 /// A byte that no test expects to be written.
 const UNTOUCHED: u8 = 77;
@@ -100,6 +103,13 @@ impl Numbers {
 
     /// A blend state: three times in four one that has a name, else any.
     fn blend(&mut self) -> Blend {
+        Blend {
+            write_alpha: self.next() % 4 != 0,
+            ..self.named_blend()
+        }
+    }
+
+    fn named_blend(&mut self) -> Blend {
         match self.next() % 8 {
             0 => Blend::NONE,
             1 => Blend::OVER,
@@ -111,6 +121,7 @@ impl Numbers {
                 colour: self.equation(),
                 alpha: self.equation(),
                 constant: [self.byte(), self.byte(), self.byte(), self.byte()],
+                write_alpha: false,
             },
         }
     }
@@ -172,7 +183,14 @@ fn placed(a: &Vertex, b: &Vertex, c: &Vertex, state: State) -> Placed {
 }
 
 /// Sample `s` of pixel (i, j) of the screen after the triangle.
-fn drawn(triangle: &Placed, count: SampleCount, i: u32, j: u32, s: u32, stored: Sample) -> Sample {
+fn drawn(
+    triangle: &Placed,
+    count: SampleCount,
+    i: u32,
+    j: u32,
+    s: u32,
+    stored: CanvasSample,
+) -> CanvasSample {
     let state = triangle.state;
     if i >= 4096 || j >= 4096 || s >= count.count() {
         return stored;
@@ -183,20 +201,20 @@ fn drawn(triangle: &Placed, count: SampleCount, i: u32, j: u32, s: u32, stored: 
         return stored;
     }
     let fragment = triangle.fragment(sample_at(i, j, s, count));
-    apply(&state.merge, &fragment, stored)
+    apply_on_canvas(&state.merge, &fragment, stored)
 }
 
 /// Sample `s` of pixel (i, j) of the screen after all triangles, from the clear sample on.
-fn end_at(triangles: &[Placed], count: SampleCount, i: u32, j: u32, s: u32) -> Sample {
-    let mut sample = CLEAR;
+fn end_at(triangles: &[Placed], count: SampleCount, i: u32, j: u32, s: u32) -> CanvasSample {
+    let mut sample = CLEAR.with_alpha(CLEAR_ALPHA);
     for triangle in triangles {
         sample = drawn(triangle, count, i, j, s, sample);
     }
     sample
 }
 
-/// Whether each sample of a canvas at the origin, of the pixels that are compared and lie on the screen, is what the triangles make
-/// of the clear sample there.
+/// Whether each sample of a canvas at the origin, of the pixels that are compared and lie on the screen, is what the
+/// triangles make of the clear sample there.
 fn are_ends_from(origin: Origin, view: View<'_>, triangles: &[Placed]) -> bool {
     let canvas = view.rows.canvas;
     for j in 0..canvas.height {
@@ -233,7 +251,7 @@ fn are_ends(view: View<'_>, triangles: &[Placed]) -> bool {
 fn cleared(alloc: Global, rows: &TileRows) -> Result<Vec<BlockSamples>, Fail> {
     let mut samples = Vec::new(alloc);
     for _ in 0..rows.planes() {
-        samples.push(BlockSamples::filled(CLEAR))?;
+        samples.push(BlockSamples::filled(CLEAR, CLEAR_ALPHA))?;
     }
     Ok(samples)
 }
@@ -313,12 +331,14 @@ fn covering(rt: &impl Abort) -> Placed {
     }
 }
 
-/// Whether a batch in which one triangle hides those before it ends as its triangles are defined. With `depths` one of these writes depths.
+/// Whether a batch in which one triangle hides those before it ends as its triangles are defined. With `depths` one of
+/// these writes depths, and with `alpha` the one that hides them writes alpha.
 fn draws_hidden(
     rt: &impl Abort,
     alloc: Global,
     count: SampleCount,
     depths: bool,
+    alpha: bool,
 ) -> Result<bool, Fail> {
     let rows = canvas(rt, count).all();
     let mut numbers = Numbers { state: 31 };
@@ -328,7 +348,9 @@ fn draws_hidden(
         triangle.state.merge.depth_write = depths && k == 7;
         triangles.push(triangle)?;
     }
-    triangles.push(covering(rt))?;
+    let mut over = covering(rt);
+    over.state.merge.blend.write_alpha = alpha;
+    triangles.push(over)?;
     for _ in 0..10 {
         triangles.push(numbers.triangle(rt))?;
     }
@@ -340,8 +362,10 @@ fn draws_hidden(
 #[test]
 fn leaves_out_what_a_later_triangle_hides(rt: HostRuntime) -> Result<(), Fail> {
     for count in [SampleCount::One, SampleCount::Four, SampleCount::Eight] {
-        assert!(rt; draws_hidden(&rt, rt.alloc(), count, false)?);
-        assert!(rt; draws_hidden(&rt, rt.alloc(), count, true)?);
+        assert!(rt; draws_hidden(&rt, rt.alloc(), count, false, false)?);
+        assert!(rt; draws_hidden(&rt, rt.alloc(), count, false, true)?);
+        assert!(rt; draws_hidden(&rt, rt.alloc(), count, true, false)?);
+        assert!(rt; draws_hidden(&rt, rt.alloc(), count, true, true)?);
     }
     Ok(())
 }
@@ -394,13 +418,21 @@ fn has_no_window_that_leaves_the_guard_band(rt: HostRuntime) -> Result<(), Fail>
     Ok(())
 }
 
-/// Red, green and blue of pixel (i, j) after the triangles, resolved from its samples.
-fn colour_at(triangles: &[Placed], count: SampleCount, i: u32, j: u32) -> [u8; 3] {
-    let mut ends = [CLEAR; MAX_SAMPLES];
-    for (s, end) in (0..count.count()).zip(ends.iter_mut()) {
-        *end = end_at(triangles, count, i, j, s);
+/// Red, green, blue and alpha of pixel (i, j) after the triangles, resolved from its samples.
+fn colour_at(triangles: &[Placed], count: SampleCount, i: u32, j: u32) -> [u8; 4] {
+    let mut colours = [CLEAR; MAX_SAMPLES];
+    let mut alphas = [CLEAR; MAX_SAMPLES];
+    for (s, (colour, alpha)) in (0..count.count()).zip(colours.iter_mut().zip(alphas.iter_mut())) {
+        let end = end_at(triangles, count, i, j, s);
+        *colour = end.colour_and_depth();
+        *alpha = Sample {
+            r: end.alpha,
+            ..CLEAR
+        };
     }
-    resolved_colour(&ends, count)
+    let [r, g, b] = resolved_colour(&colours, count);
+    let [a, _, _] = resolved_colour(&alphas, count);
+    [r, g, b, a]
 }
 
 /// The byte of a channel of pixel (i, j), or the unchanged one after the end of a row.
@@ -415,16 +447,17 @@ fn byte_at(
     if i >= canvas.width {
         return UNTOUCHED;
     }
-    let [r, g, b] = colour_at(triangles, canvas.count, i, j);
+    let [r, g, b, a] = colour_at(triangles, canvas.count, i, j);
     match (format, channel) {
         (Format::Rgb8, 0) | (Format::Rgba8, 0) | (Format::Bgra8, 2) => r,
         (Format::Rgb8, 1) | (Format::Rgba8, 1) | (Format::Bgra8, 1) => g,
         (Format::Rgb8, 2) | (Format::Rgba8, 2) | (Format::Bgra8, 0) => b,
-        _ => 255,
+        _ => a,
     }
 }
 
-/// Whether the bytes are the picture, row after row of 75 pixels, of which those to the right of the picture are unchanged.
+/// Whether the bytes are the picture, row after row of 75 pixels, of which those to the right of the picture are
+/// unchanged.
 fn are_resolved(triangles: &[Placed], canvas: &Canvas, format: Format, bytes: &[u8]) -> bool {
     let mut rest = bytes.iter();
     for j in 0..canvas.height {
@@ -450,8 +483,8 @@ fn untouched(alloc: Global, size: usize) -> Result<Vec<u8>, Fail> {
     Ok(bytes)
 }
 
-/// Whether a picture in the format is resolved as it is defined, and nothing outside of it is written; and whether a canvas onto
-/// which that picture is loaded resolves to it.
+/// Whether a picture in the format is resolved as it is defined, and nothing outside of it is written; and whether a
+/// canvas onto which that picture is loaded resolves to it.
 fn resolves(
     rt: &impl Abort,
     alloc: Global,
@@ -467,7 +500,7 @@ fn resolves(
     let mut bytes = untouched(alloc, stride * 66)?;
     let resolved = view(rt, &rows, &samples).resolve(&mut bytes, format, stride);
     let mut other = cleared(alloc, &rows)?;
-    let loaded = piece(rt, &rows, &mut other).load(&bytes, format, stride);
+    let loaded = piece(rt, &rows, &mut other).load(&bytes, format, stride, true);
     let mut again = untouched(alloc, stride * 66)?;
     let returned = view(rt, &rows, &other).resolve(&mut again, format, stride);
     let done = resolved.is_ok() && loaded.is_ok() && returned.is_ok();
@@ -513,7 +546,7 @@ fn resolves_pieces_to_the_bytes_of_the_whole(rt: HostRuntime) -> Result<(), Fail
 
 /// The place in the list of the last triangle that changes the sample.
 fn last_at(triangles: &[Placed], count: SampleCount, i: u32, j: u32, s: u32) -> Option<u32> {
-    let (mut sample, mut last, mut place) = (CLEAR, None, 0u32);
+    let (mut sample, mut last, mut place) = (CLEAR.with_alpha(CLEAR_ALPHA), None, 0u32);
     for triangle in triangles {
         let mut marked = *triangle;
         marked.state.merge = Merge {
@@ -523,10 +556,11 @@ fn last_at(triangles: &[Placed], count: SampleCount, i: u32, j: u32, s: u32) -> 
             blend: Blend::NONE,
         };
         marked.rgba = [[255, 255, 255, 255]; 3];
-        let before = Sample {
+        let before = CanvasSample {
             r: 0,
             g: 0,
             b: 0,
+            alpha: 0,
             z: sample.z,
         };
         let after = drawn(&marked, count, i, j, s, before);
@@ -620,8 +654,8 @@ fn clears_each_sample(rt: HostRuntime) -> Result<(), Fail> {
         b: 3,
         z: 4,
     };
-    piece(&rt, &rows, &mut samples).clear(sample);
-    assert!(rt; view(&rt, &rows, &samples).sample(69, 65, 1) == Some(sample));
+    piece(&rt, &rows, &mut samples).clear(sample, 5);
+    assert!(rt; view(&rt, &rows, &samples).sample(69, 65, 1) == Some(sample.with_alpha(5)));
     Ok(())
 }
 
@@ -639,7 +673,7 @@ fn does_nothing_where_sizes_do_not_fit(rt: HostRuntime) -> Result<(), Fail> {
     assert_eq!(rt; narrow, Err(Misfit::Pixels));
     let long = view(&rt, &rows, &samples).resolve(&mut bytes, Format::Rgb8, 211);
     assert_eq!(rt; long, Err(Misfit::Pixels));
-    let wide = piece(&rt, &rows, &mut samples).load(&bytes, Format::Rgba8, 280);
+    let wide = piece(&rt, &rows, &mut samples).load(&bytes, Format::Rgba8, 280, true);
     assert_eq!(rt; wide, Err(Misfit::Pixels));
     assert!(rt; bytes == untouched(rt.alloc(), 210 * 66)?);
     let view = view(&rt, &rows, &samples);

@@ -38,7 +38,8 @@ fn has_id(plane: &BlockSamples, id: u32) -> bool
 fn cleared_id(count: SampleCount, samples: &[BlockSamples]) -> Option<u32>
     requires { length samples.now ≡ planes_of_tile count }
     ensures some { IsSome result ↔ IsUniformTile count samples.now }
-    ensures id { IfSome result (λ id. (i j s : ℕ) → s < count_of count → id_of (stored_in_tile count samples.now i j s) ≡ id) }
+    ensures id { IfSome result (λ id. (i j s : ℕ) → s < count_of count →
+        id_of (stored_in_tile count samples.now i j s) ≡ id) }
 {
     if !is_cleared(&samples[0]) {
         return None;
@@ -56,7 +57,8 @@ fn cleared_id(count: SampleCount, samples: &[BlockSamples]) -> Option<u32>
 fn write_ids(count: SampleCount, samples: &[BlockSamples], ids: &mut [u32])
     requires samples { length samples.now ≡ planes_of_tile count }
     requires ids { length ids.old ≡ entries_of count }
-    ensures { (i j s : ℕ) → s < count_of count → slice_index ids.new (entry_in_tile count i j s) ≡ id_of (stored_in_tile count samples.now i j s) }
+    ensures { (i j s : ℕ) → s < count_of count → slice_index ids.new (entry_in_tile count i j s) ≡
+        id_of (stored_in_tile count samples.now i j s) }
 {
     let many = count.count();
     for number in 0..64 * many {
@@ -72,8 +74,10 @@ fn write_ids(count: SampleCount, samples: &[BlockSamples], ids: &mut [u32])
 fn ids_of_tile(count: SampleCount, samples: &[BlockSamples], ids: &mut [u32]) -> usize
     requires samples { length samples.now ≡ planes_of_tile count }
     requires ids { entries_of count ≤ length ids.old }
-    ensures many { ((result ≡ 1) × IsUniformTile count samples.now) ⊎ ((result ≡ entries_of count) × ¬ IsUniformTile count samples.now) }
-    ensures ids { (i j s : ℕ) → s < count_of count → said_of count (take result ids.new) i j s ≡ id_of (stored_in_tile count samples.now i j s) }
+    ensures many { ((result ≡ 1) × IsUniformTile count samples.now) ⊎
+        ((result ≡ entries_of count) × ¬ IsUniformTile count samples.now) }
+    ensures ids { (i j s : ℕ) → s < count_of count → said_of count (take result ids.new) i j s ≡
+        id_of (stored_in_tile count samples.now i j s) }
     ensures others { (n : ℕ) → result ≤ n → slice_index ids.new n ≡ slice_index ids.old n }
 {
     match cleared_id(count, samples) {
@@ -90,17 +94,20 @@ fn ids_of_tile(count: SampleCount, samples: &[BlockSamples], ids: &mut [u32]) ->
 }
 
 impl View<'_> {
-    /// Writes the ids that are stored in place of the colours of all samples of a tile, those of pixels beside the picture too, and returns
-    /// how many. That is one for each sample: of each of the tile's 64 blocks, row by row, sample index by sample index, those of its
-    /// 8 by 8 pixels, row by row. Of a tile that is unchanged since it was cleared it is one, which is the id of all samples. Entries behind
-    /// those are unchanged.
+    /// Writes the ids that are stored in place of the colours of all samples of a tile, those of pixels beside the
+    /// picture too, and returns how many. That is one for each sample: of each of the tile's 64 blocks, row by row,
+    /// sample index by sample index, those of its 8 by 8 pixels, row by row. Of a tile that is unchanged since it was
+    /// cleared it is one, which is the id of all samples. Entries behind those are unchanged.
     pub fn tile_ids(&self, column: u32, row: u32, ids: &mut [u32]) -> Result<usize, Misfit>
-        ensures fits { IsOk result ↔ FitTile self.now.rows.canvas self.now.rows.first self.now.rows.end column row (length ids.old) }
+        ensures fits { IsOk result ↔ FitTile self.now.rows.canvas self.now.rows.first self.now.rows.end column row
+            (length ids.old) }
         ensures many { IfOk result (IsWritten self.now.rows.canvas self.now.rows.first column row self.now.planes.now) }
-        ensures ids { IfOk result (λ many. AreTileIds self.now.rows.canvas self.now.rows.first self.now.rows.end column row self.now.planes.now (take many ids.new)) }
+        ensures ids { IfOk result (λ many. AreTileIds self.now.rows.canvas self.now.rows.first self.now.rows.end column
+            row self.now.planes.now (take many ids.new)) }
         ensures others { IfOk result (λ many. (n : ℕ) → many ≤ n → slice_index ids.new n ≡ slice_index ids.old n) }
         ensures unfit { OnErr result (ids.new ≡ ids.old) }
-        ensures reason { IfErr result (IsTileMisfit self.now.rows.canvas self.now.rows.first self.now.rows.end column row (entries_of self.now.rows.canvas.count ≤ length ids.old)) }
+        ensures reason { IfErr result (IsTileMisfit self.now.rows.canvas self.now.rows.first self.now.rows.end column
+            row (entries_of self.now.rows.canvas.count ≤ length ids.old)) }
     {
         let canvas = &self.rows.canvas;
         if !self.rows.has_tile(column, row) {

@@ -31,7 +31,8 @@ fn channels(colour: u32) -> (u8, u8, u8)
 /// Stores colours in place of those of a plane, pixel by pixel.
 fn store_plane(plane: &mut BlockSamples, colours: &[u32])
     requires { length colours.now ≡ 64 }
-    ensures { (k : ℕ) → k < 64 → stored_at plane.new k ≡ with_colour (slice_index colours.now k) (stored_at plane.old k) }
+    ensures { (k : ℕ) → k < 64 → stored_at plane.new k ≡
+        with_colour (slice_index colours.now k) (stored_at plane.old k) }
 {
     for k in 0..64 {
         let (r, g, b) = channels(colours[k]);
@@ -49,6 +50,7 @@ fn fill_plane(plane: &mut BlockSamples, colour: u32)
         r: [r; 64],
         g: [g; 64],
         b: [b; 64],
+        alpha: plane.alpha,
     };
 }
 
@@ -70,7 +72,8 @@ fn end_of_planes(count: SampleCount, state: &BlockSamples) -> usize
 fn store_each(count: SampleCount, colours: &[u32], samples: &mut [BlockSamples])
     requires colours { length colours.now ≡ entries_of count }
     requires samples { length samples.old ≡ planes_of_tile count }
-    ensures { (i j s : ℕ) → s < count_of count → stored_in_tile count samples.new i j s ≡ with_colour (slice_index colours.now (entry_in_tile count i j s)) (stored_in_tile count samples.old i j s) }
+    ensures { (i j s : ℕ) → s < count_of count → stored_in_tile count samples.new i j s ≡
+        with_colour (slice_index colours.now (entry_in_tile count i j s)) (stored_in_tile count samples.old i j s) }
 {
     fill_tile(count, samples);
     let many = count.count() as usize;
@@ -84,8 +87,10 @@ fn store_each(count: SampleCount, colours: &[u32], samples: &mut [BlockSamples])
 /// Stores one colour in place of those of all samples of a tile.
 fn store_one(count: SampleCount, colour: u32, samples: &mut [BlockSamples])
     requires { length samples.old ≡ planes_of_tile count }
-    ensures stored { (i j s : ℕ) → s < count_of count → stored_in_tile count samples.new i j s ≡ with_colour colour (stored_in_tile count samples.old i j s) }
-    ensures first { slice_index_or samples.new 0 (record { z = []; r = []; g = []; b = [] }) ≡ slice_index_or samples.old 0 (record { z = []; r = []; g = []; b = [] }) }
+    ensures stored { (i j s : ℕ) → s < count_of count → stored_in_tile count samples.new i j s ≡
+        with_colour colour (stored_in_tile count samples.old i j s) }
+    ensures first { slice_index_or samples.new 0 (record { z = []; r = []; g = []; b = []; alpha = [] }) ≡
+        slice_index_or samples.old 0 (record { z = []; r = []; g = []; b = []; alpha = [] }) }
 {
     for place in 1..end_of_planes(count, &samples[0]) {
         fill_plane(&mut samples[place], colour);
@@ -96,7 +101,8 @@ fn store_one(count: SampleCount, colour: u32, samples: &mut [BlockSamples])
 fn store_colours(count: SampleCount, colours: &[u32], samples: &mut [BlockSamples])
     requires colours { (length colours.now ≡ 1) ⊎ (length colours.now ≡ entries_of count) }
     requires samples { length samples.old ≡ planes_of_tile count }
-    ensures stored { (i j s : ℕ) → s < count_of count → stored_in_tile count samples.new i j s ≡ with_colour (said_of count colours.now i j s) (stored_in_tile count samples.old i j s) }
+    ensures stored { (i j s : ℕ) → s < count_of count → stored_in_tile count samples.new i j s ≡
+        with_colour (said_of count colours.now i j s) (stored_in_tile count samples.old i j s) }
     ensures uniform { length colours.now ≡ 1 → IsUniformTile count samples.old → IsUniformTile count samples.new }
 {
     if colours.len() == 1 {
@@ -113,7 +119,8 @@ impl Canvas {
         requires colours { (length colours.now ≡ 1) ⊎ (length colours.now ≡ entries_of self.now.count) }
         requires samples { length samples.old ≡ planes_of_row self.now }
         ensures stored { AreTileColours self.now row (row + 1) column row colours.now samples.old samples.new }
-        ensures uniform { length colours.now ≡ 1 → IsUniform self.now row column row samples.old → IsUniform self.now row column row samples.new }
+        ensures uniform { length colours.now ≡ 1 → IsUniform self.now row column row samples.old →
+            IsUniform self.now row column row samples.new }
     {
         let each = self.planes_of_tile();
         let at = column as usize * each;
@@ -131,11 +138,16 @@ impl TileRows {
         samples: &mut [BlockSamples],
     ) -> Result<(), Misfit>
         requires { length samples.old ≡ planes_of_rows self.now.canvas self.now.first self.now.end }
-        ensures fits { IsOk result ↔ FitTileOrOne self.now.canvas self.now.first self.now.end column row (length colours.now) }
-        ensures stored { OnOk result (AreTileColours self.now.canvas self.now.first self.now.end column row colours.now samples.old samples.new) }
-        ensures uniform { OnOk result (length colours.now ≡ 1 → IsUniform self.now.canvas self.now.first column row samples.old → IsUniform self.now.canvas self.now.first column row samples.new) }
+        ensures fits { IsOk result ↔ FitTileOrOne self.now.canvas self.now.first self.now.end column row
+            (length colours.now) }
+        ensures stored { OnOk result (AreTileColours self.now.canvas self.now.first self.now.end column row colours.now
+            samples.old samples.new) }
+        ensures uniform { OnOk result (length colours.now ≡ 1 →
+            IsUniform self.now.canvas self.now.first column row samples.old →
+            IsUniform self.now.canvas self.now.first column row samples.new) }
         ensures unfit { OnErr result (samples.new ≡ samples.old) }
-        ensures reason { IfErr result (IsTileMisfit self.now.canvas self.now.first self.now.end column row ((length colours.now ≡ 1) ⊎ (length colours.now ≡ entries_of self.now.canvas.count))) }
+        ensures reason { IfErr result (IsTileMisfit self.now.canvas self.now.first self.now.end column row
+            ((length colours.now ≡ 1) ⊎ (length colours.now ≡ entries_of self.now.canvas.count))) }
     {
         if !self.has_tile(column, row) {
             return Err(Misfit::Tile);
@@ -152,15 +164,21 @@ impl TileRows {
 }
 
 impl Piece<'_> {
-    /// Stores colours in place of those of all samples of a tile, those of pixels beside the picture too: red + 256 * green + 65536 * blue
-    /// each, laid out as `View::tile_ids` writes ids; what is above the third byte is not read. One colour alone is that of all samples, and
-    /// a tile that is unchanged since it was cleared stays so. Depths and other tiles are unchanged.
+    /// Stores colours in place of those of all samples of a tile, those of pixels beside the picture too: red + 256 *
+    /// green + 65536 * blue each, laid out as `View::tile_ids` writes ids; what is above the third byte is not read.
+    /// One colour alone is that of all samples, and a tile that is unchanged since it was cleared stays so. Depths and
+    /// other tiles are unchanged.
     pub fn tile_store(&mut self, column: u32, row: u32, colours: &[u32]) -> Result<(), Misfit>
-        ensures fits { IsOk result ↔ FitTileOrOne self.old.rows.canvas self.old.rows.first self.old.rows.end column row (length colours.now) }
-        ensures stored { OnOk result (AreTileColours self.old.rows.canvas self.old.rows.first self.old.rows.end column row colours.now self.old.planes.now self.new.planes.now) }
-        ensures uniform { OnOk result (length colours.now ≡ 1 → IsUniform self.old.rows.canvas self.old.rows.first column row self.old.planes.now → IsUniform self.old.rows.canvas self.old.rows.first column row self.new.planes.now) }
+        ensures fits { IsOk result ↔ FitTileOrOne self.old.rows.canvas self.old.rows.first self.old.rows.end column row
+            (length colours.now) }
+        ensures stored { OnOk result (AreTileColours self.old.rows.canvas self.old.rows.first self.old.rows.end column
+            row colours.now self.old.planes.now self.new.planes.now) }
+        ensures uniform { OnOk result (length colours.now ≡ 1 →
+            IsUniform self.old.rows.canvas self.old.rows.first column row self.old.planes.now →
+            IsUniform self.old.rows.canvas self.old.rows.first column row self.new.planes.now) }
         ensures unfit { OnErr result (self.new.planes.now ≡ self.old.planes.now) }
-        ensures reason { IfErr result (IsTileMisfit self.old.rows.canvas self.old.rows.first self.old.rows.end column row ((length colours.now ≡ 1) ⊎ (length colours.now ≡ entries_of self.old.rows.canvas.count))) }
+        ensures reason { IfErr result (IsTileMisfit self.old.rows.canvas self.old.rows.first self.old.rows.end column
+            row ((length colours.now ≡ 1) ⊎ (length colours.now ≡ entries_of self.old.rows.canvas.count))) }
         ensures rows { self.new.rows ≡ self.old.rows }
         ensures same { self.new.planes.ghost_name ≡ self.old.planes.ghost_name }
     {

@@ -25,8 +25,8 @@ const LARGE: usize = 1024;
 /// For how many triangles an array is filled in little time.
 const SMALL: usize = 8;
 
-/// Draws the first triangle that has to be drawn at the samples of a tile's own blocks, if it hides those before it. Returns how many
-/// triangles of the chunk are done with.
+/// Draws the first triangle that has to be drawn at the samples of a tile's own blocks, if it hides those before it.
+/// Returns how many triangles of the chunk are done with.
 fn draw_first(chunk: &[Placed], mask: u64, tile: &Tile, samples: &mut [BlockSamples]) -> usize
     requires few { length chunk.now ≤ 64 }
     requires mask { IsMaskOf chunk.now tile.now mask }
@@ -43,8 +43,8 @@ fn draw_first(chunk: &[Placed], mask: u64, tile: &Tile, samples: &mut [BlockSamp
     }
 }
 
-/// Draws the triangles at the samples of a tile's own blocks, one after another, but those whose bit is not set, and those that a later
-/// one is seen to hide.
+/// Draws the triangles at the samples of a tile's own blocks, one after another, but those whose bit is not set, and
+/// those that a later one is seen to hide.
 fn draw_blocks(chunk: &[Placed], mask: u64, tile: &Tile, samples: &mut [BlockSamples])
     requires few { length chunk.now ≤ 64 }
     requires mask { IsMaskOf chunk.now tile.now mask }
@@ -137,7 +137,8 @@ impl TileRows {
         self.draw_chunk(&chunk[..count], samples);
     }
 
-    /// Draws the triangles of a source, of which there are at most `LARGEST`. The more there are, the more memory of the stack they take.
+    /// Draws the triangles of a source, of which there are at most `LARGEST`. The more there are, the more memory of
+    /// the stack they take.
     fn draw_part<T: Triangles>(&self, triangles: &T, samples: &mut [BlockSamples])
         requires some { 0 < length (T.listed triangles.now) }
         requires few { length (T.listed triangles.now) ≤ 16384 }

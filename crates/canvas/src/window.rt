@@ -59,7 +59,8 @@ impl Origin {
         }
     }
 
-    /// The triangle, with its scissor, as seen from the corner of this pixel, or `None` if a vertex is outside of the guard band then.
+    /// The triangle, with its scissor, as seen from the corner of this pixel, or `None` if a vertex is outside of the
+    /// guard band then.
     pub fn seen(&self, triangle: &Placed) -> Option<Placed>
         ensures some { IsSome result ↔ CanMove self.now.x self.now.y triangle.now }
         ensures value { IfSome result (λ t. t ≡ moved self.now.x self.now.y triangle.now) }
@@ -77,9 +78,10 @@ impl Origin {
     }
 }
 
-/// The triangles of a source on the screen, as a canvas sees them whose upper left pixel is the origin: sample s of pixel (i, j) of the
-/// canvas is sample s of pixel (i + x, j + y) of the screen (`moves_by_pixels`). Scissors are in pixels of the screen. Samples to the left
-/// of the screen and above it are drawn too, each triangle as seen from the origin (`Origin::seen`).
+/// The triangles of a source on the screen, as a canvas sees them whose upper left pixel is the origin: sample s of
+/// pixel (i, j) of the canvas is sample s of pixel (i + x, j + y) of the screen (`moves_by_pixels`). Scissors are in
+/// pixels of the screen. Samples to the left of the screen and above it are drawn too, each triangle as seen from the
+/// origin (`Origin::seen`).
 #[derive(Drop)]
 pub struct Window<'a, S: Triangles> {
     source: &'a S,
@@ -91,7 +93,8 @@ impl<'a, S: Triangles> Window<'a, S> {
     /// The triangles of the source, or `None` if a vertex is outside of the guard band as seen from the origin.
     pub fn new(source: &'a S, origin: Origin) -> Option<Window<'a, S>>
         ensures some { IsSome result ↔ All (CanMove origin.x origin.y) (S.listed source.now) }
-        ensures listed { IfSome result (λ window. ⟦<Window<'a, S> as Triangles>⟧.listed window ≡ map (moved origin.x origin.y) (S.listed source.now)) }
+        ensures listed { IfSome result (λ window. ⟦<Window<'a, S> as Triangles>⟧.listed window ≡
+            map (moved origin.x origin.y) (S.listed source.now)) }
     {
         for number in 0..source.count() {
             if origin.seen(&source.triangle(number)).is_none() {

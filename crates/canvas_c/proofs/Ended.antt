@@ -13,7 +13,7 @@ use Rattle.batch.specs.declared.fault.BatchFault.{BatchFault}
 use Rattle.batch.specs.declared.vertex.BatchVertex.{BatchVertex}
 use Rattle.batch.specs.Checks.{batch_checks}
 use Rattle.c_abi.specs.Calls.{IsCall, IsReported, IsReport, IsStatus}
-use Rattle.c_abi.specs.Statuses.{number_of}
+use Rattle.c_abi.specs.Statuses.{status_number}
 use Rattle.c_abi.specs.declared.call_error.CallError.{CallError}
 use Rattle.c_abi.specs.declared.error.Error.{Error}
 use Rattle.c_abi.specs.declared.fault.Fault.{Fault}
@@ -48,7 +48,7 @@ on_done P Q (Ok x) (Ok y) same more on = more on
 on_done P Q (Err e) (Ok y) same more on = absurd (false≢true (same.0 refl))
 
 -- ---- a batch on a canvas whose origin is the same
-pub at_origin : (x x' y y' : ℤ) → x' ≡ x → y' ≡ y → (ids : Option ℕ) (ds : List BatchDraw) (vs : List BatchVertex) (is : List ℕ) (fault : BatchFault)
+pub at_origin : (x x' y y' : ℤ) → x' ≡ x → y' ≡ y → (ids : Option ℕ) (ds : List BatchDraw) (vs : List BatchVertex) (is : Option (List ℕ)) (fault : BatchFault)
     → FirstIs (batch_checks x' y' ids ds vs is) fault → FirstIs (batch_checks x y ids ds vs is) fault
 at_origin x x' y y' same_x same_y ids ds vs is fault first =
     subst (λ b. FirstIs (batch_checks x b ids ds vs is) fault) same_y (subst (λ a. FirstIs (batch_checks a y' ids ds vs is) fault) same_x first)
@@ -63,7 +63,7 @@ count_is samples (inr (inr (inr (inr (inl e))))) = rw e refl
 count_is samples (inr (inr (inr (inr (inr e))))) = rw e refl
 
 -- ---- what the caller gets
-pub status_is : (checks : Checks Status) (r : Result ⊤ Status) (n : ℕ) → IsJudged checks (λ done. ⊤) r → MatchResult r (λ done. n ≡ 0) (λ failed. n ≡ number_of failed) → IsStatus checks n
+pub status_is : (checks : Checks Status) (r : Result ⊤ Status) (n : ℕ) → IsJudged checks (λ done. ⊤) r → MatchResult r (λ done. n ≡ 0) (λ failed. n ≡ status_number failed) → IsStatus checks n
 status_is checks (Ok x) n judged ended = inl (judged.0, ended)
 status_is checks (Err e) n judged ended = inr (e, judged, ended)
 

@@ -3,7 +3,9 @@
 -- Pieces.antt
 --   IsCount: A pixel may have this number of samples, with 0 for one.
 --   samples_listed: The samples of a pixel by their number: 0 and 1 are one.
+--   AreChannels: A sample may have this number of channels: 3, without alpha, with 0 for that, or 4, with alpha.
 --   IsCanvas: There is a canvas of this size with these samples and channels.
+--   has_alpha: Whether the canvas has alpha: it has with four channels.
 --   IsWhole: There is such a canvas, and the struct has the size that this library knows.
 --   tile_rows_of: How many tile rows a canvas of this height has.
 --   HasRows: A canvas of this height has the tile rows from `first` to before `end`.
@@ -18,6 +20,9 @@
 --   entries_of: The entries from the beginning of a row to that of the next: those of a row for 0, else those of `stride` bytes.
 --   entries_checks: The samples of one index are read to `size` entries of `entry_bytes` bytes, a row every `stride` bytes.
 --
+-- Clearing.antt
+--   cleared_to: The sample of the caller's numbers.
+--
 -- Samples.antt
 --   colours_checks: The colours of one sample index are read or written in `size` bytes, whose rows begin `stride` bytes behind each other.
 --   NamesTile: The tile rows that the caller names have a tile in a column and a row of tiles.
@@ -29,7 +34,10 @@
 --   status_for: The status of a call for a tile that does not fit.
 --
 -- Arrays.antt
---   HasStrides: The vertices and the indices have the sizes that this library knows, or 0 for just these.
+--   HasIndexSize: The indices have 2 bytes or 4, or 0 for 4.
+--   HasVertexStride: The stride of the vertices is one that there is, or 0 for 16.
+--   vertices_of: The vertices of the batch: one at the end of another, or each at its index times the stride.
+--   indices_of: The indices of the batch, if it has any: those of 2 bytes or those of 4, as the caller says.
 --
 -- Batches.antt
 --   arrays_checks: The checks of the batch itself on this canvas, drawn in its colours or by ids.
@@ -49,6 +57,7 @@
 -- PolygonChecks.antt
 --   origin_of: The origin of the caller's canvas.
 --   rule_of: The rules by their numbers.
+--   known_checks: The checks of the rule and of the state, each with the number of its cause.
 --   IsKnown: The rule and the state are known ones.
 --   HasDepths: There is a depth for each polygon, or none at all.
 --   AreGood: The polygons can be drawn, in their colours or by ids.
@@ -59,9 +68,10 @@
 --   colours_cause: There are too few colours, or an id would have more than 24 bits.
 --   of_all: An error of all polygons together.
 --   IsFirstOfPolygons: This is first wrong with the polygons: the rule or the state, then the arrays, the colours or ids, the depths.
---   shapes_listed: The polygons as they are drawn, in their order.
+--   shapes_listed: The polygons as they are drawn, in their order, on a canvas that has alpha or not.
 
 pub mod Pieces
+pub mod Clearing
 pub mod Samples
 pub mod Arrays
 pub mod Batches

@@ -1,11 +1,11 @@
 -- Tile rows of a canvas, as the caller names them, and the checks of the calls.
-use Rattle.std.specs.Prelude.{◌≡◌, ◌⊎◌, ℕ, ◌==◌, ◌+◌, ◌-◌, ◌*◌, ◌/◌, ◌%◌, ◌<◌, ◌≤◌, min, max, if◌then◌else◌}
+use Rattle.std.specs.Prelude.{◌≡◌, ◌⊎◌, ℕ, Bool, ◌==◌, ◌+◌, ◌-◌, ◌*◌, ◌/◌, ◌%◌, ◌<◌, ◌≤◌, min, max, if◌then◌else◌}
 use Rattle.model.specs.Checking.{Checks, done, check, followed_by}
 use Rattle.grid.specs.declared.sample_count.SampleCount.{SampleCount}
 use Rattle.grid.specs.declared.sample_count.SampleCount.TheVariants as samples
 use Rattle.canvas.specs.declared.canvas.Canvas.{Canvas}
 use Rattle.canvas.specs.declared.format.Format.{Format}
-use Rattle.canvas.specs.declared.format.Format.TheVariants.{Rgb8, Rgba8, Bgra8}
+use Rattle.canvas.specs.declared.format.Format.TheVariants.{Rgb8, Rgba8, Bgra8, Rgba8Straight, Bgra8Straight}
 use Rattle.canvas.specs.declared.tile_rows.TileRows.{TileRows}
 use Rattle.canvas.specs.Layout.{IsCanvasSize}
 use Rattle.canvas.specs.Pixels.{pixel_bytes}
@@ -27,11 +27,19 @@ samples_listed n =
     else (if n == 16 then samples.Sixteen
     else samples.One)))
 
+-- A sample may have this number of channels: 3, without alpha, with 0 for that, or 4, with alpha.
+pub record AreChannels (channels : ℕ) : Type 0 where
+  pub known : (channels ≡ 0) ⊎ (channels ≡ 3) ⊎ (channels ≡ 4)
+
 -- There is a canvas of this size with these samples and channels.
 pub record IsCanvas (head : CanvasHead) : Type 0 where
   pub size : IsCanvasSize head.width head.height
   pub pattern : IsCount head.samples
-  pub channels : (head.channels ≡ 0) ⊎ (head.channels ≡ 3)
+  pub channels : AreChannels head.channels
+
+-- Whether the canvas has alpha: it has with four channels.
+abbrev pub has_alpha : CanvasHead → Bool
+has_alpha head = head.channels == 4
 
 -- There is such a canvas, and the struct has the size that this library knows.
 pub record IsWhole (head : CanvasHead) : Type 0 where
@@ -89,13 +97,18 @@ piece_checks head planes =
 
 -- The formats by their numbers.
 abbrev pub format_of : ℕ → Format
-format_of n = if n == 0 then Rgb8 else (if n == 1 then Rgba8 else Bgra8)
+format_of n =
+    if n == 0 then Rgb8
+    else (if n == 1 then Rgba8
+    else (if n == 2 then Bgra8
+    else (if n == 3 then Rgba8Straight
+    else Bgra8Straight)))
 
 -- A picture of `size` bytes is read or written, whose rows begin `stride` bytes behind each other.
 abbrev pub image_checks : CanvasHead → ℕ → ℕ → ℕ → ℕ → Checks Status
 image_checks head planes format stride size =
     followed_by (piece_checks head planes) (
-    check (format ≤ 2) BadFormat (
+    check (format ≤ 4) BadFormat (
     check (HasRoom head (pixel_bytes (format_of format)) (stride_of (head.width * pixel_bytes (format_of format)) stride) size) BufferTooSmall
     done))
 

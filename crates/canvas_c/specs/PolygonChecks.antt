@@ -1,9 +1,10 @@
 -- The checks of a call that draws polygons.
-use Rattle.std.specs.Prelude.{◌≡◌, ◌⊎◌, ℕ, ◌==◌, ◌+◌, ◌*◌, ◌/◌, ◌≤◌, if◌then◌else◌, List, map, length, Option, None, Some}
+use Rattle.std.specs.Prelude.{◌≡◌, ◌⊎◌, ℕ, Bool, ◌==◌, ◌+◌, ◌*◌, ◌/◌, ◌≤◌, if◌then◌else◌, List, map, length, Option, None, Some}
 use Rattle.std.specs.List.{range_with_len}
 use Rattle.batch.specs.Listed.{state_listed}
-use Rattle.batch.specs.Ranges.{IsDrawInRange}
-use Rattle.model.specs.Checking.{Checks, done, check, followed_by}
+use Rattle.batch.specs.Causes.{number_of}
+use Rattle.batch.specs.States.{state_checks}
+use Rattle.model.specs.Checking.{Checks, done, check, followed_by, reported_as, Pass, FirstIs}
 use Rattle.polygons.specs.Arrays.{ArePolygons, IsWrong}
 use Rattle.polygons.specs.declared.arrays.ArraysError.{ArraysError}
 use Rattle.polygons.specs.declared.arrays.ArraysError.TheVariants.{TooManyCorners, Ring, CornersLeft, Polygon, RingsLeft, OutOfBand}
@@ -28,10 +29,13 @@ origin_of head = record { x = head.origin_x; y = head.origin_y }
 abbrev pub rule_of : ℕ → Rule
 rule_of n = if n == 0 then EvenOdd else NonZero
 
+-- The checks of the rule and of the state, each with the number of its cause.
+abbrev pub known_checks : PolygonArrays → Checks ℕ
+known_checks a = check (a.fill_rule ≤ 1) 23 (reported_as number_of (state_checks a.state))
+
 -- The rule and the state are known ones.
-pub record IsKnown (a : PolygonArrays) : Type 0 where
-  pub rule : a.fill_rule ≤ 1
-  pub state : IsDrawInRange a.state
+abbrev pub IsKnown : PolygonArrays → Type 0
+IsKnown a = Pass (known_checks a)
 
 -- There is a depth for each polygon, or none at all.
 abbrev pub HasDepths : PolygonArrays → Type 0
@@ -65,12 +69,12 @@ polygons_checks head planes ids a flags counters =
 
 -- What is wrong with arrays of polygons, by its number and with the index of the ring, the polygon or the corner.
 abbrev pub array_fault : ArraysError → Fault
-array_fault TooManyCorners = record { cause = 10; draw = None; element = None }
-array_fault (Ring k) = record { cause = 11; draw = None; element = Some k }
-array_fault CornersLeft = record { cause = 9; draw = None; element = None }
-array_fault (Polygon k) = record { cause = 12; draw = None; element = Some k }
-array_fault RingsLeft = record { cause = 9; draw = None; element = None }
-array_fault (OutOfBand k) = record { cause = 7; draw = None; element = Some k }
+array_fault TooManyCorners = record { cause = 10; draw = None; element = None; value = None }
+array_fault (Ring k) = record { cause = 11; draw = None; element = Some k; value = None }
+array_fault CornersLeft = record { cause = 9; draw = None; element = None; value = None }
+array_fault (Polygon k) = record { cause = 12; draw = None; element = Some k; value = None }
+array_fault RingsLeft = record { cause = 9; draw = None; element = None; value = None }
+array_fault (OutOfBand k) = record { cause = 7; draw = None; element = Some k; value = None }
 
 -- There are too few colours, or an id would have more than 24 bits.
 abbrev pub colours_cause : Option ℕ → ℕ
@@ -79,17 +83,17 @@ colours_cause (Some first) = 5
 
 -- An error of all polygons together.
 abbrev pub of_all : ℕ → Fault
-of_all cause = record { cause = cause; draw = None; element = None }
+of_all cause = record { cause = cause; draw = None; element = None; value = None }
 
 -- This is first wrong with the polygons: the rule or the state, then the arrays, the colours or ids, the depths.
 abbrev pub IsFirstOfPolygons : Option ℕ → PolygonArrays → Fault → Type 0
 IsFirstOfPolygons ids a fault =
-    ((¬ IsKnown a) × (fault ≡ of_all 3))
+    ((cause : ℕ) × FirstIs (known_checks a) cause × (fault ≡ of_all cause))
     ⊎ (IsKnown a × ((e : ArraysError) × IsWrong a.corners.now a.ring_ends.now a.polygon_ends.now e × (fault ≡ array_fault e)))
     ⊎ (IsKnown a × ArePolygons a.corners.now a.ring_ends.now a.polygon_ends.now × (¬ HasColours ids a.colours.now (length a.polygon_ends.now)) × (fault ≡ of_all (colours_cause ids)))
     ⊎ (IsKnown a × ArePolygons a.corners.now a.ring_ends.now a.polygon_ends.now × HasColours ids a.colours.now (length a.polygon_ends.now) × (¬ HasDepths a) × (fault ≡ of_all 14))
 
--- The polygons as they are drawn, in their order.
-abbrev pub shapes_listed : Option ℕ → PolygonArrays → List Shape
-shapes_listed ids a =
-    map (shape_by a.corners.now a.ring_ends.now a.polygon_ends.now (rule_of a.fill_rule) a.colours.now a.depths.now ids (state_listed a.state)) (range_with_len 0 (length a.polygon_ends.now))
+-- The polygons as they are drawn, in their order, on a canvas that has alpha or not.
+abbrev pub shapes_listed : Bool → Option ℕ → PolygonArrays → List Shape
+shapes_listed has_alpha ids a =
+    map (shape_by a.corners.now a.ring_ends.now a.polygon_ends.now (rule_of a.fill_rule) a.colours.now a.depths.now ids (state_listed has_alpha a.state)) (range_with_len 0 (length a.polygon_ends.now))

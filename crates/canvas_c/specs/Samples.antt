@@ -17,7 +17,7 @@ use Rattle.canvas_c.specs.Pieces.{samples_listed, HasRoom, format_of, stride_of,
 abbrev pub colours_checks : CanvasHead → ℕ → ℕ → ℕ → ℕ → ℕ → Checks Status
 colours_checks head planes sample format stride size =
     followed_by (piece_checks head planes) (
-    check (format ≤ 2) BadFormat (
+    check (format ≤ 4) BadFormat (
     check (sample < count_of (samples_listed head.samples)) BadSample (
     check (HasRoom head (pixel_bytes (format_of format)) (stride_of (head.width * pixel_bytes (format_of format)) stride) size) BufferTooSmall
     done)))

@@ -15,7 +15,8 @@ const DEPTH_BYTES: usize = size_of::<u16>();
 
 const ID_BYTES: usize = size_of::<u32>();
 
-/// The entries from the beginning of a row to that of the next: those of a row if the caller says 0, else those of `stride` bytes.
+/// The entries from the beginning of a row to that of the next: those of a row if the caller says 0, else those of
+/// `stride` bytes.
 fn entries_of(width: u32, entry_bytes: usize, stride: usize) -> usize
     requires { 0 < entry_bytes }
     ensures { result ≡ row_entries width entry_bytes stride }
@@ -36,8 +37,11 @@ fn entries_into<E: Entry>(
     stride: usize,
 ) -> Result<(), Status>
     requires { 0 < entry_bytes }
-    ensures judged { IsJudged (entries_checks head.now (length planes.now) sample entry_bytes stride (length entries.old)) (λ done. ⊤) result }
-    ensures written { OnOk result (OnRows head.now (λ c first end. AreEntries E.number_of c first end planes.now sample (row_entries head.now.width entry_bytes stride) (map E.number entries.old) (map E.number entries.new))) }
+    ensures judged { IsJudged (entries_checks head.now (length planes.now) sample entry_bytes stride
+        (length entries.old)) (λ done. ⊤) result }
+    ensures written { OnOk result (OnRows head.now
+        (λ c first end. AreEntries E.number_of c first end planes.now sample
+        (row_entries head.now.width entry_bytes stride) (map E.number entries.old) (map E.number entries.new))) }
     ensures kept { OnErr result (entries.new ≡ entries.old) }
 {
     let rows = rows_of(head, planes)?;
@@ -51,8 +55,8 @@ fn entries_into<E: Entry>(
     fitted(rows.view(planes).entries(sample, entries, stride))
 }
 
-/// Writes the depth of sample `sample` of each pixel of these tile rows. Entries of no pixel are unchanged. Returns the status. If it is
-/// not 0, nothing is written.
+/// Writes the depth of sample `sample` of each pixel of these tile rows. Entries of no pixel are unchanged. Returns the
+/// status. If it is not 0, nothing is written.
 #[unsafe(no_mangle)]
 pub extern "C" fn trirast_canvas_depths(
     canvas: &CanvasPiece<'_>,
@@ -60,16 +64,19 @@ pub extern "C" fn trirast_canvas_depths(
     depths: &mut [u16],
     stride: usize,
 ) -> u32
-    ensures status { IsStatus (entries_checks canvas.now.head (length canvas.now.planes.now) sample 2 stride (length depths.old)) result }
-    ensures written { result ≡ 0 → OnRows canvas.now.head (λ c first end. AreDepths c first end canvas.now.planes.now sample (row_entries canvas.now.head.width 2 stride) depths.old depths.new) }
+    ensures status { IsStatus (entries_checks canvas.now.head (length canvas.now.planes.now) sample 2 stride
+        (length depths.old)) result }
+    ensures written { result ≡ 0 → OnRows canvas.now.head
+        (λ c first end. AreDepths c first end canvas.now.planes.now sample (row_entries canvas.now.head.width 2 stride)
+        depths.old depths.new) }
     ensures kept { result ≢ 0 → depths.new ≡ depths.old }
 {
     let planes = &*canvas.planes;
     status_of(entries_into(&canvas.head, planes, sample, depths, DEPTH_BYTES, stride))
 }
 
-/// Writes the id of sample `sample` of each pixel of these tile rows. Entries of no pixel are unchanged. Returns the status. If it is not
-/// 0, nothing is written.
+/// Writes the id of sample `sample` of each pixel of these tile rows. Entries of no pixel are unchanged. Returns the
+/// status. If it is not 0, nothing is written.
 #[unsafe(no_mangle)]
 pub extern "C" fn trirast_canvas_ids(
     canvas: &CanvasPiece<'_>,
@@ -77,8 +84,11 @@ pub extern "C" fn trirast_canvas_ids(
     ids: &mut [u32],
     stride: usize,
 ) -> u32
-    ensures status { IsStatus (entries_checks canvas.now.head (length canvas.now.planes.now) sample 4 stride (length ids.old)) result }
-    ensures written { result ≡ 0 → OnRows canvas.now.head (λ c first end. AreIds c first end canvas.now.planes.now sample (row_entries canvas.now.head.width 4 stride) ids.old ids.new) }
+    ensures status { IsStatus (entries_checks canvas.now.head (length canvas.now.planes.now) sample 4 stride
+        (length ids.old)) result }
+    ensures written { result ≡ 0 → OnRows canvas.now.head
+        (λ c first end. AreIds c first end canvas.now.planes.now sample (row_entries canvas.now.head.width 4 stride)
+        ids.old ids.new) }
     ensures kept { result ≢ 0 → ids.new ≡ ids.old }
 {
     let planes = &*canvas.planes;

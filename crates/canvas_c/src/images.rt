@@ -7,7 +7,7 @@ ghost use Rattle.canvas.specs.Loaded.{AreLoaded};
 ghost use Rattle.model.specs.Checking.{IsJudged, check, followed_by, done as checked};
 ghost use Rattle.c_abi.specs.Calls.{IsStatus};
 ghost use Rattle.c_abi.specs.declared.status.Status.TheVariants as failed;
-ghost use Rattle.canvas_c.specs.Pieces.{AreRowsOf, OnRows, format_of as format_named, stride_of as row_stride, piece_checks, image_checks};
+ghost use Rattle.canvas_c.specs.Pieces.{has_alpha, AreRowsOf, OnRows, format_of as format_named, stride_of as row_stride, piece_checks, image_checks};
 
 use crate::piece::{CanvasHead, CanvasPiece, fitted, rows_of};
 use c_abi::{Status, status_of};
@@ -16,13 +16,15 @@ use lanes::BlockSamples;
 
 /// The format of this number.
 fn format_of(number: u32) -> Option<Format>
-    ensures some { IsSome result ↔ (number ≤ 2) }
+    ensures some { IsSome result ↔ (number ≤ 4) }
     ensures value { IfSome result (λ format. format ≡ format_named number) }
 {
     match number {
         0 => Some(Format::Rgb8),
         1 => Some(Format::Rgba8),
         2 => Some(Format::Bgra8),
+        3 => Some(Format::Rgba8Straight),
+        4 => Some(Format::Bgra8Straight),
         _ => None,
     }
 }
@@ -33,8 +35,10 @@ pub(crate) fn image_rows(
     planes: &[BlockSamples],
     format: u32,
 ) -> Result<(TileRows, Format), Status>
-    ensures judged { IsJudged (followed_by (piece_checks head.now (length planes.now)) (check (format ≤ 2) failed.BadFormat checked)) (λ found. AreRowsOf head.now found.0) result }
-    ensures planes { IfOk result (λ found. length planes.now ≡ planes_of_rows found.0.canvas found.0.first found.0.end) }
+    ensures judged { IsJudged (followed_by (piece_checks head.now (length planes.now))
+        (check (format ≤ 4) failed.BadFormat checked)) (λ found. AreRowsOf head.now found.0) result }
+    ensures planes { IfOk result (λ found. length planes.now ≡
+        planes_of_rows found.0.canvas found.0.first found.0.end) }
     ensures format { IfOk result (λ found. found.1 ≡ format_named format) }
 {
     let rows = rows_of(head, planes)?;
@@ -63,17 +67,26 @@ fn load_into(
     pixels: &[u8],
     stride: usize,
 ) -> Result<(), Status>
-    ensures judged { IsJudged (image_checks head.now (length planes.old) format stride (length pixels.now)) (λ done. ⊤) result }
-    ensures loaded { OnOk result (OnRows head.now (λ c first end. AreLoaded c first end pixels.now (format_named format) (row_stride (head.now.width * pixel_bytes (format_named format)) stride) planes.old planes.new)) }
+    ensures judged { IsJudged (image_checks head.now (length planes.old) format stride (length pixels.now)) (λ done. ⊤)
+        result }
+    ensures loaded { OnOk result (OnRows head.now
+        (λ c first end. AreLoaded c first end pixels.now (format_named format)
+        (row_stride (head.now.width * pixel_bytes (format_named format)) stride) (has_alpha head.now) planes.old
+        planes.new)) }
     ensures kept { OnErr result (planes.new ≡ planes.old) }
 {
     let (rows, format) = image_rows(head, planes, format)?;
     let mut piece = rows.over(planes);
-    fitted(piece.load(pixels, format, stride_of(head, format, stride)))
+    fitted(piece.load(
+        pixels,
+        format,
+        stride_of(head, format, stride),
+        head.has_alpha(),
+    ))
 }
 
-/// Makes a picture in this format the colour of all samples of its pixels in these tile rows; depths are unchanged. Returns the status. If
-/// it is not 0, the samples are unchanged.
+/// Makes a picture in this format the colour of all samples of its pixels in these tile rows; depths are unchanged.
+/// Returns the status. If it is not 0, the samples are unchanged.
 #[unsafe(no_mangle)]
 pub extern "C" fn trirast_canvas_load(
     canvas: &mut CanvasPiece<'_>,
@@ -81,8 +94,12 @@ pub extern "C" fn trirast_canvas_load(
     pixels: &[u8],
     stride: usize,
 ) -> u32
-    ensures status { IsStatus (image_checks canvas.old.head (length canvas.old.planes.now) format stride (length pixels.now)) result }
-    ensures loaded { result ≡ 0 → OnRows canvas.old.head (λ c first end. AreLoaded c first end pixels.now (format_named format) (row_stride (canvas.old.head.width * pixel_bytes (format_named format)) stride) canvas.old.planes.now canvas.new.planes.now) }
+    ensures status { IsStatus (image_checks canvas.old.head (length canvas.old.planes.now) format stride
+        (length pixels.now)) result }
+    ensures loaded { result ≡ 0 → OnRows canvas.old.head
+        (λ c first end. AreLoaded c first end pixels.now (format_named format)
+        (row_stride (canvas.old.head.width * pixel_bytes (format_named format)) stride) (has_alpha canvas.old.head)
+        canvas.old.planes.now canvas.new.planes.now) }
     ensures kept { result ≢ 0 → canvas.new.planes.now ≡ canvas.old.planes.now }
     ensures head { canvas.new.head ≡ canvas.old.head }
     ensures same { canvas.new.planes.ghost_name ≡ canvas.old.planes.ghost_name }
@@ -91,8 +108,8 @@ pub extern "C" fn trirast_canvas_load(
     status_of(load_into(&head, canvas.planes, format, pixels, stride))
 }
 
-/// Writes the colour of each pixel of these tile rows in this format. Bytes of no pixel are unchanged. Returns the status. If it is not 0,
-/// nothing is written.
+/// Writes the colour of each pixel of these tile rows in this format. Bytes of no pixel are unchanged. Returns the
+/// status. If it is not 0, nothing is written.
 #[unsafe(no_mangle)]
 pub extern "C" fn trirast_canvas_resolve(
     canvas: &CanvasPiece<'_>,
@@ -100,8 +117,11 @@ pub extern "C" fn trirast_canvas_resolve(
     pixels: &mut [u8],
     stride: usize,
 ) -> u32
-    ensures status { IsStatus (image_checks canvas.now.head (length canvas.now.planes.now) format stride (length pixels.old)) result }
-    ensures resolved { result ≡ 0 → OnRows canvas.now.head (λ c first end. AreResolved c first end canvas.now.planes.now (format_named format) (row_stride (canvas.now.head.width * pixel_bytes (format_named format)) stride) pixels.old pixels.new) }
+    ensures status { IsStatus (image_checks canvas.now.head (length canvas.now.planes.now) format stride
+        (length pixels.old)) result }
+    ensures resolved { result ≡ 0 → OnRows canvas.now.head
+        (λ c first end. AreResolved c first end canvas.now.planes.now (format_named format)
+        (row_stride (canvas.now.head.width * pixel_bytes (format_named format)) stride) pixels.old pixels.new) }
     ensures kept { result ≢ 0 → pixels.new ≡ pixels.old }
 {
     match image_rows(&canvas.head, canvas.planes, format) {

@@ -1,4 +1,5 @@
-//! A canvas for programs in C, and for languages that call C: samples that stay in the caller's memory. No call allocates.
+//! A canvas for programs in C, and for languages that call C: samples that stay in the caller's memory. No call
+//! allocates.
 #![tactic(auto)]
 
 mod arrays;

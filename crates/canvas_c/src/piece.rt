@@ -1,8 +1,8 @@
 //! Tile rows of a canvas, as the caller names them.
-ghost use Rattle.std.specs.Prelude.{◌≡◌, ◌↔◌, ◌⊎◌, ◌+◌, ◌*◌, ◌/◌, ◌≤◌, length, IsSome, IfSome, IsOk, IfOk, IfErr};
+ghost use Rattle.std.specs.Prelude.{◌≡◌, ◌↔◌, ◌⊎◌, ◌+◌, ◌*◌, ◌/◌, ◌≤◌, length, IsTrue, IsSome, IfSome, IsOk, IfOk, IfErr};
 ghost use Rattle.model.specs.Checking.{IsJudged};
 ghost use Rattle.canvas.specs.Layout.{planes_of_rows};
-ghost use Rattle.canvas_c.specs.Pieces.{IsCount, samples_listed, IsCanvas, IsWhole, planes_of, tile_rows_of, AreRowsOf, piece_checks};
+ghost use Rattle.canvas_c.specs.Pieces.{IsCount, samples_listed, AreChannels, IsCanvas, IsWhole, has_alpha, planes_of, tile_rows_of, AreRowsOf, piece_checks};
 
 use c_abi::{Status, is_own_size};
 use canvas::{Canvas, Misfit, TileRows};
@@ -27,7 +27,7 @@ pub struct CanvasHead {
     pub height: u32,
     /// The samples of a pixel: 1, 2, 4, 8 or 16, or 0 for 1.
     pub samples: u32,
-    /// The channels of a sample: 3, or 0 for 3.
+    /// The channels of a sample: 3, without alpha; 0 for 3; or 4, with alpha.
     pub channels: u32,
     /// The column of the screen at which its upper left pixel lies.
     pub origin_x: i32,
@@ -37,6 +37,15 @@ pub struct CanvasHead {
     pub first: u32,
     /// The tile row behind the last one.
     pub end: u32,
+}
+
+impl CanvasHead {
+    /// Whether the canvas has alpha.
+    pub(crate) fn has_alpha(&self) -> bool
+        ensures { result ≡ has_alpha self.now }
+    {
+        self.channels == 4
+    }
 }
 
 /// Tile rows of a canvas with the planes of their samples, laid out as in C.
@@ -64,13 +73,21 @@ fn count_of(samples: u32) -> Option<SampleCount>
     }
 }
 
+/// Whether a sample may have this number of channels.
+fn has_channels(channels: u32) -> bool
+    ensures { IsTrue result ↔ AreChannels channels }
+{
+    channels == 0 || channels == 3 || channels == 4
+}
+
 /// The canvas that the caller names.
 fn canvas(head: &CanvasHead) -> Option<Canvas>
     ensures some { IsSome result ↔ IsCanvas head.now }
-    ensures value { IfSome result (λ c. (c.width ≡ head.now.width) × (c.height ≡ head.now.height) × (c.count ≡ samples_listed head.now.samples)) }
+    ensures value { IfSome result (λ c. (c.width ≡ head.now.width) × (c.height ≡ head.now.height) ×
+        (c.count ≡ samples_listed head.now.samples)) }
 {
     let count = count_of(head.samples)?;
-    if head.channels != 0 && head.channels != 3 {
+    if !has_channels(head.channels) {
         return None;
     }
     Canvas::new(head.width, head.height, count)
@@ -79,7 +96,8 @@ fn canvas(head: &CanvasHead) -> Option<Canvas>
 /// The canvas that the caller names, if its struct has the size that this library knows.
 fn whole(head: &CanvasHead) -> Option<Canvas>
     ensures some { IsSome result ↔ IsWhole head.now }
-    ensures value { IfSome result (λ c. (c.width ≡ head.now.width) × (c.height ≡ head.now.height) × (c.count ≡ samples_listed head.now.samples)) }
+    ensures value { IfSome result (λ c. (c.width ≡ head.now.width) × (c.height ≡ head.now.height) ×
+        (c.count ≡ samples_listed head.now.samples)) }
 {
     if !is_own_size(head.struct_size, PIECE_SIZE) {
         return None;
@@ -107,7 +125,8 @@ pub(crate) fn rows_of(head: &CanvasHead, planes: &[BlockSamples]) -> Result<Tile
     Ok(rows)
 }
 
-/// How a call ended that reads or writes rows of pixels: whatever does not fit, the caller's memory is too small for them.
+/// How a call ended that reads or writes rows of pixels: whatever does not fit, the caller's memory is too small for
+/// them.
 pub(crate) fn fitted(ended: Result<(), Misfit>) -> Result<(), Status>
     ensures done { IsOk result ↔ IsOk ended }
     ensures small { IfErr result (λ failed. failed ≡ Status.BufferTooSmall) }
@@ -121,7 +140,8 @@ pub(crate) fn fitted(ended: Result<(), Misfit>) -> Result<(), Status>
 /// The bytes of the samples of all tile rows of the canvas. Returns 0 if there is no such canvas.
 #[unsafe(no_mangle)]
 pub extern "C" fn trirast_canvas_size(head: &CanvasHead) -> usize
-    ensures value { IsWhole head.now → result ≡ 320 * planes_of head.now.width head.now.samples 0 (tile_rows_of head.now.height) }
+    ensures value { IsWhole head.now → result ≡
+        384 * planes_of head.now.width head.now.samples 0 (tile_rows_of head.now.height) }
     ensures none { ¬ IsWhole head.now → result ≡ 0 }
 {
     match whole(head) {

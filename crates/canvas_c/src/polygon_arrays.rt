@@ -1,5 +1,6 @@
 //! Polygons in the caller's memory.
-ghost use Rattle.std.specs.Prelude.{◌≡◌, ◌↔◌, ◌⊎◌, ◌≤◌, length, IfOk, IfErr, IsTrue, pos, negsuc, ◌≤ℤ◌, None as Nothing, Some as Just};
+ghost use Rattle.std.specs.Prelude.{◌≡◌, ◌↔◌, ◌⊎◌, ◌≤◌, length, IfOk, IfErr, IsTrue, pos, negsuc, ◌≤ℤ◌, None as Nothing, Some as Just, ⊤};
+ghost use Rattle.model.specs.Checking.{IsJudged};
 ghost use Rattle.painting.specs.Batches.{HasColours};
 ghost use Rattle.painting.specs.Painting.{IsOriginInBand};
 ghost use Rattle.c_abi.specs.Sizes.{IsOwnSize};
@@ -13,7 +14,8 @@ use polygons::{ArraysError, Corner, Polygons, Rule};
 /// The bytes of the struct.
 const POLYGONS_SIZE: u32 = size_of::<PolygonArrays<'_>>() as u32;
 
-/// Polygons with their colours, as a call from C takes them, laid out as in C: of each array a pointer and then a count.
+/// Polygons with their colours, as a call from C takes them, laid out as in C: of each array a pointer and then a
+/// count.
 #[repr(C)]
 #[derive(Clone, Copy)]
 pub struct PolygonArrays<'a> {
@@ -56,17 +58,19 @@ fn of_all(cause: u32) -> Fault
         cause,
         draw: None,
         element: None,
+        value: None,
     }
 }
 
 /// An error of a ring, a polygon or a corner.
 fn at_element(cause: u32, element: usize) -> Fault
-    ensures { result ≡ record { cause = cause; draw = Nothing; element = Just element } }
+    ensures { result ≡ record { cause = cause; draw = Nothing; element = Just element; value = Nothing } }
 {
     Fault {
         cause,
         draw: None,
         element: Some(element),
+        value: None,
     }
 }
 
@@ -126,11 +130,17 @@ impl<'a> PolygonArrays<'a> {
         is_own_size(self.struct_size, POLYGONS_SIZE)
     }
 
-    /// Whether the rule and the state are known ones.
-    fn is_known(&self) -> bool
-        ensures { IsTrue result ↔ said.IsKnown self.now }
+    /// Checks the rule and the state. Returns the number of the cause of what is not known first.
+    fn check_known(&self) -> Result<(), u32>
+        ensures { IsJudged (said.known_checks self.now) (λ done. ⊤) result }
     {
-        self.fill_rule <= 1 && self.state.is_in_range()
+        if self.fill_rule > 1 {
+            return Err(23);
+        }
+        match self.state.check_state() {
+            Ok(()) => Ok(()),
+            Err(cause) => Err(cause.number()),
+        }
     }
 
     /// Whether there is a depth for each polygon, or none at all.
@@ -142,11 +152,13 @@ impl<'a> PolygonArrays<'a> {
 
     /// The polygons, or what is wrong first.
     pub(crate) fn polygons(&self, ids: Option<u32>) -> Result<Polygons<'a>, Fault>
-        ensures good { IfOk result (λ p. said.AreGood ids self.now × (p.corners.now ≡ self.now.corners.now) × (p.ring_ends.now ≡ self.now.ring_ends.now) × (p.polygon_ends.now ≡ self.now.polygon_ends.now)) }
-        ensures wrong { IfErr result (λ fault. (¬ said.AreGood ids self.now) × said.IsFirstOfPolygons ids self.now fault) }
+        ensures good { IfOk result (λ p. said.AreGood ids self.now × (p.corners.now ≡ self.now.corners.now) ×
+            (p.ring_ends.now ≡ self.now.ring_ends.now) × (p.polygon_ends.now ≡ self.now.polygon_ends.now)) }
+        ensures wrong { IfErr result (λ fault. (¬ said.AreGood ids self.now) ×
+            said.IsFirstOfPolygons ids self.now fault) }
     {
-        if !self.is_known() {
-            return Err(of_all(3));
+        if let Err(cause) = self.check_known() {
+            return Err(of_all(cause));
         }
         match Polygons::new(self.corners, self.ring_ends, self.polygon_ends) {
             Err(error) => Err(array_fault(error)),

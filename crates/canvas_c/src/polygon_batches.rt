@@ -2,7 +2,7 @@
 ghost use Rattle.std.specs.Prelude.{◌≡◌, ◌≢◌, length, OnOk, OnErr, None as Nothing, Some as Just, ⊤};
 ghost use Rattle.painting.specs.Painting.{ArePainted};
 ghost use Rattle.c_abi.specs.Calls.{IsCall, IsReport};
-ghost use Rattle.canvas_c.specs.Pieces.{OnRows};
+ghost use Rattle.canvas_c.specs.Pieces.{has_alpha, OnRows};
 ghost use Rattle.canvas_c.specs.PolygonChecks.{origin_of, polygons_checks, shapes_listed, IsFirstOfPolygons};
 
 use crate::piece::{CanvasHead, CanvasPiece, rows_of};
@@ -22,8 +22,11 @@ fn draw_into(
     flags: &mut [Flags],
     counters: &mut [Counters],
 ) -> Result<(), CallError>
-    ensures judged { IsCall (polygons_checks head.now (length planes.old) ids arrays.now (length flags.old) (length counters.old)) (IsFirstOfPolygons ids arrays.now) (λ done. ⊤) result }
-    ensures drawn { OnOk result (OnRows head.now (λ c first end. ArePainted (shapes_listed ids arrays.now) (origin_of head.now) c first end planes.old planes.new)) }
+    ensures judged { IsCall (polygons_checks head.now (length planes.old) ids arrays.now (length flags.old)
+        (length counters.old)) (IsFirstOfPolygons ids arrays.now) (λ done. ⊤) result }
+    ensures drawn { OnOk result (OnRows head.now
+        (λ c first end. ArePainted (shapes_listed (has_alpha head.now) ids arrays.now) (origin_of head.now) c first end planes.old
+        planes.new)) }
     ensures kept { OnErr result (planes.new ≡ planes.old) }
 {
     let rows = rows_of(head, planes)?;
@@ -50,7 +53,7 @@ fn draw_into(
         colours: arrays.colours,
         depths: arrays.depths,
         ids,
-        state: arrays.state.state(),
+        state: arrays.state.state(head.has_alpha()),
     };
     let flags = &mut flags[..columns];
     clear(flags);
@@ -62,8 +65,9 @@ fn draw_into(
     Ok(())
 }
 
-/// Draws polygons at the samples of these tile rows, over what is stored there, one after another. Flags and counters are scratch memory:
-/// what is in them before does not matter. Returns the status, and writes the error. If the status is not 0, the samples are unchanged.
+/// Draws polygons at the samples of these tile rows, over what is stored there, one after another. Flags and counters
+/// are scratch memory: what is in them before does not matter. Returns the status, and writes the error. If the status
+/// is not 0, the samples are unchanged.
 #[unsafe(no_mangle)]
 pub extern "C" fn trirast_proved_canvas_draw_polygons(
     canvas: &mut CanvasPiece<'_>,
@@ -72,9 +76,10 @@ pub extern "C" fn trirast_proved_canvas_draw_polygons(
     counters: &mut [Counters],
     error: &mut Error,
 ) -> u32
-    ensures report { IsReport (polygons_checks canvas.old.head (length canvas.old.planes.now) Nothing polygons.now (length flags.old) (length counters.old)) (IsFirstOfPolygons Nothing polygons.now) result error.new }
+    ensures report { IsReport (polygons_checks canvas.old.head (length canvas.old.planes.now) Nothing polygons.now
+        (length flags.old) (length counters.old)) (IsFirstOfPolygons Nothing polygons.now) result error.new }
     ensures drawn { result ≡ 0 → OnRows canvas.old.head (λ c first end.
-        ArePainted (shapes_listed Nothing polygons.now) (origin_of canvas.old.head) c first end canvas.old.planes.now canvas.new.planes.now) }
+        ArePainted (shapes_listed (has_alpha canvas.old.head) Nothing polygons.now) (origin_of canvas.old.head) c first end canvas.old.planes.now canvas.new.planes.now) }
     ensures kept { result ≢ 0 → canvas.new.planes.now ≡ canvas.old.planes.now }
     ensures head { canvas.new.head ≡ canvas.old.head }
     ensures same { canvas.new.planes.ghost_name ≡ canvas.old.planes.ghost_name }
@@ -96,9 +101,11 @@ pub extern "C" fn trirast_proved_canvas_draw_polygon_ids(
     counters: &mut [Counters],
     error: &mut Error,
 ) -> u32
-    ensures report { IsReport (polygons_checks canvas.old.head (length canvas.old.planes.now) (Just first_id) polygons.now (length flags.old) (length counters.old)) (IsFirstOfPolygons (Just first_id) polygons.now) result error.new }
+    ensures report { IsReport (polygons_checks canvas.old.head (length canvas.old.planes.now) (Just first_id)
+        polygons.now (length flags.old) (length counters.old)) (IsFirstOfPolygons (Just first_id) polygons.now) result
+        error.new }
     ensures drawn { result ≡ 0 → OnRows canvas.old.head (λ c first end.
-        ArePainted (shapes_listed (Just first_id) polygons.now) (origin_of canvas.old.head) c first end canvas.old.planes.now canvas.new.planes.now) }
+        ArePainted (shapes_listed (has_alpha canvas.old.head) (Just first_id) polygons.now) (origin_of canvas.old.head) c first end canvas.old.planes.now canvas.new.planes.now) }
     ensures kept { result ≢ 0 → canvas.new.planes.now ≡ canvas.old.planes.now }
     ensures head { canvas.new.head ≡ canvas.old.head }
     ensures same { canvas.new.planes.ghost_name ≡ canvas.old.planes.ghost_name }

@@ -37,7 +37,9 @@ fn ids_into(
     row: u32,
     ids: &mut [u32],
 ) -> Result<u32, Status>
-    ensures judged { IsJudged (tile_ids_checks head.now (length planes.now) column row (length ids.old)) (λ uniform. OnRows head.now (λ c first end. AreIdsOfTile c first end column row planes.now ids.old ids.new uniform)) result }
+    ensures judged { IsJudged (tile_ids_checks head.now (length planes.now) column row (length ids.old))
+        (λ uniform. OnRows head.now
+        (λ c first end. AreIdsOfTile c first end column row planes.now ids.old ids.new uniform)) result }
     ensures kept { OnErr result (ids.new ≡ ids.old) }
 {
     let rows = rows_of(head, planes)?;
@@ -47,8 +49,8 @@ fn ids_into(
     }
 }
 
-/// Writes the ids of all samples of a tile, or one if the tile is unchanged since it was cleared, and whether it was one. Entries behind
-/// them are unchanged. Returns the status. If it is not 0, nothing is written.
+/// Writes the ids of all samples of a tile, or one if the tile is unchanged since it was cleared, and whether it was
+/// one. Entries behind them are unchanged. Returns the status. If it is not 0, nothing is written.
 #[unsafe(no_mangle)]
 pub extern "C" fn trirast_canvas_tile_ids(
     canvas: &CanvasPiece<'_>,
@@ -57,8 +59,10 @@ pub extern "C" fn trirast_canvas_tile_ids(
     ids: &mut [u32],
     uniform: &mut u32,
 ) -> u32
-    ensures status { IsStatus (tile_ids_checks canvas.now.head (length canvas.now.planes.now) column row (length ids.old)) result }
-    ensures written { result ≡ 0 → OnRows canvas.now.head (λ c first end. AreIdsOfTile c first end column row canvas.now.planes.now ids.old ids.new uniform.new) }
+    ensures status { IsStatus (tile_ids_checks canvas.now.head (length canvas.now.planes.now) column row
+        (length ids.old)) result }
+    ensures written { result ≡ 0 → OnRows canvas.now.head
+        (λ c first end. AreIdsOfTile c first end column row canvas.now.planes.now ids.old ids.new uniform.new) }
     ensures kept { result ≢ 0 → (ids.new ≡ ids.old) × (uniform.new ≡ uniform.old) }
 {
     match ids_into(&canvas.head, canvas.planes, column, row, ids) {
@@ -78,8 +82,10 @@ fn store_in_tile(
     row: u32,
     colours: &[u32],
 ) -> Result<(), Status>
-    ensures judged { IsJudged (tile_store_checks head.now (length planes.old) column row (length colours.now)) (λ done. ⊤) result }
-    ensures stored { OnOk result (OnRows head.now (λ c first end. AreTileColours c first end column row colours.now planes.old planes.new)) }
+    ensures judged { IsJudged (tile_store_checks head.now (length planes.old) column row (length colours.now))
+        (λ done. ⊤) result }
+    ensures stored { OnOk result (OnRows head.now
+        (λ c first end. AreTileColours c first end column row colours.now planes.old planes.new)) }
     ensures kept { OnErr result (planes.new ≡ planes.old) }
 {
     let rows = rows_of(head, planes)?;
@@ -90,8 +96,8 @@ fn store_in_tile(
     }
 }
 
-/// Stores the colours of all samples of a tile, or one colour for all of them. Depths and other tiles are unchanged. Returns the status. If
-/// it is not 0, the samples are unchanged.
+/// Stores the colours of all samples of a tile, or one colour for all of them. Depths, alpha and other tiles are
+/// unchanged. Returns the status. If it is not 0, the samples are unchanged.
 #[unsafe(no_mangle)]
 pub extern "C" fn trirast_canvas_tile_store(
     canvas: &mut CanvasPiece<'_>,
@@ -99,8 +105,10 @@ pub extern "C" fn trirast_canvas_tile_store(
     row: u32,
     colours: &[u32],
 ) -> u32
-    ensures status { IsStatus (tile_store_checks canvas.old.head (length canvas.old.planes.now) column row (length colours.now)) result }
-    ensures stored { result ≡ 0 → OnRows canvas.old.head (λ c first end. AreTileColours c first end column row colours.now canvas.old.planes.now canvas.new.planes.now) }
+    ensures status { IsStatus (tile_store_checks canvas.old.head (length canvas.old.planes.now) column row
+        (length colours.now)) result }
+    ensures stored { result ≡ 0 → OnRows canvas.old.head
+        (λ c first end. AreTileColours c first end column row colours.now canvas.old.planes.now canvas.new.planes.now) }
     ensures kept { result ≢ 0 → canvas.new.planes.now ≡ canvas.old.planes.now }
     ensures head { canvas.new.head ≡ canvas.old.head }
     ensures same { canvas.new.planes.ghost_name ≡ canvas.old.planes.ghost_name }

@@ -22,8 +22,8 @@ pub struct Corners {
     pub cy: i32,
 }
 
-/// The edge functions of a triangle at a point, of the edges across from the first, the second and the third corner, and its doubled
-/// area, in 1/65536 square pixel, laid out as in C.
+/// The edge functions of a triangle at a point, of the edges across from the first, the second and the third corner,
+/// and its doubled area, in 1/65536 square pixel, laid out as in C.
 #[repr(C)]
 #[derive(Clone, Copy, Debug, PartialEq, Eq)]
 pub struct Edges {
@@ -42,7 +42,8 @@ pub struct Edges {
 /// The triangle with these corners, or `None` if one is outside of the guard band.
 fn triangle_of(corners: &Corners) -> Option<Tri>
     ensures some { IsSome result ↔ AreInBand corners.now }
-    ensures value { IfSome result (λ t. t ≡ record { a = a_of corners.now; b = b_of corners.now; c = c_of corners.now }) }
+    ensures value { IfSome result (λ t. t ≡
+        record { a = a_of corners.now; b = b_of corners.now; c = c_of corners.now }) }
 {
     let a = Point::new(corners.ax, corners.ay)?;
     let b = Point::new(corners.bx, corners.by)?;
@@ -65,7 +66,8 @@ fn edges_of(triangle: &Tri, point: Point) -> Edges
 
 /// The edge functions of the triangle with these corners at the point (x, y).
 fn edges_at(corners: &Corners, x: i32, y: i32) -> Result<Edges, Status>
-    ensures judged { IsJudged (weights_checks corners.now (record { x = x; y = y })) (AreEdges corners.now (record { x = x; y = y })) result }
+    ensures judged { IsJudged (weights_checks corners.now (record { x = x; y = y }))
+        (AreEdges corners.now (record { x = x; y = y })) result }
 {
     let Some(triangle) = triangle_of(corners) else {
         return Err(Status::BadPosition);
@@ -76,8 +78,8 @@ fn edges_at(corners: &Corners, x: i32, y: i32) -> Result<Edges, Status>
     Ok(edges_of(&triangle, point))
 }
 
-/// Writes the edge functions of a triangle at a point, in 1/256 pixel. They are exact. Returns the status. If it is not 0, nothing is
-/// written.
+/// Writes the edge functions of a triangle at a point, in 1/256 pixel. They are exact. Returns the status. If it is not
+/// 0, nothing is written.
 #[unsafe(no_mangle)]
 pub extern "C" fn trirast_edges_at_point(
     corners: &Corners,

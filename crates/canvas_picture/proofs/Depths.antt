@@ -7,6 +7,7 @@ use Rattle.shade.proofs.Resolved.{some_samples}
 use Rattle.model.specs.declared.output.Output.TheVariants.{Depth}
 use Rattle.model.specs.Scene.{Scene}
 use Rattle.model.specs.Picture.{IsDepthPixel, PixelOf, IsPixel, IsPicture, pixel_at, pixel_bytes}
+use Rattle.shade.specs.Canvas.{colour_and_depth}
 use Rattle.canvas.specs.declared.canvas.Canvas.{Canvas}
 use Rattle.canvas.specs.Layout.{rows_of, stored}
 use Rattle.canvas.specs.Pixels.{entry_of}
@@ -48,7 +49,7 @@ module _ (l : Scene) (c : Canvas) (batches : List (List Placed)) (samples : List
     depth_pixel : IsDepthPixel l i j (pixel_at Depth number bytes)
     depth_pixel =
         let first : 2 * number + 0 ≡ 2 * number = omega arith in record {
-          end = stored c 0 samples i j 0;
+          end = colour_and_depth (stored c 0 samples i j 0);
           is_end = sample_end l c batches samples of listed made i j wide high 0 (some_samples l.count);
           high = slice_index depths number / 256;
           low = slice_index depths number % 256;

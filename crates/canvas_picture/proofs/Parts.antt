@@ -7,15 +7,15 @@ use Rattle.std.proofs.lemmas.Nat.{mul-add-lt}
 use Rattle.grid.specs.Samples.{count_of}
 use Rattle.lanes.specs.declared.block_samples.BlockSamples.{BlockSamples}
 use Rattle.shade.specs.declared.placed.Placed.{Placed}
-use Rattle.shade.specs.declared.sample.Sample.{Sample}
-use Rattle.shade.specs.Ending.{Ends}
+use Rattle.shade.specs.declared.sample.CanvasSample.{CanvasSample}
+use Rattle.shade.specs.Canvas.{CanvasEnds}
 use Rattle.shade.proofs.Resolved.{resolved_same}
 use Rattle.canvas.specs.declared.canvas.Canvas.{Canvas}
 use Rattle.canvas.specs.declared.format.Format.{Format}
 use Rattle.canvas.specs.Layout.{IsStoredIn, HasPixel, columns_of, stored}
 use Rattle.canvas.specs.Drawing.{AreCleared, HaveEnds}
 use Rattle.canvas.specs.Pixels.{pixel_bytes, entry_of, AreWritten}
-use Rattle.canvas.specs.Colours.{IsColourOfPixel, IsPixelOf, AreResolved, AreEntries}
+use Rattle.canvas.specs.Colours.{IsColourOfPixel, IsAlphaOfPixel, IsPixelOf, AreResolved, AreEntries}
 use Rattle.canvas.proofs.Places.{in_upper, in_lower}
 use Rattle.canvas.proofs.PixelColours.{bytes_same}
 use Rattle.canvas.proofs.Units.{below_unit}
@@ -24,7 +24,7 @@ use Rattle.canvas_picture.specs.Parts.{AreUpper, AreUpperRows}
 -- ---- samples
 module _ (c : Canvas) (first at end : ℕ) (xs ys : List BlockSamples) (upper : AreUpper c first at end xs) where
   -- what holds of the samples of both parts holds of those of the whole
-  pub of_both : (P : ℕ → ℕ → ℕ → Sample → Type 0)
+  pub of_both : (P : ℕ → ℕ → ℕ → CanvasSample → Type 0)
       → ((i j s : ℕ) → IsStoredIn c first at i j s → P i j s (stored c first xs i j s))
       → ((i j s : ℕ) → IsStoredIn c at end i j s → P i j s (stored c at ys i j s))
       → (i j s : ℕ) → IsStoredIn c first end i j s → P i j s (stored c first (xs ++ ys) i j s)
@@ -38,7 +38,7 @@ module _ (c : Canvas) (first at end : ℕ) (xs ys : List BlockSamples) (upper : 
             (below i j s (record { column = h.column; from = more; below = h.below; is_sample = h.is_sample }))
       ]
 
-pub joined_cleared : (c : Canvas) (first at end : ℕ) (sample : Sample) (xs ys : List BlockSamples) → AreUpper c first at end xs
+pub joined_cleared : (c : Canvas) (first at end : ℕ) (sample : CanvasSample) (xs ys : List BlockSamples) → AreUpper c first at end xs
     → AreCleared c first at sample xs → AreCleared c at end sample ys → AreCleared c first end sample (xs ++ ys)
 joined_cleared c first at end sample xs ys upper above below = of_both c first at end xs ys upper (λ i j s x. x ≡ sample) above below
 
@@ -47,12 +47,12 @@ pub joined_drawn : (ts : List Placed) (c : Canvas) (first at end : ℕ) (xs ys x
 joined_drawn ts c first at end xs ys xs' ys' upper upper' above below i j s h =
     elim (cases_lt (j / 64) at) [
       | inl less ↦
-          subst (λ x. Ends ts c.count i j s x (stored c first (xs' ++ ys') i j s)) (sym (in_upper c first at xs ys i j s upper.size h.column h.is_sample h.from less))
-          (subst (λ x. Ends ts c.count i j s (stored c first xs i j s) x) (sym (in_upper c first at xs' ys' i j s upper'.size h.column h.is_sample h.from less))
+          subst (λ x. CanvasEnds ts c.count i j s x (stored c first (xs' ++ ys') i j s)) (sym (in_upper c first at xs ys i j s upper.size h.column h.is_sample h.from less))
+          (subst (λ x. CanvasEnds ts c.count i j s (stored c first xs i j s) x) (sym (in_upper c first at xs' ys' i j s upper'.size h.column h.is_sample h.from less))
           (above i j s (record { column = h.column; from = h.from; below = less; is_sample = h.is_sample })))
       | inr more ↦
-          subst (λ x. Ends ts c.count i j s x (stored c first (xs' ++ ys') i j s)) (sym (in_lower c first at xs ys i j s upper.size h.column h.is_sample upper.from more))
-          (subst (λ x. Ends ts c.count i j s (stored c at ys i j s) x) (sym (in_lower c first at xs' ys' i j s upper'.size h.column h.is_sample upper.from more))
+          subst (λ x. CanvasEnds ts c.count i j s x (stored c first (xs' ++ ys') i j s)) (sym (in_lower c first at xs ys i j s upper.size h.column h.is_sample upper.from more))
+          (subst (λ x. CanvasEnds ts c.count i j s (stored c at ys i j s) x) (sym (in_lower c first at xs' ys' i j s upper'.size h.column h.is_sample upper.from more))
           (below i j s (record { column = h.column; from = more; below = h.below; is_sample = h.is_sample })))
     ]
 
@@ -117,13 +117,16 @@ module _ (c : Canvas) (first at end unit stride : ℕ) (from : first ≤ at) (to
 module _ (c : Canvas) (i j : ℕ) (a b : ℕ) (xs zs : List BlockSamples) (same : (s : ℕ) → s < count_of c.count → stored c a xs i j s ≡ stored c b zs i j s) where
   same_colour : (red green blue : ℕ) → IsColourOfPixel c a xs i j red green blue → IsColourOfPixel c b zs i j red green blue
   same_colour red green blue h = record {
-    red = resolved_same c.count _ (λ s. (stored c b zs i j s).r) red (λ s l. ap (λ (x : Sample). x.r) (same s l)) h.red;
-    green = resolved_same c.count _ (λ s. (stored c b zs i j s).g) green (λ s l. ap (λ (x : Sample). x.g) (same s l)) h.green;
-    blue = resolved_same c.count _ (λ s. (stored c b zs i j s).b) blue (λ s l. ap (λ (x : Sample). x.b) (same s l)) h.blue;
+    red = resolved_same c.count _ (λ s. (stored c b zs i j s).r) red (λ s l. ap (λ (x : CanvasSample). x.r) (same s l)) h.red;
+    green = resolved_same c.count _ (λ s. (stored c b zs i j s).g) green (λ s l. ap (λ (x : CanvasSample). x.g) (same s l)) h.green;
+    blue = resolved_same c.count _ (λ s. (stored c b zs i j s).b) blue (λ s l. ap (λ (x : CanvasSample). x.b) (same s l)) h.blue;
   }
 
+  same_alpha : (alpha : ℕ) → IsAlphaOfPixel c a xs i j alpha → IsAlphaOfPixel c b zs i j alpha
+  same_alpha alpha h = resolved_same c.count _ (λ s. (stored c b zs i j s).alpha) alpha (λ s l. ap (λ (x : CanvasSample). x.alpha) (same s l)) h
+
   pub same_pixel : (format : Format) (f g : ℕ → ℕ) → ((k : ℕ) → k < pixel_bytes format → g k ≡ f k) → IsPixelOf c a xs format i j f → IsPixelOf c b zs format i j g
-  same_pixel format f g bytes h = record { r = h.r; g = h.g; b = h.b; colour = same_colour h.r h.g h.b h.colour; order = bytes_same format h.r h.g h.b f g bytes h.order }
+  same_pixel format f g bytes h = record { r = h.r; g = h.g; b = h.b; a = h.a; colour = same_colour h.r h.g h.b h.colour; alpha = λ has. same_alpha h.a (h.alpha has); order = bytes_same format h.r h.g h.b h.a f g bytes h.order }
 
 -- a column of pixels in the picture is in a column of tiles
 column_in : (c : Canvas) (i : ℕ) → i < c.width → i / 64 < columns_of c
@@ -145,7 +148,7 @@ module _ (c : Canvas) (first at end : ℕ) (xs ys : List BlockSamples) (upper : 
       (λ i j f g h same is. same_pixel c i j at first ys (xs ++ ys) (λ s l. from_lower i j s h l) format f g same is)
       old new old' new' rows rows' above below
 
-  pub joined_entries : (entry : Sample → ℕ) (s stride : ℕ) → s < count_of c.count → AreUpperRows c first at 1 stride old → AreUpperRows c first at 1 stride new
+  pub joined_entries : (entry : CanvasSample → ℕ) (s stride : ℕ) → s < count_of c.count → AreUpperRows c first at 1 stride old → AreUpperRows c first at 1 stride new
       → AreEntries entry c first at xs s stride old new → AreEntries entry c at end ys s stride old' new' → AreEntries entry c first end (xs ++ ys) s stride (old ++ old') (new ++ new')
   joined_entries entry s stride l rows rows' above below =
       joined_written c first at end 1 stride upper.from upper.to

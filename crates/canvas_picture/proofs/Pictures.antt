@@ -7,6 +7,7 @@ use Rattle.shade.specs.Resolve.{IsResolved}
 use Rattle.model.specs.declared.output.Output.TheVariants.{Color}
 use Rattle.model.specs.Scene.{Scene}
 use Rattle.model.specs.Picture.{IsColour, IsColourPixel, PixelOf, IsPixel, IsPicture, pixel_at, pixel_bytes}
+use Rattle.shade.specs.Canvas.{colour_and_depth}
 use Rattle.canvas.specs.declared.canvas.Canvas.{Canvas}
 use Rattle.canvas.specs.declared.format.Format.TheVariants.{Rgb8}
 use Rattle.canvas.specs.Layout.{rows_of, stored}
@@ -37,7 +38,7 @@ module _ (l : Scene) (c : Canvas) (batches : List (List Placed)) (samples : List
 
     colour : IsColour l i j pixel.r pixel.g pixel.b
     colour = record {
-      end = λ s. stored c 0 samples i j s;
+      end = λ s. colour_and_depth (stored c 0 samples i j s);
       ends = λ s small. sample_end l c batches samples of listed made i j wide high s small;
       red = subst (λ n. IsResolved n (λ s. (stored c 0 samples i j s).r) pixel.r) of.count pixel.colour.red;
       green = subst (λ n. IsResolved n (λ s. (stored c 0 samples i j s).g) pixel.g) of.count pixel.colour.green;

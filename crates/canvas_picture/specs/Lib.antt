@@ -3,9 +3,9 @@
 -- Batches.antt
 --   IsCanvasOf: The canvas has the size and the samples of a draw list.
 --   all_of: All triangles of some batches, in order.
---   AreListed: The batches are the draw list's triangles, split in any way.
+--   AreListed: The batches are the draw list's triangles, which write no alpha, split in any way.
 --   AreDrawnInTurn: The batches are drawn one after another, each over the samples that the one before it left.
---   AreMade: The samples of a canvas that was cleared to the draw list's clear values and then drawn with the batches.
+--   AreMade: The samples of a canvas that was cleared to the draw list's clear values and an alpha of one, and then drawn with the batches.
 --   ArePairsOf: Two bytes for each number, of which the more significant comes first.
 --
 -- Parts.antt

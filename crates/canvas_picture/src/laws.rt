@@ -3,7 +3,7 @@ ghost use Rattle.std.specs.Prelude.{◌≡◌, ℕ, ◌*◌, ◌<◌, List, ◌+
 ghost use Rattle.grid.specs.Samples.{count_of};
 ghost use Rattle.lanes.specs.declared.block_samples.BlockSamples.{BlockSamples};
 ghost use Rattle.shade.specs.declared.placed.Placed.{Placed};
-ghost use Rattle.shade.specs.declared.sample.Sample.{Sample};
+ghost use Rattle.shade.specs.declared.sample.CanvasSample.{CanvasSample};
 ghost use Rattle.model.specs.declared.output.Output.TheVariants.{Color, Depth};
 ghost use Rattle.model.specs.Scene.{Scene};
 ghost use Rattle.model.specs.Picture.{IsPicture};
@@ -17,8 +17,8 @@ ghost use Rattle.canvas.specs.Colours.{AreResolved, AreEntries, AreDepths};
 ghost use Rattle.canvas_picture.specs.Batches.{IsCanvasOf, AreListed, AreMade, ArePairsOf};
 ghost use Rattle.canvas_picture.specs.Parts.{AreUpper, AreUpperRows};
 
-/// A canvas of the size of a draw list, cleared to the list's clear values, drawn with its triangles in any batches one after another, and
-/// resolved to RGB8 without padding, is the list's picture of colours.
+/// A canvas of the size of a draw list, cleared to the list's clear values and an alpha of 255, drawn with its triangles in any batches one
+/// after another, and resolved to RGB8 without padding, is the list's picture of colours.
 pub fn draws_pictures()
     ensures { (l : Scene) (c : Canvas) (batches : List (List Placed)) (samples : List BlockSamples) (old bytes : List ℕ)
         → l.output ≡ Color → IsCanvasOf l c → AreListed l batches → AreMade l c batches samples
@@ -26,28 +26,31 @@ pub fn draws_pictures()
         → IsPicture l bytes }
 {}
 
-/// The depths of the samples 0 of the same canvas, without padding, each in two bytes of which the more significant comes first, are the
-/// list's picture of depths.
+/// The depths of the samples 0 of the same canvas, without padding, each in two bytes of which the more significant
+/// comes first, are the list's picture of depths.
 pub fn draws_depths()
     ensures { (l : Scene) (c : Canvas) (batches : List (List Placed)) (samples : List BlockSamples) (old depths bytes : List ℕ)
         → l.output ≡ Depth → IsCanvasOf l c → AreListed l batches → AreMade l c batches samples
-        → length depths ≡ l.height * l.width → AreDepths c 0 (rows_of c) samples 0 c.width old depths → ArePairsOf depths bytes
+        → length depths ≡ l.height * l.width → AreDepths c 0 (rows_of c) samples 0 c.width old depths →
+        ArePairsOf depths bytes
         → IsPicture l bytes }
 {}
 
-/// Two parts of tile rows, one below the other, each cleared, drawn and read out by itself, are the whole: the planes of the upper part,
-/// and behind them those of the lower one, are those of all these tile rows, and so are the rows of pixels. Either part can be two parts
-/// itself, so this is so of any number of them.
+/// Two parts of tile rows, one below the other, each cleared, drawn and read out by itself, are the whole: the planes
+/// of the upper part, and behind them those of the lower one, are those of all these tile rows, and so are the rows of
+/// pixels. Either part can be two parts itself, so this is so of any number of them.
 pub fn joins_parts()
-    ensures cleared { (c : Canvas) (first at end : ℕ) (sample : Sample) (xs ys : List BlockSamples) → AreUpper c first at end xs
+    ensures cleared { (c : Canvas) (first at end : ℕ) (sample : CanvasSample) (xs ys : List BlockSamples) → AreUpper c first at end xs
         → AreCleared c first at sample xs → AreCleared c at end sample ys → AreCleared c first end sample (xs ++ ys) }
     ensures drawn { (ts : List Placed) (c : Canvas) (first at end : ℕ) (xs ys new new' : List BlockSamples) → AreUpper c first at end xs → AreUpper c first at end new
-        → HaveEnds ts c first at xs new → HaveEnds ts c at end ys new' → HaveEnds ts c first end (xs ++ ys) (new ++ new') }
+        → HaveEnds ts c first at xs new → HaveEnds ts c at end ys new' →
+        HaveEnds ts c first end (xs ++ ys) (new ++ new') }
     ensures resolved { (c : Canvas) (first at end : ℕ) (xs ys : List BlockSamples) (old new old' new' : List ℕ) (format : Format) (stride : ℕ) → AreUpper c first at end xs
-        → AreUpperRows c first at (pixel_bytes format) stride old → AreUpperRows c first at (pixel_bytes format) stride new
+        → AreUpperRows c first at (pixel_bytes format) stride old →
+        AreUpperRows c first at (pixel_bytes format) stride new
         → AreResolved c first at xs format stride old new → AreResolved c at end ys format stride old' new'
         → AreResolved c first end (xs ++ ys) format stride (old ++ old') (new ++ new') }
-    ensures entries { (entry : Sample → ℕ) (c : Canvas) (first at end s : ℕ) (xs ys : List BlockSamples) (old new old' new' : List ℕ) (stride : ℕ) → AreUpper c first at end xs
+    ensures entries { (entry : CanvasSample → ℕ) (c : Canvas) (first at end s : ℕ) (xs ys : List BlockSamples) (old new old' new' : List ℕ) (stride : ℕ) → AreUpper c first at end xs
         → s < count_of c.count → AreUpperRows c first at 1 stride old → AreUpperRows c first at 1 stride new
         → AreEntries entry c first at xs s stride old new → AreEntries entry c at end ys s stride old' new'
         → AreEntries entry c first end (xs ++ ys) s stride (old ++ old') (new ++ new') }

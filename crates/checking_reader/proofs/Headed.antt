@@ -8,7 +8,7 @@ use Rattle.model.specs.Denotes.{Each, picture_box, IsDraw, IsListing}
 use Rattle.model.proofs.Counts.{items_len_each}
 use Rattle.checking_reader.specs.declared.header.Header.{Header}
 use Rattle.checking_reader.specs.Header.{IsHeader}
-use Rattle.checking_reader.proofs.Elements.{items_len_view}
+use Rattle.checking_reader.proofs.ArrayElements.{items_len_view}
 
 -- a top object with its draws is a draw list
 pub headed : (d : Data) (h : Header) (draws : List DrawListing) → IsHeader d h → Each (IsDraw (picture_box h.target.width h.target.height)) (items_view h.draws.now) draws

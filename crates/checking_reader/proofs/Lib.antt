@@ -1,5 +1,5 @@
 pub mod Finish
-pub mod Elements
+pub mod ArrayElements
 pub mod Draws
 pub mod KnownKeys
 pub mod Memory

@@ -9,7 +9,7 @@ use Rattle.model.specs.declared.fault.ReadKind.TheVariants.{WrongKind, OutOfRang
 use Rattle.model.specs.Json.{elements, count}
 use Rattle.model.specs.Keys.{output_words, cull_words, depth_test_words, blend_words}
 use Rattle.model.specs.FirstFault.{first_fault}
-use Rattle.model.specs.Checks.{Checks, where_there, word_checks, truth_checks, write_mask_checks, sample_mask_checks, scissor_checks, sample_count_checks, colour_checks, depth_checks, clear_checks, top_checks, array_checks, each, vertex_checks, positions_written, merge_checks, state_checks, vertices_checks, primitive_checks, part_checks, opening_checks, has_no_list, is_absent, draw_checks, checks_before_vertices}
+use Rattle.model.specs.Checks.{Checks, where_there, word_checks, truth_checks, write_mask_checks, sample_mask_checks, scissor_checks, sample_count_checks, colour_checks, depth_checks, clear_checks, top_checks, array_checks, each, vertex_checks, positions_written, merge_checks, state_checks, vertices_checks, primitive_checks, part_checks, draw_opening_checks, has_no_list, is_absent, draw_value_checks, checks_before_vertices}
 use Rattle.model.proofs.Faults.{all_pass, both_pass, both_passed}
 
 -- no check reports out of memory
@@ -111,14 +111,14 @@ first_is_false true c e = e
 first_is_false false c e = refl
 
 -- if a draw passes, so do its checks before its vertices
-pub passed_to_vertices : (earlier : ℕ) (d : Data) → first_fault (draw_checks earlier d) ≡ None → first_fault (checks_before_vertices d) ≡ None
+pub passed_to_vertices : (earlier : ℕ) (d : Data) → first_fault (draw_value_checks earlier d) ≡ None → first_fault (checks_before_vertices d) ≡ None
 passed_to_vertices earlier d none =
     let vertices = get (codes "vertices") d in
     let triangles = get (codes "triangles") d in
     let strip = get (codes "strip") d in
     let quads = get (codes "quads") d in
     let primitives : Checks = primitive_checks earlier (count vertices) (positions_written (elements vertices)) triangles strip quads in
-    let both = both_passed (opening_checks d) (part_checks earlier vertices triangles strip quads) none in
-    let opened = all_pass (opening_checks d) both.0 in
+    let both = both_passed (draw_opening_checks d) (part_checks earlier vertices triangles strip quads) none in
+    let opened = all_pass (draw_opening_checks d) both.0 in
     let parts = both_passed (where_there vertices_checks vertices) primitives both.1 in
-    both_pass (opening_checks d) (array_checks 65536 vertices) both.0 (array_passed vertices (first_is_false (is_absent (codes "vertices") d) (has_no_list d) opened.1.1.0) parts.0)
+    both_pass (draw_opening_checks d) (array_checks 65536 vertices) both.0 (array_passed vertices (first_is_false (is_absent (codes "vertices") d) (has_no_list d) opened.1.1.0) parts.0)

@@ -11,8 +11,8 @@ use Rattle.model.specs.declared.fault.ReadKind.TheVariants.{OutOfMemory}
 use Rattle.model.specs.declared.fault.ReadFault.{ReadFault}
 use Rattle.model.specs.Json.{elements}
 use Rattle.model.specs.FirstFault.{Check, first_fault, reported_as, PassesBefore}
-use Rattle.model.specs.Checks.{draw_checks, checks_before_vertices, draws_checks, triangles_counted, in_draw, top_checks, IsReached, Reaches}
-use Rattle.checking_reader.proofs.Elements.{from_here}
+use Rattle.model.specs.Checks.{draw_value_checks, checks_before_vertices, numbered_draw_checks, triangles_counted, fault_in_draw, top_checks, IsDrawReached, Reaches}
+use Rattle.checking_reader.proofs.ArrayElements.{from_here}
 use Rattle.model.proofs.Faults.{passed_here, all_pass}
 
 pub both_before : (n : ℕ) (ps qs : List (Check ReadFault)) → PassesBefore n ps → PassesBefore n qs → PassesBefore n (ps ++ qs)
@@ -26,28 +26,28 @@ passed_before n f (p ∷ ps) none = let both = passed_here p.fails p.reported (f
 not_below : (m n : ℕ) → n ≤ m → nat_lt m n ≡ false
 not_below m n h = grind (arith, nat_tests)
 
-reported_from : (n number : ℕ) (ps : List (Check ReadKind)) → n ≤ number → PassesBefore n (reported_as (in_draw number) ps)
+reported_from : (n number : ℕ) (ps : List (Check ReadKind)) → n ≤ number → PassesBefore n (reported_as (fault_in_draw number) ps)
 reported_from n number [] h = tt
 reported_from n number (p ∷ ps) h = ((λ before. let at = not_below number n h in absurd (cc)), reported_from n number ps h)
 
 -- the draws from n on have no check before draw n
-pub draws_from : (n number earlier : ℕ) (ds : Items) → n ≤ number → PassesBefore n (draws_checks number earlier ds)
+pub draws_from : (n number earlier : ℕ) (ds : Items) → n ≤ number → PassesBefore n (numbered_draw_checks number earlier ds)
 draws_from n number earlier no_items h = tt
 draws_from n number earlier (item d ds) h =
-    both_before n (reported_as (in_draw number) (draw_checks earlier d)) _ (reported_from n number (draw_checks earlier d) h) (draws_from n (number + 1) _ ds (omega arith))
+    both_before n (reported_as (fault_in_draw number) (draw_value_checks earlier d)) _ (reported_from n number (draw_value_checks earlier d) h) (draws_from n (number + 1) _ ds (omega arith))
 
 -- the draws before i have passed
 abbrev pub AllPassedTo : List Value → ℕ → ℕ → Type 0
-AllPassedTo vs i earlier = (n : ℕ) → PassesBefore n (draws_checks i earlier (items_view (drop i vs))) → PassesBefore n (draws_checks 0 0 (items_view vs))
+AllPassedTo vs i earlier = (n : ℕ) → PassesBefore n (numbered_draw_checks i earlier (items_view (drop i vs))) → PassesBefore n (numbered_draw_checks 0 0 (items_view vs))
 
 pub one_more_passed : (vs : List Value) (i earlier : ℕ) (v : Value) → i < length vs → v ≡ get_or vs i v → AllPassedTo vs i earlier
-    → first_fault (draw_checks earlier (view v)) ≡ None → AllPassedTo vs (i + 1) (earlier + triangles_counted (view v))
+    → first_fault (draw_value_checks earlier (view v)) ≡ None → AllPassedTo vs (i + 1) (earlier + triangles_counted (view v))
 one_more_passed vs i earlier v lt is before none n rest =
-    before n (rw (from_here vs i v lt is) (both_before n (reported_as (in_draw i) (draw_checks earlier (view v))) _ (passed_before n (in_draw i) (draw_checks earlier (view v)) none) rest))
+    before n (rw (from_here vs i v lt is) (both_before n (reported_as (fault_in_draw i) (draw_value_checks earlier (view v))) _ (passed_before n (fault_in_draw i) (draw_value_checks earlier (view v)) none) rest))
 
 -- the reading reached draw i
 pub reached_draw : (vs : List Value) (i earlier : ℕ) (v : Value) (kind : ReadKind) → i < length vs → v ≡ get_or vs i v → AllPassedTo vs i earlier
-    → (kind ≡ OutOfMemory → first_fault (checks_before_vertices (view v)) ≡ None) → IsReached (items_view vs) kind i
+    → (kind ≡ OutOfMemory → first_fault (checks_before_vertices (view v)) ≡ None) → IsDrawReached (items_view vs) kind i
 reached_draw vs i earlier v kind lt is before memory = record {
   draw = view v;
   there = sym (get_item_within vs i v lt) ∙ ap (λ w. Some (view w)) (sym is);
@@ -57,5 +57,5 @@ reached_draw vs i earlier v kind lt is before memory = record {
 
 -- if the top object passes, what was reached among its draws is reached in the value
 pub reaches : (d : Data) (vs : List Value) (fault : ReadFault) → items_view vs ≡ elements (get (codes "draws") d) → first_fault (top_checks d) ≡ None
-    → ((n : ℕ) × (fault.draw ≡ Some n) × IsReached (items_view vs) fault.kind n) → Reaches (Some d) fault
+    → ((n : ℕ) × (fault.draw ≡ Some n) × IsDrawReached (items_view vs) fault.kind n) → Reaches (Some d) fault
 reaches d vs fault is top h = rw h.1 (all_pass (top_checks d) top, rw is at h.2)

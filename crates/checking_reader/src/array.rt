@@ -8,7 +8,7 @@ use model::ReadKind;
 use serde_json::Value;
 
 /// Whether the value is an array of exactly `count` elements.
-#[tactic(auto, using(crate::proofs::Elements::items_len_view))]
+#[tactic(auto, using(crate::proofs::ArrayElements::items_len_view))]
 pub(crate) fn has_length(value: &Value, count: usize) -> bool
     ensures { result ≡ has_length_of count (Some (view value.now)) }
 {
@@ -19,7 +19,7 @@ pub(crate) fn has_length(value: &Value, count: usize) -> bool
 }
 
 /// The elements of an array of at most `most` of them.
-#[tactic(auto, using(crate::proofs::Elements::items_len_view))]
+#[tactic(auto, using(crate::proofs::ArrayElements::items_len_view))]
 pub(crate) fn array_of(value: &Value, most: usize) -> Result<&[Value], ReadKind>
     ensures reported { let seen = Some (view value.now) in
         Answers (array_checks most seen) (λ list. items_view list.now ≡ elements seen) result }

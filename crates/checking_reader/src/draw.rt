@@ -6,7 +6,7 @@ ghost use Rattle.model.specs.FirstFault.{first_fault};
 ghost use Rattle.model.specs.Primitives.{primitive_listing, count_of_triangles};
 ghost use Rattle.model.specs.Listing.{draw_listing};
 ghost use Rattle.checking_reader.specs.Given.{given_triangles, given_strip, given_quads};
-ghost use Rattle.model.specs.Checks.{array_checks, part_checks, draw_checks, checks_before_vertices};
+ghost use Rattle.model.specs.Checks.{array_checks, part_checks, draw_value_checks, checks_before_vertices};
 ghost use Rattle.model.specs.Denotes.{IsVertex, IsPrimitives, IsArrayOf, IsDraw};
 
 use crate::keys::has_other;
@@ -51,7 +51,7 @@ pub(crate) fn read_draw(
     earlier: usize,
 ) -> Result<Draw, ReadKind>
     requires { earlier ≤ MOST_TRIANGLES }
-    ensures reported { Reads (draw_checks earlier (view value.now))
+    ensures reported { Reads (draw_value_checks earlier (view value.now))
         (λ d. IsDraw picture (view value.now) (draw_listing d)) result }
     ensures memory { IfErr result (λ kind. kind ≡ OutOfMemory
         → first_fault (checks_before_vertices (view value.now)) ≡ None) }

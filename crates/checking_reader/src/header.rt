@@ -50,7 +50,8 @@ fn sample_count(value: Option<&Value>) -> Result<SampleCount, ReadKind>
 /// The colour that each sample begins with, apart from the default depth; the default if the key is absent.
 fn clear_colour(value: Option<&Value>) -> Result<Sample, ReadKind>
     ensures { let seen = option_map (λ v. view v.now) value.entry in
-        Answers (where_there colour_checks seen) (λ found. OrDefault (0 ∷ 0 ∷ 0 ∷ []) IsClearColour seen (found.r ∷ found.g ∷ found.b ∷ [])) result }
+        Answers (where_there colour_checks seen)
+        (λ found. OrDefault (0 ∷ 0 ∷ 0 ∷ []) IsClearColour seen (found.r ∷ found.g ∷ found.b ∷ [])) result }
 {
     let Some(value) = value else {
         return Ok(DEFAULT_CLEAR);
@@ -83,7 +84,8 @@ fn clear_depth(value: Option<&Value>) -> Result<u16, ReadKind>
 /// The number of samples of a pixel, what each begins with, and what the picture shows.
 #[tactic(auto, using(model::proofs::Faults::first_fault_of_both), unfolding(model::specs::Checks::clear_checks))]
 fn beginning(value: &Value) -> Result<(SampleCount, Sample, Output), ReadKind>
-    ensures { Answers (clear_checks (view value.now)) (λ found. IsBeginning (view value.now) found.0 found.1 found.2) result }
+    ensures { Answers (clear_checks (view value.now)) (λ found. IsBeginning (view value.now) found.0 found.1 found.2)
+        result }
 {
     let count = sample_count(value.get("samples"))?;
     let colour = clear_colour(value.get("clear"))?;

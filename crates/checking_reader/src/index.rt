@@ -1,7 +1,7 @@
 ghost use Rattle.std.specs.Prelude.{◌≤◌, option_map};
 ghost use Rattle.serde_json.specs.View.{view};
 ghost use Rattle.checking_reader.specs.Answer.{Answers};
-ghost use Rattle.model.specs.Checks.{index_checks};
+ghost use Rattle.model.specs.Checks.{vertex_index_checks};
 ghost use Rattle.model.specs.Denotes.{IsIndex};
 
 use crate::number::whole_number;
@@ -12,7 +12,7 @@ use serde_json::Value;
 pub(crate) fn index(value: Option<&Value>, count: usize) -> Result<u32, ReadKind>
     requires { count ≤ MOST_VERTICES }
     ensures { let seen = option_map (λ v. view v.now) value.entry in
-        Answers (index_checks count seen) (IsIndex count seen) result }
+        Answers (vertex_index_checks count seen) (IsIndex count seen) result }
 {
     Ok(whole_number(value, 0, count as i64 - 1, ReadKind::BadIndex)? as u32)
 }

@@ -3,16 +3,15 @@
 
 mod array;
 mod draw;
+mod elements;
 mod header;
 mod index;
+mod index_lists;
 mod keys;
 mod number;
 mod primitives;
-mod quads;
 mod reader;
 mod state;
-mod strip;
-mod triangles;
 mod vertices;
 mod word;
 

@@ -2,7 +2,7 @@ ghost use Rattle.std.specs.Prelude.{◌≡◌, pos, ◌≤ℤ◌, option_map};
 ghost use Rattle.serde_json.specs.View.{view};
 ghost use Rattle.checking_reader.specs.Answer.{Answers};
 ghost use Rattle.model.specs.Checks.{number_checks, coordinate_checks, depth_checks, channel_checks, is_from_to};
-ghost use Rattle.model.specs.Denotes.{IsWhole, IsCoordinate, IsDepthNumber, IsChannel};
+ghost use Rattle.model.specs.Denotes.{IsIntegerWithin, IsCoordinate, IsDepthNumber, IsChannel};
 
 use grid::Point;
 use model::ReadKind;
@@ -16,7 +16,7 @@ pub(crate) fn whole_number(
     outside: ReadKind,
 ) -> Result<i64, ReadKind>
     ensures { let seen = option_map (λ v. view v.now) value.entry in
-        Answers (number_checks (is_from_to low high) outside seen) (IsWhole low high seen) result }
+        Answers (number_checks (is_from_to low high) outside seen) (IsIntegerWithin low high seen) result }
 {
     let Some(value) = value else {
         return Err(ReadKind::WrongKind);

@@ -8,9 +8,7 @@ ghost use Rattle.checking_reader.specs.Given.{given_triangles, given_strip, give
 ghost use Rattle.model.specs.Checks.{primitive_checks, has_no_list, has_two_lists};
 ghost use Rattle.model.specs.Denotes.{IsPrimitives};
 
-use crate::quads::read_quads;
-use crate::strip::read_strip;
-use crate::triangles::read_triangles;
+use crate::index_lists::{read_quads, read_strip, read_triangles};
 use model::{MOST_TRIANGLES, MOST_VERTICES, Primitives, ReadKind, Vertex};
 use serde_json::Value;
 use std::alloc::Global;

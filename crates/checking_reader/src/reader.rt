@@ -8,7 +8,7 @@ ghost use Rattle.model.specs.FirstFault.{IsFirstFault, first_fault};
 ghost use Rattle.model.specs.Primitives.{primitive_listing, count_of_triangles};
 ghost use Rattle.model.specs.Listing.{draw_listing};
 ghost use Rattle.model.specs.Scene.{Scene};
-ghost use Rattle.model.specs.Checks.{outside, draw_checks, checks_before_vertices, draws_checks, value_checks, all_checks, IsReached, Reaches};
+ghost use Rattle.model.specs.Checks.{outside, draw_value_checks, checks_before_vertices, numbered_draw_checks, value_checks, all_checks, IsDrawReached, Reaches};
 ghost use Rattle.model.specs.Denotes.{Each, IsDraw, IsDrawList, Denotes};
 
 use crate::draw::read_draw;
@@ -27,7 +27,7 @@ fn numbered_draw(
     earlier: usize,
 ) -> Result<Draw, ReadFault>
     requires { earlier ≤ MOST_TRIANGLES }
-    ensures reported { let checks = draw_checks earlier (view value.now) in MatchResult result
+    ensures reported { let checks = draw_value_checks earlier (view value.now) in MatchResult result
         (λ d. (first_fault checks ≡ None) × IsDraw picture (view value.now) (draw_listing d))
         (λ fault. fault.kind ≢ OutOfMemory → first_fault checks ≡ Some fault.kind) }
     ensures named { IfErr result (λ fault. fault.draw ≡ Some number) }
@@ -41,10 +41,12 @@ fn numbered_draw(
 /// The draws on a picture of these pixels. Each fault names its draw.
 fn draws_of(alloc: Global, list: &[Value], picture: PixelBox) -> Result<Vec<Draw>, ReadFault>
     requires { length list.now ≤ 1024 }
-    ensures reported { let items = items_view list.now in ReadsAll (draws_checks 0 0 items)
+    ensures reported { let items = items_view list.now in ReadsAll (numbered_draw_checks 0 0 items)
         (λ found. let draws = map draw_listing found.items in
-        Each (IsDraw picture) items draws × (sum_by (λ d. count_of_triangles d.primitives) draws ≤ MOST_TRIANGLES)) result }
-    ensures reached { IfErr result (λ fault. (n : ℕ) × (fault.draw ≡ Some n) × IsReached (items_view list.now) fault.kind n) }
+        Each (IsDraw picture) items draws ×
+        (sum_by (λ d. count_of_triangles d.primitives) draws ≤ MOST_TRIANGLES)) result }
+    ensures reached { IfErr result (λ fault. (n : ℕ) × (fault.draw ≡ Some n) ×
+        IsDrawReached (items_view list.now) fault.kind n) }
 {
     let mut found = Vec::new(alloc);
     let mut earlier = 0;
@@ -64,7 +66,8 @@ fn read_value(alloc: Global, value: &Value) -> Result<DrawList, ReadFault>
     ensures reported { ReadsAll (value_checks (view value.now)) (IsDrawList (view value.now)) result }
     ensures reached { IfErr result (Reaches (Some (view value.now))) }
     // `OutOfMemory` names no draw only after the last.
-    ensures after_all { IfErr result (λ fault. fault ≡ outside OutOfMemory → first_fault (value_checks (view value.now)) ≡ None) }
+    ensures after_all { IfErr result (λ fault. fault ≡ outside OutOfMemory →
+        first_fault (value_checks (view value.now)) ≡ None) }
 {
     let header = Header::read(value)?;
     let picture = picture_box(header.target.width, header.target.height);

@@ -2,7 +2,7 @@ ghost use Rattle.std.specs.Prelude.{◌≡◌, pos, option_map, true, false, [],
 ghost use Rattle.serde_json.specs.View.{view};
 ghost use Rattle.checking_reader.specs.Answer.{Answers};
 ghost use Rattle.model.specs.Checks.{where_there, truth_checks, write_mask_checks, sample_mask_checks, scissor_side_checks, scissor_checks, merge_checks, state_checks};
-ghost use Rattle.model.specs.Denotes.{OrDefault, IsTruth, IsWriteMask, IsSampleMask, IsScissorSide, IsScissor, IsMerge, IsState};
+ghost use Rattle.model.specs.Denotes.{OrDefault, IsTruth, IsWriteMask, IsSampleMaskNumber, IsScissorSide, IsScissor, IsMerge, IsState};
 
 use crate::array::has_length;
 use crate::number::whole_number;
@@ -54,7 +54,7 @@ fn write_mask(value: Option<&Value>) -> Result<[bool; 3], ReadKind>
 /// also with one sample, of which only bit 0 counts.
 fn sample_mask(value: Option<&Value>) -> Result<u16, ReadKind>
     ensures { let seen = option_map (λ v. view v.now) value.entry in
-        Answers (where_there sample_mask_checks seen) (OrDefault 15 IsSampleMask seen) result }
+        Answers (where_there sample_mask_checks seen) (OrDefault 15 IsSampleMaskNumber seen) result }
 {
     if value.is_none() {
         return Ok(DEFAULT_STATE.sample_mask);

@@ -1,13 +1,14 @@
 ghost use Rattle.std.specs.Prelude.{◌≡◌, ◌≤◌, length, slice_index, Some, None, IfErr};
-ghost use Rattle.serde_json.specs.View.{view, items_view};
+ghost use Rattle.serde_json.specs.View.{view};
 ghost use Rattle.serde_json.specs.Find.{at};
 ghost use Rattle.model.specs.declared.fault.ReadKind.TheVariants.{OutOfMemory};
 ghost use Rattle.checking_reader.specs.Answer.{Answers, Reads};
 ghost use Rattle.model.specs.FirstFault.{first_fault};
-ghost use Rattle.model.specs.Checks.{array_checks, rgba_checks, vertex_checks, vertices_checks, each};
-ghost use Rattle.model.specs.Denotes.{IsChannel, IsVertex, IsArrayOf, Each};
+ghost use Rattle.model.specs.Checks.{array_checks, rgba_checks, vertex_checks, vertices_checks};
+ghost use Rattle.model.specs.Denotes.{IsChannel, IsVertex, IsArrayOf};
 
 use crate::array::{array_of, has_length};
+use crate::elements::{ElementReader, elements_of};
 use crate::number::{channel, coordinate, depth};
 use grid::Point;
 use model::{MOST_VERTICES, ReadKind, Vertex};
@@ -17,7 +18,8 @@ use std::alloc::Global;
 /// The channels and the alpha of a vertex, its last four elements.
 fn rgba(value: &Value) -> Result<[u8; 4], ReadKind>
     ensures { let seen = view value.now in Answers (rgba_checks seen)
-        (λ rgba. (length rgba ≡ 4) × IsChannel (at 3 seen) (slice_index rgba 0) × IsChannel (at 4 seen) (slice_index rgba 1)
+        (λ rgba. (length rgba ≡ 4) × IsChannel (at 3 seen) (slice_index rgba 0) ×
+        IsChannel (at 4 seen) (slice_index rgba 1)
         × IsChannel (at 5 seen) (slice_index rgba 2) × IsChannel (at 6 seen) (slice_index rgba 3)) result }
 {
     let red = channel(value.get(3usize))?;
@@ -27,30 +29,29 @@ fn rgba(value: &Value) -> Result<[u8; 4], ReadKind>
     Ok([red, green, blue, alpha])
 }
 
-/// A vertex, written as [x, y, z, red, green, blue, alpha].
-fn vertex(value: &Value) -> Result<Vertex, ReadKind>
-    ensures { Answers (vertex_checks (view value.now)) (IsVertex (view value.now)) result }
-{
-    if !has_length(value, 7) {
-        return Err(ReadKind::WrongKind);
-    }
-    let x = coordinate(value.get(0usize))?;
-    let y = coordinate(value.get(1usize))?;
-    let z = depth(value.get(2usize))?;
-    let rgba = rgba(value)?;
-    let at = Point::new(x, y).unwrap();
-    Ok(Vertex { at, z, rgba })
-}
+/// Reads vertices.
+#[derive(Drop)]
+struct VertexReader;
 
-fn vertices_of(alloc: Global, list: &[Value]) -> Result<Vec<Vertex>, ReadKind>
-    ensures { let items = items_view list.now in
-        Reads (each vertex_checks items) (λ found. Each IsVertex items found.items) result }
-{
-    let mut found = Vec::with_capacity(alloc, list.len())?;
-    for value in list {
-        found.push_reserved(vertex(value)?);
+impl ElementReader for VertexReader {
+    type Element = Vertex;
+
+    ghost checks = { λ s. vertex_checks };
+
+    ghost denotes = { λ s. IsVertex };
+
+    /// A vertex, written as [x, y, z, red, green, blue, alpha].
+    fn read(&self, value: &Value) -> Result<Vertex, ReadKind> {
+        if !has_length(value, 7) {
+            return Err(ReadKind::WrongKind);
+        }
+        let x = coordinate(value.get(0usize))?;
+        let y = coordinate(value.get(1usize))?;
+        let z = depth(value.get(2usize))?;
+        let rgba = rgba(value)?;
+        let at = Point::new(x, y).unwrap();
+        Ok(Vertex { at, z, rgba })
     }
-    Ok(found)
 }
 
 /// The vertices of a draw.
@@ -61,5 +62,5 @@ pub(crate) fn read_vertices(alloc: Global, value: &Value) -> Result<Vec<Vertex>,
     ensures memory { IfErr result (λ kind. kind ≡ OutOfMemory
         → first_fault (array_checks MOST_VERTICES (Some (view value.now))) ≡ None) }
 {
-    vertices_of(alloc, array_of(value, MOST_VERTICES)?)
+    elements_of(alloc, array_of(value, MOST_VERTICES)?, &VertexReader)
 }

@@ -7,7 +7,7 @@ use Rattle.cover.specs.Block.{IsScreenBounded}
 use Rattle.cover.specs.Edge.{value_at, grown}
 
 -- None of the three functions is negative at p.
-pub record IsInside (e : Edges) (p : Position) : Type 0 where
+pub record IsInsideEdges (e : Edges) (p : Position) : Type 0 where
   pub ab : pos 0 ≤ℤ value_at e.ab p
   pub bc : pos 0 ≤ℤ value_at e.bc p
   pub ca : pos 0 ≤ℤ value_at e.ca p

@@ -6,7 +6,7 @@ use Rattle.cover.specs.declared.quad.Sides.{Sides}
 use Rattle.cover.specs.Edge.{value_at, grown}
 
 -- None of the four functions is negative at p.
-pub record IsInside (e : Sides) (p : Position) : Type 0 where
+pub record IsInsideSides (e : Sides) (p : Position) : Type 0 where
   pub ab : pos 0 ≤ℤ value_at e.ab p
   pub bc : pos 0 ≤ℤ value_at e.bc p
   pub cd : pos 0 ≤ℤ value_at e.cd p
@@ -14,7 +14,7 @@ pub record IsInside (e : Sides) (p : Position) : Type 0 where
 
 -- The four edges together test whether the quad covers a point.
 abbrev pub AreSidesOf : Corners → Sides → Type 0
-AreSidesOf q e = (p : Position) → (IsInside e p ↔ QuadCovers q.a q.b q.c q.d p)
+AreSidesOf q e = (p : Position) → (IsInsideSides e p ↔ QuadCovers q.a q.b q.c q.d p)
 
 -- None of the four functions is negative `m` to the right of and `n` below the position (x, y), in 1/256 pixel.
 pub record IsInsideAt (e : Sides) (x y m n : ℕ) : Type 0 where

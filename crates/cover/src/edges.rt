@@ -26,13 +26,14 @@ pub(crate) struct Values {
 impl Edges {
     ghost use Rattle.cover.specs.Edges.{AreValuesAt, AreScreenBounded, AreGrown, IsInsideAfter};
     ghost use Rattle.cover.specs.Masks.{AreMasksWhere, to_column, to_row};
-    ghost use Rattle.cover.specs.Setup.{AreEdgesOf};
+    ghost use Rattle.cover.specs.Setup.{AreCoverageEdges};
 
-    /// The edges of a triangle whose area is not zero, each turned so that its edge function is positive inside the triangle.
+    /// The edges of a triangle whose area is not zero, each turned so that its edge function is positive inside the
+    /// triangle.
     #[inline(always)]
     pub(crate) fn of(t: &Tri) -> Edges
         requires { doubled_area t.now.a t.now.b t.now.c ≢ pos 0 }
-        ensures { AreEdgesOf t.now result }
+        ensures { AreCoverageEdges t.now result }
     {
         if t.area2() > 0 {
             Edges {
@@ -99,14 +100,15 @@ impl Edges {
             || self.ca.passes_none(at.ca, reach)
     }
 
-    /// The samples of a block, from sample `from` of a pixel on, at which none of the functions is negative. They are `at` at the
-    /// first position of the box round the block's samples. Each `N` has code of its own, which is large, and so is in line only
-    /// where it is called from one place.
+    /// The samples of a block, from sample `from` of a pixel on, at which none of the functions is negative. They are
+    /// `at` at the first position of the box round the block's samples. Each `N` has code of its own, which is large,
+    /// and so is in line only where it is called from one place.
     #[inline(always)]
     pub(crate) fn masks<const N: u32>(&self, at: &Values, from: u32, count: SampleCount) -> Masks
         requires at { AreScreenBounded at.now }
         requires part { IsPart count from }
-        ensures { AreMasksWhere (λ s row column. IsInsideAfter self.now at.now (to_column count s column) (to_row count s row)) count from result }
+        ensures { AreMasksWhere (λ s row column. IsInsideAfter self.now at.now (to_column count s column)
+            (to_row count s row)) count from result }
     {
         self.ab
             .masks(at.ab, from, count)

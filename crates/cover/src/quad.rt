@@ -50,7 +50,8 @@ impl Sides {
     fn masks(&self, x: u32, y: u32, count: SampleCount) -> Masks
         requires x { x < 2 ^ 20 }
         requires y { y < 2 ^ 20 }
-        ensures { AreMasksWhere (λ s row column. IsInsideAt self.now x y (to_column count s column) (to_row count s row)) count 0 result }
+        ensures { AreMasksWhere (λ s row column. IsInsideAt self.now x y (to_column count s column)
+            (to_row count s row)) count 0 result }
     {
         self.ab
             .masks(self.ab.on_screen(x, y), 0, count)
@@ -61,14 +62,16 @@ impl Sides {
 }
 
 /// Which samples of block (bx, by) the quad covers, by the top-left rule at its four edges; the block's first pixel is
-/// (8 * bx, 8 * by). With one sample the words 1 to 3 are zero. These are the samples that the two triangles of either diagonal
-/// cover, and no sample is covered by both. Of 8 or 16 samples of a pixel they are the first four.
+/// (8 * bx, 8 * by). With one sample the words 1 to 3 are zero. These are the samples that the two triangles of either
+/// diagonal cover, and no sample is covered by both. Of 8 or 16 samples of a pixel they are the first four.
 pub fn quad_masks(quad: &Quad, bx: u32, by: u32, count: SampleCount) -> Masks
     requires column { bx < 512 }
     requires row { by < 512 }
     ensures covered { AreMasksOfQuad quad.now bx by count result }
-    ensures first_diagonal { IsJoinedFrom (record { a = quad.now.a; b = quad.now.b; c = quad.now.c }) (record { a = quad.now.c; b = quad.now.d; c = quad.now.a }) bx by count result }
-    ensures second_diagonal { IsJoinedFrom (record { a = quad.now.b; b = quad.now.c; c = quad.now.d }) (record { a = quad.now.d; b = quad.now.a; c = quad.now.b }) bx by count result }
+    ensures first_diagonal { IsJoinedFrom (record { a = quad.now.a; b = quad.now.b; c = quad.now.c })
+        (record { a = quad.now.c; b = quad.now.d; c = quad.now.a }) bx by count result }
+    ensures second_diagonal { IsJoinedFrom (record { a = quad.now.b; b = quad.now.c; c = quad.now.d })
+        (record { a = quad.now.d; b = quad.now.a; c = quad.now.b }) bx by count result }
 {
     let x = 2048 * bx + start(count);
     let y = 2048 * by + start(count);

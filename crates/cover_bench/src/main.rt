@@ -1,6 +1,6 @@
-//! The masks of the blocks on the borders of generated triangles, by `Setup::masks`, by squares that are cut into quarters down to
-//! a block, and by the reference cover test at each sample. It prints a checksum of each, and with the argument `--time` the time
-//! per block.
+//! The masks of the blocks on the borders of generated triangles, by `Setup::masks`, by squares that are cut into
+//! quarters down to a block, and by the reference cover test at each sample. It prints a checksum of each, and with the
+//! argument `--time` the time per block.
 #![tactic(auto)]
 
 ghost use Rattle.std.specs.Prelude.{◌≡◌, ◌<◌};
@@ -139,7 +139,8 @@ fn masks_of_quarters(square: &Square, start: u64) -> u64
     sum
 }
 
-/// The masks of the mixed blocks of a triangle, found by cutting the mixed squares of 32 pixels into quarters and these again.
+/// The masks of the mixed blocks of a triangle, found by cutting the mixed squares of 32 pixels into quarters and these
+/// again.
 fn masks_by_squares(scene: &Scene, count: SampleCount, start: u64) -> u64 {
     let mut sum = start;
     for block in 0..1024u32 {

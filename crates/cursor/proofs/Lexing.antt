@@ -114,6 +114,11 @@ negative_lexed text from end (suc n) within minus d lead some stop =
     let apart : drop from text ≡ 45 ∷ (ds ++ drop end text) = next_byte text from within ∙ ap (λ x. x ∷ drop (from + 1) text) minus ∙ ap (λ r. 45 ∷ r) (split text (from + 1) end d.some) in
     ap (lex between) apart ∙ lex-number (45 ∷ ds) (drop end text) is (ends text end stop)
 
+-- a number behind a minus is not zero
+pub some_size : (minus : Bool) (n : ℕ) → ((minus ≡ true) × (n ≡ 0 → ⊥)) ⊎ (minus ≡ false) → minus ≡ true → 0 < n
+some_size minus n (inl h) e = omega (arith, h.1)
+some_size minus n (inr f) e = absurd (true≢false (sym e ∙ f))
+
 -- ---- an integer
 
 pub integer_is : (text : List ℕ) (from first end n : ℕ) (minus : Bool) → MatchBool minus ((get_or text from 0 ≡ 45) × (from < length text) × (first ≡ from + 1)) (first ≡ from)

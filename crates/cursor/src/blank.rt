@@ -50,7 +50,8 @@ fn skip_spaces(bytes: &[u8], from: usize) -> usize
     from + space_count(u8x16::from_slice(&bytes[from..]))
 }
 
-/// The index of the first byte from `from` on that is no blank. Each line of a text that is laid out begins with spaces.
+/// The index of the first byte from `from` on that is no blank. Each line of a text that is laid out begins with
+/// spaces.
 #[inline(never)]
 fn skip_some_blanks(bytes: &[u8], from: usize) -> usize
     requires { from ≤ length bytes.now }

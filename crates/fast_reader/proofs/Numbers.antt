@@ -7,7 +7,7 @@ use Rattle.json.proofs.Grammar.{value_is}
 use Rattle.serde_json.specs.Data.{Data, Num, number, string, boolean}
 use Rattle.model.specs.Json.{text, truth}
 use Rattle.cursor.specs.Lexed.{TookInteger}
-use Rattle.model.specs.Denotes.{IsWhole, IsIndex}
+use Rattle.model.specs.Denotes.{IsIntegerWithin, IsIndex}
 use Rattle.serde_json.specs.Find.{as_integer}
 use Rattle.serde_json.specs.Read.{number_of, of_json, converted}
 use Rattle.fast_reader.specs.Took.{Took, IsNumber}
@@ -49,9 +49,9 @@ took_truth b old new first = record {
 pub took_integer : (old : List Token) (z : ℤ) (new : List Token) → TookInteger old z new → Took 0 IsNumber old z new
 took_integer old z new t = took_number t.written z old new t.first t.whole
 
-pub took_up_to : (high n k : ℕ) (old new : List Token) → TookInteger old (pos n) new → k ≡ n → k ≤ high → Took 0 (λ d k. IsWhole (pos 0) (pos high) (Some d) (pos k)) old k new
+pub took_up_to : (high n k : ℕ) (old new : List Token) → TookInteger old (pos n) new → k ≡ n → k ≤ high → Took 0 (λ d k. IsIntegerWithin (pos 0) (pos high) (Some d) (pos k)) old k new
 took_up_to high n k old new t same within =
-    took_also 0 IsNumber (λ d k. IsWhole (pos 0) (pos high) (Some d) (pos k)) old new (pos n) k (λ d is. (is ∙ ap (λ m. Some (pos m)) (sym same), grind (arith, ints), grind (arith, ints))) (took_integer old (pos n) new t)
+    took_also 0 IsNumber (λ d k. IsIntegerWithin (pos 0) (pos high) (Some d) (pos k)) old new (pos n) k (λ d is. (is ∙ ap (λ m. Some (pos m)) (sym same), grind (arith, ints), grind (arith, ints))) (took_integer old (pos n) new t)
 
 pub took_index : (count n k : ℕ) (old new : List Token) → TookInteger old (pos n) new → k ≡ n → k < count → Took 0 (λ d k. IsIndex count (Some d) k) old k new
 took_index count n k old new t same within =

@@ -1,5 +1,5 @@
 ghost use Rattle.std.specs.Prelude.{◌≡◌, ◌≤◌, ◌<◌, IfSome, Some};
-ghost use Rattle.model.specs.Denotes.{IsWhole, IsDepthNumber, IsChannel, IsIndex, IsSize, IsSampleMask, IsSampleCount};
+ghost use Rattle.model.specs.Denotes.{IsIntegerWithin, IsDepthNumber, IsChannel, IsIndex, IsSize, IsSampleMaskNumber, IsSampleCount};
 ghost use Rattle.fast_reader.specs.Took.{Took, IsNumber};
 
 use cursor::Cursor;
@@ -17,7 +17,7 @@ fn take_whole(reader: &mut Cursor<'_>) -> Option<i64>
 /// Takes an integer from `low` to `high`.
 #[inline(always)]
 pub(super) fn take_between(reader: &mut Cursor<'_>, low: i64, high: i64) -> Option<i64>
-    ensures { IfSome result (λ z. Took 0 (λ d z. IsWhole low high (Some d) z) reader.old z reader.new) }
+    ensures { IfSome result (λ z. Took 0 (λ d z. IsIntegerWithin low high (Some d) z) reader.old z reader.new) }
 {
     let number = take_whole(reader)?;
     if low <= number && number <= high {
@@ -111,7 +111,7 @@ pub(super) fn take_size(reader: &mut Cursor<'_>) -> Option<u16>
 
 /// Takes which samples a draw writes, bit s for sample s.
 pub(super) fn take_sample_mask(reader: &mut Cursor<'_>) -> Option<u16>
-    ensures { IfSome result (λ n. Took 0 (λ d n. IsSampleMask (Some d) n) reader.old n reader.new) }
+    ensures { IfSome result (λ n. Took 0 (λ d n. IsSampleMaskNumber (Some d) n) reader.old n reader.new) }
 {
     Some(take_between(reader, 0, i64::from(ALL_SAMPLES))? as u16)
 }

@@ -1,6 +1,6 @@
-//! Draws frames without reading: a draw list is read once from standard input and drawn several times into a writer that keeps
-//! nothing. By default it prints a checksum of the picture's file. With `--time` it also prints the least and the median time of a
-//! frame.
+//! Draws frames without reading: a draw list is read once from standard input and drawn several times into a writer
+//! that keeps nothing. By default it prints a checksum of the picture's file. With `--time` it also prints the least
+//! and the median time of a frame.
 //!
 //! Arguments: `[--frames NUMBER] [--time] [--tile SIDE] [--workers NUMBER]`; the last two are those of the program.
 #![tactic(auto)]

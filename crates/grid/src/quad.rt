@@ -27,8 +27,8 @@ impl Model for Quad {
 }
 
 impl Quad {
-    /// The quad of these corners in order. Returns `None` if it is not strictly convex: if it has a dent, crosses itself, or has
-    /// three corners on one line.
+    /// The quad of these corners in order. Returns `None` if it is not strictly convex: if it has a dent, crosses
+    /// itself, or has three corners on one line.
     pub fn new(a: Point, b: Point, c: Point, d: Point) -> Option<Quad>
         ensures some { IsSome result ↔ IsStrictlyConvex a b c d }
         ensures value { IfSome result (λ q. q ≡ record { a = a; b = b; c = c; d = d }) }
@@ -70,12 +70,14 @@ impl Quad {
 
     /// Whether the corners run clockwise on the screen; else they run counterclockwise.
     pub fn is_clockwise(&self) -> bool
-        ensures { MatchBool result (TurnsRight self.now.a self.now.b self.now.c self.now.d) (TurnsLeft self.now.a self.now.b self.now.c self.now.d) }
+        ensures { MatchBool result (TurnsRight self.now.a self.now.b self.now.c self.now.d)
+            (TurnsLeft self.now.a self.now.b self.now.c self.now.d) }
     {
         is_clockwise(self.a, self.b, self.c)
     }
 
-    /// The quad that begins at the second corner. It covers the same points, and so does a quad that begins at any corner.
+    /// The quad that begins at the second corner. It covers the same points, and so does a quad that begins at any
+    /// corner.
     pub fn turned(&self) -> Quad
         ensures value { result ≡ record { a = self.now.b; b = self.now.c; c = self.now.d; d = self.now.a } }
         ensures same { CoverTheSame result self.now }
@@ -101,9 +103,9 @@ impl Quad {
         }
     }
 
-    /// Whether the quad covers `p` by the top-left rule at its four edges. Either corner off an edge may stand for the third
-    /// vertex. Either diagonal cuts the quad into two triangles, of which exactly one covers `p` if the quad does, and none
-    /// otherwise.
+    /// Whether the quad covers `p` by the top-left rule at its four edges. Either corner off an edge may stand for the
+    /// third vertex. Either diagonal cuts the quad into two triangles, of which exactly one covers `p` if the quad
+    /// does, and none otherwise.
     pub fn covers(&self, p: Point) -> bool
         ensures value { IsTrue result ↔ QuadCovers self.now.a self.now.b self.now.c self.now.d p }
         ensures either_corner { EitherCornerServes self.now.a self.now.b self.now.c self.now.d p }

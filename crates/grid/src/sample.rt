@@ -58,8 +58,8 @@ fn offset_of_eight(s: u32) -> (u32, u32)
     }
 }
 
-/// How far right of a pixel's upper left corner and below it sample `s` of sixteen lies. Sample 12 lies on the left border of the
-/// pixel, and sample 15 on the upper one.
+/// How far right of a pixel's upper left corner and below it sample `s` of sixteen lies. Sample 12 lies on the left
+/// border of the pixel, and sample 15 on the upper one.
 #[inline(always)]
 fn offset_of_sixteen(s: u32) -> (u32, u32)
     requires { s < 16 }
@@ -88,9 +88,9 @@ fn offset_of_sixteen(s: u32) -> (u32, u32)
     }
 }
 
-/// The position of sample `s` of the pixel in column `px` and row `py`, in 1/256 pixel. Pixel (px, py) is the unit square with
-/// its upper left corner at (px, py) pixels. One sample lies in its centre. Two, four, eight and sixteen lie in the standard
-/// patterns, a number of 1/16 pixel from the centre (Direct3D 11, standard multisample patterns).
+/// The position of sample `s` of the pixel in column `px` and row `py`, in 1/256 pixel. Pixel (px, py) is the unit
+/// square with its upper left corner at (px, py) pixels. One sample lies in its centre. Two, four, eight and sixteen
+/// lie in the standard patterns, a number of 1/16 pixel from the centre (Direct3D 11, standard multisample patterns).
 pub fn sample_at(px: u32, py: u32, s: u32, count: SampleCount) -> Point
     requires column { px < 4096 }
     requires row { py < 4096 }

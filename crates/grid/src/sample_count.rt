@@ -1,7 +1,7 @@
 ghost use Rattle.std.specs.Prelude.{◌≡◌};
 
-/// How many samples a pixel has: one in its centre, or a standard pattern of two, four, eight or sixteen (Direct3D 11, standard
-/// multisample patterns).
+/// How many samples a pixel has: one in its centre, or a standard pattern of two, four, eight or sixteen (Direct3D 11,
+/// standard multisample patterns).
 #[derive(Clone, Copy, Debug, PartialEq, Eq)]
 pub enum SampleCount {
     One,

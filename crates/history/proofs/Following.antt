@@ -155,13 +155,6 @@ module _ (count : SampleCount) (i j s : ℕ) (start : Sample) where
       rw (first_more ts k t is) (followed_other (take k ts) t f.stored new h.stored draws n f other (λ e. not (sym long ∙ sym e)) h)
 
   -- ---- before all triangles
-  pub followed_none : (n : ℕ) → IsFollowed [] n count i j s start (record { stored = start; changed = false; shown = false })
-  followed_none n = record {
-    stored = refl;
-    changed = (λ e. let bad : false ≡ true = e in absurd (cc), λ h. absurd (none_past [] n (omega arith) h));
-    shown = (λ e. let bad : false ≡ true = e in absurd (cc), λ h. absurd (none_past [] n (omega arith) h.changed));
-  }
-
   -- ---- a triangle that does not meet the sample
   pub unmet : (t : Placed) (old : Sample) → ¬ Meets t count i j s → Draws t count i j s old old
   unmet t old n = record { met = λ m. absurd (n m); missed = λ _. refl }

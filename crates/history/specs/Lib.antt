@@ -30,14 +30,14 @@
 -- History.antt
 --   AreEvents: The events of the triangles at sample s of pixel (i, j), one for each, in draw order.
 --   Place: Where a history stands: the triangles to come at sample s of pixel (i, j), and the sample that is stored there.
---   moved: The same sample behind these triangles, with those to come, and this sample stored.
+--   moved_behind: The same sample behind these triangles, with those to come, and this sample stored.
 --   EndsWith: What the sample becomes by the triangles to come.
 --   IsNext: The event is that of the first triangle to come, and the history stands behind it.
 --   IsCoveredBy: The triangle covers the sample.
 --   AreUncovered: The triangles do not cover the sample.
---   IsPast: The history stands behind triangles that do not cover the sample.
+--   IsBehindUncovered: The history stands behind triangles that do not cover the sample.
 --   IsNextCovered: The event is that of the first triangle to come that covers the sample, and the history stands behind it.
---   IsCount: How many of the events have P.
+--   IsCountOf: How many of the events have P.
 --   Changes: The event changes the sample.
 
 pub mod Edge

@@ -1,15 +1,15 @@
-ghost use Rattle.std.specs.Prelude.{◌≡◌, ◌↔◌, ◌<◌, ◌+◌, ℕ, List, [], IsTrue, Some, slice_get, take};
-ghost use Rattle.grid.specs.Samples.{count_of};
+ghost use Rattle.std.specs.Prelude.{◌≡◌, ◌↔◌, ◌+◌, ℕ, List, [], IsTrue, Some, slice_get, take};
 ghost use Rattle.grid.specs.declared.sample_count.SampleCount.{SampleCount};
 ghost use Rattle.shade.specs.Placed.{Draws};
 ghost use Rattle.shade.specs.declared.placed.Placed.{Placed};
 ghost use Rattle.shade.specs.declared.sample.Sample.{Sample};
 ghost use Rattle.history.specs.Changed.{IsFollowed};
 
-use grid::{SampleCount, sample_at};
+use crate::sample_place::SamplePlace;
 use shade::{Placed, Sample};
 
-/// A sample that is followed through triangles in draw order, and what one of them did to it: the triangle that is asked for.
+/// A sample that is followed through triangles in draw order, and what one of them did to it: the triangle that is
+/// asked for.
 #[derive(Clone, Copy, Debug, PartialEq, Eq)]
 pub struct Followed {
     /// What the sample stores after the triangles so far.
@@ -32,23 +32,13 @@ impl Followed {
         }
     }
 
-    /// Sample `s` of the pixel in column `px` and row `py` after the next triangle, with `is_asked` if that is the one asked for.
-    pub fn after(
-        self,
-        triangle: &Placed,
-        count: SampleCount,
-        px: u32,
-        py: u32,
-        s: u32,
-        is_asked: bool,
-    ) -> Followed
-        requires column { px < 4096 }
-        requires row { py < 4096 }
-        requires sample { s < count_of count }
+    /// The sample in this place after the next triangle, with `is_asked` if that is the one asked for.
+    pub fn after(self, triangle: &Placed, place: SamplePlace, is_asked: bool) -> Followed
         ensures { (ts : List Placed) (k n : ℕ) (start : Sample) → slice_get ts k ≡ Some triangle.now → (IsTrue is_asked ↔ (k ≡ n))
-            → IsFollowed (take k ts) n count px py s start self → IsFollowed (take (k + 1) ts) n count px py s start result }
+            → IsFollowed (take k ts) n place.count place.px place.py place.s start self
+            → IsFollowed (take (k + 1) ts) n place.count place.px place.py place.s start result }
     {
-        let stored = drawn(triangle, count, px, py, s, self.stored);
+        let stored = drawn(triangle, place, self.stored);
         if is_same(stored, self.stored) {
             return self;
         }
@@ -74,39 +64,25 @@ fn is_same(sample: Sample, other: Sample) -> bool
     sample == other
 }
 
-/// What the triangle makes of sample `s` of the pixel in column `px` and row `py`, which stores `stored`.
-fn drawn(triangle: &Placed, count: SampleCount, px: u32, py: u32, s: u32, stored: Sample) -> Sample
-    requires column { px < 4096 }
-    requires row { py < 4096 }
-    requires sample { s < count_of count }
-    ensures { Draws triangle.now count px py s stored result }
+/// What the triangle makes of the sample in this place, which stores `stored`.
+fn drawn(triangle: &Placed, place: SamplePlace, stored: Sample) -> Sample
+    ensures { Draws triangle.now place.count place.px place.py place.s stored result }
 {
-    if triangle.meets(count, px, py, s) {
-        triangle.drawn_at(sample_at(px, py, s, count), stored)
+    if triangle.meets(place.count, place.px, place.py, place.s) {
+        triangle.drawn_at(place.point(), stored)
     } else {
         stored
     }
 }
 
-/// Follows sample `s` of the pixel in column `px` and row `py`, which stores `start` before the triangles, through all of them, and
-/// says what the triangle of this number did to it.
-pub fn follow(
-    triangles: &[Placed],
-    number: usize,
-    count: SampleCount,
-    px: u32,
-    py: u32,
-    s: u32,
-    start: Sample,
-) -> Followed
-    requires column { px < 4096 }
-    requires row { py < 4096 }
-    requires sample { s < count_of count }
-    ensures { IsFollowed triangles.now number count px py s start result }
+/// Follows the sample in this place, which stores `start` before the triangles, through all of them, and says what the
+/// triangle of this number did to it.
+pub fn follow(triangles: &[Placed], number: usize, place: SamplePlace, start: Sample) -> Followed
+    ensures { IsFollowed triangles.now number place.count place.px place.py place.s start result }
 {
     let mut followed = Followed::new(start);
     for k in 0..triangles.len() {
-        followed = followed.after(&triangles[k], count, px, py, s, k == number);
+        followed = followed.after(&triangles[k], place, k == number);
     }
     followed
 }

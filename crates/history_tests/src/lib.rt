@@ -1,4 +1,5 @@
-//! Tests of `history`, through what it makes public and no program calls. What reports show of it stands in tests/acceptance.
+//! Tests of `history`, through what it makes public and no program calls. What reports show of it stands in
+//! tests/acceptance.
 #![tactic(auto)]
 
 #[cfg(test)]

@@ -1,5 +1,5 @@
 use grid::{Cull, PixelBox, Point, SampleCount, Tri};
-use history::{Event, Outcome, SampleHistory, changes, events_of, samples_met};
+use history::{Event, Outcome, SampleHistory, SamplePlace, changes, events_of, samples_met};
 use shade::{Blend, DepthTest, Merge, Placed, Sample, State, Stored};
 use std::process::Abort;
 
@@ -8,6 +8,13 @@ const BLACK: Sample = Sample {
     g: 0,
     b: 0,
     z: 1000,
+};
+
+const FIRST: SamplePlace = SamplePlace {
+    count: SampleCount::One,
+    px: 0,
+    py: 0,
+    s: 0,
 };
 
 /// A white triangle over the centres of pixels (0, 0), (2, 0) and (0, 2), with this depth at its vertices.
@@ -49,7 +56,7 @@ fn follows_a_sample(rt: HostRuntime) {
     let source = Stored {
         triangles: &triangles,
     };
-    let mut history = SampleHistory::new(&source, SampleCount::One, 0, 0, 0, BLACK);
+    let mut history = SampleHistory::new(&source, FIRST, BLACK);
     let white = Sample {
         r: 255,
         g: 255,
@@ -67,7 +74,7 @@ fn follows_a_sample(rt: HostRuntime) {
     assert!(rt; history.next().is_none());
     assert_eq!(rt; history.stored(), third.after);
     let mut events: [Event; 3] = [first, first, first];
-    let end = events_of(&triangles, SampleCount::One, 0, 0, 0, BLACK, &mut events);
+    let end = events_of(&triangles, FIRST, BLACK, &mut events);
     assert_eq!(rt; end, third.after);
     assert_eq!(rt; (events[0], events[1]), (first, second));
     assert_eq!(rt; events[2], third);

@@ -4,9 +4,9 @@ use Rattle.std.proofs.lemmas.Int.{ints}
 use Rattle.std.proofs.lemmas.Bool.{cases_lt}
 use Rattle.grid.specs.Position.{Position}
 use Rattle.lanes.specs.declared.block_samples.BlockSamples.{BlockSamples}
-use Rattle.shade.specs.declared.sample.Sample.{Sample}
+use Rattle.shade.specs.declared.sample.CanvasSample.{CanvasSample}
 use Rattle.shade.specs.declared.placed.Placed.{Placed}
-use Rattle.shade.specs.Placed.{IsDrawnAt}
+use Rattle.shade.specs.Canvas.{IsCanvasDrawnAt}
 use Rattle.grid.specs.Triangle.{Covers}
 use Rattle.lanes.specs.Lanes.{IsMask}
 use Rattle.planes.specs.Multiple.{IsSixteenth}
@@ -16,7 +16,7 @@ use Rattle.lanes.specs.Block.{IsOnScreen, stored_at, CoversMask, AreDrawn}
 
 -- the pixels before k are done, and the others are unchanged
 pub record IsDrawnBefore (t : Placed) (p : Position) (mask : ℕ) (old new : BlockSamples) (k : ℕ) : Type 0 where
-  pub drawn : (j : ℕ) → j < k → IsBitSet mask j → IsDrawnAt t (position_in p j) (stored_at old j) (stored_at new j)
+  pub drawn : (j : ℕ) → j < k → IsBitSet mask j → IsCanvasDrawnAt t (position_in p j) (stored_at old j) (stored_at new j)
   pub kept : (j : ℕ) → j < k → ¬ IsBitSet mask j → stored_at new j ≡ stored_at old j
   pub ahead : (j : ℕ) → k ≤ j → j < 64 → stored_at new j ≡ stored_at old j
 
@@ -24,8 +24,8 @@ pub and_next : (t : Placed) (p : Position) (mask : ℕ) (old mid new : BlockSamp
 and_next t p mask old mid new k n room done next = record {
   drawn = λ j l set.
       elim (cases_lt j k) [
-        | inl before ↦ subst (λ s. IsDrawnAt t (position_in p j) (stored_at old j) s) (sym (next.below j before)) (done.drawn j before set)
-        | inr from ↦ subst (λ s. IsDrawnAt t (position_in p j) s (stored_at new j)) (done.ahead j from (omega arith)) (next.drawn j from l set)
+        | inl before ↦ subst (λ s. IsCanvasDrawnAt t (position_in p j) (stored_at old j) s) (sym (next.below j before)) (done.drawn j before set)
+        | inr from ↦ subst (λ s. IsCanvasDrawnAt t (position_in p j) s (stored_at new j)) (done.ahead j from (omega arith)) (next.drawn j from l set)
       ];
   kept = λ j l clear.
       elim (cases_lt j k) [
@@ -36,10 +36,10 @@ and_next t p mask old mid new k n room done next = record {
 }
 
 -- one pixel, which is drawn, or is not
-pub one_drawn : (t : Placed) (p : Position) (mask : ℕ) (old new : BlockSamples) (k : ℕ) → k < 64 → IsBitSet mask k → IsDrawnAt t (position_in p k) (stored_at old k) (stored_at new k)
+pub one_drawn : (t : Placed) (p : Position) (mask : ℕ) (old new : BlockSamples) (k : ℕ) → k < 64 → IsBitSet mask k → IsCanvasDrawnAt t (position_in p k) (stored_at old k) (stored_at new k)
     → ((j : ℕ) → j < 64 → ¬ (j ≡ k) → stored_at new j ≡ stored_at old j) → AreDrawn t p mask old new k 1
 one_drawn t p mask old new k room set drawn others = record {
-  drawn = λ j from l is. let here : k ≡ j = omega arith in subst (λ i. IsDrawnAt t (position_in p i) (stored_at old i) (stored_at new i)) here drawn;
+  drawn = λ j from l is. let here : k ≡ j = omega arith in subst (λ i. IsCanvasDrawnAt t (position_in p i) (stored_at old i) (stored_at new i)) here drawn;
   kept = λ j from l clear. let here : k ≡ j = omega arith in absurd (clear (subst (λ i. IsBitSet mask i) here set));
   below = λ j l. others j (omega arith) (λ e. omega arith);
   above = λ j from l. others j l (λ e. omega arith);
@@ -58,8 +58,8 @@ pub one_more : (t : Placed) (p : Position) (mask : ℕ) (old mid new : BlockSamp
 one_more t p mask old mid new k n room done next = record {
   drawn = λ j from l set.
       elim (cases_lt j (k + n)) [
-        | inl before ↦ subst (λ s. IsDrawnAt t (position_in p j) (stored_at old j) s) (sym (next.below j before)) (done.drawn j from before set)
-        | inr after ↦ subst (λ s. IsDrawnAt t (position_in p j) s (stored_at new j)) (done.above j after (omega arith)) (next.drawn j after (omega arith) set)
+        | inl before ↦ subst (λ s. IsCanvasDrawnAt t (position_in p j) (stored_at old j) s) (sym (next.below j before)) (done.drawn j from before set)
+        | inr after ↦ subst (λ s. IsCanvasDrawnAt t (position_in p j) s (stored_at new j)) (done.above j after (omega arith)) (next.drawn j after (omega arith) set)
       ];
   kept = λ j from l clear.
       elim (cases_lt j (k + n)) [
@@ -112,17 +112,17 @@ rows_kept t p mask g s clear = record {
 
 -- what lanes make of the samples of a group
 pub record AreLanesDrawn (t : Placed) (q : Position) (lanes : List ℕ) (old new : BlockSamples) (at : ℕ) : Type 0 where
-  pub set : (i : ℕ) → i < 16 → slice_index lanes i ≡ 65535 → Covers t.tri.a t.tri.b t.tri.c (position_in q i) → IsDrawnAt t (position_in q i) (stored_at old (at + i)) (stored_at new (at + i))
+  pub set : (i : ℕ) → i < 16 → slice_index lanes i ≡ 65535 → Covers t.tri.a t.tri.b t.tri.c (position_in q i) → IsCanvasDrawnAt t (position_in q i) (stored_at old (at + i)) (stored_at new (at + i))
   pub clear : (i : ℕ) → i < 16 → slice_index lanes i ≡ 0 → stored_at new (at + i) ≡ stored_at old (at + i)
   pub elsewhere : (k : ℕ) → (k < at) ⊎ (at + 16 ≤ k) → stored_at new k ≡ stored_at old k
 
 module _ (t : Placed) (p : Position) (mask g : ℕ) (lanes : List ℕ) (old new : BlockSamples) (few : g < 4) (covers : CoversMask t p mask)
     (reported : IsMask lanes (λ i. IsBitSet mask (16 * g + i))) (all : AreLanesDrawn t (group_at p g) lanes old new (16 * g)) where
-  lane_drawn : (i : ℕ) → i < 16 → IsBitSet mask (16 * g + i) → IsDrawnAt t (position_in p (16 * g + i)) (stored_at old (16 * g + i)) (stored_at new (16 * g + i))
+  lane_drawn : (i : ℕ) → i < 16 → IsBitSet mask (16 * g + i) → IsCanvasDrawnAt t (position_in p (16 * g + i)) (stored_at old (16 * g + i)) (stored_at new (16 * g + i))
   lane_drawn i l set =
       let place = in_rows p g i l in
       elim (reported.each i l) [
-        | inl holds ↦ subst (λ q. IsDrawnAt t q (stored_at old (16 * g + i)) (stored_at new (16 * g + i))) place (all.set i l holds.0 (rw place (covers (16 * g + i) (omega arith) set)))
+        | inl holds ↦ subst (λ q. IsCanvasDrawnAt t q (stored_at old (16 * g + i)) (stored_at new (16 * g + i))) place (all.set i l holds.0 (rw place (covers (16 * g + i) (omega arith) set)))
         | inr fails ↦ absurd (fails.1 set)
       ]
 
@@ -133,7 +133,7 @@ module _ (t : Placed) (p : Position) (mask g : ℕ) (lanes : List ℕ) (old new 
   rows_drawn = record {
     drawn = λ j from l set.
         let place : 16 * g + (j - 16 * g) ≡ j = omega arith in
-        subst (λ k. IsDrawnAt t (position_in p k) (stored_at old k) (stored_at new k)) place (lane_drawn (j - 16 * g) (omega arith) (rw place set));
+        subst (λ k. IsCanvasDrawnAt t (position_in p k) (stored_at old k) (stored_at new k)) place (lane_drawn (j - 16 * g) (omega arith) (rw place set));
     kept = λ j from l clear.
         let place : 16 * g + (j - 16 * g) ≡ j = omega arith in
         subst (λ k. stored_at new k ≡ stored_at old k) place (lane_kept (j - 16 * g) (omega arith) (rw place clear));
@@ -142,9 +142,9 @@ module _ (t : Placed) (p : Position) (mask g : ℕ) (lanes : List ℕ) (old new 
   }
 
 -- the same position, by its coordinates
-pub drawn_from : (t : Placed) (x y : ℤ) (q : Position) (i : ℕ) (old new : Sample)
-    → (Covers t.tri.a t.tri.b t.tri.c (position_in (record { x = x; y = y }) i) → IsDrawnAt t (position_in (record { x = x; y = y }) i) old new)
-    → x ≡ q.x → y ≡ q.y → Covers t.tri.a t.tri.b t.tri.c (position_in q i) → IsDrawnAt t (position_in q i) old new
+pub drawn_from : (t : Placed) (x y : ℤ) (q : Position) (i : ℕ) (old new : CanvasSample)
+    → (Covers t.tri.a t.tri.b t.tri.c (position_in (record { x = x; y = y }) i) → IsCanvasDrawnAt t (position_in (record { x = x; y = y }) i) old new)
+    → x ≡ q.x → y ≡ q.y → Covers t.tri.a t.tri.b t.tri.c (position_in q i) → IsCanvasDrawnAt t (position_in q i) old new
 drawn_from t x y q i old new drawn ex ey covered =
     let same : ◌≡◌ {A = Position} (record { x = x; y = y }) q = λ k. record { x = ex k; y = ey k } in
-    subst (λ p. (Covers t.tri.a t.tri.b t.tri.c (position_in p i) → IsDrawnAt t (position_in p i) old new)) same drawn covered
+    subst (λ p. (Covers t.tri.a t.tri.b t.tri.c (position_in p i) → IsCanvasDrawnAt t (position_in p i) old new)) same drawn covered

@@ -3,15 +3,15 @@ use Rattle.std.specs.Prelude.{◌≡◌, ℕ, ◌+◌, ◌<◌, ◌≤◌, IsBit
 use Rattle.grid.specs.Position.{Position}
 use Rattle.planes.specs.Multiple.{IsSixteenth}
 use Rattle.grid.specs.Triangle.{Covers}
-use Rattle.shade.specs.declared.sample.Sample.{Sample}
+use Rattle.shade.specs.declared.sample.CanvasSample.{CanvasSample}
 use Rattle.shade.specs.declared.placed.Placed.{Placed}
-use Rattle.shade.specs.Placed.{IsDrawnAt}
+use Rattle.shade.specs.Canvas.{IsCanvasDrawnAt}
 use Rattle.planes.specs.Group.{position_in}
 use Rattle.lanes.specs.declared.block_samples.BlockSamples.{BlockSamples}
 
 -- The stored sample of pixel k, counted row by row.
-abbrev pub stored_at : BlockSamples → ℕ → Sample
-stored_at s k = record { r = slice_index s.r k; g = slice_index s.g k; b = slice_index s.b k; z = slice_index s.z k }
+abbrev pub stored_at : BlockSamples → ℕ → CanvasSample
+stored_at s k = record { r = slice_index s.r k; g = slice_index s.g k; b = slice_index s.b k; alpha = slice_index s.alpha k; z = slice_index s.z k }
 
 -- A block whose first sample is at p lies on the screen, which is 4096 by 4096 pixels.
 pub record IsOnScreen (p : Position) : Type 0 where
@@ -28,7 +28,7 @@ CoversMask t p mask = (k : ℕ) → k < 64 → IsBitSet mask k → Covers t.tri.
 
 -- Of the n samples from k on those in the mask are drawn, and all other samples are unchanged.
 pub record AreDrawn (t : Placed) (p : Position) (mask : ℕ) (old new : BlockSamples) (k n : ℕ) : Type 0 where
-  pub drawn : (j : ℕ) → k ≤ j → j < k + n → IsBitSet mask j → IsDrawnAt t (position_in p j) (stored_at old j) (stored_at new j)
+  pub drawn : (j : ℕ) → k ≤ j → j < k + n → IsBitSet mask j → IsCanvasDrawnAt t (position_in p j) (stored_at old j) (stored_at new j)
   pub kept : (j : ℕ) → k ≤ j → j < k + n → ¬ IsBitSet mask j → stored_at new j ≡ stored_at old j
   pub below : (j : ℕ) → j < k → stored_at new j ≡ stored_at old j
   pub above : (j : ℕ) → k + n ≤ j → j < 64 → stored_at new j ≡ stored_at old j

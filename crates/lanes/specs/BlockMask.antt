@@ -13,7 +13,7 @@ first_of m s = sample_position (8 * m.bx) (8 * m.by) (m.from + s) m.count
 
 -- The samples s of a part of a block, as they are stored.
 abbrev pub plane_of : List BlockSamples → ℕ → BlockSamples
-plane_of samples s = slice_index_or samples s (record { z = []; r = []; g = []; b = [] })
+plane_of samples s = slice_index_or samples s (record { z = []; r = []; g = []; b = []; alpha = [] })
 
 -- The triangle covers the samples in the masks of a block.
 abbrev pub CoversBlock : Placed → BlockMask → Type 0

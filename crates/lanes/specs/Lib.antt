@@ -29,8 +29,8 @@
 --   IsFlat: The three vertices have the same value v.
 --   NeedsNoDepth: The depth has no part in what the triangle draws: each depth passes, and none is stored.
 --   IsDepthOf: The source gives the triangle's depth.
---   IsFlatColour: The vertices have the same red, green and blue if they are written, and the same alpha if the draw blends by it.
---   IsColourOf: The source gives the triangle's colour in the channels that are written, and its alpha if the draw blends by it.
+--   IsFlatColour: The vertices have the same red, green and blue if they are written, and the same alpha if the draw reads it.
+--   IsColourOf: The source gives the triangle's colour in the channels that are written, and its alpha if the draw reads it.
 --
 -- Mode.antt
 --   IsDepthMode: What has to hold so that a triangle's depth can be computed in this mode.
@@ -39,9 +39,11 @@
 --   IsColourMode: What has to hold so that a triangle's colour can be computed in this mode, in the channels that the draw reads.
 --   IsByPlanes: The mode takes the colour from planes.
 --   IsColourBy: The triangle's colour can be computed in this mode, by these planes if the mode needs them.
---   IsDrawModeOf: The triangle can be drawn in this mode: sample by sample, or sixteen samples at once by these planes.
+--   WritesColours: The merge writes red, green and blue, and alpha or not.
+--   IsMergeMode: Samples can be merged in this mode: one after another always, and sixteen at once by the equation of the merge.
+--   IsDrawnBy: The triangle can be drawn sixteen samples at once by this depth and this colour, and its draw blends by the known equation.
+--   IsDrawModeOf: The triangle can be drawn in this mode, by this depth and this colour if sixteen samples are drawn at once.
 --   AreSourcesOf: What a triangle is drawn by: the merge of its draw, its depth and its colour.
---   WritesAllChannels: The merge writes red, green and blue.
 --   known_of: The colour equation of a draw list's `over`, or of its `none`.
 --
 -- Merging.antt

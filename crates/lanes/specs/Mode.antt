@@ -6,14 +6,15 @@ use Rattle.shade.specs.declared.known.KnownEquation.{KnownEquation}
 use Rattle.shade.specs.declared.known.KnownEquation.TheVariants.{Replace, Over}
 use Rattle.lanes.specs.declared.sources.DepthSource.{DepthSource}
 use Rattle.lanes.specs.declared.sources.ColourSource.{ColourSource}
-use Rattle.planes.specs.declared.depth_plane.DepthPlane.{DepthPlane}
-use Rattle.planes.specs.declared.colour_planes.ColourPlanes.{ColourPlanes}
 use Rattle.lanes.specs.declared.mode.DepthMode.{DepthMode}
 use Rattle.lanes.specs.declared.mode.DepthMode.TheVariants.{Unused, Flat, Plane}
 use Rattle.lanes.specs.declared.mode.ColourMode.{ColourMode}
 use Rattle.lanes.specs.declared.mode.ColourMode.TheVariants as colour
 use Rattle.lanes.specs.declared.mode.DrawMode.{DrawMode}
-use Rattle.lanes.specs.declared.mode.DrawMode.TheVariants.{Each, Groups}
+use Rattle.lanes.specs.declared.mode.DrawMode.TheVariants as draw
+use Rattle.lanes.specs.declared.mode.Depth.{Depth}
+use Rattle.lanes.specs.declared.mode.Colour.{Colour}
+use Rattle.shade.specs.Presets.{IsKnown}
 use Rattle.planes.specs.AttributePlane.{IsDepthPlane, AreColourPlanes}
 use Rattle.lanes.specs.Sources.{NeedsNoDepth, IsFlat, IsFlatColour, IsDepthOf, IsColourOf}
 
@@ -28,9 +29,9 @@ abbrev pub IsByPlane : DepthMode → Type 0
 IsByPlane mode = mode ≡ Plane
 
 -- The triangle's depth can be computed in this mode, by this plane if the mode needs one.
-pub record IsDepthBy (t : Placed) (mode : DepthMode) (p : DepthPlane) : Type 0 where
-  pub is_mode : IsDepthMode t mode
-  pub is_plane : IsByPlane mode → IsDepthPlane t p
+pub record IsDepthBy (t : Placed) (d : Depth) : Type 0 where
+  pub is_mode : IsDepthMode t d.mode
+  pub is_plane : IsByPlane d.mode → IsDepthPlane t d.plane
 
 -- What has to hold so that a triangle's colour can be computed in this mode, in the channels that the draw reads.
 abbrev pub IsColourMode : Placed → ColourMode → Type 0
@@ -42,25 +43,45 @@ abbrev pub IsByPlanes : ColourMode → Type 0
 IsByPlanes mode = mode ≡ colour.Planes
 
 -- The triangle's colour can be computed in this mode, by these planes if the mode needs them.
-pub record IsColourBy (t : Placed) (mode : ColourMode) (p : ColourPlanes) : Type 0 where
-  pub is_mode : IsColourMode t mode
-  pub are_planes : IsByPlanes mode → AreColourPlanes t p
+pub record IsColourBy (t : Placed) (c : Colour) : Type 0 where
+  pub is_mode : IsColourMode t c.mode
+  pub are_planes : IsByPlanes c.mode → AreColourPlanes t c.planes
 
--- The triangle can be drawn in this mode: sample by sample, or sixteen samples at once by these planes. One after another, the
--- samples are drawn by the definition; at once, by the modes of the triangle's depth and its colour.
-abbrev pub IsDrawModeOf : Placed → DrawMode → DepthPlane → ColourPlanes → Type 0
-IsDrawModeOf t Each p q = Unit {0}
-IsDrawModeOf t (Groups depth colour) p q = IsDepthBy t depth p × IsColourBy t colour q
+-- The merge writes red, green and blue, and alpha or not.
+pub record WritesColours (alpha : Bool) (m : Merge) : Type 0 where
+  pub colours : m.write ≡ true ∷ true ∷ true ∷ []
+  pub with_alpha : m.blend.write_alpha ≡ alpha
+
+-- Samples can be merged in this mode: one after another always, and sixteen at once by the equation of the merge. The two
+-- equations of draw lists have modes of their own, in which red, green and blue are written, with alpha or without.
+abbrev pub IsMergeMode : Merge → DrawMode → Type 0
+IsMergeMode m draw.Each = Unit {0}
+IsMergeMode m draw.Replace = IsKnown Replace m.blend.colour × WritesColours false m
+IsMergeMode m draw.Over = IsKnown Over m.blend.colour × WritesColours false m
+IsMergeMode m draw.ReplaceWithAlpha = IsKnown Replace m.blend.colour × WritesColours true m
+IsMergeMode m draw.OverWithAlpha = IsKnown Over m.blend.colour × WritesColours true m
+IsMergeMode m (draw.Otherwise known) = IsKnown known m.blend.colour
+
+-- The triangle can be drawn sixteen samples at once by this depth and this colour, and its draw blends by the known equation.
+pub record IsDrawnBy (t : Placed) (known : KnownEquation) (depth : Depth) (colour : Colour) : Type 0 where
+  pub known_of : IsKnown known t.state.merge.blend.colour
+  pub depth_of : IsDepthBy t depth
+  pub colour_of : IsColourBy t colour
+
+-- The triangle can be drawn in this mode, by this depth and this colour if sixteen samples are drawn at once.
+abbrev pub IsDrawModeOf : Placed → DrawMode → Depth → Colour → Type 0
+IsDrawModeOf t draw.Each depth colour = Unit {0}
+IsDrawModeOf t draw.Replace depth colour = IsDrawnBy t Replace depth colour × WritesColours false t.state.merge
+IsDrawModeOf t draw.Over depth colour = IsDrawnBy t Over depth colour × WritesColours false t.state.merge
+IsDrawModeOf t draw.ReplaceWithAlpha depth colour = IsDrawnBy t Replace depth colour × WritesColours true t.state.merge
+IsDrawModeOf t draw.OverWithAlpha depth colour = IsDrawnBy t Over depth colour × WritesColours true t.state.merge
+IsDrawModeOf t (draw.Otherwise known) depth colour = IsDrawnBy t known depth colour
 
 -- What a triangle is drawn by: the merge of its draw, its depth and its colour.
 pub record AreSourcesOf (t : Placed) (merge : Merge) (depth : DepthSource) (colour : ColourSource) : Type 0 where
   pub merge_of : t.state.merge ≡ merge
   pub depth_of : IsDepthOf t depth
   pub colour_of : IsColourOf t colour
-
--- The merge writes red, green and blue.
-abbrev pub WritesAllChannels : Merge → Type 0
-WritesAllChannels m = m.write ≡ true ∷ true ∷ true ∷ []
 
 -- The colour equation of a draw list's `over`, or of its `none`.
 abbrev pub known_of : Bool → KnownEquation

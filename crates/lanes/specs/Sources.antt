@@ -27,14 +27,14 @@ IsDepthOf t Unused = NeedsNoDepth t
 IsDepthOf t (Flat z) = IsFlat t.z z
 IsDepthOf t (Plane q p) = (q.now ≡ t) × IsDepthPlane t p.now
 
--- The vertices have the same red, green and blue if they are written, and the same alpha if the draw blends by it.
+-- The vertices have the same red, green and blue if they are written, and the same alpha if the draw reads it.
 pub record IsFlatColour (t : Placed) (rgba : List ℕ) : Type 0 where
   pub red : Writes t.state.merge 0 → IsFlat (channel t 0) (slice_index rgba 0)
   pub green : Writes t.state.merge 1 → IsFlat (channel t 1) (slice_index rgba 1)
   pub blue : Writes t.state.merge 2 → IsFlat (channel t 2) (slice_index rgba 2)
   pub alpha : ReadsAlpha t.state.merge → IsFlat (channel t 3) (slice_index rgba 3)
 
--- The source gives the triangle's colour in the channels that are written, and its alpha if the draw blends by it.
+-- The source gives the triangle's colour in the channels that are written, and its alpha if the draw reads it.
 abbrev pub IsColourOf : Placed → ColourSource → Type 0
 IsColourOf t (colour.Flat rgba) = IsFlatColour t rgba
 IsColourOf t (colour.Planes q p) = (q.now ≡ t) × AreColourPlanes t p.now

@@ -117,8 +117,8 @@ pub(crate) fn nearest_difference(a: u16x16, b: u16x16) -> u16x16
     by_255(saturated_difference(with_half(a), b))
 }
 
-/// The nearest bytes to the sum of a byte and a term divided by 255: the byte as a term is a multiple of 255, so it is added after
-/// the division.
+/// The nearest bytes to the sum of a byte and a term divided by 255: the byte as a term is a multiple of 255, so it is
+/// added after the division.
 #[inline(always)]
 pub(crate) fn nearest_with_whole(whole: u16x16, term: u16x16) -> u16x16
     requires { AreByteLanes whole × AreTerms term }

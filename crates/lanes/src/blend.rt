@@ -1,6 +1,6 @@
 ghost use Rattle.std.specs.Prelude.{◌*◌, IsTrue, pos, ◌+ℤ◌, slice_index};
 ghost use Rattle.planes.specs.Lanes.{HasLanes};
-ghost use Rattle.shade.specs.declared.operands.Channel.TheVariants.{Colour};
+ghost use Rattle.shade.specs.declared.operands.Channel.TheVariants.{Colour, Alpha};
 ghost use Rattle.shade.specs.Blend.{factor};
 ghost use Rattle.shade.specs.Presets.{over, replace};
 ghost use Rattle.lanes.specs.Operands.{AreByteOperands, AreTerms, AreNearest, AreBlended, HasSmallSum, lane_of};
@@ -26,7 +26,8 @@ fn has_small_sum(source: BlendFactor, stored: BlendFactor) -> bool
     }
 }
 
-/// The nearest bytes to the sum of the two terms `p` and `r`. A channel with the factor one is a term of its own, without a product.
+/// The nearest bytes to the sum of the two terms `p` and `r`. A channel with the factor one is a term of its own,
+/// without a product.
 #[inline(always)]
 fn added(
     source: BlendFactor,
@@ -37,9 +38,12 @@ fn added(
     r: u16x16,
 ) -> u16x16
     requires bytes { AreByteOperands o.now }
-    requires source { AreTerms p × HasLanes p (λ i. slice_index o.now.source i * factor source channel (lane_of o.now i)) }
-    requires stored { AreTerms r × HasLanes r (λ i. slice_index o.now.stored i * factor stored channel (lane_of o.now i)) }
-    ensures { AreNearest (λ i. pos (slice_index o.now.source i * factor source channel (lane_of o.now i)) +ℤ pos (slice_index o.now.stored i * factor stored channel (lane_of o.now i))) result }
+    requires source { AreTerms p × HasLanes p
+        (λ i. slice_index o.now.source i * factor source channel (lane_of o.now i)) }
+    requires stored { AreTerms r × HasLanes r
+        (λ i. slice_index o.now.stored i * factor stored channel (lane_of o.now i)) }
+    ensures { AreNearest (λ i. pos (slice_index o.now.source i * factor source channel (lane_of o.now i)) +ℤ pos
+        (slice_index o.now.stored i * factor stored channel (lane_of o.now i))) result }
 {
     match (source, stored) {
         (BlendFactor::One, _) => nearest_with_whole(o.source, r),
@@ -54,8 +58,8 @@ fn added(
     }
 }
 
-/// `Equation::blended` in each lane. The equation is the same for all lanes: if it is a constant of the caller, nothing of the choice is
-/// left in the machine code.
+/// `Equation::blended` in each lane. The equation is the same for all lanes: if it is a constant of the caller, nothing
+/// of the choice is left in the machine code.
 #[inline(always)]
 fn blended_lanes(equation: &Equation, channel: Channel, o: &LaneOperands) -> u16x16
     requires { AreByteOperands o.now }
@@ -110,6 +114,23 @@ fn blended_otherwise(equation: &Equation, o: &LaneOperands) -> u16x16
             blended_lanes(&Equation::MULTIPLY, Channel::Colour, o)
         }
         _ => blended_lanes(equation, Channel::Colour, o),
+    }
+}
+
+/// Alpha by any equation. Those of the presets that draw over what is stored, or replace it, have code of their own.
+#[inline(always)]
+pub(crate) fn blended_alpha(equation: &Equation, o: &LaneOperands) -> u16x16
+    requires { AreByteOperands o.now }
+    ensures { AreBlended equation.now Alpha o.now result }
+{
+    match (equation.source, equation.stored, equation.operation) {
+        (BlendFactor::One, BlendFactor::InverseSourceAlpha, BlendOperation::Add) => {
+            blended_lanes(&Equation::PREMULTIPLIED_OVER, Channel::Alpha, o)
+        }
+        (BlendFactor::One, BlendFactor::Zero, BlendOperation::Add) => {
+            blended_lanes(&Equation::REPLACE, Channel::Alpha, o)
+        }
+        _ => blended_lanes(equation, Channel::Alpha, o),
     }
 }
 

@@ -7,20 +7,20 @@ ghost use Rattle.planes.specs.Group.{position_in};
 ghost use Rattle.lanes.specs.Block.{IsOnScreen, CoversMask, AreDrawn};
 ghost use Rattle.lanes.specs.BlockMask.{CoversBlock, IsBlockDrawn};
 ghost use Rattle.lanes.specs.Lanes.{IsMask};
-ghost use Rattle.lanes.specs.Mode.{AreSourcesOf, WritesAllChannels, known_of};
+ghost use Rattle.lanes.specs.Mode.{AreSourcesOf, IsDrawnBy, WritesColours, known_of};
 
 use crate::block_mask::BlockMask;
 use crate::block_samples::BlockSamples;
 use crate::group::draw_group;
 use crate::interpolants::Interpolants;
-use crate::known::{of_lists, with_known};
+use crate::known::{whole, with_known};
 use crate::lane_mask::lanes_of_mask;
-use crate::mode::DrawMode;
+use crate::mode::{Colour, ColourMode, Depth, DepthMode, DrawMode};
 use crate::one_by_one::draw_each;
 use crate::sources::{ColourSource, DepthSource};
 use grid::Point;
 use planes::Corrections;
-use shade::{KnownEquation, Merge};
+use shade::{KnownEquation, Merge, Placed};
 use std::simd::prelude::*;
 
 /// Whether some pixel of a group of two rows is in the mask.
@@ -62,7 +62,8 @@ fn draw_rows(
     requires group { group < 4 }
     requires on_screen { IsOnScreen p }
     requires whole { IsTrue whole → (k : ℕ) → k < 64 → IsBitSet mask k }
-    ensures { (t : Triangle) → AreSourcesOf t merge.now depth.now colour.now → CoversMask t p mask → AreDrawn t p mask samples.old samples.new (16 * group) 16 }
+    ensures { (t : Triangle) → AreSourcesOf t merge.now depth.now colour.now → CoversMask t p mask
+        → AreDrawn t p mask samples.old samples.new (16 * group) 16 }
 {
     if !whole && !has_some(mask, group) {
         return;
@@ -96,7 +97,8 @@ fn draw_block(
 )
     requires on_screen { IsOnScreen p }
     requires whole { IsTrue whole → (k : ℕ) → k < 64 → IsBitSet mask k }
-    ensures { (t : Triangle) → AreSourcesOf t merge.now depth.now colour.now → CoversMask t p mask → AreDrawn t p mask samples.old samples.new 0 64 }
+    ensures { (t : Triangle) → AreSourcesOf t merge.now depth.now colour.now → CoversMask t p mask
+        → AreDrawn t p mask samples.old samples.new 0 64 }
 {
     for group in 0..4u64 {
         draw_rows(
@@ -121,8 +123,9 @@ fn is_whole(mask: u64) -> bool
     mask == u64::MAX
 }
 
-/// The same, and nothing for a block that is not drawn. One that is drawn whole needs no masks: the compiler makes code of its own for it.
-/// Two calls in place of one would be too large to stand in line, and what is known of the merge would be lost.
+/// The same, and nothing for a block that is not drawn. One that is drawn whole needs no masks: the compiler makes code
+/// of its own for it. Two calls in place of one would be too large to stand in line, and what is known of the merge
+/// would be lost.
 #[inline(always)]
 fn draw_by_mask(
     merge: &Merge,
@@ -134,7 +137,8 @@ fn draw_by_mask(
     corrections: &mut Corrections,
 )
     requires { IsOnScreen p }
-    ensures { (t : Triangle) → AreSourcesOf t merge.now depth.now colour.now → CoversMask t p mask → AreDrawn t p mask samples.old samples.new 0 64 }
+    ensures { (t : Triangle) → AreSourcesOf t merge.now depth.now colour.now → CoversMask t p mask
+        → AreDrawn t p mask samples.old samples.new 0 64 }
 {
     let whole = is_whole(mask);
     if whole || mask != 0 {
@@ -153,7 +157,8 @@ fn draw_planes(
     corrections: &mut Corrections,
 )
     requires { length samples.old ≡ part_size mask.now.count }
-    ensures drawn { (t : Triangle) → AreSourcesOf t merge.now depth.now colour.now → CoversBlock t mask.now → IsBlockDrawn t mask.now samples.old samples.new }
+    ensures drawn { (t : Triangle) → AreSourcesOf t merge.now depth.now colour.now → CoversBlock t mask.now
+        → IsBlockDrawn t mask.now samples.old samples.new }
     ensures samples { length samples.new ≡ length samples.old }
 {
     for s in 0..mask.count.part_size() {
@@ -170,22 +175,81 @@ fn draw_planes(
     }
 }
 
-/// The same, not in line, for a merge that leaves channels as they are, or blends by another equation than those of draw lists.
+/// The same with code of its own for each source of colour and of depth, for a merge that writes all colour channels by
+/// an equation of draw lists, and alpha with `ALPHA`. What is made here is known in the code that stands in line.
 #[inline(never)]
-fn draw_otherwise(
-    known: KnownEquation,
-    merge: &Merge,
-    depth: &DepthSource<'_>,
-    colour: &ColourSource<'_>,
+fn draw_by_sources<const OVER: bool, const ALPHA: bool>(
+    placed: &Placed,
+    depth: &Depth,
+    colour: &Colour,
     mask: &BlockMask,
     samples: &mut [BlockSamples],
     corrections: &mut Corrections,
 )
-    requires known { IsKnown known merge.now.blend.colour }
+    requires by { IsDrawnBy placed.now (known_of OVER) depth.now colour.now }
+    requires all { WritesColours ALPHA placed.now.state.merge }
     requires samples { length samples.old ≡ part_size mask.now.count }
-    ensures drawn { (t : Triangle) → AreSourcesOf t merge.now depth.now colour.now → CoversBlock t mask.now → IsBlockDrawn t mask.now samples.old samples.new }
+    ensures drawn { CoversBlock placed.now mask.now → IsBlockDrawn placed.now mask.now samples.old samples.new }
     ensures samples { length samples.new ≡ length samples.old }
 {
+    let merge = &whole::<OVER, ALPHA>(&placed.state.merge);
+    match colour.mode {
+        ColourMode::Flat(rgba) => {
+            let colour = &ColourSource::Flat(rgba);
+            match depth.mode {
+                DepthMode::Unused => {
+                    let depth = &DepthSource::Unused;
+                    draw_planes(merge, depth, colour, mask, samples, corrections);
+                }
+                DepthMode::Flat(z) => {
+                    let depth = &DepthSource::Flat(z);
+                    draw_planes(merge, depth, colour, mask, samples, corrections);
+                }
+                DepthMode::Plane => {
+                    let depth = &DepthSource::Plane(placed, &depth.plane);
+                    draw_planes(merge, depth, colour, mask, samples, corrections);
+                }
+            }
+        }
+        ColourMode::Planes => {
+            let colour = &ColourSource::Planes(placed, &colour.planes);
+            match depth.mode {
+                DepthMode::Unused => {
+                    let depth = &DepthSource::Unused;
+                    draw_planes(merge, depth, colour, mask, samples, corrections);
+                }
+                DepthMode::Flat(z) => {
+                    let depth = &DepthSource::Flat(z);
+                    draw_planes(merge, depth, colour, mask, samples, corrections);
+                }
+                DepthMode::Plane => {
+                    let depth = &DepthSource::Plane(placed, &depth.plane);
+                    draw_planes(merge, depth, colour, mask, samples, corrections);
+                }
+            }
+        }
+    }
+}
+
+/// The same for any other merge, with code of its own for each equation of draw lists.
+#[inline(never)]
+fn draw_otherwise(
+    known: KnownEquation,
+    placed: &Placed,
+    depth: &Depth,
+    colour: &Colour,
+    mask: &BlockMask,
+    samples: &mut [BlockSamples],
+    corrections: &mut Corrections,
+)
+    requires by { IsDrawnBy placed.now known depth.now colour.now }
+    requires samples { length samples.old ≡ part_size mask.now.count }
+    ensures drawn { CoversBlock placed.now mask.now → IsBlockDrawn placed.now mask.now samples.old samples.new }
+    ensures samples { length samples.new ≡ length samples.old }
+{
+    let merge = &placed.state.merge;
+    let depth = &depth.source(placed);
+    let colour = &colour.source(placed);
     match known {
         KnownEquation::Replace => {
             let merge = &with_known(KnownEquation::Replace, merge);
@@ -199,151 +263,9 @@ fn draw_otherwise(
     }
 }
 
-/// Whether a merge writes all three channels.
-#[inline(always)]
-fn writes_all(merge: &Merge) -> bool
-    ensures { IsTrue result → WritesAllChannels merge.now }
-{
-    let [red, green, blue] = merge.write;
-    red && green && blue
-}
-
-/// The merge made again, so that what it writes and its equation are known if the code is inlined.
-#[inline(always)]
-fn whole<const OVER: bool>(merge: &Merge) -> Merge
-    requires known { IsKnown (known_of OVER) merge.now.blend.colour }
-    requires all { WritesAllChannels merge.now }
-    ensures { result ≡ merge.now }
-{
-    let Merge {
-        test,
-        depth_write,
-        blend,
-        ..
-    } = with_known(of_lists(OVER), merge);
-    Merge {
-        test,
-        depth_write,
-        write: [true; 3],
-        blend,
-    }
-}
-
-/// The same for a merge that writes all channels, with code of its own for each source of colour and of depth. A value that is made
-/// again is known if the code is inlined.
-#[inline(never)]
-fn draw_by_sources<const OVER: bool>(
-    merge: &Merge,
-    depth: &DepthSource<'_>,
-    colour: &ColourSource<'_>,
-    mask: &BlockMask,
-    samples: &mut [BlockSamples],
-    corrections: &mut Corrections,
-)
-    requires known { IsKnown (known_of OVER) merge.now.blend.colour }
-    requires all { WritesAllChannels merge.now }
-    requires samples { length samples.old ≡ part_size mask.now.count }
-    ensures drawn { (t : Triangle) → AreSourcesOf t merge.now depth.now colour.now → CoversBlock t mask.now → IsBlockDrawn t mask.now samples.old samples.new }
-    ensures samples { length samples.new ≡ length samples.old }
-{
-    let merge = &whole::<OVER>(merge);
-    match colour {
-        ColourSource::Flat(rgba) => {
-            let colour = &ColourSource::Flat(*rgba);
-            match depth {
-                DepthSource::Unused => {
-                    draw_planes(
-                        merge,
-                        &DepthSource::Unused,
-                        colour,
-                        mask,
-                        samples,
-                        corrections,
-                    );
-                }
-                DepthSource::Flat(z) => {
-                    draw_planes(
-                        merge,
-                        &DepthSource::Flat(*z),
-                        colour,
-                        mask,
-                        samples,
-                        corrections,
-                    );
-                }
-                DepthSource::Plane(placed, plane) => {
-                    let depth = &DepthSource::Plane(placed, plane);
-                    draw_planes(merge, depth, colour, mask, samples, corrections);
-                }
-            }
-        }
-        ColourSource::Planes(placed, planes) => {
-            let colour = &ColourSource::Planes(placed, planes);
-            match depth {
-                DepthSource::Unused => {
-                    draw_planes(
-                        merge,
-                        &DepthSource::Unused,
-                        colour,
-                        mask,
-                        samples,
-                        corrections,
-                    );
-                }
-                DepthSource::Flat(z) => {
-                    draw_planes(
-                        merge,
-                        &DepthSource::Flat(*z),
-                        colour,
-                        mask,
-                        samples,
-                        corrections,
-                    );
-                }
-                DepthSource::Plane(placed, plane) => {
-                    let depth = &DepthSource::Plane(placed, plane);
-                    draw_planes(merge, depth, colour, mask, samples, corrections);
-                }
-            }
-        }
-    }
-}
-
-/// The same with code of its own for a merge that writes all channels: blended over the stored ones, or in their place.
-#[inline(always)]
-fn draw_by_merge(
-    known: KnownEquation,
-    merge: &Merge,
-    depth: &DepthSource<'_>,
-    colour: &ColourSource<'_>,
-    mask: &BlockMask,
-    samples: &mut [BlockSamples],
-    corrections: &mut Corrections,
-)
-    requires known { IsKnown known merge.now.blend.colour }
-    requires samples { length samples.old ≡ part_size mask.now.count }
-    ensures drawn { (t : Triangle) → AreSourcesOf t merge.now depth.now colour.now → CoversBlock t mask.now → IsBlockDrawn t mask.now samples.old samples.new }
-    ensures samples { length samples.new ≡ length samples.old }
-{
-    if writes_all(merge) {
-        match known {
-            KnownEquation::Replace => {
-                draw_by_sources::<false>(merge, depth, colour, mask, samples, corrections);
-                return;
-            }
-            KnownEquation::Over => {
-                draw_by_sources::<true>(merge, depth, colour, mask, samples, corrections);
-                return;
-            }
-            _ => {}
-        }
-    }
-    draw_otherwise(known, merge, depth, colour, mask, samples, corrections);
-}
-
 impl Interpolants {
-    /// Draws the triangle at the samples of a block that are in the mask, each of which it covers. `samples` holds those of the
-    /// block, sample index by sample index. Corrections are counted.
+    /// Draws the triangle at the samples of a block that are in the mask, each of which it covers. `samples` holds
+    /// those of the block, sample index by sample index. Corrections are counted.
     #[inline(always)]
     pub fn draw(
         &self,
@@ -356,21 +278,50 @@ impl Interpolants {
         ensures drawn { IsBlockDrawn self.now mask.now samples.old samples.new }
         ensures samples { length samples.new ≡ length samples.old }
     {
+        let (placed, depth, colour) = (&self.placed, &self.depth, &self.colour);
         match self.mode {
-            DrawMode::Each => draw_each(&self.placed, mask, samples),
-            DrawMode::Groups(depth, colour) => {
-                let depth = depth.source(&self.placed, &self.depth);
-                let colour = colour.source(&self.placed, &self.colour);
-                draw_by_merge(
-                    self.equation,
-                    &self.placed.state.merge,
-                    &depth,
-                    &colour,
-                    mask,
-                    samples,
-                    corrections,
-                );
-            }
+            DrawMode::Each => draw_each(placed, mask, samples),
+            DrawMode::Replace => draw_by_sources::<false, false>(
+                placed,
+                depth,
+                colour,
+                mask,
+                samples,
+                corrections,
+            ),
+            DrawMode::Over => draw_by_sources::<true, false>(
+                placed,
+                depth,
+                colour,
+                mask,
+                samples,
+                corrections,
+            ),
+            DrawMode::ReplaceWithAlpha => draw_by_sources::<false, true>(
+                placed,
+                depth,
+                colour,
+                mask,
+                samples,
+                corrections,
+            ),
+            DrawMode::OverWithAlpha => draw_by_sources::<true, true>(
+                placed,
+                depth,
+                colour,
+                mask,
+                samples,
+                corrections,
+            ),
+            DrawMode::Otherwise(known) => draw_otherwise(
+                known,
+                placed,
+                depth,
+                colour,
+                mask,
+                samples,
+                corrections,
+            ),
         }
     }
 }

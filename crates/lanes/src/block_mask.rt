@@ -15,7 +15,8 @@ pub struct BlockMask {
     pub count: SampleCount,
     /// The sample index of the first word: the samples of a part are in the mask.
     pub from: u32,
-    /// A word for each sample index of the part, whose bit 8 * row + column is set for the pixel in that row and column of the block.
+    /// A word for each sample index of the part, whose bit 8 * row + column is set for the pixel in that row and column
+    /// of the block.
     pub plane: [u64; 4],
     pub ghost column: { bx < 512 },
     pub ghost row: { by < 512 },

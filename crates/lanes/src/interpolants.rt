@@ -2,35 +2,30 @@ ghost use Rattle.std.specs.Prelude.{◌≡◌, pos};
 ghost use Rattle.std.specs.Int.RustNames.{unsigned_abs};
 ghost use Rattle.grid.specs.Triangle.{doubled_area};
 
-use crate::mode::{ColourMode, DepthMode, DrawMode};
+use crate::mode::{Colour, ColourMode, Depth, DepthMode, DrawMode};
 use planes::{ColourPlanes, ColourSlopes, DepthPlane, Reciprocal, Slope};
-use shade::{KnownEquation, Placed};
+use shade::Placed;
 use std::marker::Model;
 
-/// A triangle made ready to be drawn: how its depth, its colour and its alpha change from pixel to pixel, and which mode of
-/// drawing suits it, which is found once for all its samples (attribute setup). Contracts see the triangle.
+/// A triangle made ready to be drawn: how its depth, its colour and its alpha change from pixel to pixel, and which
+/// mode of drawing suits it, which are found once for all its samples (attribute setup). Contracts see the triangle.
 #[derive(Debug, Drop)]
 pub struct Interpolants {
     pub(crate) placed: Placed,
     pub(crate) mode: DrawMode,
-    /// The blend equation of the draw, if it is one of draw lists.
-    pub(crate) equation: KnownEquation,
-    /// The depth, if the mode needs a plane of it.
-    pub(crate) depth: DepthPlane,
-    /// The colour, if the mode needs planes of it.
-    pub(crate) colour: ColourPlanes,
+    pub(crate) depth: Depth,
+    pub(crate) colour: Colour,
 }
 
 impl Model for Interpolants {
     ghost use Rattle.shade.specs.declared.placed.Placed.{Placed as Triangle};
-    ghost use Rattle.shade.specs.Presets.{IsKnown};
     ghost use Rattle.lanes.specs.Mode.{IsDrawModeOf};
 
     ghost Value = { Triangle };
 
     ghost view = { λ i. i.placed };
 
-    ghost invariant = { λ i. IsDrawModeOf i.placed i.mode i.depth i.colour × IsKnown i.equation i.placed.state.merge.blend.colour };
+    ghost invariant = { λ i. IsDrawModeOf i.placed i.mode i.depth i.colour };
 }
 
 /// The doubled area of a triangle that has one, with its reciprocal.
@@ -42,61 +37,100 @@ fn reciprocal(placed: &Placed) -> Reciprocal
 }
 
 impl Interpolants {
+    /// A triangle that is drawn sample by sample, in memory for another one that is made ready.
+    #[inline]
+    pub fn one_by_one(placed: &Placed) -> Interpolants
+        ensures { result ≡ placed.now }
+    {
+        Interpolants {
+            placed: *placed,
+            mode: DrawMode::Each,
+            depth: Depth {
+                mode: DepthMode::Unused,
+                plane: DepthPlane::none(),
+            },
+            colour: Colour {
+                mode: ColourMode::Flat(placed.rgba[0]),
+                planes: ColourPlanes::none(),
+            },
+        }
+    }
+
     /// The interpolants of a triangle that has an area.
     pub fn new(placed: &Placed) -> Interpolants
         requires { ¬ (doubled_area placed.now.tri.a placed.now.tri.b placed.now.tri.c ≡ pos 0) }
         ensures { result ≡ placed.now }
     {
-        Interpolants::of(placed, false)
+        let mut made = Interpolants::one_by_one(placed);
+        made.make(placed);
+        made
     }
 
-    /// Makes a triangle ready anew of which much was corrected: if its values are found to be whole, nothing is corrected any more.
+    /// Makes a triangle that has an area ready, in place of the one before.
+    #[inline(never)]
+    pub fn make(&mut self, placed: &Placed)
+        requires { ¬ (doubled_area placed.now.tri.a placed.now.tri.b placed.now.tri.c ≡ pos 0) }
+        ensures { self.new ≡ placed.now }
+    {
+        self.set(placed, false);
+    }
+
+    /// Makes a triangle ready anew of which much was corrected: if its values are found to be whole, nothing is
+    /// corrected any more.
     #[cold]
     #[inline(never)]
     pub fn raise(&mut self)
         requires { ¬ (doubled_area self.old.tri.a self.old.tri.b self.old.tri.c ≡ pos 0) }
         ensures { self.new ≡ self.old }
     {
-        *self = Interpolants::of(&self.placed, true);
+        let placed = self.placed;
+        self.set(&placed, true);
     }
 
-    /// The interpolants of a triangle that has an area. If `search` is set, whole values are searched for.
+    /// Makes a triangle that has an area ready. If `search` is set, whole values are searched for. It is written where
+    /// it is kept: a result would be written twice.
     #[inline(always)]
-    fn of(placed: &Placed, search: bool) -> Interpolants
+    fn set(&mut self, placed: &Placed, search: bool)
         requires { ¬ (doubled_area placed.now.tri.a placed.now.tri.b placed.now.tri.c ≡ pos 0) }
-        ensures { result ≡ placed.now }
+        ensures { self.new ≡ placed.now }
     {
-        let equation = KnownEquation::of(&placed.state.merge.blend.colour);
         let (depth, colour) = (DepthMode::of(placed), ColourMode::of(placed));
         let (by_plane, by_planes) = (depth.is_by_plane(), colour.is_by_planes());
+        let merge = &placed.state.merge;
         if !by_plane && !by_planes {
-            return Interpolants {
+            *self = Interpolants {
                 placed: *placed,
-                mode: DrawMode::Groups(depth, colour),
-                equation,
-                depth: DepthPlane::none(),
-                colour: ColourPlanes::none(),
+                mode: DrawMode::of(merge),
+                depth: Depth {
+                    mode: depth,
+                    plane: DepthPlane::none(),
+                },
+                colour: Colour {
+                    mode: colour,
+                    planes: ColourPlanes::none(),
+                },
             };
+            return;
         }
         let reciprocal = reciprocal(placed);
         let depth_slope = Slope::of_used(by_plane, &placed.tri, placed.z);
         let slopes = ColourSlopes::of_used(by_planes, placed);
         if !depth_slope.is_level(reciprocal, 48) || !slopes.are_level(reciprocal) {
-            return Interpolants {
-                placed: *placed,
-                mode: DrawMode::Each,
-                equation,
-                depth: DepthPlane::none(),
-                colour: ColourPlanes::none(),
-            };
+            *self = Interpolants::one_by_one(placed);
+            return;
         }
-        Interpolants {
+        *self = Interpolants {
             placed: *placed,
-            mode: DrawMode::Groups(depth, colour),
-            equation,
-            depth: DepthPlane::of_used(by_plane, &depth_slope, reciprocal, search),
-            colour: ColourPlanes::of_used(by_planes, &slopes, reciprocal, search),
-        }
+            mode: DrawMode::of(merge),
+            depth: Depth {
+                mode: depth,
+                plane: DepthPlane::of_used(by_plane, &depth_slope, reciprocal, search),
+            },
+            colour: Colour {
+                mode: colour,
+                planes: ColourPlanes::of_used(by_planes, &slopes, reciprocal, search),
+            },
+        };
     }
 
     /// The triangle.

@@ -1,21 +1,9 @@
 //! A merge made again, so that its colour equation is known if the code is inlined.
 ghost use Rattle.std.specs.Prelude.{◌≡◌};
 ghost use Rattle.shade.specs.Presets.{IsKnown};
-ghost use Rattle.lanes.specs.Mode.{known_of};
+ghost use Rattle.lanes.specs.Mode.{WritesColours, known_of};
 
 use shade::{Blend, Equation, KnownEquation, Merge};
-
-/// The equation of a draw list's `over`, or of its `none`.
-#[inline(always)]
-pub(crate) fn of_lists(over: bool) -> KnownEquation
-    ensures { result ≡ known_of over }
-{
-    if over {
-        KnownEquation::Over
-    } else {
-        KnownEquation::Replace
-    }
-}
 
 /// The equation made again, so that its parts are known if the code is inlined.
 #[inline(always)]
@@ -30,20 +18,48 @@ fn again(known: KnownEquation, e: &Equation) -> Equation
     }
 }
 
+/// The merge made again by the same write mask, so that its equation and its mask are known if the code is inlined.
+#[inline(always)]
+fn remade(known: KnownEquation, m: &Merge, write: [bool; 3], write_alpha: bool) -> Merge
+    requires known { IsKnown known m.now.blend.colour }
+    requires write { write ≡ m.now.write }
+    requires write_alpha { write_alpha ≡ m.now.blend.write_alpha }
+    ensures { result ≡ m.now }
+{
+    Merge {
+        test: m.test,
+        depth_write: m.depth_write,
+        write,
+        blend: Blend {
+            colour: again(known, &m.blend.colour),
+            alpha: m.blend.alpha,
+            constant: m.blend.constant,
+            write_alpha,
+        },
+    }
+}
+
 /// The merge made again, so that its equation is known if the code is inlined.
 #[inline(always)]
 pub(crate) fn with_known(known: KnownEquation, m: &Merge) -> Merge
     requires { IsKnown known m.now.blend.colour }
     ensures { result ≡ m.now }
 {
-    Merge {
-        test: m.test,
-        depth_write: m.depth_write,
-        write: m.write,
-        blend: Blend {
-            colour: again(known, &m.blend.colour),
-            alpha: m.blend.alpha,
-            constant: m.blend.constant,
-        },
-    }
+    remade(known, m, m.write, m.blend.write_alpha)
+}
+
+/// The same for a merge that writes red, green and blue by an equation of draw lists: what it writes is known too. With
+/// `ALPHA` it writes alpha.
+#[inline(always)]
+pub(crate) fn whole<const OVER: bool, const ALPHA: bool>(merge: &Merge) -> Merge
+    requires known { IsKnown (known_of OVER) merge.now.blend.colour }
+    requires all { WritesColours ALPHA merge.now }
+    ensures { result ≡ merge.now }
+{
+    let known = if OVER {
+        KnownEquation::Over
+    } else {
+        KnownEquation::Replace
+    };
+    remade(known, merge, [true; 3], ALPHA)
 }

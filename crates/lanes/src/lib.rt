@@ -1,4 +1,5 @@
-//! A triangle drawn at sixteen samples at once: masks, depth tests, blending, merging, the samples of a block, and resolve.
+//! A triangle drawn at sixteen samples at once: masks, depth tests, blending, merging, the samples of a block, and
+//! resolve.
 #![tactic(auto)]
 
 mod arithmetic;
@@ -23,4 +24,4 @@ pub use block_mask::BlockMask;
 pub use block_samples::BlockSamples;
 pub use interpolants::Interpolants;
 pub use one_by_one::sample_position;
-pub use resolve::{means_of_four, means_of_sums, sums};
+pub use resolve::{alpha_sums, means_of_four, means_of_sums, sums};

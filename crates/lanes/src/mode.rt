@@ -1,11 +1,12 @@
 //! The mode in which a triangle is drawn, which is chosen once for all its samples.
 ghost use Rattle.std.specs.Prelude.{◌≡◌, ◌<◌, IsTrue, slice_index};
 ghost use Rattle.shade.specs.Placed.{channel, rgba_of};
+ghost use Rattle.lanes.specs.Mode.{IsDepthBy, IsColourBy, IsMergeMode, WritesColours};
 ghost use Rattle.lanes.specs.Sources.{IsDepthOf, IsColourOf, IsFlat};
 
 use crate::sources::{ColourSource, DepthSource};
 use planes::{ColourPlanes, DepthPlane};
-use shade::{DepthTest, Placed};
+use shade::{DepthTest, KnownEquation, Merge, Placed};
 
 /// How the depth is computed.
 #[derive(Clone, Copy, Debug)]
@@ -32,12 +33,62 @@ pub(crate) enum ColourMode {
 pub(crate) enum DrawMode {
     /// One sample after another by the definition: a value changes too fast from pixel to pixel for a plane.
     Each,
-    /// Sixteen samples at once.
-    Groups(DepthMode, ColourMode),
+    /// Sixteen samples at once; the colour takes the place of the stored one.
+    Replace,
+    /// The same, but it is laid over the stored one.
+    Over,
+    /// Sixteen samples at once; the colour takes the place of the stored one, and alpha is written too.
+    ReplaceWithAlpha,
+    /// The same, but it is laid over the stored one.
+    OverWithAlpha,
+    /// The same for a merge that leaves a colour channel, or blends by another equation.
+    Otherwise(KnownEquation),
+}
+
+/// The depth of a triangle.
+#[derive(Debug, Drop)]
+pub(crate) struct Depth {
+    pub(crate) mode: DepthMode,
+    /// The plane, if the mode needs it.
+    pub(crate) plane: DepthPlane,
+}
+
+/// The colour and the alpha of a triangle.
+#[derive(Debug, Drop)]
+pub(crate) struct Colour {
+    pub(crate) mode: ColourMode,
+    /// The planes, if the mode needs them.
+    pub(crate) planes: ColourPlanes,
+}
+
+/// Whether a merge writes red, green and blue, and alpha exactly if it is asked for.
+#[inline(always)]
+fn writes_colours(merge: &Merge, alpha: bool) -> bool
+    ensures { IsTrue result → WritesColours alpha merge.now }
+{
+    let [red, green, blue] = merge.write;
+    red && green && blue && merge.blend.write_alpha == alpha
+}
+
+impl DrawMode {
+    /// The mode for a merge, if samples are drawn sixteen at once.
+    #[inline(always)]
+    pub(crate) fn of(merge: &Merge) -> DrawMode
+        ensures { IsMergeMode merge.now result }
+    {
+        let known = KnownEquation::of(&merge.blend.colour);
+        match known {
+            KnownEquation::Replace if writes_colours(merge, false) => DrawMode::Replace,
+            KnownEquation::Over if writes_colours(merge, false) => DrawMode::Over,
+            KnownEquation::Replace if writes_colours(merge, true) => DrawMode::ReplaceWithAlpha,
+            KnownEquation::Over if writes_colours(merge, true) => DrawMode::OverWithAlpha,
+            _ => DrawMode::Otherwise(known),
+        }
+    }
 }
 
 impl DepthMode {
-    ghost use Rattle.lanes.specs.Mode.{IsDepthMode, IsDepthBy, IsByPlane};
+    ghost use Rattle.lanes.specs.Mode.{IsDepthMode, IsByPlane};
 
     /// The mode of a triangle's depth.
     pub(crate) fn of(placed: &Placed) -> DepthMode
@@ -59,39 +110,39 @@ impl DepthMode {
     pub(crate) fn is_by_plane(self) -> bool
         ensures { IsByPlane self → IsTrue result }
     {
-        match self {
-            DepthMode::Unused => false,
-            DepthMode::Flat(_) => false,
-            DepthMode::Plane => true,
-        }
+        matches!(&self, DepthMode::Plane)
     }
+}
 
-    /// The depth in this mode, by the plane of the triangle if the mode needs it.
+impl Depth {
+    /// The depth of this triangle.
     #[inline(always)]
-    pub(crate) fn source<'a>(self, placed: &'a Placed, plane: &'a DepthPlane) -> DepthSource<'a>
-        ensures { IsDepthBy placed.now self plane.now → IsDepthOf placed.now result }
+    pub(crate) fn source<'a>(&'a self, placed: &'a Placed) -> DepthSource<'a>
+        requires { IsDepthBy placed.now self.now }
+        ensures { IsDepthOf placed.now result }
     {
-        match self {
+        match self.mode {
             DepthMode::Unused => DepthSource::Unused,
             DepthMode::Flat(z) => DepthSource::Flat(z),
-            DepthMode::Plane => DepthSource::Plane(placed, plane),
+            DepthMode::Plane => DepthSource::Plane(placed, &self.plane),
         }
     }
 }
 
-/// Whether the three vertices have the same red, green, blue or alpha, which are the channels 0 to 3. It is true if the channel is
-/// not read.
+/// Whether the three vertices have the same red, green, blue or alpha, which are the channels 0 to 3. It is true if the
+/// channel is not read.
 #[inline(always)]
 fn is_flat_if(read: bool, placed: &Placed, number: usize) -> bool
     requires { number < 4 }
-    ensures { IsTrue result → IsTrue read → IsFlat (channel placed.now number) (slice_index (rgba_of placed.now 0) number) }
+    ensures { IsTrue result → IsTrue read
+        → IsFlat (channel placed.now number) (slice_index (rgba_of placed.now 0) number) }
 {
     let [a, b, c] = placed.channel(number);
     !read || (a == b && b == c)
 }
 
 impl ColourMode {
-    ghost use Rattle.lanes.specs.Mode.{IsColourMode, IsColourBy, IsByPlanes};
+    ghost use Rattle.lanes.specs.Mode.{IsColourMode, IsByPlanes};
 
     /// The mode of a triangle's colour.
     pub(crate) fn of(placed: &Placed) -> ColourMode
@@ -113,20 +164,20 @@ impl ColourMode {
     pub(crate) fn is_by_planes(self) -> bool
         ensures { IsByPlanes self → IsTrue result }
     {
-        match self {
-            ColourMode::Flat(_) => false,
-            ColourMode::Planes => true,
-        }
+        matches!(&self, ColourMode::Planes)
     }
+}
 
-    /// The colour in this mode, by the planes of the triangle if the mode needs them.
+impl Colour {
+    /// The colour of this triangle.
     #[inline(always)]
-    pub(crate) fn source<'a>(self, placed: &'a Placed, planes: &'a ColourPlanes) -> ColourSource<'a>
-        ensures { IsColourBy placed.now self planes.now → IsColourOf placed.now result }
+    pub(crate) fn source<'a>(&'a self, placed: &'a Placed) -> ColourSource<'a>
+        requires { IsColourBy placed.now self.now }
+        ensures { IsColourOf placed.now result }
     {
-        match self {
+        match self.mode {
             ColourMode::Flat(rgba) => ColourSource::Flat(rgba),
-            ColourMode::Planes => ColourSource::Planes(placed, planes),
+            ColourMode::Planes => ColourSource::Planes(placed, &self.planes),
         }
     }
 }

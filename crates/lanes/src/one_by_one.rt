@@ -36,13 +36,16 @@ fn draw_rows_each(triangle: &Placed, p: Point, mask: u64, group: u64, samples: &
         let k = 16 * group as u32 + i;
         if (mask >> k) % 2 == 1 {
             let stored = samples.sample(k as usize);
-            samples.set(k as usize, triangle.drawn_at(sample_position(p, k), stored));
+            samples.set(
+                k as usize,
+                triangle.drawn_on_canvas_at(sample_position(p, k), stored),
+            );
         }
     }
 }
 
-/// Draws the triangle at samples of a block of one sample index, one after another, by the definition. Bit k of `mask` says whether
-/// pixel k is drawn, and the first pixel's sample is at `p`.
+/// Draws the triangle at samples of a block of one sample index, one after another, by the definition. Bit k of `mask`
+/// says whether pixel k is drawn, and the first pixel's sample is at `p`.
 fn draw_plane_each(triangle: &Placed, p: Point, mask: u64, samples: &mut BlockSamples)
     requires on_screen { IsOnScreen p }
     requires covered { CoversMask triangle.now p mask }

@@ -8,13 +8,17 @@ use crate::block_samples::BlockSamples;
 use crate::lane_bytes::{narrow_row, widen_row};
 use std::simd::prelude::*;
 
-/// A channel of eight pixels in order from that channel of their four samples, sample by sample, from a place on: their means.
+/// A channel of eight pixels in order from that channel of their four samples, sample by sample, from a place on: their
+/// means.
 #[inline(always)]
 pub fn means_of_four(first: &[u8], second: &[u8], third: &[u8], fourth: &[u8], at: usize) -> u8x8
-    requires room { (at + 8 ≤ length first.now) × (at + 8 ≤ length second.now) × (at + 8 ≤ length third.now) × (at + 8 ≤ length fourth.now) }
+    requires room { (at + 8 ≤ length first.now) × (at + 8 ≤ length second.now) × (at + 8 ≤ length third.now) ×
+        (at + 8 ≤ length fourth.now) }
     ensures whole { length result ≡ 8 }
     ensures resolved { (i : ℕ) → i < 8
-        → IsResolved Four (slice_index (slice_index first.now (at + i) ∷ slice_index second.now (at + i) ∷ slice_index third.now (at + i) ∷ slice_index fourth.now (at + i) ∷ [])) (slice_index result i) }
+        → IsResolved Four (slice_index
+        (slice_index first.now (at + i) ∷ slice_index second.now (at + i) ∷ slice_index third.now (at + i) ∷ slice_index
+        fourth.now (at + i) ∷ [])) (slice_index result i) }
 {
     let a = widen_row(u8x8::from_slice(&first[at..]));
     let b = widen_row(u8x8::from_slice(&second[at..]));
@@ -36,7 +40,8 @@ fn with_row(sums: u16x8, channel: &[u8], at: usize) -> u16x8
     sums + widen_row(u8x8::from_slice(&channel[at..]))
 }
 
-/// The sums of red, of green and of blue of the samples of eight pixels in order, from a place on. There are up to sixteen samples.
+/// The sums of red, of green and of blue of the samples of eight pixels in order, from a place on. There are up to
+/// sixteen samples.
 pub fn sums(samples: &[BlockSamples], at: usize) -> (u16x8, u16x8, u16x8)
     requires room { at + 8 ≤ 64 }
     requires few { length samples.now ≤ 16 }
@@ -52,6 +57,19 @@ pub fn sums(samples: &[BlockSamples], at: usize) -> (u16x8, u16x8, u16x8)
         blue = with_row(blue, &plane.b, at);
     }
     (red, green, blue)
+}
+
+/// The sums of the alpha of the samples of eight pixels in order, from a place on. There are up to sixteen samples.
+pub fn alpha_sums(samples: &[BlockSamples], at: usize) -> u16x8
+    requires room { at + 8 ≤ 64 }
+    requires few { length samples.now ≤ 16 }
+    ensures { AreSums result (length samples.now) (λ s i. slice_index (plane_of samples.now s).alpha (at + i)) }
+{
+    let mut alpha = u16x8::splat(0);
+    for s in 0..samples.len() {
+        alpha = with_row(alpha, &samples[s].alpha, at);
+    }
+    alpha
 }
 
 /// The means of eight pixels by the sums of their samples, of which there are 2^bits; half of that is `half`.

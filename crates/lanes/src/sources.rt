@@ -36,7 +36,8 @@ pub(crate) enum ColourSource<'a> {
 #[inline(always)]
 fn flat_colours(rgba: [u8; 4]) -> Colours
     ensures length { (length result.r ≡ 16) × (length result.g ≡ 16) × (length result.b ≡ 16) × (length result.a ≡ 16) }
-    ensures bytes { Each1 (λ n. n ≤ 255) result.r × Each1 (λ n. n ≤ 255) result.g × Each1 (λ n. n ≤ 255) result.b × Each1 (λ n. n ≤ 255) result.a }
+    ensures bytes { Each1 (λ n. n ≤ 255) result.r × Each1 (λ n. n ≤ 255) result.g × Each1 (λ n. n ≤ 255) result.b ×
+        Each1 (λ n. n ≤ 255) result.a }
     ensures red { (i : ℕ) → i < 16 → slice_index result.r i ≡ slice_index rgba 0 }
     ensures green { (i : ℕ) → i < 16 → slice_index result.g i ≡ slice_index rgba 1 }
     ensures blue { (i : ℕ) → i < 16 → slice_index result.b i ≡ slice_index rgba 2 }
@@ -54,8 +55,8 @@ fn flat_colours(rgba: [u8; 4]) -> Colours
 impl<'a> ColourSource<'a> {
     ghost use Rattle.lanes.specs.Sources.{IsColourOf};
 
-    /// The colours at sixteen samples, the first of which is at (x, y), each at most 255: right wherever the triangle covers the
-    /// sample, in what the merge of its draw reads.
+    /// The colours at sixteen samples, the first of which is at (x, y), each at most 255: right wherever the triangle
+    /// covers the sample, in what the merge of its draw reads.
     #[inline(always)]
     pub(crate) fn values(
         &self,
@@ -65,8 +66,10 @@ impl<'a> ColourSource<'a> {
         corrections: &mut Corrections,
     ) -> Colours
         requires { IsGroupOnScreen (record { x = x; y = y }) }
-        ensures length { (length result.r ≡ 16) × (length result.g ≡ 16) × (length result.b ≡ 16) × (length result.a ≡ 16) }
-        ensures bytes { Each1 (λ n. n ≤ 255) result.r × Each1 (λ n. n ≤ 255) result.g × Each1 (λ n. n ≤ 255) result.b × Each1 (λ n. n ≤ 255) result.a }
+        ensures length { (length result.r ≡ 16) × (length result.g ≡ 16) × (length result.b ≡ 16) ×
+            (length result.a ≡ 16) }
+        ensures bytes { Each1 (λ n. n ≤ 255) result.r × Each1 (λ n. n ≤ 255) result.g × Each1 (λ n. n ≤ 255) result.b ×
+            Each1 (λ n. n ≤ 255) result.a }
         ensures red { (t : Triangle) (i : ℕ) → t.state.merge ≡ merge.now → Writes merge.now 0 → IsColourOf t self.now → i < 16 → Covers t.tri.a t.tri.b t.tri.c (position_in (record { x = x; y = y }) i)
             → IsInterpolated t (position_in (record { x = x; y = y }) i) (channel t 0) (slice_index result.r i) }
         ensures green { (t : Triangle) (i : ℕ) → t.state.merge ≡ merge.now → Writes merge.now 1 → IsColourOf t self.now → i < 16 → Covers t.tri.a t.tri.b t.tri.c (position_in (record { x = x; y = y }) i)

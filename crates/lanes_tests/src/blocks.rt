@@ -27,7 +27,9 @@ fn covers_plane(t: &Tri, p: Point, mask: u64) -> bool
 
 /// Whether the triangle covers the samples in the mask.
 fn covers_mask(t: &Tri, mask: &BlockMask) -> bool
-    ensures { IsTrue result → (s : ℕ) → s < part_size mask.now.count → (k : ℕ) → k < 64 → IsBitSet (slice_index mask.now.plane s) k → Covers t.now.a t.now.b t.now.c (position_in (first_of mask.now s) k) }
+    ensures { IsTrue result → (s : ℕ) → s < part_size mask.now.count → (k : ℕ) → k < 64 →
+        IsBitSet (slice_index mask.now.plane s) k →
+        Covers t.now.a t.now.b t.now.c (position_in (first_of mask.now s) k) }
 {
     for s in 0..mask.count.part_size() {
         if !covers_plane(t, mask.first(s), mask.plane[s as usize]) {
@@ -98,7 +100,7 @@ fn corrects_nothing_after_the_planes_are_raised(rt: HostRuntime) {
     let mask = mask_of(&t.tri);
     assert!(rt; covers_mask(&t.tri, &mask));
     assert!(rt; t.tri.area2() != 0);
-    let mut stored = [BlockSamples::filled(STORED)];
+    let mut stored = [BlockSamples::filled(STORED, 255)];
     let samples = &mut stored[..];
     assert!(rt; samples.len() == mask.count.part_size() as usize);
     let (mut before, mut after) = (Corrections::none(), Corrections::none());

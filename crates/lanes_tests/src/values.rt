@@ -37,7 +37,8 @@ fn is_on_screen(x: i32, y: i32) -> bool
     is_column(x) && is_row(y) && is_sixteenth(x) && is_sixteenth(y)
 }
 
-/// A triangle at these positions, with these depths and red; blue and alpha have the reds in other orders, and green is flat.
+/// A triangle at these positions, with these depths and red; blue and alpha have the reds in other orders, and green is
+/// flat.
 fn placed(rt: &impl Abort, at: [(i32, i32); 3], z: [u16; 3], red: [u8; 3]) -> Placed {
     let [u, v, w] = red;
     let merge = Merge {
@@ -73,8 +74,8 @@ fn moved(at: [(i32, i32); 3], (x, y): (i32, i32)) -> [(i32, i32); 3] {
     ]
 }
 
-/// Whether a sample of the group is covered, and all values there are those of `floor_at`; `search` says whether whole values are
-/// searched for. `None` if the triangle is too steep.
+/// Whether a sample of the group is covered, and all values there are those of `floor_at`; `search` says whether whole
+/// values are searched for. `None` if the triangle is too steep.
 fn agrees_at(
     rt: &impl Abort,
     t: &Placed,
@@ -119,8 +120,8 @@ fn agrees_at(
     Some(met)
 }
 
-/// The same if whole values are searched for and if they are not, for a triangle with these depths and red at these corners, which
-/// are moved with the group, so that it starts where samples lie.
+/// The same if whole values are searched for and if they are not, for a triangle with these depths and red at these
+/// corners, which are moved with the group, so that it starts where samples lie.
 fn agrees(
     rt: &impl Abort,
     at: [(i32, i32); 3],
@@ -214,7 +215,8 @@ fn raises_planes_of_whole_values(rt: HostRuntime) {
     }
 }
 
-// The triangle is 1/256 pixel wide. A depth that grows by 32768 over that distance is too steep, and a channel that grows by 128.
+// The triangle is 1/256 pixel wide. A depth that grows by 32768 over that distance is too steep, and a channel that
+// grows by 128.
 #[test]
 fn reports_what_is_too_steep(rt: HostRuntime) {
     let at = [(0, 0), (1, 0), (0, 65_536)];

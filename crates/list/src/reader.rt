@@ -11,17 +11,19 @@ use fast_reader::read_in_one_pass;
 use model::{DrawList, ReadFault};
 use std::alloc::Global;
 
-/// Reads a draw list from JSON (RFC 8259, as `serde_json` reads it; the keys, ranges and defaults are this project's format).
+/// Reads a draw list from JSON (RFC 8259, as `serde_json` reads it; the keys, ranges and defaults are this project's
+/// format).
 ///
-/// Returns the first check that fails as the error, in this order. Whether the bytes are JSON. The top object: its kind, a key that
-/// it should not have, a key that it lacks, then `width`, `height`, `samples`, `clear`, `clear_depth`, `output` and `draws`.
-/// Each draw in turn: its kind, a key that it should not have, a key that it lacks, a second list of primitives, then `cull`,
-/// `depth_test`, `depth_write`, `blend`, `write`, `sample_mask`, `scissor`, `vertices`, and `triangles`, `strip` or `quads`. The
-/// kind of a value comes before its range, the number of elements before the elements, the indices of a quad before its shape.
-/// A fault of a draw names the draw's number.
+/// Returns the first check that fails as the error, in this order. Whether the bytes are JSON. The top object: its
+/// kind, a key that it should not have, a key that it lacks, then `width`, `height`, `samples`, `clear`, `clear_depth`,
+/// `output` and `draws`. Each draw in turn: its kind, a key that it should not have, a key that it lacks, a second list
+/// of primitives, then `cull`, `depth_test`, `depth_write`, `blend`, `write`, `sample_mask`, `scissor`, `vertices`, and
+/// `triangles`, `strip` or `quads`. The kind of a value comes before its range, the number of elements before the
+/// elements, the indices of a quad before its shape. A fault of a draw names the draw's number.
 ///
-/// `OutOfMemory` is returned as soon as an allocation fails; later checks are not made. It names the draw that was being read, of
-/// which no check before its vertices fails. Before the first draw and after the last it names none. Nothing of the bytes is kept.
+/// `OutOfMemory` is returned as soon as an allocation fails; later checks are not made. It names the draw that was
+/// being read, of which no check before its vertices fails. Before the first draw and after the last it names none.
+/// Nothing of the bytes is kept.
 pub fn read(alloc: Global, bytes: &[u8]) -> Result<DrawList, ReadFault>
     requires { length bytes.now ≤ 67_108_864 }
     // What is read is denoted.

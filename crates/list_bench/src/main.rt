@@ -1,8 +1,8 @@
-//! Reading by itself: a draw list from standard input is read in one pass, as the program reads it, and by `serde_json` into its
-//! tree of values alone. By default it prints how many triangles the list draws, or the fault that is returned in its place, and
-//! whether the tree is an object. With `--time` both are read again and again in turn, and it prints the least time of each and
-//! their ratio. With `--read` the list is read ten times and nothing is printed, for tools that count time or instructions. With
-//! `--compare` the input is many texts, and the readers are compared on each.
+//! Reading by itself: a draw list from standard input is read in one pass, as the program reads it, and by `serde_json`
+//! into its tree of values alone. By default it prints how many triangles the list draws, or the fault that is returned
+//! in its place, and whether the tree is an object. With `--time` both are read again and again in turn, and it prints
+//! the least time of each and their ratio. With `--read` the list is read ten times and nothing is printed, for tools
+//! that count time or instructions. With `--compare` the input is many texts, and the readers are compared on each.
 #![tactic(auto)]
 
 ghost use Rattle.std.specs.Prelude.{◌≤◌, IfOk, length, vec_len};

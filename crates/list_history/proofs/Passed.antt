@@ -5,7 +5,7 @@ use Rattle.std.proofs.Math.ListN.{drop_of_length-le}
 use Rattle.std.proofs.lemmas.Option.{get_or_from_slice_get, slice_get-get_or, slice_get_cases, slice_get_within}
 use Rattle.shade.specs.declared.placed.Placed.{Placed}
 use Rattle.shade.specs.declared.sample.Sample.{Sample}
-use Rattle.history.specs.History.{Place, EndsWith, IsNext, IsPast, IsCoveredBy, moved}
+use Rattle.history.specs.History.{Place, EndsWith, IsNext, IsBehindUncovered, IsCoveredBy, moved_behind}
 use Rattle.history.specs.declared.event.Event.{Event}
 use Rattle.history.proofs.Chained.{next_ends, past_all, past_ends, uncovered_ends}
 use Rattle.model.specs.Picture.{IsEnd}
@@ -48,7 +48,7 @@ outside l q span is some rows out =
 
 -- ---- a history behind some of the list's triangles
 of_moved : (l : Scene) (q : Place) (past rest : List Placed) (stored : Sample) → q.left ≡ past ++ rest
-    → ((end : Sample) → EndsWith (moved q past rest stored) end → EndsWith q end) → IsPlaceOfList l q → IsPlaceOfList l (moved q past rest stored)
+    → ((end : Sample) → EndsWith (moved_behind q past rest stored) end → EndsWith q end) → IsPlaceOfList l q → IsPlaceOfList l (moved_behind q past rest stored)
 of_moved l q past rest stored split ends is = record {
   column = is.column;
   row = is.row;
@@ -64,7 +64,7 @@ of_next l q next e is h =
     subst (λ (x : Place). IsPlaceOfList l x) (sym h.behind)
     (of_moved l q (h.triangle ∷ []) next.left e.after h.first (λ end k. (next_ends q next e end h).1 (subst (λ (x : Place). EndsWith x end) (sym h.behind) k)) is)
 
-pub of_past : (l : Scene) (q next : Place) → IsPlaceOfList l q → IsPast q next → IsPlaceOfList l next
+pub of_past : (l : Scene) (q next : Place) → IsPlaceOfList l q → IsBehindUncovered q next → IsPlaceOfList l next
 of_past l q next is h =
     subst (λ (x : Place). IsPlaceOfList l x) (sym h.behind)
     (of_moved l q h.skipped next.left q.stored h.split (λ end k. (past_ends q next end h).1 (subst (λ (x : Place). EndsWith x end) (sym h.behind) k)) is)
@@ -72,7 +72,7 @@ of_past l q next is h =
 pub none_left : (l : Scene) (q : Place) → IsPlaceOfList l q → length l.triangles ≤ q.number → q.left ≡ []
 none_left l q is h = is.left ∙ drop_of_length-le l.triangles h
 
-pub end_past : (l : Scene) (q now : Place) → IsPlaceOfList l q → IsPast q now → now.left ≡ [] → IsEnd l q.i q.j q.s q.stored
+pub end_past : (l : Scene) (q now : Place) → IsPlaceOfList l q → IsBehindUncovered q now → now.left ≡ [] → IsEnd l q.i q.j q.s q.stored
 end_past l q now is past none = is.ends q.stored (uncovered_ends q (past_all q now past none).0)
 
 -- ---- the sample that a history keeps, and the triangles that are left
@@ -83,10 +83,7 @@ pub record IsOfSame (q now : ListPlace) : Type 0 where
   pub j : now.history.j ≡ q.history.j
   pub s : now.history.s ≡ q.history.s
 
-pub of_itself : (q : ListPlace) → IsOfSame q q
-of_itself q = record { scene = refl; i = refl; j = refl; s = refl }
-
-same_moved : (q now next : ListPlace) (past rest : List Placed) (stored : Sample) → IsOfSame q now → next.scene ≡ now.scene → next.history ≡ moved now.history past rest stored → IsOfSame q next
+same_moved : (q now next : ListPlace) (past rest : List Placed) (stored : Sample) → IsOfSame q now → next.scene ≡ now.scene → next.history ≡ moved_behind now.history past rest stored → IsOfSame q next
 same_moved q now next past rest stored same scene behind = record {
   scene = scene ∙ same.scene;
   i = ap (λ (x : Place). x.i) behind ∙ same.i;
@@ -101,9 +98,6 @@ pub same_covered : (q now next : ListPlace) (e : ListEvent) → IsOfSame q now �
 same_covered q now next e same h =
     let before : ListPlace = record { scene = now.scene; history = h.before } in
     same_next q before next e (same_moved q now before h.past.skipped h.before.left now.history.stored same refl h.past.behind) h.next
-
-pub end_of_same : (q now : ListPlace) (end : Sample) → IsOfSame q now → IsEnd now.scene now.history.i now.history.j now.history.s end → IsEnd q.scene q.history.i q.history.j q.history.s end
-end_of_same q now end same h = rw (← same.scene, ← same.i, ← same.j, ← same.s) h
 
 pub shorter_next : (now next : ListPlace) (e : ListEvent) → IsNextOfList now e next → length next.history.left < length now.history.left
 shorter_next now next e h = omega (arith, ap length h.next.first)

@@ -19,7 +19,7 @@ use Rattle.model.specs.Rows.{IsRowSpan}
 use Rattle.model.specs.declared.rows.RowSpan.{RowSpan}
 use Rattle.list_history.proofs.Rows.{in_rows}
 use Rattle.list_history.proofs.Sums.{no_sums}
-use Rattle.list_history.specs.Counts.{CoversSample, AreCountsAt, AreCountSums, HoldColumns, HoldCovered, IsRowAfter, no_counts}
+use Rattle.list_history.specs.Counts.{CoversSample, AreCountsAt, AreCountSums, HoldColumns, IsRowAfter, no_counts}
 use Rattle.list_history.specs.declared.columns.Columns.{Columns}
 use Rattle.list_history.specs.declared.sample_counts.SampleCounts.{SampleCounts}
 
@@ -152,12 +152,6 @@ module _ (l : Scene) (n i j s : ℕ) (t : Placed) (is : slice_get l.triangles n 
       zero = λ not. shown.zero (λ k. not ((followed (covers_sample k.0)).shown.0 k.1));
     };
   }
-
--- the columns in which the triangle may cover a sample hold those in which it does
-pub columns_hold : (l : Scene) (n : ℕ) (t : Placed) (columns : Columns) → slice_get l.triangles n ≡ Some t → l.width ≤ 4096
-    → HoldColumns t.tri (record { first = 0; end = l.width }) columns → HoldCovered l n columns
-columns_hold l n t columns is narrow all = λ i j s across down sample h.
-    all l.count i j s (omega (arith, across, narrow)) down sample (omega arith) across (covers_at l n i j s t is h)
 
 -- all triangles, by the length of their list
 pub after_all : (l : Scene) (n j s : ℕ) (columns : Columns) (row : List Followed) → IsRowAfter l n j s columns (length l.triangles) row

@@ -68,6 +68,3 @@ both_at_most m n c d h k = record {
   changed = omega (arith, h.changed, k.changed);
   shown = omega (arith, h.shown, k.shown);
 }
-
-pub none_at_most : (m : ℕ) → AreAtMost m no_counts
-none_at_most m = record { covered = omega arith; changed = omega arith; shown = omega arith }

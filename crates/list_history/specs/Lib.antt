@@ -14,7 +14,7 @@
 --
 -- Walk.antt
 --   ListPlace: Where the history of a sample of a list's picture stands.
---   start_of: Where the history of sample s of pixel (i, j) begins: before the first triangle, with the clear colour and depth.
+--   history_start: Where the history of sample s of pixel (i, j) begins: before the first triangle, with the clear colour and depth.
 --   IsPlaceOfList: The triangles to come are those of the list from the number on, and they end with the picture's sample.
 --   IsNextOfList: The event is that of the next triangle, with its draw and what that writes, and the history stands behind it.
 --   IsNextCoveredOfList: The event is that of the first triangle to come that covers the sample, and the history stands behind it.

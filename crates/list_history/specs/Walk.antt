@@ -1,7 +1,7 @@
 use Rattle.std.specs.Prelude.{◌≡◌, ℕ, ◌<◌, ◌≤◌, drop, length, IsSome}
 use Rattle.grid.specs.Samples.{count_of}
 use Rattle.shade.specs.declared.sample.Sample.{Sample}
-use Rattle.history.specs.History.{Place, EndsWith, IsNext, IsPast}
+use Rattle.history.specs.History.{Place, EndsWith, IsNext, IsBehindUncovered}
 use Rattle.model.specs.Picture.{IsEnd}
 use Rattle.model.specs.Place.{IsPlace}
 use Rattle.model.specs.Scene.{Scene}
@@ -13,8 +13,8 @@ pub record ListPlace : Type 0 where
   pub history : Place
 
 -- Where the history of sample s of pixel (i, j) begins: before the first triangle, with the clear colour and depth.
-abbrev pub start_of : Scene → ℕ → ℕ → ℕ → ListPlace
-start_of l i j s = record {
+abbrev pub history_start : Scene → ℕ → ℕ → ℕ → ListPlace
+history_start l i j s = record {
   scene = l;
   history = record { left = l.triangles; number = 0; count = l.count; i = i; j = j; s = s; stored = l.clear };
 }
@@ -41,6 +41,6 @@ pub record IsNextOfList (old : ListPlace) (e : ListEvent) (new : ListPlace) : Ty
 -- The event is that of the first triangle to come that covers the sample, and the history stands behind it.
 pub record IsNextCoveredOfList (old : ListPlace) (e : ListEvent) (new : ListPlace) : Type 0 where
   pub before : Place
-  pub past : IsPast old.history before
+  pub past : IsBehindUncovered old.history before
   pub next : IsNextOfList (record { scene = old.scene; history = before }) e new
   pub covered : IsSome e.event.fragment

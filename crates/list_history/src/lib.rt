@@ -1,4 +1,5 @@
-//! The history of one sample of a draw list's picture, and how many samples of the picture a triangle covers, changes and is shown by.
+//! The history of one sample of a draw list's picture, and how many samples of the picture a triangle covers, changes
+//! and is shown by.
 #![tactic(auto)]
 
 mod columns;

@@ -9,11 +9,12 @@ ghost use Rattle.list_history.specs.Counts.{HoldCovered, IsRowAfter, AreCountsAt
 use crate::columns::Columns;
 use crate::sample_counts::SampleCounts;
 use grid::{Point, Tri, sample_at};
-use history::Followed;
+use history::{Followed, SamplePlace};
 use model::DrawList;
 use std::alloc::{AllocError, Global};
 
-/// Samples `s` of row `py` of the picture. Those in the columns are followed, which hold those that triangle `number` covers.
+/// Samples `s` of row `py` of the picture. Those in the columns are followed, which hold those that triangle `number`
+/// covers.
 #[derive(Clone, Copy)]
 pub(crate) struct SampleRow<'a> {
     pub(crate) list: &'a DrawList,
@@ -40,7 +41,8 @@ fn new_row(alloc: Global, list: &DrawList) -> Result<Vec<Followed>, AllocError>
 impl SampleRow<'_> {
     /// Returns how many of the row's samples the triangle covers, changes and is shown by.
     pub(crate) fn counts(&self, alloc: Global) -> Result<SampleCounts, AllocError>
-        ensures sums { IfOk result (AreCountSums (λ i c. AreCountsAt self.now.list.now self.now.number i self.now.py self.now.s c) self.now.list.now.width) }
+        ensures sums { IfOk result (AreCountSums
+            (λ i c. AreCountsAt self.now.list.now self.now.number i self.now.py self.now.s c) self.now.list.now.width) }
         ensures at_most { IfOk result (AreAtMost 4096) }
     {
         let mut row = new_row(alloc, self.list)?;
@@ -52,14 +54,16 @@ impl SampleRow<'_> {
     fn follow(&self, row: &mut [Followed])
         requires columns { self.now.columns.end ≤ length row.old }
         requires start { IsRowAfter self.now.list.now self.now.number self.now.py self.now.s self.now.columns 0 row.old }
-        ensures { IsRowAfter self.now.list.now self.now.number self.now.py self.now.s self.now.columns (length self.now.list.now.triangles) row.new }
+        ensures { IsRowAfter self.now.list.now self.now.number self.now.py self.now.s self.now.columns
+            (length self.now.list.now.triangles) row.new }
     {
         for k in 0..self.list.triangles() {
             self.follow_triangle(k, row);
         }
     }
 
-    /// Follows the row's samples in the columns through triangle `k`. Only those are visited that lie in the triangle's rows and columns.
+    /// Follows the row's samples in the columns through triangle `k`. Only those are visited that lie in the triangle's
+    /// rows and columns.
     fn follow_triangle(&self, k: usize, row: &mut [Followed])
         requires columns { self.now.columns.end ≤ length row.old }
         requires triangle { k < length self.now.list.now.triangles }
@@ -78,16 +82,19 @@ impl SampleRow<'_> {
         let reached = self.columns.of_triangle(&triangle.tri);
         let count = self.list.count();
         for px in reached.first..reached.end {
-            let place = px as usize;
-            row[place] = row[place].after(&triangle, count, px, py, s, k == self.number);
+            let place = SamplePlace { count, px, py, s };
+            let i = px as usize;
+            row[i] = row[i].after(&triangle, place, k == self.number);
         }
     }
 
     /// The counts of the row's samples, which were followed through all triangles in the columns.
     fn counts_in(&self, row: &[Followed]) -> SampleCounts
         requires width { length row.now ≡ self.now.list.now.width }
-        requires followed { IsRowAfter self.now.list.now self.now.number self.now.py self.now.s self.now.columns (length self.now.list.now.triangles) row.now }
-        ensures sums { AreCountSums (λ i c. AreCountsAt self.now.list.now self.now.number i self.now.py self.now.s c) self.now.list.now.width result }
+        requires followed { IsRowAfter self.now.list.now self.now.number self.now.py self.now.s self.now.columns
+            (length self.now.list.now.triangles) row.now }
+        ensures sums { AreCountSums (λ i c. AreCountsAt self.now.list.now self.now.number i self.now.py self.now.s c)
+            self.now.list.now.width result }
         ensures at_most { AreAtMost 4096 result }
     {
         let triangle = self.list.triangle(self.number).tri;
@@ -105,8 +112,10 @@ impl SampleRow<'_> {
 /// The counts of one sample, at the point `p`, which was followed through all triangles if the triangle covers it.
 fn counts_at(triangle: &Tri, p: Point, followed: &Followed) -> SampleCounts
     ensures covered { IsOneIf (Covers triangle.now.a triangle.now.b triangle.now.c p) result.covered }
-    ensures changed { IsOneIf (Covers triangle.now.a triangle.now.b triangle.now.c p × IsTrue followed.now.changed) result.changed }
-    ensures shown { IsOneIf (Covers triangle.now.a triangle.now.b triangle.now.c p × IsTrue followed.now.shown) result.shown }
+    ensures changed { IsOneIf (Covers triangle.now.a triangle.now.b triangle.now.c p ×
+        IsTrue followed.now.changed) result.changed }
+    ensures shown { IsOneIf (Covers triangle.now.a triangle.now.b triangle.now.c p ×
+        IsTrue followed.now.shown) result.shown }
     ensures at_most { AreAtMost 1 result }
 {
     if !triangle.covers(p) {

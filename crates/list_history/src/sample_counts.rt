@@ -47,8 +47,9 @@ impl SampleCounts {
     }
 }
 
-/// Returns how many samples of the list's picture the triangle of this number covers, how many it changes, and how many still show it
-/// after all triangles. It looks at the rows and columns of the triangle's bounds alone. Fails only if an allocation fails.
+/// Returns how many samples of the list's picture the triangle of this number covers, how many it changes, and how many
+/// still show it after all triangles. Samples beside the triangle's bounds are not followed. Fails only if an
+/// allocation fails.
 pub fn counts_of(alloc: Global, list: &DrawList, number: usize) -> Result<SampleCounts, AllocError>
     requires { number < length list.now.triangles }
     ensures { IfOk result (AreCountsOf list.now number) }
@@ -70,7 +71,8 @@ fn counts_of_row(
 ) -> Result<SampleCounts, AllocError>
     requires number { number < length list.now.triangles }
     requires row { py < 4096 }
-    ensures sums { IfOk result (AreCountSums (λ s c. AreCountSums (λ i d. AreCountsAt list.now number i py s d) list.now.width c) (count_of list.now.count)) }
+    ensures sums { IfOk result (AreCountSums
+        (λ s c. AreCountSums (λ i d. AreCountsAt list.now number i py s d) list.now.width c) (count_of list.now.count)) }
     ensures at_most { IfOk result (AreAtMost 65536) }
 {
     let mut counts = SampleCounts::none();

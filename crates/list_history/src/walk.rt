@@ -1,12 +1,12 @@
 ghost use Rattle.std.specs.Prelude.{◌≡◌, ◌↔◌, ◌<◌, ◌+◌, [], IfSome, IfNone, Some, length, slice_get};
 ghost use Rattle.grid.specs.Samples.{count_of};
 ghost use Rattle.shade.specs.declared.placed.Placed.{Placed};
-ghost use Rattle.history.specs.History.{IsPast, IsCoveredBy, AreUncovered, moved};
+ghost use Rattle.history.specs.History.{IsBehindUncovered, IsCoveredBy, AreUncovered, moved_behind};
 ghost use Rattle.model.specs.Picture.{IsEnd};
-ghost use Rattle.list_history.specs.Walk.{IsPlaceOfList, IsNextOfList, IsNextCoveredOfList, start_of};
+ghost use Rattle.list_history.specs.Walk.{IsPlaceOfList, IsNextOfList, IsNextCoveredOfList, history_start};
 
 use crate::list_event::ListEvent;
-use history::SampleHistory;
+use history::{SampleHistory, SamplePlace};
 use model::DrawList;
 use shade::{Placed, Sample};
 use std::marker::Model;
@@ -34,30 +34,45 @@ impl<'a> ListHistory<'a> {
         requires column { px < 4096 }
         requires row { py < 4096 }
         requires sample { s < count_of list.now.count }
-        ensures { result ≡ start_of list.now px py s }
+        ensures { result ≡ history_start list.now px py s }
     {
-        let history = SampleHistory::new(list, list.count(), px, py, s, list.clear());
+        let place = SamplePlace {
+            count: list.count(),
+            px,
+            py,
+            s,
+        };
+        let history = SampleHistory::new(list, place, list.clear());
         ListHistory { list, history }
     }
 
-    /// Returns the event of the next triangle. Returns `None` after the last one: the stored sample is then that of the picture.
+    /// Returns the event of the next triangle. Returns `None` after the last one: the stored sample is then that of the
+    /// picture.
     pub fn next(&mut self) -> Option<ListEvent>
         ensures event { IfSome result (λ e. IsNextOfList self.old e self.new) }
         ensures none { IfNone result (self.old.history.left ≡ []) }
-        ensures end { IfNone result (IsEnd self.old.scene self.old.history.i self.old.history.j self.old.history.s self.old.history.stored) }
+        ensures end { IfNone result (IsEnd self.old.scene self.old.history.i self.old.history.j self.old.history.s
+            self.old.history.stored) }
         ensures unchanged { IfNone result (self.new ≡ self.old) }
     {
         let triangle = self.history.coming()?;
         Some(self.take(&triangle))
     }
 
-    /// Returns the event of the next triangle that covers the sample. The triangles before it, which do not cover the sample, are
-    /// passed over. Returns `None` if no triangle to come covers the sample, which then stores what the picture has.
+    /// Returns the event of the next triangle that covers the sample. The triangles before it, which do not cover the
+    /// sample, are passed over. Returns `None` if no triangle to come covers the sample, which then stores what the
+    /// picture has.
     pub fn next_covered(&mut self) -> Option<ListEvent>
         ensures event { IfSome result (λ e. IsNextCoveredOfList self.old e self.new) }
-        ensures end { IfNone result (IsEnd self.old.scene self.old.history.i self.old.history.j self.old.history.s self.old.history.stored) }
+        ensures end { IfNone result (IsEnd self.old.scene self.old.history.i self.old.history.j self.old.history.s
+            self.old.history.stored) }
         ensures none { IfNone result (AreUncovered self.old.history self.old.history.left) }
-        ensures past { IfNone result (self.new ≡ record { scene = self.old.scene; history = moved self.old.history self.old.history.left [] self.old.history.stored }) }
+        ensures past { IfNone result (self.new ≡
+            record {
+              scene = self.old.scene;
+              history = moved_behind self.old.history self.old.history.left []
+                  self.old.history.stored;
+            }) }
     {
         let triangle = pass_uncovered(self.list, &mut self.history)?;
         Some(self.take(&triangle))
@@ -105,7 +120,7 @@ impl<'a> ListHistory<'a> {
 /// Passes over the triangles that do not cover the sample, up to the first that does, and returns that one.
 fn pass_uncovered(list: &DrawList, history: &mut SampleHistory<'_, DrawList>) -> Option<Placed>
     requires { IsPlaceOfList list.now history.old }
-    ensures past { IsPast history.old history.new }
+    ensures past { IsBehindUncovered history.old history.new }
     ensures some { IfSome result (λ t. (slice_get history.new.left 0 ≡ Some t) × IsCoveredBy history.new t) }
     ensures none { IfNone result (history.new.left ≡ []) }
     ensures end { IfNone result (IsEnd list.now history.old.i history.old.j history.old.s history.old.stored) }
@@ -119,12 +134,14 @@ fn pass_uncovered(list: &DrawList, history: &mut SampleHistory<'_, DrawList>) ->
     None
 }
 
-/// The next triangle, if it covers the sample. Few triangles have the sample's row, and those that do not are seen by their rows.
+/// The next triangle, if it covers the sample. Few triangles have the sample's row, and those that do not are seen by
+/// their rows.
 fn coming_if_covered(list: &DrawList, history: &SampleHistory<'_, DrawList>) -> Option<Placed>
     requires list { IsPlaceOfList list.now history.now }
     requires some { history.now.number < length list.now.triangles }
     ensures some { IfSome result (λ t. (slice_get history.now.left 0 ≡ Some t) × IsCoveredBy history.now t) }
-    ensures none { IfNone result ((t : Placed) × (slice_get history.now.left 0 ≡ Some t) × (¬ IsCoveredBy history.now t)) }
+    ensures none { IfNone result ((t : Placed) × (slice_get history.now.left 0 ≡ Some t) ×
+        (¬ IsCoveredBy history.now t)) }
 {
     let rows = list.rows(history.number());
     if history.row() < u32::from(rows.first) {

@@ -7,7 +7,7 @@ use Rattle.serde_json.specs.Data.{Data, Items, no_items, item}
 use Rattle.grid.specs.declared.pixels.PixelBox.{PixelBox}
 use Rattle.model.specs.Primitives.{PrimitiveListing, triangle_list, triangle_strip, quad_list, IsQuadOver, AreOver}
 use Rattle.model.specs.declared.draw.Vertex.{Vertex}
-use Rattle.model.specs.Listing.{DrawListing, Listing, IsDrawWithinLimits, IsWithinLimits}
+use Rattle.model.specs.Listing.{DrawListing, Listing, IsDrawWithinLimits, IsListingWithinLimits}
 use Rattle.model.specs.Denotes.{Each, IsTriangle, IsStripIndex, IsQuad, IsPrimitives, IsDraw, IsListing}
 
 each_all : {X : Type 0} (Is : Data → X → Type 0) (P : X → Type 0) → ((d : Data) (x : X) → Is d x → P x) → (ds : Items) (xs : List X) → Each Is ds xs → All P xs
@@ -48,7 +48,7 @@ draw_within picture d draw is = record {
   primitives = primitives_over draw.vertices _ _ _ draw.primitives is.primitives;
 }
 
-pub listing_within : (d : Data) (l : Listing) → IsListing d l → IsWithinLimits l
+pub listing_within : (d : Data) (l : Listing) → IsListing d l → IsListingWithinLimits l
 listing_within d l is = record {
   wide = omega (arith, ints, is.width.1);
   width = omega (arith, ints, is.width.2);

@@ -10,7 +10,7 @@ use Rattle.shade.specs.declared.sample.Merge.{Merge}
 use Rattle.shade.specs.declared.state.State.{State}
 use Rattle.model.specs.Json.{whole, text, truth}
 use Rattle.model.specs.Keys.{cull_word, depth_test_word, NamesBlend}
-use Rattle.model.specs.Denotes.{IsTruth, IsCull, IsDepthTest, IsBlend, IsWriteMask, IsSampleMask, IsScissor, IsMerge, IsState}
+use Rattle.model.specs.Denotes.{IsTruth, IsCull, IsDepthTest, IsBlend, IsWriteMask, IsSampleMaskNumber, IsScissor, IsMerge, IsState}
 use Rattle.model.proofs.OneValue.{IsUnique, same_some, same_number, default-unique, same_three}
 
 -- ---- the words: each is read back
@@ -74,7 +74,7 @@ write_mask-unique : IsUnique IsWriteMask
 write_mask-unique value x y h k =
     same_three x y false h.channels k.channels (same_some _ _ _ h.red k.red) (same_some _ _ _ h.green k.green) (same_some _ _ _ h.blue k.blue)
 
-sample_mask-unique : IsUnique IsSampleMask
+sample_mask-unique : IsUnique IsSampleMaskNumber
 sample_mask-unique value x y h k = same_number (whole value) x y h.0 k.0
 
 box : ℤ → ℤ → ℤ → ℤ → PixelBox
@@ -119,4 +119,4 @@ same_state x y e f g h = made_same_state x.merge y.merge x.cull y.cull x.sample_
 pub state-unique : (picture : PixelBox) → IsUnique (IsState picture)
 state-unique picture value x y h k =
     same_state x y (merge-unique value _ _ h.merge k.merge) (default-unique _ IsCull cull-unique _ _ _ h.cull k.cull)
-    (default-unique _ IsSampleMask sample_mask-unique _ _ _ h.sample_mask k.sample_mask) (default-unique picture IsScissor scissor-unique _ _ _ h.scissor k.scissor)
+    (default-unique _ IsSampleMaskNumber sample_mask-unique _ _ _ h.sample_mask k.sample_mask) (default-unique picture IsScissor scissor-unique _ _ _ h.scissor k.scissor)

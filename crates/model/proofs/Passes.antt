@@ -27,8 +27,8 @@ use Rattle.model.specs.Keys.{output_words, cull_words, depth_test_words, NamesBl
 use Rattle.model.specs.Primitives.{PrimitiveListing, triangle_list, triangle_strip, quad_list, strip_count, quads_count, count_of_triangles, IsConvexOver}
 use Rattle.model.specs.Listing.{DrawListing, Listing}
 use Rattle.model.specs.FirstFault.{Check, first_fault, reported_as}
-use Rattle.model.specs.Checks.{Checks, each, is_from_to, number_checks, depth_checks, vertex_checks, triangle_checks, strip_index_checks, quad_checks, quad_checks_over, has_length, corner_written, positions_written, is_strictly_convex, is_none_there, are_two_there, array_checks, sum_check, where_there, word_checks, truth_checks, colour_checks, write_mask_checks, sample_mask_checks, scissor_checks, sample_count_checks, merge_checks, state_checks, vertices_checks, triangles_checks, strip_checks, quads_checks, primitive_checks, part_checks, triangles_counted, draw_checks, clear_checks, top_checks, in_draw, outside, draws_checks, value_checks}
-use Rattle.model.specs.Denotes.{Each, OrDefault, IsWhole, IsDepthNumber, IsTruth, IsVertex, IsIndex, IsTriangle, IsStripIndex, IsQuad, IsPrimitives, IsArrayOf, IsCull, IsDepthTest, IsBlend, IsWriteMask, IsSampleMask, IsScissor, IsMerge, IsState, IsDraw, IsSampleCount, IsClearColour, IsOutput, IsListing}
+use Rattle.model.specs.Checks.{Checks, each, is_from_to, number_checks, depth_checks, vertex_checks, triangle_checks, strip_index_checks, quad_checks_at, quad_checks_over, has_length, corner_written, positions_written, is_strictly_convex, is_none_there, are_two_there, array_checks, sum_check, where_there, word_checks, truth_checks, colour_checks, write_mask_checks, sample_mask_checks, scissor_checks, sample_count_checks, merge_checks, state_checks, vertices_checks, triangles_checks, strip_checks, quads_checks, primitive_checks, part_checks, triangles_counted, draw_value_checks, clear_checks, top_checks, fault_in_draw, outside, numbered_draw_checks, value_checks}
+use Rattle.model.specs.Denotes.{Each, OrDefault, IsIntegerWithin, IsDepthNumber, IsTruth, IsVertex, IsIndex, IsTriangle, IsStripIndex, IsQuad, IsPrimitives, IsArrayOf, IsCull, IsDepthTest, IsBlend, IsWriteMask, IsSampleMaskNumber, IsScissor, IsMerge, IsState, IsDraw, IsSampleCount, IsClearColour, IsOutput, IsListing}
 use Rattle.model.proofs.Convex.{convex_is_true, convex_is_false}
 use Rattle.model.proofs.Corners.{same_places, same_corner}
 use Rattle.model.proofs.Counts.{items_len_each, given_is}
@@ -59,13 +59,13 @@ index_in_range n k lt = in_range (pos 0) (pos n -ℤ pos 1) (pos k) (omega (arit
 band_in_range : (z : ℤ) → IsInBand z → is_from_to (negsuc 8388607) (pos 8388607) z ≡ true
 band_in_range z is = in_range (negsuc 8388607) (pos 8388607) z is.low is.high
 
-number_passes : (low high : ℤ) (kind : ReadKind) (value : Option Data) (z : ℤ) → IsWhole low high value z → first_fault (number_checks (is_from_to low high) kind value) ≡ None
+number_passes : (low high : ℤ) (kind : ReadKind) (value : Option Data) (z : ℤ) → IsIntegerWithin low high value z → first_fault (number_checks (is_from_to low high) kind value) ≡ None
 number_passes low high kind value z is = rw (is.0, in_range low high z is.1 is.2) refl
 
 depth_passes : (v : Data) (n : ℕ) → IsDepthNumber (Some v) n → first_fault (depth_checks (Some v)) ≡ None
 depth_passes v n is = number_passes _ _ _ (Some v) (pos n) is
 
-sample_mask_passes : (v : Data) (n : ℕ) → IsSampleMask (Some v) n → first_fault (sample_mask_checks (Some v)) ≡ None
+sample_mask_passes : (v : Data) (n : ℕ) → IsSampleMaskNumber (Some v) n → first_fault (sample_mask_checks (Some v)) ≡ None
 sample_mask_passes v n is = number_passes _ _ _ (Some v) (pos n) is
 
 sample_count_passes : (v : Data) (n : SampleCount) → IsSampleCount (Some v) n → first_fault (sample_count_checks (Some v)) ≡ None
@@ -141,7 +141,7 @@ quad_convex vs d quad is = rw (
   same_corner vs _ _ _ is.fourth,
 ) (convex_is_true _ _ _ _ is.convex)
 
-pub quad_passes : (vs : List Vertex) (d : Data) (quad : List ℕ) → IsQuad vs d quad → first_fault (quad_checks (length vs) (map (λ v. v.at) vs) d) ≡ None
+pub quad_passes : (vs : List Vertex) (d : Data) (quad : List ℕ) → IsQuad vs d quad → first_fault (quad_checks_at (length vs) (map (λ v. v.at) vs) d) ≡ None
 quad_passes vs d quad is =
     rw (
       is.array,
@@ -214,7 +214,7 @@ state_passes : (picture : PixelBox) (d : Data) (state : State) → IsState pictu
 unfolding state_checks
 state_passes picture d state is =
     let scissor = key_passes _ IsScissor scissor_checks scissor_passes (get (codes "scissor") d) state.scissor is.scissor in
-    let sample_mask = key_passes _ IsSampleMask sample_mask_checks sample_mask_passes (get (codes "sample_mask") d) state.sample_mask is.sample_mask in
+    let sample_mask = key_passes _ IsSampleMaskNumber sample_mask_checks sample_mask_passes (get (codes "sample_mask") d) state.sample_mask is.sample_mask in
     let cull = key_passes _ IsCull (word_checks cull_words) cull_passes (get (codes "cull") d) state.cull is.cull in
     let scissors : Checks = where_there scissor_checks (get (codes "scissor") d) in
     let sample_masks : Checks = where_there sample_mask_checks (get (codes "sample_mask") d) in
@@ -267,7 +267,7 @@ quads_pass : (earlier : ℕ) (vs : List Vertex) (q : Option Data) (xs : List (Li
     → first_fault (quads_checks earlier (length vs) (map (λ v. v.at) vs) q) ≡ None
 unfolding quads_checks
 quads_pass earlier vs q xs is room =
-    let checks : Data → Checks = quad_checks (length vs) (map (λ v. v.at) vs) in
+    let checks : Data → Checks = quad_checks_at (length vs) (map (λ v. v.at) vs) in
     let many = items_len_each (IsQuad vs) (elements q) xs is.parts in
     let few : earlier + quads_count (count q) ≤ 65536 = omega (arith, many) in
     let each_one = each_passes checks (IsQuad vs) (quad_passes vs) _ xs is.parts in
@@ -333,7 +333,7 @@ parts_pass earlier v t s q draw vs is room =
 -- ---- the draws
 
 pub draw_passes : (picture : PixelBox) (earlier : ℕ) (d : Data) (draw : DrawListing) → IsDraw picture d draw → earlier + count_of_triangles draw.primitives ≤ 65536
-    → first_fault (draw_checks earlier d) ≡ None
+    → first_fault (draw_value_checks earlier d) ≡ None
 draw_passes picture earlier d draw is room =
     let vertices = get (codes "vertices") d in
     let triangles = get (codes "triangles") d in
@@ -345,13 +345,13 @@ draw_passes picture earlier d draw is room =
     rw (there (as_object d) is.object, is.keys, array_there vertices is.vertices.array, one.0, one.1) rest
 
 pub draws_pass : (picture : PixelBox) (number earlier : ℕ) (ds : Items) (xs : List DrawListing) → Each (IsDraw picture) ds xs
-    → earlier + sum_by (λ d. count_of_triangles d.primitives) xs ≤ 65536 → first_fault (draws_checks number earlier ds) ≡ None
+    → earlier + sum_by (λ d. count_of_triangles d.primitives) xs ≤ 65536 → first_fault (numbered_draw_checks number earlier ds) ≡ None
 draws_pass picture number earlier no_items xs h room = refl
 draws_pass picture number earlier (item d ds) [] h room = absurd h
 draws_pass picture number earlier (item d ds) (x ∷ xs) h room =
     let many = given_is x.vertices _ _ _ x.primitives h.0.primitives in
     let total = sum_by-append (λ (d : DrawListing). count_of_triangles d.primitives) (x ∷ []) xs in
-    both_pass (reported_as (in_draw number) (draw_checks earlier d)) _ (reported_pass (in_draw number) (draw_checks earlier d) (draw_passes picture earlier d x h.0 (omega (arith, total))))
+    both_pass (reported_as (fault_in_draw number) (draw_value_checks earlier d)) _ (reported_pass (fault_in_draw number) (draw_value_checks earlier d) (draw_passes picture earlier d x h.0 (omega (arith, total))))
     (draws_pass picture (number + 1) (earlier + triangles_counted d) ds xs h.1 (omega (arith, many, total)))
 
 -- ---- the whole list
@@ -393,10 +393,10 @@ top_passes d l is =
     ) rest
 
 -- the top object passes, and its draws do
-pub value_passes : (d : Data) (draws : Items) → draws ≡ elements (get (codes "draws") d) → first_fault (top_checks d) ≡ None → first_fault (draws_checks 0 0 draws) ≡ None
+pub value_passes : (d : Data) (draws : Items) → draws ≡ elements (get (codes "draws") d) → first_fault (top_checks d) ≡ None → first_fault (numbered_draw_checks 0 0 draws) ≡ None
     → first_fault (value_checks d) ≡ None
 value_passes d draws are top later =
-    both_pass (reported_as outside (top_checks d)) (draws_checks 0 0 (elements (get (codes "draws") d))) (reported_pass outside (top_checks d) top) (rw are at later)
+    both_pass (reported_as outside (top_checks d)) (numbered_draw_checks 0 0 (elements (get (codes "draws") d))) (reported_pass outside (top_checks d) top) (rw are at later)
 
 pub listing_passes : (d : Data) (l : Listing) → IsListing d l → first_fault (value_checks d) ≡ None
 listing_passes d l is =

@@ -65,8 +65,8 @@ abbrev pub scissor_side_checks : Option Data → Checks
 scissor_side_checks value = number_checks (is_from_to (pos 0) (pos 4096)) OutOfRange value
 
 -- The index of one of n vertices, else `BadIndex` is reported.
-abbrev pub index_checks : ℕ → Option Data → Checks
-index_checks n value = number_checks (is_from_to (pos 0) (pos n -ℤ pos 1)) BadIndex value
+abbrev pub vertex_index_checks : ℕ → Option Data → Checks
+vertex_index_checks n value = number_checks (is_from_to (pos 0) (pos n -ℤ pos 1)) BadIndex value
 
 -- A string, else `WrongKind` is reported, and one of the words, else `OutOfRange` is.
 abbrev pub word_checks : List (List ℕ) → Option Data → Checks
@@ -121,7 +121,7 @@ vertex_checks value =
 -- A triangle: [a, b, c], the indices of three of n vertices.
 abbrev pub triangle_checks : ℕ → Data → Checks
 triangle_checks n value =
-    length_check 3 (Some value) ∷ (index_checks n (at 0 value) ++ (index_checks n (at 1 value) ++ index_checks n (at 2 value)))
+    length_check 3 (Some value) ∷ (vertex_index_checks n (at 0 value) ++ (vertex_index_checks n (at 1 value) ++ vertex_index_checks n (at 2 value)))
 
 -- The position of a vertex as it is written, in 1/256 pixel. A coordinate that is no integer is taken for 0.
 abbrev pub position_written : Data → Position
@@ -146,20 +146,20 @@ is_strictly_convex a b c d = each_turn (λ turn. int_lt (pos 0) turn) a b c d ||
 
 -- A quad: [a, b, c, d], the indices of four of n vertices, else `NotConvex` is reported if it is not strictly convex. The vertices
 -- lie at these positions.
-abbrev pub quad_checks : ℕ → List Position → Data → Checks
-quad_checks n positions value =
+abbrev pub quad_checks_at : ℕ → List Position → Data → Checks
+quad_checks_at n positions value =
     let corner : ℕ → Position = λ i. corner_written positions (at i value) in
     length_check 4 (Some value)
-    ∷ (index_checks n (at 0 value) ++ (index_checks n (at 1 value) ++ (index_checks n (at 2 value) ++ (index_checks n (at 3 value)
+    ∷ (vertex_index_checks n (at 0 value) ++ (vertex_index_checks n (at 1 value) ++ (vertex_index_checks n (at 2 value) ++ (vertex_index_checks n (at 3 value)
     ++ check (not (is_strictly_convex (corner 0) (corner 1) (corner 2) (corner 3))) NotConvex ∷ []))))
 
 -- A quad over vertices that were read.
 abbrev pub quad_checks_over : List Vertex → Data → Checks
-quad_checks_over vertices = quad_checks (length vertices) (map (λ v. v.at) vertices)
+quad_checks_over vertices = quad_checks_at (length vertices) (map (λ v. v.at) vertices)
 
 -- An index in a strip over n vertices.
 abbrev pub strip_index_checks : ℕ → Data → Checks
-strip_index_checks n value = index_checks n (Some value)
+strip_index_checks n value = vertex_index_checks n (Some value)
 
 -- A clear colour: [red, green, blue], each from 0 to 255.
 abbrev pub colour_checks : Option Data → Checks
@@ -215,7 +215,7 @@ strip_checks earlier n value = array_checks 65538 value ++ sum_check earlier (st
 -- The quads of a draw of n vertices at these positions, before which the draws have `earlier` triangles.
 unfoldable pub quads_checks : ℕ → ℕ → List Position → Option Data → Checks
 quads_checks earlier n positions value =
-    array_checks 32768 value ++ sum_check earlier (quads_count (count value)) ∷ each (quad_checks n positions) (elements value)
+    array_checks 32768 value ++ sum_check earlier (quads_count (count value)) ∷ each (quad_checks_at n positions) (elements value)
 
 -- The primitives of a draw of n vertices at these positions: the one of the three lists that is there. The draws before have
 -- `earlier` triangles.
@@ -256,8 +256,8 @@ abbrev pub has_two_lists : Data → Bool
 has_two_lists value = are_two_there (get (codes "triangles") value) (get (codes "strip") value) (get (codes "quads") value)
 
 -- The checks of a draw that come before its vertices and primitives: its keys, its lists and its state.
-abbrev pub opening_checks : Data → Checks
-opening_checks value =
+abbrev pub draw_opening_checks : Data → Checks
+draw_opening_checks value =
     check (is_none (as_object value)) WrongKind
     ∷ check (has_other_key draw_keys (as_object value)) UnknownKey
     ∷ check (is_absent (codes "vertices") value || has_no_list value) MissingKey
@@ -265,14 +265,14 @@ opening_checks value =
     ∷ state_checks value
 
 -- The checks of a draw before which the draws have `earlier` triangles.
-abbrev pub draw_checks : ℕ → Data → Checks
-draw_checks earlier value =
-    opening_checks value
+abbrev pub draw_value_checks : ℕ → Data → Checks
+draw_value_checks earlier value =
+    draw_opening_checks value
     ++ part_checks earlier (get (codes "vertices") value) (get (codes "triangles") value) (get (codes "strip") value) (get (codes "quads") value)
 
 -- The checks of a draw that come before those of its single vertices.
 abbrev pub checks_before_vertices : Data → Checks
-checks_before_vertices value = opening_checks value ++ array_checks 65536 (get (codes "vertices") value)
+checks_before_vertices value = draw_opening_checks value ++ array_checks 65536 (get (codes "vertices") value)
 
 -- ---- the whole list
 
@@ -300,19 +300,19 @@ abbrev pub outside : ReadKind → ReadFault
 outside kind = record { kind = kind; draw = None }
 
 -- An error of this kind in the draw of this number.
-abbrev pub in_draw : ℕ → ReadKind → ReadFault
-in_draw number kind = record { kind = kind; draw = Some number }
+abbrev pub fault_in_draw : ℕ → ReadKind → ReadFault
+fault_in_draw number kind = record { kind = kind; draw = Some number }
 
 -- The checks of the draws from this number on, before which the draws have `earlier` triangles.
-abbrev pub draws_checks : ℕ → ℕ → Items → List (Check ReadFault)
-draws_checks number earlier no_items = []
-draws_checks number earlier (item value rest) =
-    reported_as (in_draw number) (draw_checks earlier value)
-    ++ draws_checks (number + 1) (earlier + triangles_counted value) rest
+abbrev pub numbered_draw_checks : ℕ → ℕ → Items → List (Check ReadFault)
+numbered_draw_checks number earlier no_items = []
+numbered_draw_checks number earlier (item value rest) =
+    reported_as (fault_in_draw number) (draw_value_checks earlier value)
+    ++ numbered_draw_checks (number + 1) (earlier + triangles_counted value) rest
 
 -- All checks of a JSON value: those of the top object, and then those of the draws in their order.
 abbrev pub value_checks : Data → List (Check ReadFault)
-value_checks value = reported_as outside (top_checks value) ++ draws_checks 0 0 (elements (get (codes "draws") value))
+value_checks value = reported_as outside (top_checks value) ++ numbered_draw_checks 0 0 (elements (get (codes "draws") value))
 
 -- All checks of an input, in their order: first whether its bytes are JSON.
 abbrev pub all_checks : Option Data → List (Check ReadFault)
@@ -321,13 +321,13 @@ all_checks (Some value) = check false (outside NotJson) ∷ value_checks value
 
 -- Draw n is one of these, and no check of a draw before it fails. If the kind is out of memory, no check of draw n fails either
 -- that comes before its single vertices.
-pub record IsReached (draws : Items) (kind : ReadKind) (n : ℕ) : Type 0 where
+pub record IsDrawReached (draws : Items) (kind : ReadKind) (n : ℕ) : Type 0 where
   pub draw : Data
   pub there : get_item n draws ≡ Some draw
-  pub before : PassesBefore n (draws_checks 0 0 draws)
+  pub before : PassesBefore n (numbered_draw_checks 0 0 draws)
   pub memory : kind ≡ OutOfMemory → AllPass (checks_before_vertices draw)
 
 -- The draw that an error names was reached, and no check of the top object fails.
 abbrev pub Reaches : Option Data → ReadFault → Type 0
 Reaches None fault = fault.draw ≡ None
-Reaches (Some value) fault = IfSome fault.draw (λ n. AllPass (top_checks value) × IsReached (elements (get (codes "draws") value)) fault.kind n)
+Reaches (Some value) fault = IfSome fault.draw (λ n. AllPass (top_checks value) × IsDrawReached (elements (get (codes "draws") value)) fault.kind n)

@@ -27,8 +27,8 @@ use Rattle.model.specs.Scene.{Scene}
 -- ---- numbers, words and booleans
 
 -- The value is this integer, which lies from low to high.
-abbrev pub IsWhole : ℤ → ℤ → Option Data → ℤ → Type 0
-IsWhole low high value z = (whole value ≡ Some z) × (low ≤ℤ z) × (z ≤ℤ high)
+abbrev pub IsIntegerWithin : ℤ → ℤ → Option Data → ℤ → Type 0
+IsIntegerWithin low high value z = (whole value ≡ Some z) × (low ≤ℤ z) × (z ≤ℤ high)
 
 -- The value is a coordinate of the guard band, in 1/256 pixel.
 abbrev pub IsCoordinate : Option Data → ℤ → Type 0
@@ -36,11 +36,11 @@ IsCoordinate value z = (whole value ≡ Some z) × IsInBand z
 
 -- The value is a depth, from 0 to 65535.
 abbrev pub IsDepthNumber : Option Data → ℕ → Type 0
-IsDepthNumber value n = IsWhole (pos 0) (pos 65535) value (pos n)
+IsDepthNumber value n = IsIntegerWithin (pos 0) (pos 65535) value (pos n)
 
 -- The value is a colour channel or an alpha, from 0 to 255.
 abbrev pub IsChannel : Option Data → ℕ → Type 0
-IsChannel value n = IsWhole (pos 0) (pos 255) value (pos n)
+IsChannel value n = IsIntegerWithin (pos 0) (pos 255) value (pos n)
 
 -- The value is the index of one of n vertices.
 abbrev pub IsIndex : ℕ → Option Data → ℕ → Type 0
@@ -48,7 +48,7 @@ IsIndex n value k = (whole value ≡ Some (pos k)) × (k < n)
 
 -- The value is a picture's width or height, from 1 to 4096 pixels.
 abbrev pub IsSize : Option Data → ℕ → Type 0
-IsSize value n = IsWhole (pos 1) (pos 4096) value (pos n)
+IsSize value n = IsIntegerWithin (pos 1) (pos 4096) value (pos n)
 
 -- The value is this boolean.
 abbrev pub IsTruth : Option Data → Bool → Type 0
@@ -141,12 +141,12 @@ pub record IsWriteMask (value : Option Data) (write : List Bool) : Type 0 where
   pub blue : IsTruth (element 2 value) (slice_index_or write 2 false)
 
 -- The value is this sample mask, a number of four bits: bit s is that of sample s.
-abbrev pub IsSampleMask : Option Data → ℕ → Type 0
-IsSampleMask value n = IsWhole (pos 0) (pos 15) value (pos n)
+abbrev pub IsSampleMaskNumber : Option Data → ℕ → Type 0
+IsSampleMaskNumber value n = IsIntegerWithin (pos 0) (pos 15) value (pos n)
 
 -- The value is a side of a scissor, in pixels. It may lie past the picture.
 abbrev pub IsScissorSide : Option Data → ℤ → Type 0
-IsScissorSide value z = IsWhole (pos 0) (pos 4096) value z
+IsScissorSide value z = IsIntegerWithin (pos 0) (pos 4096) value z
 
 -- The value is this scissor: [left, top, right, bottom], in pixels.
 pub record IsScissor (value : Option Data) (scissor : PixelBox) : Type 0 where
@@ -167,7 +167,7 @@ pub record IsMerge (value : Data) (merge : Merge) : Type 0 where
 pub record IsState (picture : PixelBox) (value : Data) (state : State) : Type 0 where
   pub cull : OrDefault cull.None IsCull (get (codes "cull") value) state.cull
   pub merge : IsMerge value state.merge
-  pub sample_mask : OrDefault 15 IsSampleMask (get (codes "sample_mask") value) state.sample_mask
+  pub sample_mask : OrDefault 15 IsSampleMaskNumber (get (codes "sample_mask") value) state.sample_mask
   pub scissor : OrDefault picture IsScissor (get (codes "scissor") value) state.scissor
 
 -- ---- the list

@@ -4,17 +4,17 @@ use Rattle.model.specs.declared.fault.ReadKind.{ReadKind}
 use Rattle.model.specs.declared.fault.ReadKind.TheVariants.{NotJson, UnknownKey, MissingKey, WrongKind, OutOfRange, BadIndex, TooMany, OutOfMemory, TwoLists, NotConvex}
 
 -- The number of each kind of error in a draw list. It never changes its meaning.
-abbrev pub number_of : ReadKind → ℕ
-number_of NotJson = 1
-number_of UnknownKey = 2
-number_of MissingKey = 3
-number_of WrongKind = 4
-number_of OutOfRange = 5
-number_of BadIndex = 6
-number_of TooMany = 7
-number_of OutOfMemory = 8
-number_of TwoLists = 9
-number_of NotConvex = 10
+abbrev pub kind_number : ReadKind → ℕ
+kind_number NotJson = 1
+kind_number UnknownKey = 2
+kind_number MissingKey = 3
+kind_number WrongKind = 4
+kind_number OutOfRange = 5
+kind_number BadIndex = 6
+kind_number TooMany = 7
+kind_number OutOfMemory = 8
+kind_number TwoLists = 9
+kind_number NotConvex = 10
 
 -- The name of each kind of error in a draw list.
 abbrev pub name_of : ReadKind → List ℕ

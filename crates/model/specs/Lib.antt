@@ -27,13 +27,13 @@
 --   scene_of: The scene of a draw list.
 --   IsDrawWithinLimits: A draw has at most 65536 vertices, and primitives over these alone (this project's limits).
 --   AreWithinLimits: There are at most 1024 draws, each within its limits, and 65536 triangles (this project's limits).
---   IsWithinLimits: A picture is at most 4096 by 4096 pixels and not empty, and the draws are within their limits (this project's).
+--   IsListingWithinLimits: A picture is at most 4096 by 4096 pixels and not empty, and the draws are within their limits (this project's).
 --   draw_listing: The listing of a draw in memory.
 --   listing_of: The listing of draws in memory, with the picture's size, samples, clear values and output.
 --   listing_on: The listing of draws in memory on a target, which has the picture's size, samples, clear values and output.
 --
 -- Rows.antt
---   row_of: The row of pixels of a y in 1/256 pixel: the y by 256, rounded down.
+--   pixel_row: The row of pixels of a y in 1/256 pixel: the y by 256, rounded down.
 --   least_y: The least y of a triangle's vertices, in 1/256 pixel.
 --   greatest_y: The greatest y of a triangle's vertices, in 1/256 pixel.
 --   IsRowSpan: The span has the rows of pixels from that of the triangle's least y to that of its greatest, cut to the screen.
@@ -41,7 +41,7 @@
 --
 -- Starts.antt
 --   AreStarts: The number of each draw's first triangle: how many triangles the draws before it have.
---   IsOwner: The draw in which the triangle of a number stands: the last one that starts at the number or before it.
+--   IsDrawOfTriangle: The draw in which the triangle of a number stands: the last one that starts at the number or before it.
 --   AreOwners: The draws of the triangles at every sixteenth number.
 --
 -- Place.antt
@@ -95,7 +95,7 @@
 --   blend_words: The words for both blendings.
 --
 -- Fault.antt
---   number_of: The number of each kind of error in a draw list.
+--   kind_number: The number of each kind of error in a draw list.
 --   name_of: The name of each kind of error in a draw list.
 --
 -- FirstFault.antt
@@ -128,7 +128,7 @@
 --   sample_count_checks: The samples of a pixel, 1 or 4, else `OutOfRange` is reported.
 --   sample_mask_checks: A sample mask from 0 to 15, else `OutOfRange` is reported.
 --   scissor_side_checks: A side of a scissor from 0 to 4096 pixels, else `OutOfRange` is reported.
---   index_checks: The index of one of n vertices, else `BadIndex` is reported.
+--   vertex_index_checks: The index of one of n vertices, else `BadIndex` is reported.
 --   word_checks: A string, else `WrongKind` is reported, and one of the words, else `OutOfRange` is.
 --   truth_checks: A boolean, else `WrongKind` is reported.
 --   where_there: The checks of a key that may be absent: none if it is.
@@ -145,7 +145,7 @@
 --   corner_written: The position that an index names; the origin past the end.
 --   each_turn: Whether all four turns of the quad abcd pass the test.
 --   is_strictly_convex: Whether the quad abcd is strictly convex.
---   quad_checks: A quad: [a, b, c, d], the indices of four of n vertices, else `NotConvex` is reported if it is not strictly convex.
+--   quad_checks_at: A quad: [a, b, c, d], the indices of four of n vertices, else `NotConvex` is reported if it is not strictly convex.
 --   quad_checks_over: A quad over vertices that were read.
 --   strip_index_checks: An index in a strip over n vertices.
 --   colour_checks: A clear colour: [red, green, blue], each from 0 to 255.
@@ -166,21 +166,21 @@
 --   are_two_there: Whether more than one of the three lists of primitives is there.
 --   has_no_list: Whether a draw has no list of primitives.
 --   has_two_lists: Whether a draw has more than one list of primitives.
---   opening_checks: The checks of a draw that come before its vertices and primitives: its keys, its lists and its state.
---   draw_checks: The checks of a draw before which the draws have `earlier` triangles.
+--   draw_opening_checks: The checks of a draw that come before its vertices and primitives: its keys, its lists and its state.
+--   draw_value_checks: The checks of a draw before which the draws have `earlier` triangles.
 --   checks_before_vertices: The checks of a draw that come before those of its single vertices.
 --   clear_checks: The keys of the top object that may be absent: samples, clear colour, clear depth and output.
 --   top_checks: The checks of the top object, without those of the draws themselves.
 --   outside: An error of this kind that is in no draw.
---   in_draw: An error of this kind in the draw of this number.
---   draws_checks: The checks of the draws from this number on, before which the draws have `earlier` triangles.
+--   fault_in_draw: An error of this kind in the draw of this number.
+--   numbered_draw_checks: The checks of the draws from this number on, before which the draws have `earlier` triangles.
 --   value_checks: All checks of a JSON value: those of the top object, and then those of the draws in their order.
 --   all_checks: All checks of an input, in their order: first whether its bytes are JSON.
---   IsReached: Draw n is one of these, and no check of a draw before it fails.
+--   IsDrawReached: Draw n is one of these, and no check of a draw before it fails.
 --   Reaches: The draw that an error names was reached, and no check of the top object fails.
 --
 -- Denotes.antt
---   IsWhole: The value is this integer, which lies from low to high.
+--   IsIntegerWithin: The value is this integer, which lies from low to high.
 --   IsCoordinate: The value is a coordinate of the guard band, in 1/256 pixel.
 --   IsDepthNumber: The value is a depth, from 0 to 65535.
 --   IsChannel: The value is a colour channel or an alpha, from 0 to 255.
@@ -199,7 +199,7 @@
 --   IsDepthTest: The value is the word for this depth test.
 --   IsBlend: The value is the word for this blending.
 --   IsWriteMask: The value is this write mask: [red, green, blue], each a boolean that says whether the channel is written.
---   IsSampleMask: The value is this sample mask, a number of four bits: bit s is that of sample s.
+--   IsSampleMaskNumber: The value is this sample mask, a number of four bits: bit s is that of sample s.
 --   IsScissorSide: The value is a side of a scissor, in pixels.
 --   IsScissor: The value is this scissor: [left, top, right, bottom], in pixels.
 --   IsMerge: The value says how its fragments are merged with what is stored.

@@ -75,7 +75,7 @@ pub record AreWithinLimits (draws : List DrawListing) : Type 0 where
   pub triangles : sum_by (λ d. count_of_triangles d.primitives) draws ≤ 65536
 
 -- A picture is at most 4096 by 4096 pixels and not empty, and the draws are within their limits (this project's).
-pub record IsWithinLimits (l : Listing) : Type 0 where
+pub record IsListingWithinLimits (l : Listing) : Type 0 where
   pub wide : 1 ≤ l.width
   pub width : l.width ≤ 4096
   pub high : 1 ≤ l.height

@@ -7,8 +7,8 @@ use Rattle.shade.specs.declared.placed.Placed.{Placed}
 use Rattle.model.specs.declared.rows.RowSpan.{RowSpan}
 
 -- The row of pixels of a y in 1/256 pixel: the y by 256, rounded down.
-abbrev pub row_of : ℤ → ℤ
-row_of y = int_div_euclid y (pos 256)
+abbrev pub pixel_row : ℤ → ℤ
+pixel_row y = int_div_euclid y (pos 256)
 
 -- The least y of a triangle's vertices, in 1/256 pixel.
 abbrev pub least_y : Tri → ℤ
@@ -21,8 +21,8 @@ greatest_y t = int_max (int_max t.a.y t.b.y) t.c.y
 -- The span has the rows of pixels from that of the triangle's least y to that of its greatest, cut to the screen. The screen has
 -- 4096 rows, and `end` is the row after the last.
 pub record IsRowSpan (t : Tri) (span : RowSpan) : Type 0 where
-  pub first : pos span.first ≡ int_max (row_of (least_y t)) (pos 0)
-  pub end : pos span.end ≡ int_max (int_min (row_of (greatest_y t) +ℤ pos 1) (pos 4096)) (pos 0)
+  pub first : pos span.first ≡ int_max (pixel_row (least_y t)) (pos 0)
+  pub end : pos span.end ≡ int_max (int_min (pixel_row (greatest_y t) +ℤ pos 1) (pos 4096)) (pos 0)
 
 -- The rows of triangles, in the triangles' order.
 abbrev pub AreRows : List Placed → List RowSpan → Type 0

@@ -21,8 +21,8 @@ pub const DEFAULT_CLEAR: Sample = Sample {
 /// What the picture shows.
 pub const DEFAULT_OUTPUT: Output = Output::Color;
 
-/// The state of a draw on a picture of the greatest size: each fragment passes the depth test and replaces the colour of every
-/// sample, no depth is stored, and no triangle is culled.
+/// The state of a draw on a picture of the greatest size: each fragment passes the depth test and replaces the colour
+/// of every sample, no depth is stored, and no triangle is culled.
 pub const DEFAULT_STATE: State = State {
     merge: Merge {
         test: DepthTest::Always,

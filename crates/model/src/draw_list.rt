@@ -1,5 +1,5 @@
 ghost use Rattle.std.specs.Prelude.{◌≡◌, ◌↔◌, ◌<◌, ◌≤◌, length, slice_get, Some, IfSome, IfOk};
-ghost use Rattle.model.specs.Listing.{listing_of, listing_on, scene_of, IsWithinLimits};
+ghost use Rattle.model.specs.Listing.{listing_of, listing_on, scene_of, IsListingWithinLimits};
 ghost use Rattle.model.specs.Rows.{IsRowSpan};
 ghost use Rattle.model.specs.Place.{IsPlace};
 
@@ -15,9 +15,9 @@ use shade::{Placed, Sample, Triangles};
 use std::alloc::Global;
 use std::marker::Model;
 
-/// Draws in their order, and the picture's size, samples, clear values and output. It is within the limits of a draw list: a
-/// picture of 1 to 4096 pixels in width and in height, at most 1,024 draws, at most 65,536 vertices a draw, at most 65,536
-/// triangles together, primitives that name vertices of their draw alone, and strictly convex quads.
+/// Draws in their order, and the picture's size, samples, clear values and output. It is within the limits of a draw
+/// list: a picture of 1 to 4096 pixels in width and in height, at most 1,024 draws, at most 65,536 vertices a draw, at
+/// most 65,536 triangles together, primitives that name vertices of their draw alone, and strictly convex quads.
 #[derive(Debug, Drop)]
 pub struct DrawList {
     target: Target,
@@ -80,8 +80,9 @@ impl Triangles for DrawList {
 impl DrawList {
     /// The draw list of these draws. Fails with `PastLimit` before it allocates, if they are past a limit.
     ///
-    /// The state of a draw has no limits. Of its sample mask the bits of the picture's samples count, and of its scissor the pixels
-    /// of the picture. So a mask above 15 and a scissor with sides outside of 0 to 4096, which the reader refuses, may stand here.
+    /// The state of a draw has no limits. Of its sample mask the bits of the picture's samples count, and of its
+    /// scissor the pixels of the picture. So a mask above 15 and a scissor with sides outside of 0 to 4096, which the
+    /// reader refuses, may stand here.
     pub fn new(
         alloc: Global,
         width: u32,
@@ -92,8 +93,10 @@ impl DrawList {
         draws: Vec<Draw>,
     ) -> Result<DrawList, ListFault>
         ensures scene { IfOk result (λ list. list ≡ scene_of (listing_of width height count clear output draws.items)) }
-        ensures limits { IfOk result (λ _. IsWithinLimits (listing_of width height count clear output draws.items)) }
-        ensures past_limit { (result ≡ Err ListFault.PastLimit) ↔ ¬ IsWithinLimits (listing_of width height count clear output draws.items) }
+        ensures limits { IfOk result
+            (λ _. IsListingWithinLimits (listing_of width height count clear output draws.items)) }
+        ensures past_limit { (result ≡ Err ListFault.PastLimit) ↔
+            ¬ IsListingWithinLimits (listing_of width height count clear output draws.items) }
     {
         if !is_side(width) || !is_side(height) || !are_within_limits(&draws) {
             return Err(ListFault::PastLimit);
@@ -114,7 +117,7 @@ impl DrawList {
         target: Target,
         draws: Vec<Draw>,
     ) -> Result<DrawList, OutOfMemory>
-        requires { IsWithinLimits (listing_on target draws.items) }
+        requires { IsListingWithinLimits (listing_on target draws.items) }
         ensures { IfOk result (λ list. list ≡ scene_of (listing_on target draws.items)) }
     {
         let starts = starts_of(alloc, &draws)?;
@@ -197,8 +200,9 @@ impl DrawList {
         }
     }
 
-    /// The rows of pixels of the screen from that of the least y of this triangle's vertices to that of the greatest. The row of a
-    /// y is y by 256, rounded down. The rows may begin and end below the picture, whose height does not cut them.
+    /// The rows of pixels of the screen from that of the least y of this triangle's vertices to that of the greatest.
+    /// The row of a y is y by 256, rounded down. The rows may begin and end below the picture, whose height does not
+    /// cut them.
     pub fn rows(&self, number: usize) -> RowSpan
         requires { number < length self.now.triangles }
         ensures { IfSome (slice_get self.now.triangles number) (λ triangle. IsRowSpan triangle.tri result) }

@@ -28,11 +28,11 @@ pub enum ReadKind {
 
 impl ReadKind {
     ghost use Rattle.std.specs.Prelude.{◌≡◌};
-    ghost use Rattle.model.specs.Fault.{number_of, name_of};
+    ghost use Rattle.model.specs.Fault.{kind_number, name_of};
 
     /// The fault's number, from 1.
     pub fn number(self) -> u32
-        ensures { result ≡ number_of self }
+        ensures { result ≡ kind_number self }
     {
         match self {
             ReadKind::NotJson => 1,
@@ -124,7 +124,7 @@ impl From<OutOfMemory> for ReadFault {
 
 impl ReadFault {
     ghost use Rattle.std.specs.Prelude.{◌≡◌};
-    ghost use Rattle.model.specs.Checks.{outside as fault_outside, in_draw as fault_in_draw};
+    ghost use Rattle.model.specs.Checks.{outside as fault_outside, fault_in_draw};
 
     /// A fault of the list, outside of its draws.
     pub fn outside(kind: ReadKind) -> ReadFault

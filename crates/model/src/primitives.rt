@@ -11,11 +11,11 @@ use grid::{Point, Quad};
 pub enum Primitives {
     /// A triangle list: triangles in draw order.
     Triangles(Vec<[u32; 3]>),
-    /// A triangle strip: each three indices in a row are a triangle, of which every other one swaps its last two, so that the
-    /// strip keeps its orientation (Vulkan 1.3, triangle strips). Fewer than three indices are no triangle.
+    /// A triangle strip: each three indices in a row are a triangle, of which every other one swaps its last two, so
+    /// that the strip keeps its orientation (Vulkan 1.3, triangle strips). Fewer than three indices are no triangle.
     Strip(Vec<u32>),
-    /// Strictly convex quads in draw order, each by its corners in order, in either orientation. The quad abcd is the triangles
-    /// abc and cda.
+    /// Strictly convex quads in draw order, each by its corners in order, in either orientation. The quad abcd is the
+    /// triangles abc and cda.
     Quads(Vec<[u32; 4]>),
 }
 
@@ -60,7 +60,8 @@ pub fn strip_triangle(strip: &[u32], number: usize) -> [u32; 3]
 pub fn quad_triangle(quads: &[[u32; 4]], number: usize) -> [u32; 3]
     requires { number < count_of_quads (length quads.now) }
     ensures value { result ≡ slice_index_or (flat_map quad_triangles quads.now) number [] }
-    ensures named { (vertices : List VertexOf) → All (IsQuadOver vertices) quads.now → All (λ k. k < length vertices) result }
+    ensures named { (vertices : List VertexOf) → All (IsQuadOver vertices) quads.now →
+        All (λ k. k < length vertices) result }
 {
     let [a, b, c, d] = quads[number / 2];
     if number % 2 == 0 {
@@ -116,7 +117,8 @@ impl Primitives {
     pub(crate) fn triangle(&self, number: usize) -> [u32; 3]
         requires { number < count_of_triangles (primitive_listing self.now) }
         ensures value { result ≡ slice_index_or (triangles_of_listing (primitive_listing self.now)) number [] }
-        ensures named { (vertices : List VertexOf) → AreOver vertices (primitive_listing self.now) → All (λ k. k < length vertices) result }
+        ensures named { (vertices : List VertexOf) → AreOver vertices (primitive_listing self.now) →
+            All (λ k. k < length vertices) result }
     {
         match self {
             Primitives::Triangles(triangles) => triangles[number],

@@ -13,8 +13,8 @@ use std::alloc::{AllocError, Global};
 /// The rows of pixels of the screen.
 const SCREEN_ROWS: i32 = MOST_PIXELS as i32;
 
-/// Rows of pixels of the screen, from `first` to before `end`. There are none if `end` is at most `first`, as for a triangle above
-/// the screen or below it.
+/// Rows of pixels of the screen, from `first` to before `end`. There are none if `end` is at most `first`, as for a
+/// triangle above the screen or below it.
 #[derive(Clone, Copy, Debug, PartialEq, Eq)]
 pub struct RowSpan {
     /// The first row, at most 32767: past the screen if the triangle lies below it.
@@ -26,7 +26,7 @@ pub struct RowSpan {
 /// The row of pixels of a y in 1/256 pixel.
 fn row_of(y: i32) -> i32
     requires { IsInBand y }
-    ensures value { result ≡ rows.row_of y }
+    ensures value { result ≡ rows.pixel_row y }
     ensures low { negsuc 32767 ≤ℤ result }
     ensures high { result ≤ℤ pos 32767 }
 {
@@ -50,7 +50,8 @@ impl RowSpan {
 /// Appends the rows of a draw's triangles.
 fn push_rows(draw: &Draw, spans: &mut Vec<RowSpan>) -> Result<(), AllocError>
     requires { IsDrawWithinLimits (draw_listing draw.now) }
-    ensures { (before : List Placed) → rows.AreRows before spans.old.items → OnOk result (rows.AreRows (before ++ placed_all (draw_listing draw.now)) spans.new.items) }
+    ensures { (before : List Placed) → rows.AreRows before spans.old.items →
+        OnOk result (rows.AreRows (before ++ placed_all (draw_listing draw.now)) spans.new.items) }
 {
     let triangles = draw.primitives.triangles();
     spans.reserve(triangles)?;

@@ -1,7 +1,7 @@
 ghost use Rattle.std.specs.Prelude.{◌≡◌, ◌+◌, ◌<◌, ◌≤◌, length, slice_index, IfOk, sum_by};
 ghost use Rattle.std.specs.List.Sorted.{IsNonDecreasing};
 ghost use Rattle.model.specs.Primitives.{primitive_listing, count_of_triangles};
-ghost use Rattle.model.specs.Starts.{AreStarts, IsOwner, AreOwners};
+ghost use Rattle.model.specs.Starts.{AreStarts, IsDrawOfTriangle, AreOwners};
 
 use crate::draw::Draw;
 use std::alloc::{AllocError, Global};
@@ -25,7 +25,7 @@ fn draw_of(starts: &[u32], number: usize) -> usize
     requires some { 0 < length starts.now }
     requires first { slice_index starts.now 0 ≤ number }
     requires ascending { IsNonDecreasing starts.now }
-    ensures { IsOwner starts.now number result }
+    ensures { IsDrawOfTriangle starts.now number result }
 {
     starts.partition_point(|start| (*start as usize) <= number) - 1
 }
@@ -58,13 +58,13 @@ pub(crate) fn owners_of(
     Ok(owners)
 }
 
-/// The draw of the triangle of this number. If the entries of the table before and behind it are the same, it is that draw;
-/// otherwise it is searched for.
+/// The draw of the triangle of this number. If the entries of the table before and behind it are the same, it is that
+/// draw; otherwise it is searched for.
 pub(crate) fn owner(starts: &[u32], owners: &[u16], number: usize) -> usize
     requires owners { AreOwners starts.now (number + 1) owners.now }
     requires first { slice_index starts.now 0 ≡ 0 }
     requires ascending { IsNonDecreasing starts.now }
-    ensures { IsOwner starts.now number result }
+    ensures { IsDrawOfTriangle starts.now number result }
 {
     let before = owners[number / STEP];
     if before == owners[number / STEP + 1] {

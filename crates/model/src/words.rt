@@ -21,7 +21,8 @@ pub fn cull_named(word: &str) -> Option<Cull>
 
 /// The depth test that a word names. Returns `None` if it is none of the words.
 pub fn depth_test_named(word: &str) -> Option<DepthTest>
-    ensures { MatchOption result (is_among depth_test_words word.now ≡ false) (λ test. word.now ≡ depth_test_word test) }
+    ensures { MatchOption result (is_among depth_test_words word.now ≡ false) (λ test. word.now ≡
+        depth_test_word test) }
 {
     match word {
         "never" => Some(DepthTest::Never),

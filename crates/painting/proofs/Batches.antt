@@ -3,7 +3,7 @@ use Rattle.std.proofs.Common.{◌≡◌, refl, sym, subst, ap, ◌∙◌, arith,
 use Rattle.std.specs.List.{range_with_len}
 use Rattle.std.proofs.lemmas.List.FromFn.{map-range_with_len_more}
 use Rattle.grid.specs.declared.sample_count.SampleCount.{SampleCount}
-use Rattle.shade.specs.declared.sample.Sample.{Sample}
+use Rattle.shade.specs.declared.sample.CanvasSample.{CanvasSample}
 use Rattle.lanes.specs.declared.block_samples.BlockSamples.{BlockSamples}
 use Rattle.polygons.specs.declared.rule.Rule.{Rule}
 use Rattle.polygons.specs.declared.rule.Rule.TheVariants.{EvenOdd, NonZero}
@@ -12,8 +12,8 @@ use Rattle.canvas.specs.declared.canvas.Canvas.{Canvas}
 use Rattle.canvas.specs.declared.window.Origin.{Origin}
 use Rattle.painting.specs.Painting.{Shape, PaintAll, ArePainted}
 
-paint_more : (ps : List Shape) (p : Shape) (count : SampleCount) (i j : ℤ) (s : ℕ) (start mid end : Sample) → PaintAll ps count i j s start mid → PaintAll (p ∷ []) count i j s mid end → PaintAll (ps ++ p ∷ []) count i j s start end
-paint_more [] p count i j s start mid end same one = subst (λ (x : Sample). PaintAll (p ∷ []) count i j s x end) same one
+paint_more : (ps : List Shape) (p : Shape) (count : SampleCount) (i j : ℤ) (s : ℕ) (start mid end : CanvasSample) → PaintAll ps count i j s start mid → PaintAll (p ∷ []) count i j s mid end → PaintAll (ps ++ p ∷ []) count i j s start end
+paint_more [] p count i j s start mid end same one = subst (λ (x : CanvasSample). PaintAll (p ∷ []) count i j s x end) same one
 paint_more (q ∷ qs) p count i j s start mid end all one = (all.0, all.1, paint_more qs p count i j s all.0 mid end all.2 one)
 
 pub painted_more : (f : ℕ → Shape) (n : ℕ) (origin : Origin) (c : Canvas) (first end : ℕ) (old mid new : List BlockSamples)

@@ -2,8 +2,8 @@
 use Rattle.std.proofs.Common.{◌≡◌, ◌⊎◌, inl, inr, refl, subst, sym, ◌∙◌, ℕ, ◌+◌, ◌*◌, List}
 use Rattle.grid.specs.Samples.{sample_position}
 use Rattle.shade.specs.declared.placed.Placed.{Placed}
-use Rattle.shade.specs.declared.sample.Sample.{Sample}
-use Rattle.shade.specs.Placed.{IsDrawnAt}
+use Rattle.shade.specs.declared.sample.CanvasSample.{CanvasSample}
+use Rattle.shade.specs.Canvas.{IsCanvasDrawnAt}
 use Rattle.lanes.specs.declared.block_samples.BlockSamples.{BlockSamples}
 use Rattle.raster.specs.declared.tile.Tile.{Tile}
 use Rattle.raster.specs.Samples.{IsSampleOf}
@@ -28,13 +28,13 @@ module _ (t : Placed) (tile : Tile) where
   module _ (P Q R : ℕ → ℕ → ℕ → Type 0) (old mid new : List BlockSamples) (first : TilePaints t tile P old mid) (second : TilePaints t tile Q mid new)
       (apart : (row column s : ℕ) → IsSampleOf tile row column s → P row column s → Q row column s → ⊥) where
     in_either : (row column s : ℕ) → IsSampleOf tile row column s → P row column s ⊎ Q row column s
-        → IsDrawnAt t (sample_position (8 * tile.bx + column) (8 * tile.by + row) s tile.count) (stored_in_tile tile.count old column row s) (stored_in_tile tile.count new column row s)
+        → IsCanvasDrawnAt t (sample_position (8 * tile.bx + column) (8 * tile.by + row) s tile.count) (stored_in_tile tile.count old column row s) (stored_in_tile tile.count new column row s)
     in_either row column s h (inl p) =
         let same : stored_in_tile tile.count new column row s ≡ stored_in_tile tile.count mid column row s = second.missed row column s h (λ q. apart row column s h p q) in
-        subst (λ (x : Sample). IsDrawnAt t (sample_position (8 * tile.bx + column) (8 * tile.by + row) s tile.count) (stored_in_tile tile.count old column row s) x) (sym same) (first.met row column s h p)
+        subst (λ (x : CanvasSample). IsCanvasDrawnAt t (sample_position (8 * tile.bx + column) (8 * tile.by + row) s tile.count) (stored_in_tile tile.count old column row s) x) (sym same) (first.met row column s h p)
     in_either row column s h (inr q) =
         let same : stored_in_tile tile.count mid column row s ≡ stored_in_tile tile.count old column row s = first.missed row column s h (λ p. apart row column s h p q) in
-        subst (λ (x : Sample). IsDrawnAt t (sample_position (8 * tile.bx + column) (8 * tile.by + row) s tile.count) x (stored_in_tile tile.count new column row s)) same (second.met row column s h q)
+        subst (λ (x : CanvasSample). IsCanvasDrawnAt t (sample_position (8 * tile.bx + column) (8 * tile.by + row) s tile.count) x (stored_in_tile tile.count new column row s)) same (second.met row column s h q)
 
     pub tile_joined : ((row column s : ℕ) → IsSampleOf tile row column s → R row column s → P row column s ⊎ Q row column s)
         → ((row column s : ℕ) → IsSampleOf tile row column s → P row column s → R row column s)
@@ -61,13 +61,13 @@ module _ (t : Placed) (c : Canvas) (first_row end_row : ℕ) where
 
   module _ (P Q R : ℕ → ℕ → ℕ → Type 0) (old mid new : List BlockSamples) (first : RowsPaint t c first_row end_row P old mid) (second : RowsPaint t c first_row end_row Q mid new)
       (apart : (i j s : ℕ) → IsStoredIn c first_row end_row i j s → P i j s → Q i j s → ⊥) where
-    stored_in_either : (i j s : ℕ) → IsStoredIn c first_row end_row i j s → P i j s ⊎ Q i j s → IsDrawnAt t (sample_position i j s c.count) (stored c first_row old i j s) (stored c first_row new i j s)
+    stored_in_either : (i j s : ℕ) → IsStoredIn c first_row end_row i j s → P i j s ⊎ Q i j s → IsCanvasDrawnAt t (sample_position i j s c.count) (stored c first_row old i j s) (stored c first_row new i j s)
     stored_in_either i j s h (inl p) =
         let same : stored c first_row new i j s ≡ stored c first_row mid i j s = second.missed i j s h (λ q. apart i j s h p q) in
-        subst (λ (x : Sample). IsDrawnAt t (sample_position i j s c.count) (stored c first_row old i j s) x) (sym same) (first.met i j s h p)
+        subst (λ (x : CanvasSample). IsCanvasDrawnAt t (sample_position i j s c.count) (stored c first_row old i j s) x) (sym same) (first.met i j s h p)
     stored_in_either i j s h (inr q) =
         let same : stored c first_row mid i j s ≡ stored c first_row old i j s = first.missed i j s h (λ p. apart i j s h p q) in
-        subst (λ (x : Sample). IsDrawnAt t (sample_position i j s c.count) x (stored c first_row new i j s)) same (second.met i j s h q)
+        subst (λ (x : CanvasSample). IsCanvasDrawnAt t (sample_position i j s c.count) x (stored c first_row new i j s)) same (second.met i j s h q)
 
     pub rows_joined : ((i j s : ℕ) → IsStoredIn c first_row end_row i j s → R i j s → P i j s ⊎ Q i j s)
         → ((i j s : ℕ) → IsStoredIn c first_row end_row i j s → P i j s → R i j s)

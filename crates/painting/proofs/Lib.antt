@@ -3,6 +3,7 @@ pub mod Joined
 pub mod Tiles
 pub mod Columns
 pub mod Strips
+pub mod WholeTiles
 pub mod TileRows
 pub mod Batches
 pub mod Zeros

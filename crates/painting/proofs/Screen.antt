@@ -1,24 +1,24 @@
 -- The triangle that covers the screen, and what it makes of a sample.
-use Rattle.std.proofs.Common.{◌≡◌, inl, refl, sym, subst, ap, ◌∙◌, arith, ℕ, ◌+◌, ◌*◌, ◌<◌, List, [], ◌∷◌, slice_index, ℤ, pos, negsuc, ◌+ℤ◌, ◌-ℤ◌, ◌*ℤ◌, ◌<ℤ◌}
+use Rattle.std.proofs.Common.{◌≡◌, inl, refl, subst, arith, ℕ, ◌+◌, ◌*◌, ◌<◌, slice_index, ℤ, pos, negsuc, ◌-ℤ◌, ◌*ℤ◌, ◌<ℤ◌}
 use Rattle.std.proofs.lemmas.Int.{ints}
-use Rattle.grid.specs.Edge.{side, PassesEdge}
+use Rattle.grid.specs.Edge.{side}
 use Rattle.grid.specs.Position.{Position}
 use Rattle.grid.specs.Samples.{offsets_x, offsets_y, sample_position}
 use Rattle.grid.specs.Triangle.{Covers}
 use Rattle.grid.specs.declared.sample_count.SampleCount.{SampleCount}
 use Rattle.grid.proofs.Sign.{mul_positive}
-use Rattle.shade.specs.declared.placed.Placed.{Placed}
-use Rattle.shade.specs.declared.sample.Sample.{Sample}
+use Rattle.shade.specs.declared.sample.CanvasSample.{CanvasSample}
 use Rattle.shade.specs.declared.sample.Shaded.{Shaded}
-use Rattle.shade.specs.Merging.{IsApplied}
-use Rattle.shade.specs.Placed.{channel, IsFragmentAt, IsDrawnAt}
+use Rattle.shade.specs.Canvas.{IsCanvasApplied}
+use Rattle.shade.specs.Placed.{channel, IsFragmentAt}
+use Rattle.shade.specs.Canvas.{IsCanvasDrawnAt}
 use Rattle.shade.proofs.Drawn.{fragment-unique}
 use Rattle.canvas.proofs.Flat.{flat_value}
 use Rattle.canvas.specs.declared.window.Origin.{Origin}
 use Rattle.polygons.proofs.Samples.{offset_x, offset_y}
 use Rattle.painting.specs.declared.polygon.Polygon.{Polygon}
 use Rattle.painting.specs.Painting.{fragment_of, shape_of}
-use Rattle.painting.specs.Parts.{over_screen, CoversScreen}
+use Rattle.painting.specs.Parts.{over_screen, CoversScreen, IsAlikeOverScreen}
 
 abbrev a : Position
 a = record { x = negsuc 0; y = negsuc 0 }
@@ -89,10 +89,18 @@ fragment_there polygon origin p h =
       alpha = flat_value t p (channel t 3) (slice_index polygon.rgba 3) (record { first = refl; second = refl; third = refl }) h;
     }
 
-pub applied : (polygon : Polygon) (origin : Origin) (count : SampleCount) (i j s : ℕ) (old new : Sample) → i < 4096 → j < 4096
-    → IsDrawnAt (over_screen polygon origin) (sample_position i j s count) old new → IsApplied polygon.state.merge (fragment_of (shape_of polygon)) old new
+pub applied : (polygon : Polygon) (origin : Origin) (count : SampleCount) (i j s : ℕ) (old new : CanvasSample) → i < 4096 → j < 4096
+    → IsCanvasDrawnAt (over_screen polygon origin) (sample_position i j s count) old new → IsCanvasApplied polygon.state.merge (fragment_of (shape_of polygon)) old new
 applied polygon origin count i j s old new h l drawn =
     let t = over_screen polygon origin in
     let p = sample_position i j s count in
     let same = fragment-unique t p drawn.0 (fragment_of (shape_of polygon)) drawn.1 (fragment_there polygon origin p (covers_screen polygon origin count i j s h l)) in
-    subst (λ (f : Shaded). IsApplied polygon.state.merge f old new) same drawn.2
+    subst (λ (f : Shaded). IsCanvasApplied polygon.state.merge f old new) same drawn.2
+
+pub alike_over_screen : (polygon : Polygon) (origin : Origin) → IsAlikeOverScreen (over_screen polygon origin)
+alike_over_screen polygon origin count i j k l s old new hi hj hk hl drawn =
+    let t = over_screen polygon origin in
+    let p = sample_position i j s count in
+    let same = fragment-unique t p drawn.0 (fragment_of (shape_of polygon)) drawn.1 (fragment_there polygon origin p (covers_screen polygon origin count i j s hi hj)) in
+    let there : IsCanvasApplied t.state.merge (fragment_of (shape_of polygon)) old new = subst (λ (f : Shaded). IsCanvasApplied t.state.merge f old new) same drawn.2 in
+    (fragment_of (shape_of polygon), fragment_there polygon origin (sample_position k l s count) (covers_screen polygon origin count k l s hk hl), there)

@@ -10,9 +10,9 @@ use Rattle.grid.specs.declared.sample_count.SampleCount.{SampleCount}
 use Rattle.grid.specs.declared.sample_count.SampleCount.TheVariants.{One, Two, Four, Eight, Sixteen}
 use Rattle.lanes.specs.declared.block_samples.BlockSamples.{BlockSamples}
 use Rattle.shade.specs.declared.placed.Placed.{Placed}
-use Rattle.shade.specs.declared.sample.Sample.{Sample}
+use Rattle.shade.specs.declared.sample.CanvasSample.{CanvasSample}
 use Rattle.shade.specs.declared.state.State.{State}
-use Rattle.shade.specs.Placed.{IsDrawnAt}
+use Rattle.shade.specs.Canvas.{IsCanvasDrawnAt}
 use Rattle.polygons.specs.declared.strip.Strip.{Strip}
 use Rattle.polygons.specs.Blocks.{in_block, IsMaskOf}
 use Rattle.polygons.specs.Crossing.{IsInside}
@@ -78,14 +78,14 @@ module _ (t : Placed) (c : Canvas) (row column : ℕ) (tile : Tile) (is : IsTile
     new_is : i / 64 ≡ column → stored_in_tile tile.count part (i % 64) (j % 64) s ≡ stored c row (put mid part a n) i j s
     new_is same = within tile.count c.count part i j s is.3 ∙ sym (tile_put c i j s mid part n a room long row in_row column many at h.is_sample same)
 
-    met : i / 64 ≡ column → Q (j % 64) (i % 64) s → IsDrawnAt t (sample_position i j s c.count) (stored c row mid i j s) (stored c row (put mid part a n) i j s)
+    met : i / 64 ≡ column → Q (j % 64) (i % 64) s → IsCanvasDrawnAt t (sample_position i j s c.count) (stored c row mid i j s) (stored c row (put mid part a n) i j s)
     met same q =
         let drawn = paints.met (j % 64) (i % 64) s in_tile q in
-        let there : IsDrawnAt t (sample_position i j s c.count) (stored_in_tile tile.count (take n (drop a mid)) (i % 64) (j % 64) s) (stored_in_tile tile.count part (i % 64) (j % 64) s) =
-        subst (λ (p : Position). IsDrawnAt t p (stored_in_tile tile.count (take n (drop a mid)) (i % 64) (j % 64) s) (stored_in_tile tile.count part (i % 64) (j % 64) s))
+        let there : IsCanvasDrawnAt t (sample_position i j s c.count) (stored_in_tile tile.count (take n (drop a mid)) (i % 64) (j % 64) s) (stored_in_tile tile.count part (i % 64) (j % 64) s) =
+        subst (λ (p : Position). IsCanvasDrawnAt t p (stored_in_tile tile.count (take n (drop a mid)) (i % 64) (j % 64) s) (stored_in_tile tile.count part (i % 64) (j % 64) s))
         (λ k. sample_position (across same k) (down k) s (is.3 k)) drawn in
-        subst (λ (x : Sample). IsDrawnAt t (sample_position i j s c.count) x (stored c row (put mid part a n) i j s)) (old_is same)
-        (subst (λ (y : Sample). IsDrawnAt t (sample_position i j s c.count) (stored_in_tile tile.count (take n (drop a mid)) (i % 64) (j % 64) s) y) (new_is same) there)
+        subst (λ (x : CanvasSample). IsCanvasDrawnAt t (sample_position i j s c.count) x (stored c row (put mid part a n) i j s)) (old_is same)
+        (subst (λ (y : CanvasSample). IsCanvasDrawnAt t (sample_position i j s c.count) (stored_in_tile tile.count (take n (drop a mid)) (i % 64) (j % 64) s) y) (new_is same) there)
 
     missed : ¬ ((i / 64 ≡ column) × Q (j % 64) (i % 64) s) → stored c row (put mid part a n) i j s ≡ stored c row mid i j s
     missed other =

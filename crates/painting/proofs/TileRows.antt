@@ -5,8 +5,8 @@ use Rattle.std.proofs.lemmas.List.{get_or-take, get_or_past, length-take}
 use Rattle.grid.specs.Samples.{sample_position}
 use Rattle.lanes.specs.declared.block_samples.BlockSamples.{BlockSamples}
 use Rattle.shade.specs.declared.placed.Placed.{Placed}
-use Rattle.shade.specs.declared.sample.Sample.{Sample}
-use Rattle.shade.specs.Placed.{IsDrawnAt}
+use Rattle.shade.specs.declared.sample.CanvasSample.{CanvasSample}
+use Rattle.shade.specs.Canvas.{IsCanvasDrawnAt}
 use Rattle.polygons.specs.Rings.{HoldsInside, rings_from}
 use Rattle.polygons.specs.Polygon.{polygon_edges}
 use Rattle.polygons.specs.declared.extent.Extent.{Extent}
@@ -38,10 +38,10 @@ module _ (t : Placed) (c : Canvas) (first end row : ℕ) (from : first ≤ row) 
     new_is : j / 64 ≡ row → stored c row part i j s ≡ stored c first (put mid part a n) i j s
     new_is same = sym (row_put c i j s mid part n a room long first row many at from h.from h.column h.is_sample same)
 
-    met : j / 64 ≡ row → Q i j s → IsDrawnAt t (sample_position i j s c.count) (stored c first mid i j s) (stored c first (put mid part a n) i j s)
+    met : j / 64 ≡ row → Q i j s → IsCanvasDrawnAt t (sample_position i j s c.count) (stored c first mid i j s) (stored c first (put mid part a n) i j s)
     met same q =
-        subst (λ (x : Sample). IsDrawnAt t (sample_position i j s c.count) x (stored c first (put mid part a n) i j s)) (old_is same)
-        (subst (λ (y : Sample). IsDrawnAt t (sample_position i j s c.count) (stored c row (take n (drop a mid)) i j s) y) (new_is same) (paints.met i j s (here same) q))
+        subst (λ (x : CanvasSample). IsCanvasDrawnAt t (sample_position i j s c.count) x (stored c first (put mid part a n) i j s)) (old_is same)
+        (subst (λ (y : CanvasSample). IsCanvasDrawnAt t (sample_position i j s c.count) (stored c row (take n (drop a mid)) i j s) y) (new_is same) (paints.met i j s (here same) q))
 
     missed : ¬ ((j / 64 ≡ row) × Q i j s) → stored c first (put mid part a n) i j s ≡ stored c first mid i j s
     missed other =

@@ -6,8 +6,8 @@ use Rattle.grid.specs.declared.pixels.TileSide.TheVariants.{T64}
 use Rattle.lanes.specs.declared.block_samples.BlockSamples.{BlockSamples}
 use Rattle.lanes.specs.Block.{stored_at}
 use Rattle.shade.specs.declared.placed.Placed.{Placed}
-use Rattle.shade.specs.declared.sample.Sample.{Sample}
-use Rattle.shade.specs.Placed.{IsDrawnAt}
+use Rattle.shade.specs.declared.sample.CanvasSample.{CanvasSample}
+use Rattle.shade.specs.Canvas.{IsCanvasDrawnAt}
 use Rattle.raster.specs.declared.tile.Tile.{Tile}
 use Rattle.raster.specs.Drawing.{IsChosen, DrawsMasks}
 use Rattle.raster.specs.Samples.{IsSampleOf, place_of as place_in, stored as in_tile}
@@ -75,7 +75,7 @@ module _ (t : Placed) (tile : Tile) (side : tile.side ≡ T64) (bx by from : ℕ
   tile_painted = record {
     met = λ row column s h chosen.
         let p = sample_position (8 * tile.bx + column) (8 * tile.by + row) s tile.count in
-        subst (λ (x : Sample). IsDrawnAt t p x (stored_in_tile tile.count new column row s)) (old_is row column s h)
-        (subst (λ (y : Sample). IsDrawnAt t p (in_tile tile (take n (drop a filled)) row column s) y) (new_is row column s h) (draws.drawn row column s h chosen));
+        subst (λ (x : CanvasSample). IsCanvasDrawnAt t p x (stored_in_tile tile.count new column row s)) (old_is row column s h)
+        (subst (λ (y : CanvasSample). IsCanvasDrawnAt t p (in_tile tile (take n (drop a filled)) row column s) y) (new_is row column s h) (draws.drawn row column s h chosen));
     missed = λ row column s h other. sym (new_is row column s h) ∙ draws.kept row column s h other ∙ old_is row column s h;
   }

@@ -14,8 +14,10 @@
 -- Parts.antt
 --   over_screen: A triangle that covers the screen, in the colour, at the depth and in the state of the polygon.
 --   CoversScreen: The triangle covers each sample of the screen, which is 4096 by 4096 pixels.
+--   IsAlikeOverScreen: The triangle makes the same of a sample wherever on the screen its pixel lies.
 --   TilePaints: The triangle is drawn at those samples of the tile that are in this part, and the others are unchanged.
 --   RowsPaint: The same of tile rows.
+--   IsInTilePart: The sample is in the part that begins with sample `from`, and the state lets it be drawn.
 --   IsInColumn: The sample is in column `bx` of blocks and is drawn there.
 --   IsFlagged: The same in the first n columns of blocks, from column `first` on.
 --   MeetsHere: The polygon meets sample s of pixel (i, j) of the canvas.

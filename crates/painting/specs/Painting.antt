@@ -3,10 +3,10 @@ use Rattle.std.specs.Prelude.{◌≡◌, ℕ, ◌/◌, ◌%◌, ◌^◌, ℤ, po
 use Rattle.grid.specs.Position.{Position}
 use Rattle.grid.specs.declared.pixels.PixelBox.{PixelBox}
 use Rattle.grid.specs.declared.sample_count.SampleCount.{SampleCount}
-use Rattle.shade.specs.declared.sample.Sample.{Sample}
+use Rattle.shade.specs.declared.sample.CanvasSample.{CanvasSample}
 use Rattle.shade.specs.declared.sample.Shaded.{Shaded}
 use Rattle.shade.specs.declared.state.State.{State}
-use Rattle.shade.specs.Merging.{IsApplied}
+use Rattle.shade.specs.Canvas.{IsCanvasApplied}
 use Rattle.lanes.specs.declared.block_samples.BlockSamples.{BlockSamples}
 use Rattle.polygons.specs.declared.rule.Rule.{Rule}
 use Rattle.polygons.specs.Polygon.{PolygonCovers}
@@ -45,14 +45,14 @@ fragment_of shape = record { r = slice_index shape.rgba 0; g = slice_index shape
 
 -- What the polygon makes of sample s of pixel (i, j) of the screen. If it meets the sample, the sample takes its colour and depth by the
 -- depth test, the write mask and the blending of the draw (Direct3D 11, output merger). Any other sample is unchanged.
-pub record Paints (shape : Shape) (count : SampleCount) (i j : ℤ) (s : ℕ) (old new : Sample) : Type 0 where
-  pub met : MeetsSample shape count i j s → IsApplied shape.state.merge (fragment_of shape) old new
+pub record Paints (shape : Shape) (count : SampleCount) (i j : ℤ) (s : ℕ) (old new : CanvasSample) : Type 0 where
+  pub met : MeetsSample shape count i j s → IsCanvasApplied shape.state.merge (fragment_of shape) old new
   pub missed : ¬ MeetsSample shape count i j s → new ≡ old
 
 -- What the polygons make of sample s of pixel (i, j) of the screen, one after another.
-abbrev pub PaintAll : List Shape → SampleCount → ℤ → ℤ → ℕ → Sample → Sample → Type 0
+abbrev pub PaintAll : List Shape → SampleCount → ℤ → ℤ → ℕ → CanvasSample → CanvasSample → Type 0
 PaintAll [] count i j s start end = end ≡ start
-PaintAll (p ∷ ps) count i j s start end = (next : Sample) × Paints p count i j s start next × PaintAll ps count i j s next end
+PaintAll (p ∷ ps) count i j s start end = (next : CanvasSample) × Paints p count i j s start next × PaintAll ps count i j s next end
 
 -- Each sample of the tile rows from `first` to before `end` ends as what the polygons make of it, one after another. Pixel (0, 0) of the
 -- canvas is the screen's pixel `origin`, so sample s of pixel (i, j) is sample s of pixel (i + x, j + y) of the screen.

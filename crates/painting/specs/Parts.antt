@@ -1,13 +1,13 @@
 -- Parts of a canvas that are painted one after another, by masks.
-use Rattle.std.specs.Prelude.{◌≡◌, ℕ, ◌+◌, ◌-◌, ◌*◌, ◌/◌, ◌%◌, ◌<◌, ◌≤◌, ℤ, pos, negsuc, ◌+ℤ◌, List, [], ◌∷◌, length, slice_index, IsBitSet}
-use Rattle.grid.specs.Position.{Position}
+use Rattle.std.specs.Prelude.{◌≡◌, ℕ, ◌+◌, ◌-◌, ◌*◌, ◌/◌, ◌%◌, ◌<◌, ◌≤◌, pos, negsuc, ◌+ℤ◌, List, [], ◌∷◌, slice_index, IsBitSet}
 use Rattle.grid.specs.Samples.{sample_position}
 use Rattle.grid.specs.Triangle.{Covers}
 use Rattle.grid.specs.declared.cull.Cull.TheVariants.{None as NoCulling}
 use Rattle.grid.specs.declared.sample_count.SampleCount.{SampleCount}
 use Rattle.shade.specs.declared.placed.Placed.{Placed}
+use Rattle.shade.specs.declared.sample.CanvasSample.{CanvasSample}
 use Rattle.shade.specs.declared.state.State.{State}
-use Rattle.shade.specs.Placed.{IsDrawnAt}
+use Rattle.shade.specs.Canvas.{IsCanvasDrawnAt}
 use Rattle.lanes.specs.declared.block_samples.BlockSamples.{BlockSamples}
 use Rattle.polygons.specs.declared.extent.Extent.{Extent}
 use Rattle.polygons.specs.ManyRows.{row_of}
@@ -37,16 +37,27 @@ over_screen polygon origin = record {
 abbrev pub CoversScreen : Placed → Type 0
 CoversScreen t = (count : SampleCount) (i j s : ℕ) → i < 4096 → j < 4096 → Covers t.tri.a t.tri.b t.tri.c (sample_position i j s count)
 
+-- The triangle makes the same of a sample wherever on the screen its pixel lies.
+abbrev pub IsAlikeOverScreen : Placed → Type 0
+IsAlikeOverScreen t =
+    (count : SampleCount) (i j k l s : ℕ) (old new : CanvasSample) → i < 4096 → j < 4096 → k < 4096 → l < 4096
+    → IsCanvasDrawnAt t (sample_position i j s count) old new → IsCanvasDrawnAt t (sample_position k l s count) old new
+
 -- The triangle is drawn at those samples of the tile that are in this part, and the others are unchanged.
 pub record TilePaints (t : Placed) (tile : Tile) (part : ℕ → ℕ → ℕ → Type 0) (old new : List BlockSamples) : Type 0 where
   pub met : (row column s : ℕ) → IsSampleOf tile row column s → part row column s
-      → IsDrawnAt t (sample_position (8 * tile.bx + column) (8 * tile.by + row) s tile.count) (stored_in_tile tile.count old column row s) (stored_in_tile tile.count new column row s)
+      → IsCanvasDrawnAt t (sample_position (8 * tile.bx + column) (8 * tile.by + row) s tile.count) (stored_in_tile tile.count old column row s) (stored_in_tile tile.count new column row s)
   pub missed : (row column s : ℕ) → IsSampleOf tile row column s → ¬ part row column s → stored_in_tile tile.count new column row s ≡ stored_in_tile tile.count old column row s
 
 -- The same of tile rows.
 pub record RowsPaint (t : Placed) (c : Canvas) (first end : ℕ) (part : ℕ → ℕ → ℕ → Type 0) (old new : List BlockSamples) : Type 0 where
-  pub met : (i j s : ℕ) → IsStoredIn c first end i j s → part i j s → IsDrawnAt t (sample_position i j s c.count) (stored c first old i j s) (stored c first new i j s)
+  pub met : (i j s : ℕ) → IsStoredIn c first end i j s → part i j s → IsCanvasDrawnAt t (sample_position i j s c.count) (stored c first old i j s) (stored c first new i j s)
   pub missed : (i j s : ℕ) → IsStoredIn c first end i j s → ¬ part i j s → stored c first new i j s ≡ stored c first old i j s
+
+-- The sample is in the part that begins with sample `from`, and the state lets it be drawn.
+pub record IsInTilePart (state : State) (tile : Tile) (from : ℕ) (row column s : ℕ) : Type 0 where
+  pub samples : IsInPart tile.count from s
+  pub allowed : Allows state (8 * tile.bx + column) (8 * tile.by + row) s
 
 -- The sample is in column `bx` of blocks and is drawn there. It is in the part that begins with sample `from`, its bit is set in the words
 -- of this column's masks, and the state lets it be drawn. Of each of the first n rows of blocks there are four words.

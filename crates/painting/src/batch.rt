@@ -6,9 +6,9 @@ ghost use Rattle.painting.specs.Batches.{HasColours, shape_in, shapes_of};
 ghost use Rattle.painting.specs.Painting.{ArePainted, IsOriginInBand, shape_of};
 
 use crate::polygon::Polygon;
-use crate::rows::draw_polygon;
+use crate::rows::draw_by_runs;
 use canvas::{Origin, Piece, colour_of_id, replacing};
-use polygons::{Counters, Flags, Polygons, Rule};
+use polygons::{Counters, Flags, Polygons, Rule, Runs};
 use shade::State;
 
 /// How polygons are drawn: by which rule, each in which colour and at which depth, and in which state.
@@ -75,14 +75,16 @@ pub fn draw_polygons(
     requires flags { AreZeros flags.old }
     requires counters { AreZeros counters.old }
     requires counted { HasCounters paints.now.rule flags.old counters.old }
-    ensures painted { ArePainted (shapes_of polygons.now paints.now) origin.now piece.old.rows.canvas piece.old.rows.first piece.old.rows.end piece.old.planes.now piece.new.planes.now }
+    ensures painted { ArePainted (shapes_of polygons.now paints.now) origin.now piece.old.rows.canvas
+        piece.old.rows.first piece.old.rows.end piece.old.planes.now piece.new.planes.now }
     ensures rows { piece.new.rows ≡ piece.old.rows }
     ensures same { piece.new.planes.ghost_name ≡ piece.old.planes.ghost_name }
     ensures flags { AreZeros flags.new }
     ensures counters { AreZeros counters.new }
 {
+    let mut runs = Runs::none();
     for number in 0..polygons.count() {
         let polygon = paints.polygon(polygons, number);
-        draw_polygon(piece, &polygon, origin, flags, counters);
+        draw_by_runs(piece, &polygon, origin, &mut runs, flags, counters);
     }
 }

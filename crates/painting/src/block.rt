@@ -12,8 +12,8 @@ use lanes::{BlockSamples, Interpolants};
 use planes::Corrections;
 use raster::{Tile, draw_masks};
 
-/// Draws a triangle that covers the screen at those samples of block (bx, by) of the tile that are in the masks, of the part that begins
-/// with sample `from`. `whole` says that all pixels of the tile are in the scissor.
+/// Draws a triangle that covers the screen at those samples of block (bx, by) of the tile that are in the masks, of the
+/// part that begins with sample `from`. `whole` says that all pixels of the tile are in the scissor.
 pub(crate) fn paint_block(
     triangle: &Interpolants,
     tile: &Tile,
@@ -30,7 +30,8 @@ pub(crate) fn paint_block(
     requires covers { CoversScreen triangle.now }
     requires whole { IsTrue whole → HoldsTile triangle.now.state.scissor tile.now }
     requires samples { length samples.old ≡ planes_of_tile tile.now.count }
-    ensures { TilePaints triangle.now tile.now (IsChosen triangle.now.state tile.now bx by from masks.now) samples.old samples.new }
+    ensures { TilePaints triangle.now tile.now (IsChosen triangle.now.state tile.now bx by from masks.now) samples.old
+        samples.new }
 {
     fill_tile(tile.count, samples);
     let own = 1 + tile.count.count() as usize;

@@ -31,8 +31,8 @@ fn has_some(masks: &[u64; 4]) -> bool
     }
 }
 
-/// Draws a triangle that covers the screen at those samples of a column of blocks of the tile whose bits are set, of the part that begins
-/// with sample `from`.
+/// Draws a triangle that covers the screen at those samples of a column of blocks of the tile whose bits are set, of
+/// the part that begins with sample `from`.
 pub(crate) fn paint_column(
     triangle: &Interpolants,
     tile: &Tile,
@@ -47,7 +47,8 @@ pub(crate) fn paint_column(
     requires part { IsPart tile.now.count from }
     requires covers { CoversScreen triangle.now }
     requires samples { length samples.old ≡ planes_of_tile tile.now.count }
-    ensures { TilePaints triangle.now tile.now (IsInColumn triangle.now.state tile.now bx from 8 words.now) samples.old samples.new }
+    ensures { TilePaints triangle.now tile.now (IsInColumn triangle.now.state tile.now bx from 8 words.now) samples.old
+        samples.new }
 {
     let whole = holds_tile(&triangle.placed().state.scissor, tile);
     for row in 0..8u32 {

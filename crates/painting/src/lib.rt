@@ -9,6 +9,7 @@ mod row;
 mod rows;
 mod scratch;
 mod strip;
+mod whole;
 mod window;
 
 pub use batch::{Paints, draw_polygons};

@@ -7,7 +7,8 @@ use grid::{Cull, Point, Tri};
 use polygons::{Rings, Rule};
 use shade::{Placed, State};
 
-/// A polygon as it is drawn: its rings, its rule, one colour and one depth for all of its samples, and its draw's state.
+/// A polygon as it is drawn: its rings, its rule, one colour and one depth for all of its samples, and its draw's
+/// state.
 #[derive(Clone, Copy, Debug)]
 pub struct Polygon<'a> {
     /// Its rings.
@@ -25,8 +26,8 @@ pub struct Polygon<'a> {
 impl Polygon<'_> {
     ghost use Rattle.painting.specs.Parts.{over_screen, CoversScreen};
 
-    /// A triangle that covers the screen, in the colour, at the depth and in the state of the polygon, as seen from the origin. Drawn at the
-    /// polygon's samples alone, it makes of them what the polygon does.
+    /// A triangle that covers the screen, in the colour, at the depth and in the state of the polygon, as seen from the
+    /// origin. Drawn at the polygon's samples alone, it makes of them what the polygon does.
     pub(crate) fn over_screen(&self, origin: &Origin) -> Placed
         ensures value { result ≡ over_screen self.now origin.now }
         ensures covers { CoversScreen result }
@@ -44,7 +45,11 @@ impl Polygon<'_> {
 
 /// A triangle that covers each sample of the screen.
 fn screen() -> Tri
-    ensures { result ≡ record { a = record { x = negsuc 0; y = negsuc 0 }; b = record { x = pos 8388607; y = negsuc 0 }; c = record { x = negsuc 0; y = pos 8388607 } } }
+    ensures { result ≡ record {
+      a = record { x = negsuc 0; y = negsuc 0 };
+      b = record { x = pos 8388607; y = negsuc 0 };
+      c = record { x = negsuc 0; y = pos 8388607 };
+    } }
 {
     Tri::new(point(-1, -1), point(8_388_607, -1), point(-1, 8_388_607))
 }

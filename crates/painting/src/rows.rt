@@ -9,13 +9,14 @@ use crate::row::paint_row;
 use crate::window::Window;
 use canvas::{Origin, Piece, TileRows};
 use lanes::{BlockSamples, Interpolants};
-use polygons::{Counters, Flags};
+use polygons::{Counters, Flags, Runs};
 
 /// Draws the polygon at each sample of these tile rows.
 fn paint_rows(
     rows: &TileRows,
     polygon: &Polygon<'_>,
     origin: &Origin,
+    runs: &mut Runs,
     flags: &mut [Flags],
     counters: &mut [Counters],
     samples: &mut [BlockSamples],
@@ -26,7 +27,8 @@ fn paint_rows(
     requires counters { AreZeros counters.old }
     requires counted { HasCounters polygon.now.rule flags.old counters.old }
     requires samples { length samples.old ≡ planes_of_rows rows.now.canvas rows.now.first rows.now.end }
-    ensures painted { ArePainted (shape_of polygon.now ∷ []) origin.now rows.now.canvas rows.now.first rows.now.end samples.old samples.new }
+    ensures painted { ArePainted (shape_of polygon.now ∷ []) origin.now rows.now.canvas rows.now.first rows.now.end
+        samples.old samples.new }
     ensures flags { AreZeros flags.new }
     ensures counters { AreZeros counters.new }
 {
@@ -35,6 +37,7 @@ fn paint_rows(
     if window.right <= window.left {
         return;
     }
+    runs.measure(&polygon.rings);
     let many = (window.right - window.left) as usize;
     let counted = many.min(counters.len());
     let each = rows.canvas.planes_of_row();
@@ -47,6 +50,7 @@ fn paint_rows(
             polygon,
             origin,
             &triangle,
+            runs,
             &mut flags[..many],
             &mut counters[..counted],
             &mut samples[from..from + each],
@@ -54,9 +58,9 @@ fn paint_rows(
     }
 }
 
-/// Draws the polygon at each sample of these tile rows of a canvas whose upper left pixel is `origin` on the screen: what stood there is
-/// what it is merged with. The flags, of which there is one column for each column of blocks, and for the nonzero rule as many counters,
-/// are zeros, and are zeros again afterwards.
+/// Draws the polygon at each sample of these tile rows of a canvas whose upper left pixel is `origin` on the screen:
+/// what stood there is what it is merged with. The flags, of which there is one column for each column of blocks, and
+/// for the nonzero rule as many counters, are zeros, and are zeros again afterwards.
 pub fn draw_polygon(
     piece: &mut Piece<'_>,
     polygon: &Polygon<'_>,
@@ -69,11 +73,45 @@ pub fn draw_polygon(
     requires flags { AreZeros flags.old }
     requires counters { AreZeros counters.old }
     requires counted { HasCounters polygon.now.rule flags.old counters.old }
-    ensures painted { ArePainted (shape_of polygon.now ∷ []) origin.now piece.old.rows.canvas piece.old.rows.first piece.old.rows.end piece.old.planes.now piece.new.planes.now }
+    ensures painted { ArePainted (shape_of polygon.now ∷ []) origin.now piece.old.rows.canvas piece.old.rows.first
+        piece.old.rows.end piece.old.planes.now piece.new.planes.now }
     ensures rows { piece.new.rows ≡ piece.old.rows }
     ensures same { piece.new.planes.ghost_name ≡ piece.old.planes.ghost_name }
     ensures flags { AreZeros flags.new }
     ensures counters { AreZeros counters.new }
 {
-    paint_rows(&piece.rows, polygon, origin, flags, counters, piece.planes);
+    let mut runs = Runs::none();
+    draw_by_runs(piece, polygon, origin, &mut runs, flags, counters);
+}
+
+/// The same, with memory for the boxes of runs of corners, whatever is in it.
+pub(crate) fn draw_by_runs(
+    piece: &mut Piece<'_>,
+    polygon: &Polygon<'_>,
+    origin: &Origin,
+    runs: &mut Runs,
+    flags: &mut [Flags],
+    counters: &mut [Counters],
+)
+    requires origin { IsOriginInBand origin.now }
+    requires columns { 8 * columns_of piece.old.rows.canvas ≤ length flags.old }
+    requires flags { AreZeros flags.old }
+    requires counters { AreZeros counters.old }
+    requires counted { HasCounters polygon.now.rule flags.old counters.old }
+    ensures painted { ArePainted (shape_of polygon.now ∷ []) origin.now piece.old.rows.canvas piece.old.rows.first
+        piece.old.rows.end piece.old.planes.now piece.new.planes.now }
+    ensures rows { piece.new.rows ≡ piece.old.rows }
+    ensures same { piece.new.planes.ghost_name ≡ piece.old.planes.ghost_name }
+    ensures flags { AreZeros flags.new }
+    ensures counters { AreZeros counters.new }
+{
+    paint_rows(
+        &piece.rows,
+        polygon,
+        origin,
+        runs,
+        flags,
+        counters,
+        piece.planes,
+    );
 }

@@ -6,8 +6,8 @@ ghost use Rattle.polygons.specs.Cells.{AreZeros};
 use canvas::Canvas;
 use polygons::{Counters, Flags};
 
-/// How many columns of blocks a canvas has: as many columns of flags, and of counters by the nonzero rule, are the scratch memory of a
-/// call that draws polygons on it.
+/// How many columns of blocks a canvas has: as many columns of flags, and of counters by the nonzero rule, are the
+/// scratch memory of a call that draws polygons on it.
 pub fn scratch_columns(canvas: &Canvas) -> usize
     ensures value { result ≡ 8 * columns_of canvas.now }
     ensures few { result ≤ 512 }

@@ -13,12 +13,13 @@ pub(crate) struct Window {
     pub(crate) bottom: u32,
 }
 
-/// The first block, and the one behind the last, that can have samples from `low` to before `high` in 1/256 pixel of the screen. The
-/// first of all blocks begins at pixel `start` of the screen.
+/// The first block, and the one behind the last, that can have samples from `low` to before `high` in 1/256 pixel of
+/// the screen. The first of all blocks begins at pixel `start` of the screen.
 fn blocks_with(low: i32, high: i32, start: i32) -> (u32, u32)
     ensures first { result.0 ≤ 512 }
     ensures end { result.1 ≤ 512 }
-    ensures all { (i offset : ℕ) → i < 4096 → offset < 256 → low ≤ℤ (pos 256 *ℤ (pos i +ℤ start) +ℤ pos offset) → (pos 256 *ℤ (pos i +ℤ start) +ℤ pos offset) <ℤ high → (result.0 ≤ i / 8) × (i / 8 < result.1) }
+    ensures all { (i offset : ℕ) → i < 4096 → offset < 256 → low ≤ℤ (pos 256 *ℤ (pos i +ℤ start) +ℤ pos offset) →
+        (pos 256 *ℤ (pos i +ℤ start) +ℤ pos offset) <ℤ high → (result.0 ≤ i / 8) × (i / 8 < result.1) }
 {
     let origin = 256 * i64::from(start);
     let first = (i64::from(low) - origin).clamp(0, 1_048_576) as u32;

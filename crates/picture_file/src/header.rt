@@ -85,7 +85,8 @@ pub fn write_header<W: Write>(
     requires failures { out.old.failures < u64.MAX }
     ensures count { IfOk result (λ n. n ≡ length (header_of output width height)) }
     ensures short { IfOk result (λ n. n ≤ 19) }
-    ensures bytes { WritesBytes (header_of output width height) 0 result (W.contents out.old.inner) (W.contents out.new.inner) out.old.failures out.new.failures }
+    ensures bytes { WritesBytes (header_of output width height) 0 result (W.contents out.old.inner)
+        (W.contents out.new.inner) out.old.failures out.new.failures }
 {
     let header = picture_header(output, width, height);
     out.write_all(header.as_slice(), 0)
@@ -101,7 +102,8 @@ pub fn ppm_header<W: Write>(
     requires failures { out.old.failures < u64.MAX }
     ensures count { IfOk result (λ n. n ≡ length (header_of_colours width height)) }
     ensures short { IfOk result (λ n. n ≤ 17) }
-    ensures bytes { WritesBytes (header_of_colours width height) 0 result (W.contents out.old.inner) (W.contents out.new.inner) out.old.failures out.new.failures }
+    ensures bytes { WritesBytes (header_of_colours width height) 0 result (W.contents out.old.inner)
+        (W.contents out.new.inner) out.old.failures out.new.failures }
 {
     write_header(Output::Color, width, height, out)
 }
@@ -116,7 +118,8 @@ pub fn pgm_header<W: Write>(
     requires failures { out.old.failures < u64.MAX }
     ensures count { IfOk result (λ n. n ≡ length (header_of_depths width height)) }
     ensures short { IfOk result (λ n. n ≤ 19) }
-    ensures bytes { WritesBytes (header_of_depths width height) 0 result (W.contents out.old.inner) (W.contents out.new.inner) out.old.failures out.new.failures }
+    ensures bytes { WritesBytes (header_of_depths width height) 0 result (W.contents out.old.inner)
+        (W.contents out.new.inner) out.old.failures out.new.failures }
 {
     write_header(Output::Depth, width, height, out)
 }

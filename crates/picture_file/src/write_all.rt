@@ -12,13 +12,14 @@ pub struct WriteFault {
 }
 
 impl<W: Write> Counted<W> {
-    /// Writes all bytes. `before` bytes of the file were written earlier, and the result is how many are written after the call. After a write
-    /// that failed, no other is made.
+    /// Writes all bytes. `before` bytes of the file were written earlier, and the result is how many are written after
+    /// the call. After a write that failed, no other is made.
     pub fn write_all(&mut self, bytes: &[u8], before: u64) -> Result<u64, WriteFault>
         requires failures { self.old.failures < u64.MAX }
         requires before { before < 2 ^ 62 }
         ensures count { IfOk result (λ n. n ≡ before + length bytes.now) }
-        ensures bytes { WritesBytes bytes.now before result (W.contents self.old.inner) (W.contents self.new.inner) self.old.failures self.new.failures }
+        ensures bytes { WritesBytes bytes.now before result (W.contents self.old.inner) (W.contents self.new.inner)
+            self.old.failures self.new.failures }
     {
         let mut sent = 0;
         while sent < bytes.len() {

@@ -17,7 +17,7 @@ use Rattle.planes.specs.Plane.{IsCandidatePlane, IsNumeratorPlane, IsHeight, IsH
 use Rattle.planes.specs.declared.slope.Slope.{Slope}
 use Rattle.planes.specs.declared.plane.Plane.{Plane}
 use Rattle.planes.specs.declared.attribute_plane.AttributePlane.{AttributePlane}
-use Rattle.planes.specs.AttributePlane.{sum_at, AreCandidates, AreNear, AreValues, IsNarrow, IsAttributePlane}
+use Rattle.planes.specs.AttributePlane.{sum_at, AreLaneCandidates, AreNear, AreValues, IsNarrow, IsAttributePlane}
 use Rattle.shade.proofs.Values.{area_positive, weighted_sum-bound}
 use Rattle.planes.proofs.Certificate.{candidate_near, candidate_sure}
 use Rattle.planes.proofs.Modulos.{modulo_through}
@@ -59,7 +59,7 @@ reached k a b c p values s i area all slope narrow screen less covered =
 -- ---- candidates
 pub candidates_are : (k : ℕ) (a b c p : Position) (values : List ℕ) (q : AttributePlane) (height : ℕ) (lanes : List ℕ) → IsAttributePlane k a b c values q → IsGroupOnScreen p → IsHeight q.plane p.x p.y height
     → ((i k area n : ℕ) (s : Slope) (q' : Plane) (x y right below : ℤ) → i < 16 → IsCandidatePlane k area s q' → IsHeight q' x y height → IsHighPart q' right below (get_or q.lanes i 0) → IsReached k area s (x +ℤ right) (y +ℤ below) n → IsCandidate k n area (get_or lanes i 0))
-    → AreCandidates k a b c values p lanes
+    → AreLaneCandidates k a b c values p lanes
 candidates_are k a b c p values q height lanes is screen high each i less covered =
     let near = reached k a b c p values is.slope i _ refl is.is_slope is.narrow screen less covered in
     (each i k (unsigned_abs (doubled_area a b c)) (sum_at a b c values (position_in p i)) is.slope q.plane p.x p.y (pos (256 * (i % 8))) (pos (256 * (i / 8))) less is.is_plane high (is.are_lanes.each i less) near)
@@ -68,12 +68,12 @@ fraction_units : (k : ℕ) (values : List ℕ) → IsNarrow k values → 4 ≤ 2
 fraction_units k values narrow = elim narrow [ inl h ↦ rw h.0 (omega arith) | inr h ↦ rw h.0 (omega arith) ]
 
 -- the integer parts are near the values, and are the values if the fractions are sure
-pub wholes_near : (k : ℕ) (a b c p : Position) (values candidates found : List ℕ) → IsNarrow k values → AreCandidates k a b c values p candidates
+pub wholes_near : (k : ℕ) (a b c p : Position) (values candidates found : List ℕ) → IsNarrow k values → AreLaneCandidates k a b c values p candidates
     → ((i : ℕ) → i < 16 → get_or found i 0 ≡ get_or candidates i 0 / 2 ^ k) → AreNear a b c values p found
 wholes_near k a b c p values candidates found narrow are whole i less covered =
     rw (whole i less) (candidate_near k _ _ _ (fraction_units k values narrow) (area_positive a b c (position_in p i) covered) (are i less covered))
 
-pub wholes_sure : (k : ℕ) (a b c p : Position) (values candidates found : List ℕ) → IsNarrow k values → AreCandidates k a b c values p candidates
+pub wholes_sure : (k : ℕ) (a b c p : Position) (values candidates found : List ℕ) → IsNarrow k values → AreLaneCandidates k a b c values p candidates
     → ((i : ℕ) → i < 16 → get_or found i 0 ≡ get_or candidates i 0 / 2 ^ k) → ((i : ℕ) → i < 16 → 3 ≤ get_or candidates i 0 % 2 ^ k) → AreValues a b c values p found
 wholes_sure k a b c p values candidates found narrow are whole sure i less covered =
     rw (whole i less) (candidate_sure k _ _ _ (fraction_units k values narrow) (area_positive a b c (position_in p i) covered) (sure i less) (are i less covered))

@@ -6,7 +6,7 @@ use Rattle.shade.specs.Quotient.{IsQuotient}
 use Rattle.planes.specs.Candidate.{IsClose, IsCandidate, IsNear}
 
 -- over an integer part m and a fraction of r out of p units
-split : (m p r s : ℕ) → (m * p + r) * s ≡ (m * s) * p + r * s
+pub split : (m p r s : ℕ) → (m * p + r) * s ≡ (m * s) * p + r * s
 split m p r s = omega arith
 
 above : (n s m p r : ℕ) → 0 < s → r < p → n * p ≤ (m * p + r) * s → n < (m + 1) * s

@@ -10,16 +10,14 @@ use Rattle.planes.specs.Modulo.{IsModulo}
 use Rattle.planes.specs.declared.plane.Plane.{Plane}
 use Rattle.planes.specs.declared.slope.Slope.{Slope}
 use Rattle.planes.specs.Plane.{IsPlane, IsHigher, IsCandidatePlane, IsHeight, IsIncrement, IsReached}
+use Rattle.planes.proofs.Certificate.{split}
 use Rattle.planes.proofs.Heights.{area_some, candidate_is}
 use Rattle.planes.proofs.Modulos.{modulo_self, modulo_sum, modulo_rest, modulo_through, wrapped_difference}
 
 -- ---- the law, of n = j g and s = d g, for a whole part q and a fraction of r out of p units
-parts_of : (q p r s : ℕ) → (q * p + r) * s ≡ (q * s) * p + r * s
-parts_of q p r s = omega arith
-
 not_over : (n s g j d q p r : ℕ) → n ≡ j * g → s ≡ d * g → 6 * s < g * p → (q * p + r) * s ≤ n * p + 6 * s → q * s ≤ n
 not_over n s g j d q p r e f few high =
-    let whole = parts_of q p r s in
+    let whole = split q p r s in
     let sum : (n + g) * p ≡ n * p + g * p = omega arith in
     let below : (q * s) * p < (n + g) * p = omega (arith, whole, sum, high, few) in
     let less : q * s < n + g = lt_of_mul-lt-mul_right p below in
@@ -32,7 +30,7 @@ not_over n s g j d q p r e f few high =
 
 not_under : (n s q p r : ℕ) → 0 < s → r < p → n * p + 3 * s ≤ (q * p + r) * s → n < (q + 1) * s
 not_under n s q p r some less low =
-    let whole = parts_of q p r s in
+    let whole = split q p r s in
     let part : r * s < p * s = mul-lt-mul_of_pos_right less some in
     let next : ((q + 1) * s) * p ≡ (q * s) * p + p * s = omega arith in
     let below : n * p < ((q + 1) * s) * p = omega (arith, whole, next, part, low) in
@@ -40,7 +38,7 @@ not_under n s q p r some less low =
 
 some_units : (n s q p r : ℕ) → 0 < s → q * s ≤ n → n * p + 3 * s ≤ (q * p + r) * s → 3 ≤ r
 some_units n s q p r some most low =
-    let whole = parts_of q p r s in
+    let whole = split q p r s in
     let least : (q * s) * p ≤ n * p = mul-le-mul_right p most in
     let next : 3 * s < (r + 1) * s = omega (arith, whole, least, low, some) in
     let more : 3 < r + 1 = lt_of_mul-lt-mul_right s next in

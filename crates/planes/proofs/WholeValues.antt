@@ -12,16 +12,13 @@ use Rattle.grid.specs.declared.sample_count.SampleCount.TheVariants.{One, Two, F
 use Rattle.grid.specs.Samples.{offsets_x, offsets_y, sample_position}
 use Rattle.grid.specs.Bounds.{IsWithin}
 use Rattle.grid.proofs.Bounds.{IsWithin-mul}
-use Rattle.grid.proofs.Ring.{var, plus, neg, times, ring}
+use Rattle.grid.proofs.Ring.{neg_mul, var, plus, neg, times, ring}
 use Rattle.planes.specs.Multiple.{IsMultiple, IsSixteenth}
 use Rattle.planes.specs.Slope.{numerator}
 use Rattle.planes.specs.Whole.{IsCommonDivisor, IsPast, IsWholeSlope}
 use Rattle.planes.specs.declared.slope.Slope.{Slope}
 
 -- ---- multiples
-neg_product : (x k : ℤ) → neg_ℤ x *ℤ k ≡ neg_ℤ (x *ℤ k)
-neg_product x k = ring (x ∷ k ∷ []) (times (neg (var 0)) (var 1)) (neg (times (var 0) (var 1))) refl
-
 pub multiple_sum : (n : ℕ) (x y : ℤ) → IsMultiple n x → IsMultiple n y → IsMultiple n (x +ℤ y)
 multiple_sum n x y h k =
     let both = ring (h.times ∷ k.times ∷ pos n ∷ []) (plus (times (var 0) (var 2)) (times (var 1) (var 2))) (times (plus (var 0) (var 1)) (var 2)) refl in
@@ -52,7 +49,7 @@ multiple_of_size g (pos n) h =
 multiple_of_size g (negsuc n) h =
     let none : suc n % g ≡ 0 = mod-eq-zero_of_dvd g h in
     let parts = div-add-mod' (suc n) g in
-    let turned = neg_product (pos (suc n / g)) (pos g) in
+    let turned = neg_mul (pos (suc n / g)) (pos g) in
     record { times = neg_ℤ (pos (suc n / g)); is = omega (arith, ints, none, parts, turned) }
 
 -- whole pixels

@@ -25,8 +25,8 @@ sum_at a b c values p = weighted_sum a b c p (slice_index values 0) (slice_index
 
 -- The lanes are candidates, of k fractional bits, of the value at each sample of a group that the triangle covers. The group starts
 -- at p and has sixteen samples, and the triangle is abc.
-abbrev pub AreCandidates : ℕ → Position → Position → Position → List ℕ → Position → List ℕ → Type 0
-AreCandidates k a b c values p lanes =
+abbrev pub AreLaneCandidates : ℕ → Position → Position → Position → List ℕ → Position → List ℕ → Type 0
+AreLaneCandidates k a b c values p lanes =
     (i : ℕ) → i < 16 → Covers a b c (position_in p i)
     → IsCandidate k (sum_at a b c values (position_in p i)) (unsigned_abs (doubled_area a b c)) (slice_index lanes i)
 
@@ -47,14 +47,14 @@ pub record AreHighParts (p : Plane) (lanes : List ℕ) : Type 0 where
   pub each : (i : ℕ) → i < 16 → IsHighPart p (pos (256 * (i % 8))) (pos (256 * (i / 8))) (slice_index lanes i)
 
 -- The values fit 8 bits.
-pub record AreBytes (values : List ℕ) : Type 0 where
+pub record AreByteValues (values : List ℕ) : Type 0 where
   pub first : slice_index values 0 ≤ 255
   pub second : slice_index values 1 ≤ 255
   pub third : slice_index values 2 ≤ 255
 
 -- The values of depth leave 16 fractional bits of 32, and those of a channel 24.
 abbrev pub IsNarrow : ℕ → List ℕ → Type 0
-IsNarrow k values = ((k ≡ 16) × Are16Bit (slice_index values 0) (slice_index values 1) (slice_index values 2)) ⊎ ((k ≡ 24) × AreBytes values)
+IsNarrow k values = ((k ≡ 16) × Are16Bit (slice_index values 0) (slice_index values 1) (slice_index values 2)) ⊎ ((k ≡ 24) × AreByteValues values)
 
 -- The plane of the values at the vertices a, b, c, for candidates of k fractional bits.
 pub record IsAttributePlane (k : ℕ) (a b c : Position) (values : List ℕ) (p : AttributePlane) : Type 0 where
@@ -71,13 +71,13 @@ IsSlopeOf t values s = IsSlope t.tri.a t.tri.b t.tri.c (slice_index values 0) (s
 -- How channel k of a triangle grows with x and y, which is red, green, blue or alpha.
 pub record IsChannelSlope (t : Placed) (k : ℕ) (s : Slope) : Type 0 where
   pub slope : IsSlopeOf t (channel t k) s
-  pub bytes : AreBytes (channel t k)
+  pub bytes : AreByteValues (channel t k)
 
 -- The plane of the depth of a triangle, for candidates of 16 fractional bits.
 abbrev pub IsDepthPlane : Placed → DepthPlane → Type 0
 IsDepthPlane t p = IsAttributePlane 16 t.tri.a t.tri.b t.tri.c t.z p.depth
 
--- A channel has a plane if the draw reads it: red, green and blue if they are written, and alpha if it blends by it.
+-- A channel has a plane if the draw reads it: red, green and blue if they are written, and alpha if it reads it.
 pub record AreColourPlanes (t : Placed) (p : ColourPlanes) : Type 0 where
   pub of_red : Writes t.state.merge 0 → IsAttributePlane 24 t.tri.a t.tri.b t.tri.c (channel t 0) p.red
   pub of_green : Writes t.state.merge 1 → IsAttributePlane 24 t.tri.a t.tri.b t.tri.c (channel t 1) p.green

@@ -8,6 +8,7 @@
 --
 -- Reciprocal.antt
 --   IsReciprocal: value is (2^127 - 1) / (area * 2^shift) rounded down; the shift gives the divisor exactly 64 bits.
+--   IsQuotientBelow: quotient is number / area with `bits` fractional bits, less than two units of the last one below it.
 --   IsGradient: gradient is number / area with `bits` fractional bits, off by less than two units of the last one.
 --   IsExactGradient: gradient is exactly number / area with `bits` fractional bits.
 --
@@ -51,17 +52,17 @@
 --
 -- AttributePlane.antt
 --   sum_at: The weighted sum at p of three values at the vertices a, b, c.
---   AreCandidates: The lanes are candidates, of k fractional bits, of the value at each sample of a group that the triangle covers.
+--   AreLaneCandidates: The lanes are candidates, of k fractional bits, of the value at each sample of a group that the triangle covers.
 --   AreNear: The lanes are the value, or the number after it, at each sample of the group at p that the triangle abc covers.
 --   AreValues: The lanes are the value at each sample of the group at p that the triangle abc covers.
 --   AreHighParts: The lanes are the high halves of a plane's growth to sixteen pixels, eight columns by two rows.
---   AreBytes: The values fit 8 bits.
+--   AreByteValues: The values fit 8 bits.
 --   IsNarrow: The values of depth leave 16 fractional bits of 32, and those of a channel 24.
 --   IsAttributePlane: The plane of the values at the vertices a, b, c, for candidates of k fractional bits.
 --   IsSlopeOf: How one attribute of a triangle grows with x and y.
 --   IsChannelSlope: How channel k of a triangle grows with x and y, which is red, green, blue or alpha.
 --   IsDepthPlane: The plane of the depth of a triangle, for candidates of 16 fractional bits.
---   AreColourPlanes: A channel has a plane if the draw reads it: red, green and blue if they are written, and alpha if it blends by it.
+--   AreColourPlanes: A channel has a plane if the draw reads it: red, green and blue if they are written, and alpha if it reads it.
 --   AreColourSlopes: The slopes of a triangle's channels that the draw reads.
 --   AreBounded: The growths of all four channels fit 41 bits and a sign.
 --   AreLevel: The slopes of all four channels are not steep, so that they have gradients of 56 fractional bits.

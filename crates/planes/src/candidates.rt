@@ -15,7 +15,9 @@ use std::simd::prelude::*;
 pub(crate) fn candidates(lanes: u32x16, height: u64) -> u32x16
     requires { length lanes ≡ 16 }
     ensures length { length result ≡ 16 }
-    ensures each { (i k area n : ℕ) (s : Slope) (p : Plane) (x y right below : ℤ) → i < 16 → IsCandidatePlane k area s p → IsHeight p x y height → IsHighPart p right below (slice_index lanes i) → IsReached k area s (x +ℤ right) (y +ℤ below) n → IsCandidate k n area (slice_index result i) }
+    ensures each { (i k area n : ℕ) (s : Slope) (p : Plane) (x y right below : ℤ) → i < 16 →
+        IsCandidatePlane k area s p → IsHeight p x y height → IsHighPart p right below (slice_index lanes i) →
+        IsReached k area s (x +ℤ right) (y +ℤ below) n → IsCandidate k n area (slice_index result i) }
 {
     lanes + u32x16::splat((height >> 32) as u32)
 }
@@ -64,7 +66,8 @@ pub(crate) fn are_sure(fractions: u32x16) -> bool
 #[inline(always)]
 pub(crate) fn rests(numerators: u64x16, values: u16x16, area: u64) -> u64x16
     ensures length { length result ≡ 16 }
-    ensures each { (i n : ℕ) → i < 16 → IsModulo (pos n) (slice_index numerators i) → IsModulo (pos n -ℤ pos (slice_index values i * area)) (slice_index result i) }
+    ensures each { (i n : ℕ) → i < 16 → IsModulo (pos n) (slice_index numerators i) →
+        IsModulo (pos n -ℤ pos (slice_index values i * area)) (slice_index result i) }
 {
     numerators - values.cast::<u64>() * u64x16::splat(area)
 }
@@ -82,7 +85,9 @@ fn signs(numbers: u64x16) -> u16x16
 #[inline(always)]
 pub(crate) fn lowered(values: u16x16, rests: u64x16) -> u16x16
     ensures length { length result ≡ 16 }
-    ensures each { (i n s : ℕ) → i < 16 → s ≤ 2 ^ 48 → IsNear n s (slice_index values i) → IsModulo (pos n -ℤ pos (slice_index values i * s)) (slice_index rests i) → IsQuotient n s (slice_index result i) }
+    ensures each { (i n s : ℕ) → i < 16 → s ≤ 2 ^ 48 → IsNear n s (slice_index values i) →
+        IsModulo (pos n -ℤ pos (slice_index values i * s)) (slice_index rests i) →
+        IsQuotient n s (slice_index result i) }
     ensures at_most { (i : ℕ) → i < 16 → slice_index result i ≤ slice_index values i }
 {
     let lower = values - signs(rests);

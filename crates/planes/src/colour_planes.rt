@@ -4,7 +4,7 @@ ghost use Rattle.std.specs.Simd.Lanes.{Each1};
 ghost use Rattle.grid.specs.Triangle.{doubled_area, Covers};
 ghost use Rattle.shade.specs.Placed.{channel, IsInterpolated};
 ghost use Rattle.planes.specs.Group.{position_in, IsGroupOnScreen};
-ghost use Rattle.planes.specs.AttributePlane.{AreBytes, IsAttributePlane, IsChannelSlope};
+ghost use Rattle.planes.specs.AttributePlane.{AreByteValues, IsAttributePlane, IsChannelSlope};
 ghost use Rattle.shade.specs.Merging.{Writes, ReadsAlpha};
 ghost use Rattle.planes.specs.Slope.{IsBounded};
 ghost use Rattle.shade.specs.declared.placed.Placed.{Placed as Triangle};
@@ -35,7 +35,7 @@ pub struct Colours {
 fn channel_values(placed: &Placed, number: usize) -> [u16; 3]
     requires { number < 4 }
     ensures value { result ≡ channel placed.now number }
-    ensures bytes { AreBytes result }
+    ensures bytes { AreByteValues result }
 {
     let [a, b, c] = placed.channel(number);
     [u16::from(a), u16::from(b), u16::from(c)]
@@ -65,8 +65,8 @@ pub struct ColourSlopes {
 impl ColourSlopes {
     ghost use Rattle.planes.specs.AttributePlane.{AreColourSlopes, AreBounded, AreLevel};
 
-    /// The slopes of a triangle's channels that are asked for: of red, green and blue if they are written, and of alpha if the
-    /// draw blends by it.
+    /// The slopes of a triangle's channels that are asked for: of red, green and blue if they are written, and of alpha
+    /// if the draw reads it.
     #[inline(always)]
     pub fn of_used(used: bool, placed: &Placed) -> ColourSlopes
         ensures slopes { IsTrue used → AreColourSlopes placed.now result }
@@ -124,11 +124,13 @@ pub struct ColourPlanes {
 impl ColourPlanes {
     ghost use Rattle.planes.specs.AttributePlane.{AreColourPlanes, AreColourSlopes, AreLevel, AreValues};
 
-    /// The planes of channels that are level, of a triangle with this doubled area. If `search` is set, whole values are searched for.
+    /// The planes of channels that are level, of a triangle with this doubled area. If `search` is set, whole values
+    /// are searched for.
     #[inline(always)]
     pub fn new(slopes: &ColourSlopes, reciprocal: Reciprocal, search: bool) -> ColourPlanes
         requires { AreLevel reciprocal.area slopes.now }
-        ensures { (t : Triangle) → reciprocal.area ≡ unsigned_abs (doubled_area t.tri.a t.tri.b t.tri.c) → AreColourSlopes t slopes.now → AreColourPlanes t result }
+        ensures { (t : Triangle) → reciprocal.area ≡ unsigned_abs (doubled_area t.tri.a t.tri.b t.tri.c) →
+            AreColourSlopes t slopes.now → AreColourPlanes t result }
     {
         ColourPlanes {
             red: AttributePlane::new(&slopes.red, reciprocal, 24, search),
@@ -151,7 +153,8 @@ impl ColourPlanes {
         search: bool,
     ) -> ColourPlanes
         requires { AreLevel reciprocal.area slopes.now }
-        ensures { (t : Triangle) → IsTrue used → reciprocal.area ≡ unsigned_abs (doubled_area t.tri.a t.tri.b t.tri.c) → AreColourSlopes t slopes.now → AreColourPlanes t result }
+        ensures { (t : Triangle) → IsTrue used → reciprocal.area ≡ unsigned_abs (doubled_area t.tri.a t.tri.b t.tri.c) →
+            AreColourSlopes t slopes.now → AreColourPlanes t result }
     {
         if used {
             ColourPlanes::new(slopes, reciprocal, search)
@@ -185,7 +188,8 @@ impl ColourPlanes {
         ensures length { length result ≡ 16 }
         ensures bytes { Each1 (λ n. n ≤ 255) result }
         ensures each { IsTrue read → IsAttributePlane 24 placed.now.tri.a placed.now.tri.b placed.now.tri.c (channel placed.now number) plane.now
-            → AreValues placed.now.tri.a placed.now.tri.b placed.now.tri.c (channel placed.now number) (record { x = x; y = y }) result }
+            → AreValues placed.now.tri.a placed.now.tri.b placed.now.tri.c (channel placed.now number)
+            (record { x = x; y = y }) result }
     {
         if read {
             let values = channel_values(placed, number);
@@ -200,16 +204,22 @@ impl ColourPlanes {
     #[inline(never)]
     fn channels(&self, placed: &Placed, x: i32, y: i32) -> Colours
         requires { IsGroupOnScreen (record { x = x; y = y }) }
-        ensures length { (length result.r ≡ 16) × (length result.g ≡ 16) × (length result.b ≡ 16) × (length result.a ≡ 16) }
-        ensures bytes { Each1 (λ n. n ≤ 255) result.r × Each1 (λ n. n ≤ 255) result.g × Each1 (λ n. n ≤ 255) result.b × Each1 (λ n. n ≤ 255) result.a }
+        ensures length { (length result.r ≡ 16) × (length result.g ≡ 16) × (length result.b ≡ 16) ×
+            (length result.a ≡ 16) }
+        ensures bytes { Each1 (λ n. n ≤ 255) result.r × Each1 (λ n. n ≤ 255) result.g × Each1 (λ n. n ≤ 255) result.b ×
+            Each1 (λ n. n ≤ 255) result.a }
         ensures red { (i : ℕ) → Writes placed.now.state.merge 0 → AreColourPlanes placed.now self.now → i < 16 → Covers placed.now.tri.a placed.now.tri.b placed.now.tri.c (position_in (record { x = x; y = y }) i)
-            → IsInterpolated placed.now (position_in (record { x = x; y = y }) i) (channel placed.now 0) (slice_index result.r i) }
+            → IsInterpolated placed.now (position_in (record { x = x; y = y }) i) (channel placed.now 0)
+            (slice_index result.r i) }
         ensures green { (i : ℕ) → Writes placed.now.state.merge 1 → AreColourPlanes placed.now self.now → i < 16 → Covers placed.now.tri.a placed.now.tri.b placed.now.tri.c (position_in (record { x = x; y = y }) i)
-            → IsInterpolated placed.now (position_in (record { x = x; y = y }) i) (channel placed.now 1) (slice_index result.g i) }
+            → IsInterpolated placed.now (position_in (record { x = x; y = y }) i) (channel placed.now 1)
+            (slice_index result.g i) }
         ensures blue { (i : ℕ) → Writes placed.now.state.merge 2 → AreColourPlanes placed.now self.now → i < 16 → Covers placed.now.tri.a placed.now.tri.b placed.now.tri.c (position_in (record { x = x; y = y }) i)
-            → IsInterpolated placed.now (position_in (record { x = x; y = y }) i) (channel placed.now 2) (slice_index result.b i) }
+            → IsInterpolated placed.now (position_in (record { x = x; y = y }) i) (channel placed.now 2)
+            (slice_index result.b i) }
         ensures alpha { (i : ℕ) → ReadsAlpha placed.now.state.merge → AreColourPlanes placed.now self.now → i < 16 → Covers placed.now.tri.a placed.now.tri.b placed.now.tri.c (position_in (record { x = x; y = y }) i)
-            → IsInterpolated placed.now (position_in (record { x = x; y = y }) i) (channel placed.now 3) (slice_index result.a i) }
+            → IsInterpolated placed.now (position_in (record { x = x; y = y }) i) (channel placed.now 3)
+            (slice_index result.a i) }
     {
         let merge = placed.state.merge;
         Colours {
@@ -220,9 +230,9 @@ impl ColourPlanes {
         }
     }
 
-    /// The colours of the triangle at sixteen samples, two rows of eight pixels, the first of which is at (x, y): right at each
-    /// sample that it covers. Only what the merge of its draw reads is computed: red, green and blue if they are written, and alpha
-    /// if the draw blends by it.
+    /// The colours of the triangle at sixteen samples, two rows of eight pixels, the first of which is at (x, y): right
+    /// at each sample that it covers. Only what the merge of its draw reads is computed: red, green and blue if they
+    /// are written, and alpha if the draw reads it.
     #[inline(always)]
     pub fn values(
         &self,
@@ -233,16 +243,22 @@ impl ColourPlanes {
         corrections: &mut Corrections,
     ) -> Colours
         requires { IsGroupOnScreen (record { x = x; y = y }) }
-        ensures length { (length result.r ≡ 16) × (length result.g ≡ 16) × (length result.b ≡ 16) × (length result.a ≡ 16) }
-        ensures bytes { Each1 (λ n. n ≤ 255) result.r × Each1 (λ n. n ≤ 255) result.g × Each1 (λ n. n ≤ 255) result.b × Each1 (λ n. n ≤ 255) result.a }
+        ensures length { (length result.r ≡ 16) × (length result.g ≡ 16) × (length result.b ≡ 16) ×
+            (length result.a ≡ 16) }
+        ensures bytes { Each1 (λ n. n ≤ 255) result.r × Each1 (λ n. n ≤ 255) result.g × Each1 (λ n. n ≤ 255) result.b ×
+            Each1 (λ n. n ≤ 255) result.a }
         ensures red { (i : ℕ) → placed.now.state.merge ≡ merge.now → Writes merge.now 0 → AreColourPlanes placed.now self.now → i < 16 → Covers placed.now.tri.a placed.now.tri.b placed.now.tri.c (position_in (record { x = x; y = y }) i)
-            → IsInterpolated placed.now (position_in (record { x = x; y = y }) i) (channel placed.now 0) (slice_index result.r i) }
+            → IsInterpolated placed.now (position_in (record { x = x; y = y }) i) (channel placed.now 0)
+            (slice_index result.r i) }
         ensures green { (i : ℕ) → placed.now.state.merge ≡ merge.now → Writes merge.now 1 → AreColourPlanes placed.now self.now → i < 16 → Covers placed.now.tri.a placed.now.tri.b placed.now.tri.c (position_in (record { x = x; y = y }) i)
-            → IsInterpolated placed.now (position_in (record { x = x; y = y }) i) (channel placed.now 1) (slice_index result.g i) }
+            → IsInterpolated placed.now (position_in (record { x = x; y = y }) i) (channel placed.now 1)
+            (slice_index result.g i) }
         ensures blue { (i : ℕ) → placed.now.state.merge ≡ merge.now → Writes merge.now 2 → AreColourPlanes placed.now self.now → i < 16 → Covers placed.now.tri.a placed.now.tri.b placed.now.tri.c (position_in (record { x = x; y = y }) i)
-            → IsInterpolated placed.now (position_in (record { x = x; y = y }) i) (channel placed.now 2) (slice_index result.b i) }
+            → IsInterpolated placed.now (position_in (record { x = x; y = y }) i) (channel placed.now 2)
+            (slice_index result.b i) }
         ensures alpha { (i : ℕ) → placed.now.state.merge ≡ merge.now → ReadsAlpha merge.now → AreColourPlanes placed.now self.now → i < 16 → Covers placed.now.tri.a placed.now.tri.b placed.now.tri.c (position_in (record { x = x; y = y }) i)
-            → IsInterpolated placed.now (position_in (record { x = x; y = y }) i) (channel placed.now 3) (slice_index result.a i) }
+            → IsInterpolated placed.now (position_in (record { x = x; y = y }) i) (channel placed.now 3)
+            (slice_index result.a i) }
     {
         let red = self.red.candidates_if(merge.write[0], x, y);
         let green = self.green.candidates_if(merge.write[1], x, y);

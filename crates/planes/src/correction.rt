@@ -19,13 +19,14 @@ fn area_of(t: &Tri) -> u64
     t.area2().unsigned_abs()
 }
 
-/// The values at the group of sixteen samples that starts at (x, y) of what is `values` at the vertices of `t`, from the values or
-/// the numbers after them.
+/// The values at the group of sixteen samples that starts at (x, y) of what is `values` at the vertices of `t`, from
+/// the values or the numbers after them.
 #[cold]
 #[inline(never)]
 pub(crate) fn corrected(t: &Tri, values: [u16; 3], x: i32, y: i32, found: u16x16) -> u16x16
     ensures length { length result ≡ 16 }
-    ensures each { AreNear t.now.a t.now.b t.now.c values (record { x = x; y = y }) found → AreValues t.now.a t.now.b t.now.c values (record { x = x; y = y }) result }
+    ensures each { AreNear t.now.a t.now.b t.now.c values (record { x = x; y = y }) found →
+        AreValues t.now.a t.now.b t.now.c values (record { x = x; y = y }) result }
     ensures at_most { (i : ℕ) → i < 16 → slice_index result i ≤ slice_index found i }
 {
     let area = area_of(t);

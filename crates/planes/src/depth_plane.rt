@@ -23,13 +23,14 @@ pub struct DepthPlane {
 }
 
 impl DepthPlane {
-    /// The depth of a triangle with this doubled area, from its slope if it is level. If `search` is set, whole depths are searched
-    /// for.
+    /// The depth of a triangle with this doubled area, from its slope if it is level. If `search` is set, whole depths
+    /// are searched for.
     #[inline(always)]
     pub fn new(slope: &Slope, reciprocal: Reciprocal, search: bool) -> DepthPlane
         requires { IsLevel 48 reciprocal.area slope.now }
         ensures { (t : Triangle) → reciprocal.area ≡ unsigned_abs (doubled_area t.tri.a t.tri.b t.tri.c)
-            → IsSlope t.tri.a t.tri.b t.tri.c (slice_index t.z 0) (slice_index t.z 1) (slice_index t.z 2) slope.now → Are16Bit (slice_index t.z 0) (slice_index t.z 1) (slice_index t.z 2) → IsDepthPlane t result }
+            → IsSlope t.tri.a t.tri.b t.tri.c (slice_index t.z 0) (slice_index t.z 1) (slice_index t.z 2) slope.now →
+            Are16Bit (slice_index t.z 0) (slice_index t.z 1) (slice_index t.z 2) → IsDepthPlane t result }
     {
         DepthPlane {
             depth: AttributePlane::new(slope, reciprocal, 16, search),
@@ -41,7 +42,8 @@ impl DepthPlane {
     pub fn of_used(used: bool, slope: &Slope, reciprocal: Reciprocal, search: bool) -> DepthPlane
         requires { IsLevel 48 reciprocal.area slope.now }
         ensures { (t : Triangle) → IsTrue used → reciprocal.area ≡ unsigned_abs (doubled_area t.tri.a t.tri.b t.tri.c)
-            → IsSlope t.tri.a t.tri.b t.tri.c (slice_index t.z 0) (slice_index t.z 1) (slice_index t.z 2) slope.now → Are16Bit (slice_index t.z 0) (slice_index t.z 1) (slice_index t.z 2) → IsDepthPlane t result }
+            → IsSlope t.tri.a t.tri.b t.tri.c (slice_index t.z 0) (slice_index t.z 1) (slice_index t.z 2) slope.now →
+            Are16Bit (slice_index t.z 0) (slice_index t.z 1) (slice_index t.z 2) → IsDepthPlane t result }
     {
         if used {
             DepthPlane::new(slope, reciprocal, search)
@@ -58,8 +60,8 @@ impl DepthPlane {
         }
     }
 
-    /// The depths of the triangle at sixteen samples, two rows of eight pixels, the first of which is at (x, y): right wherever it
-    /// covers the sample.
+    /// The depths of the triangle at sixteen samples, two rows of eight pixels, the first of which is at (x, y): right
+    /// wherever it covers the sample.
     #[inline(always)]
     pub fn values(&self, placed: &Placed, x: i32, y: i32, corrections: &mut Corrections) -> u16x16
         requires { IsGroupOnScreen (record { x = x; y = y }) }

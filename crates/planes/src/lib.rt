@@ -1,5 +1,5 @@
-//! Values of a triangle at sixteen samples by planes: slopes, gradients by a reciprocal, planes modulo 2^64, candidates and their
-//! correction.
+//! Values of a triangle at sixteen samples by planes: slopes, gradients by a reciprocal, planes modulo 2^64, candidates
+//! and their correction.
 #![tactic(auto)]
 
 mod attribute_plane;

@@ -1,10 +1,7 @@
-ghost use Rattle.std.specs.Prelude.{ℕ, ℤ, pos, ◌≡◌, ◌⊎◌, ◌≤◌, ◌<◌, ◌+◌, ◌*◌, ◌-◌, ◌/◌, ◌%◌, ◌^◌, ◌+ℤ◌, ◌*ℤ◌, ◌-ℤ◌, length, slice_index};
-ghost use Rattle.std.specs.Int.RustNames.{unsigned_abs};
+ghost use Rattle.std.specs.Prelude.{ℕ, ℤ, pos, ◌≡◌, ◌⊎◌, ◌≤◌, ◌<◌, ◌+◌, ◌*◌, ◌-◌, ◌/◌, ◌%◌, ◌^◌, ◌+ℤ◌, ◌*ℤ◌, ◌-ℤ◌, IsTrue, length, slice_index};
 ghost use Rattle.planes.specs.Modulo.{IsModulo};
-ghost use Rattle.planes.specs.Plane.{IsMargin};
-ghost use Rattle.planes.specs.Reciprocal.{IsGradient};
 
-use crate::reciprocal::Reciprocal;
+use crate::reciprocal::{Gradient, Reciprocal};
 use crate::slope::Slope;
 use std::simd::prelude::*;
 
@@ -16,8 +13,8 @@ pub(crate) struct Plane {
     down: i64,
 }
 
-/// How far a plane lies above its attribute: two units of the high half, so that no error takes it under the attribute, and a
-/// sixteenth for the gradients' errors.
+/// How far a plane lies above its attribute: two units of the high half, so that no error takes it under the attribute,
+/// and a sixteenth for the gradients' errors.
 const ABOVE: u64 = (2 << 32) + (1 << 28);
 
 /// The same if the gradients have no error: three units, so that a candidate of an integer value is sure.
@@ -36,17 +33,12 @@ fn scaled(distance: i32, gradient: i64) -> u64
         .wrapping_mul(gradient.cast_unsigned())
 }
 
-/// How far a plane of a slope with these gradients lies above the attribute.
+/// How far a plane with these gradients lies above its attribute.
 #[inline(always)]
-fn margin(slope: Slope, reciprocal: Reciprocal, across: i64, down: i64, bits: u32) -> u64
-    requires bits { bits ≤ 56 }
-    requires across { IsGradient bits reciprocal.area slope.across across }
-    requires down { IsGradient bits reciprocal.area slope.down down }
-    ensures { IsMargin bits reciprocal.area slope across down result }
+fn margin(across: Gradient, down: Gradient) -> u64
+    ensures { (result ≡ 2 ^ 33 + 2 ^ 28) ⊎ ((result ≡ 3 * 2 ^ 32) × IsTrue across.is_exact × IsTrue down.is_exact) }
 {
-    if reciprocal.is_exact(slope.across, across, bits)
-        && reciprocal.is_exact(slope.down, down, bits)
-    {
+    if across.is_exact && down.is_exact {
         ABOVE_EXACT
     } else {
         ABOVE
@@ -59,20 +51,21 @@ impl Plane {
     /// The plane of a slope that is not steep, with `bits` fractional bits.
     #[inline(always)]
     pub(crate) fn new(slope: Slope, reciprocal: Reciprocal, bits: u32) -> Plane
-        requires bits { bits ≤ 56 }
+        requires low { 48 ≤ bits }
+        requires high { bits ≤ 56 }
         requires level { IsLevel bits reciprocal.area slope }
         ensures { IsPlane bits reciprocal.area slope result }
     {
-        let across = reciprocal.settled_gradient(slope.across, bits);
-        let down = reciprocal.settled_gradient(slope.down, bits);
+        let across = reciprocal.gradient(slope.across, bits);
+        let down = reciprocal.gradient(slope.down, bits);
         let start = (u64::from(slope.first) << bits)
-            .wrapping_sub(scaled(slope.x, across))
-            .wrapping_sub(scaled(slope.y, down))
-            .wrapping_add(margin(slope, reciprocal, across, down, bits));
+            .wrapping_sub(scaled(slope.x, across.value))
+            .wrapping_sub(scaled(slope.y, down.value))
+            .wrapping_add(margin(across, down));
         Plane {
             start,
-            across,
-            down,
+            across: across.value,
+            down: down.value,
         }
     }
 
@@ -88,8 +81,8 @@ impl Plane {
         }
     }
 
-    /// The plane of a slope that is not steep, for candidates with `fraction` fractional bits: three units higher if it is found that
-    /// the slope's values are whole.
+    /// The plane of a slope that is not steep, for candidates with `fraction` fractional bits: three units higher if it
+    /// is found that the slope's values are whole.
     #[inline(always)]
     pub(crate) fn of_candidates(
         slope: Slope,
@@ -150,12 +143,13 @@ impl Plane {
         self.start.wrapping_add(self.part(x, y))
     }
 
-    /// The growth to each of sixteen pixels, eight columns by two rows, modulo 2^64. It is a sum of lanes that have few different
-    /// numbers, so that few of them are formed one by one.
+    /// The growth to each of sixteen pixels, eight columns by two rows, modulo 2^64. It is a sum of lanes that have few
+    /// different numbers, so that few of them are formed one by one.
     #[inline(always)]
     fn parts(&self) -> u64x16
         ensures length { length result ≡ 16 }
-        ensures each { (i : ℕ) → i < 16 → IsIncrement self.now (pos (256 * (i % 8))) (pos (256 * (i / 8))) (slice_index result i) }
+        ensures each { (i : ℕ) → i < 16 → IsIncrement self.now (pos (256 * (i % 8))) (pos (256 * (i / 8)))
+            (slice_index result i) }
     {
         let (one, two, three) = (
             scaled(256, self.across),
@@ -179,7 +173,8 @@ impl Plane {
     #[inline(always)]
     pub(crate) fn lanes(&self) -> u32x16
         ensures length { length result ≡ 16 }
-        ensures each { (i : ℕ) → i < 16 → IsHighPart self.now (pos (256 * (i % 8))) (pos (256 * (i / 8))) (slice_index result i) }
+        ensures each { (i : ℕ) → i < 16 → IsHighPart self.now (pos (256 * (i % 8))) (pos (256 * (i / 8)))
+            (slice_index result i) }
     {
         (self.parts() >> 32).cast::<u32>()
     }
@@ -188,7 +183,8 @@ impl Plane {
     #[inline(always)]
     pub(crate) fn heights(&self, x: i32, y: i32) -> u64x16
         ensures length { length result ≡ 16 }
-        ensures each { (i : ℕ) → i < 16 → IsHeight self.now (x +ℤ pos (256 * (i % 8))) (y +ℤ pos (256 * (i / 8))) (slice_index result i) }
+        ensures each { (i : ℕ) → i < 16 → IsHeight self.now (x +ℤ pos (256 * (i % 8))) (y +ℤ pos (256 * (i / 8)))
+            (slice_index result i) }
     {
         u64x16::splat(self.height(x, y)) + self.parts()
     }

@@ -1,6 +1,14 @@
-ghost use Rattle.std.specs.Prelude.{◌≡◌, ◌⊎◌, ◌≤◌, ◌<◌, ◌*◌, ◌-◌, ◌^◌, ◌↔◌, ◌*ℤ◌, ◌-ℤ◌, pos, IsTrue};
+ghost use Rattle.std.specs.Prelude.{◌≡◌, ◌⊎◌, ◌≤◌, ◌<◌, ◌+◌, ◌*◌, ◌-◌, ◌^◌, ◌↔◌, IsTrue};
 ghost use Rattle.std.specs.Int.RustNames.{unsigned_abs};
-ghost use Rattle.planes.specs.Reciprocal.{IsReciprocal, IsGradient, IsExactGradient};
+ghost use Rattle.planes.specs.Reciprocal.{IsReciprocal, IsQuotientBelow, IsGradient, IsExactGradient};
+
+/// A number by an area in fixed point, off by less than two units of the last bit.
+#[derive(Clone, Copy, Debug)]
+pub(crate) struct Gradient {
+    pub(crate) value: i64,
+    /// Whether it is known to have no error.
+    pub(crate) is_exact: bool,
+}
 
 /// A doubled area with its reciprocal: `value` by 2 to the power of `127 - shift`.
 #[derive(Clone, Copy, Debug)]
@@ -41,39 +49,68 @@ impl Reciprocal {
         number.unsigned_abs() < self.area << (63 - bits)
     }
 
-    /// `number` by the area with `bits` fractional bits, if it is not steep: off by less than two units of the last bit.
-    fn gradient(self, number: i64, bits: u32) -> i64
+    /// A number that is not steep, by the area, with `bits` fractional bits: less than two units of the last bit below.
+    /// The number is shifted first, so that the upper half of one product is the quotient.
+    #[inline(always)]
+    fn quotient(self, number: u64, bits: u32) -> u64
+        requires low { 48 ≤ bits }
+        requires high { bits ≤ 56 }
+        requires level { number < self.area * 2 ^ (63 - bits) }
+        ensures { IsQuotientBelow bits self.area number result }
+    {
+        let shifted = number << (self.shift + bits - 63);
+        ((shifted as u128 * self.value as u128) >> 64) as u64
+    }
+
+    /// What a quotient leaves of a number, in units of the quotient's last bit.
+    #[inline(always)]
+    fn rest(self, number: u64, quotient: u64, bits: u32) -> u64
         requires bits { bits ≤ 56 }
-        requires bound { unsigned_abs number < 2 ^ 41 }
+        requires below { IsQuotientBelow bits self.area number quotient }
+        ensures { result + quotient * self.area ≡ number * 2 ^ bits }
+    {
+        (number << bits).wrapping_sub(quotient.wrapping_mul(self.area))
+    }
+
+    /// The quotient of a number that is not steep, and whether it has no error: it has none if it is found to be one
+    /// unit too low.
+    #[inline(always)]
+    fn settled(self, number: u64, bits: u32) -> (u64, bool)
+        requires low { 48 ≤ bits }
+        requires high { bits ≤ 56 }
+        requires level { number < self.area * 2 ^ (63 - bits) }
+        ensures below { IsQuotientBelow bits self.area number result.0 }
+        ensures exact { IsTrue result.1 → result.0 * self.area ≡ number * 2 ^ bits }
+        ensures small { result.0 < 2 ^ 63 }
+    {
+        let quotient = self.quotient(number, bits);
+        let rest = self.rest(number, quotient, bits);
+        if rest == self.area {
+            (quotient + 1, true)
+        } else {
+            (quotient, rest == 0)
+        }
+    }
+
+    /// The gradient of a number that is not steep.
+    #[inline(always)]
+    pub(crate) fn gradient(self, number: i64, bits: u32) -> Gradient
+        requires low { 48 ≤ bits }
+        requires high { bits ≤ 56 }
         requires level { unsigned_abs number < self.area * 2 ^ (63 - bits) }
-        ensures { IsGradient bits self.area number result }
+        ensures value { IsGradient bits self.area number result.value }
+        ensures exact { IsTrue result.is_exact → IsExactGradient bits self.area number result.value }
     {
-        ((number as i128 * self.value as i128) >> (127 - self.shift - bits)) as i64
+        let (quotient, is_exact) = self.settled(number.unsigned_abs(), bits);
+        let size = quotient as i64;
+        Gradient {
+            value: if number < 0 { -size } else { size },
+            is_exact,
+        }
     }
 
-    /// The remainder of `number` after `gradient` times the area, in units of the gradient's last bit.
-    #[inline(always)]
-    fn rest(self, number: i64, gradient: i64, bits: u32) -> i64
-        requires bits { bits ≤ 56 }
-        requires gradient { IsGradient bits self.area number gradient }
-        ensures { result ≡ number *ℤ pos (2 ^ bits) -ℤ gradient *ℤ pos self.area }
-    {
-        (number.cast_unsigned() << bits)
-            .wrapping_sub(gradient.cast_unsigned().wrapping_mul(self.area))
-            .cast_signed()
-    }
-
-    /// Whether a gradient is `number` by the area without an error.
-    #[inline(always)]
-    pub(crate) fn is_exact(self, number: i64, gradient: i64, bits: u32) -> bool
-        requires bits { bits ≤ 56 }
-        requires gradient { IsGradient bits self.area number gradient }
-        ensures { IsTrue result → IsExactGradient bits self.area number gradient }
-    {
-        self.rest(number, gradient, bits) == 0
-    }
-
-    /// The exponent of a power of two that by the area is more than six units of the last of `fraction` fractional bits of a value.
+    /// The exponent of a power of two that by the area is more than six units of the last of `fraction` fractional bits
+    /// of a value.
     #[inline(always)]
     pub(crate) fn unit_bits(self, fraction: u32) -> u32
         requires { (fraction ≡ 16) ⊎ (fraction ≡ 24) }
@@ -81,21 +118,5 @@ impl Reciprocal {
         ensures small { result < 64 }
     {
         (67 - fraction).saturating_sub(self.shift)
-    }
-
-    /// The gradient of a number that is not steep. It is exact if rounding down lost exactly one unit of it.
-    #[inline(always)]
-    pub(crate) fn settled_gradient(self, number: i64, bits: u32) -> i64
-        requires bits { bits ≤ 56 }
-        requires bound { unsigned_abs number < 2 ^ 41 }
-        requires level { unsigned_abs number < self.area * 2 ^ (63 - bits) }
-        ensures { IsGradient bits self.area number result }
-    {
-        let gradient = self.gradient(number, bits);
-        if self.rest(number, gradient, bits) == self.area as i64 {
-            gradient + 1
-        } else {
-            gradient
-        }
     }
 }

@@ -5,8 +5,8 @@ ghost use Rattle.grid.specs.Position.{IsInBand};
 use crate::reciprocal::Reciprocal;
 use grid::Tri;
 
-/// An attribute's numerator, which is the attribute times the absolute doubled area: `first` times that area at (x, y), growing by
-/// `across` and `down` per 1/256 pixel of x and of y.
+/// An attribute's numerator, which is the attribute times the absolute doubled area: `first` times that area at (x, y),
+/// growing by `across` and `down` per 1/256 pixel of x and of y.
 #[derive(Clone, Copy, Debug)]
 pub struct Slope {
     pub(crate) first: u16,
@@ -35,7 +35,8 @@ impl Slope {
 
     /// How the sum of the values, each times the edge function of the opposite edge, grows with x and with y.
     fn growths(t: &Tri, values: [u16; 3]) -> (i64, i64)
-        ensures growths { AreGrowths t.now.a t.now.b t.now.c (slice_index values 0) (slice_index values 1) (slice_index values 2) result.0 result.1 }
+        ensures growths { AreGrowths t.now.a t.now.b t.now.c (slice_index values 0) (slice_index values 1)
+            (slice_index values 2) result.0 result.1 }
         ensures across { IsWithin (65535 * 2 ^ 25) result.0 }
         ensures down { IsWithin (65535 * 2 ^ 25) result.1 }
     {
@@ -49,7 +50,8 @@ impl Slope {
     /// The slope of what is `values` at the vertices of `t`, from the first vertex.
     #[inline(always)]
     pub fn of(t: &Tri, values: [u16; 3]) -> Slope
-        ensures { IsSlope t.now.a t.now.b t.now.c (slice_index values 0) (slice_index values 1) (slice_index values 2) result }
+        ensures { IsSlope t.now.a t.now.b t.now.c (slice_index values 0) (slice_index values 1) (slice_index values 2)
+            result }
     {
         let (across, down) = Slope::growths(t, values);
         let (first, x, y) = (values[0], t.a.x(), t.a.y());
@@ -75,7 +77,8 @@ impl Slope {
     /// The same if it is asked for, and else a slope that does not grow.
     #[inline(always)]
     pub fn of_used(used: bool, t: &Tri, values: [u16; 3]) -> Slope
-        ensures slope { IsTrue used → IsSlope t.now.a t.now.b t.now.c (slice_index values 0) (slice_index values 1) (slice_index values 2) result }
+        ensures slope { IsTrue used → IsSlope t.now.a t.now.b t.now.c (slice_index values 0) (slice_index values 1)
+            (slice_index values 2) result }
         ensures bounded { IsBounded result }
         ensures small { Are16Bit (slice_index values 0) (slice_index values 1) (slice_index values 2) }
     {

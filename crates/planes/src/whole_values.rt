@@ -1,6 +1,7 @@
-//! Whole values. If a unit divides the doubled area and the numerator at each sample, a value that is no whole number lies at least
-//! the unit by the area below the next one. If that is more than six units of a candidate's last bit, a plane that is three units
-//! higher has every value as the integer part of its candidate, and each fraction is at least three units: nothing is corrected.
+//! Whole values. If a unit divides the doubled area and the numerator at each sample, a value that is no whole number
+//! lies at least the unit by the area below the next one. If that is more than six units of a candidate's last bit, a
+//! plane that is three units higher has every value as the integer part of its candidate, and each fraction is at least
+//! three units: nothing is corrected.
 ghost use Rattle.std.specs.Prelude.{ℕ, ◌≡◌, ◌⊎◌, ◌<◌, ◌≤◌, ◌+◌, ◌*◌, ◌^◌, IfSome, IsTrue};
 ghost use Rattle.std.specs.Int.{◌∣◌};
 ghost use Rattle.std.specs.Int.RustNames.{unsigned_abs};
@@ -64,8 +65,8 @@ fn is_multiple(number: u64, bits: u32) -> bool
     (number >> bits) << bits == number
 }
 
-/// A unit that divides the area and three numbers and by the area is more than six units of the last of `fraction` fractional bits:
-/// a power of two, or, if `search` is set, another.
+/// A unit that divides the area and three numbers and by the area is more than six units of the last of `fraction`
+/// fractional bits: a power of two, or, if `search` is set, another.
 #[inline(always)]
 fn large_unit(
     reciprocal: Reciprocal,
@@ -105,9 +106,9 @@ fn past_sixteenth(z: i32, growth: i64) -> i64
 }
 
 impl Slope {
-    /// Whether it is found that the area and the numerator at each sample are multiples of a unit that is large enough for a plane
-    /// three units higher, for candidates with `fraction` fractional bits. Powers of two are always tried, and other units if
-    /// `search` is set.
+    /// Whether it is found that the area and the numerator at each sample are multiples of a unit that is large enough
+    /// for a plane three units higher, for candidates with `fraction` fractional bits. Powers of two are always tried,
+    /// and other units if `search` is set.
     #[inline(always)]
     pub(crate) fn is_whole(&self, reciprocal: Reciprocal, fraction: u32, search: bool) -> bool
         requires bounded { IsBounded self.now }

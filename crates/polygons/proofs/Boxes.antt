@@ -98,6 +98,9 @@ module _ (p : Position) (Q : Position → Type 0) (never : (a b : Position) → 
       let d = never a c h head in
       (omega (arith, ints), rest.1)
 
+  path_chord : (a : Position) (cs : List Position) → Q a → All Q cs → winding (path_edges a cs) p ≡ direction (record { a = a; b = path_end a cs }) p
+  path_chord a cs h all = let path = path_apart a cs h all in path.0 ∙ sym (never a (path_end a cs) h path.1)
+
   ring_apart : (ring : List Position) → All Q ring → winding (ring_edges ring) p ≡ pos 0
   ring_apart [] all = refl
   ring_apart (a ∷ cs) all =
@@ -140,6 +143,20 @@ ring_outside e ring p all out =
       | right h ↦ ring_at_left ring p (All-weaker (IsWithin e) (λ c. c.x ≤ℤ p.x) (λ c w. let r = w.right in omega (arith, ints)) ring all)
       | above h ↦ ring_apart p (λ c. p.y <ℤ c.y) (λ a b k l. direction_under (record { a = a; b = b }) p k l) ring (All-weaker (IsWithin e) (λ c. p.y <ℤ c.y) (λ c w. let t = w.top in omega (arith, ints)) ring all)
       | below h ↦ ring_apart p (λ c. c.y ≤ℤ p.y) (λ a b k l. direction_over (record { a = a; b = b }) p k l) ring (All-weaker (IsWithin e) (λ c. c.y ≤ℤ p.y) (λ c w. let b = w.bottom in omega (arith, ints)) ring all)
+    ]
+
+-- a path in the box is crossed outside of it as the edge from its first corner to its last one is
+pub path_outside : (e : Extent) (a : Position) (cs : List Position) (p : Position) → IsWithin e a → All (IsWithin e) cs → ¬ IsInExtent e p → winding (path_edges a cs) p ≡ direction (record { a = a; b = path_end a cs }) p
+path_outside e a cs p first all out =
+    elim (place_of e p) [
+      | inside h ↦ absurd (out h)
+      | left h ↦ path_chord p (λ c. p.x <ℤ c.x) (λ a b k l. direction_right (record { a = a; b = b }) p k l) a cs (let l = first.left in omega (arith, ints)) (All-weaker (IsWithin e) (λ c. p.x <ℤ c.x) (λ c w. let l = w.left in omega (arith, ints)) cs all)
+      | right h ↦
+          let head : a.x ≤ℤ p.x = let r = first.right in omega (arith, ints) in
+          let path = path_by_height p a cs head (All-weaker (IsWithin e) (λ c. c.x ≤ℤ p.x) (λ c w. let r = w.right in omega (arith, ints)) cs all) in
+          path.0 ∙ sym (direction_by_height (record { a = a; b = path_end a cs }) p head path.1)
+      | above h ↦ path_chord p (λ c. p.y <ℤ c.y) (λ a b k l. direction_under (record { a = a; b = b }) p k l) a cs (let t = first.top in omega (arith, ints)) (All-weaker (IsWithin e) (λ c. p.y <ℤ c.y) (λ c w. let t = w.top in omega (arith, ints)) cs all)
+      | below h ↦ path_chord p (λ c. c.y ≤ℤ p.y) (λ a b k l. direction_over (record { a = a; b = b }) p k l) a cs (let b = first.bottom in omega (arith, ints)) (All-weaker (IsWithin e) (λ c. c.y ≤ℤ p.y) (λ c w. let b = w.bottom in omega (arith, ints)) cs all)
     ]
 
 -- ---- what is inside winds

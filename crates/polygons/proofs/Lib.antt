@@ -26,3 +26,4 @@ pub mod Lines
 pub mod Boxes
 pub mod RingParts
 pub mod ArrayParts
+pub mod RunBoxes

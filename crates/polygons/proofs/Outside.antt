@@ -49,6 +49,9 @@ sample_below strip s row k y h = let o = offset_y strip.count (strip.from + s) i
 pub sample_x : (strip : Strip) (s row k : ℕ) (x : ℤ) → (pos 256 *ℤ strip.column +ℤ pos (256 * (k + 1))) ≤ℤ x → (sample_of strip s row k).x <ℤ x
 sample_x strip s row k x h = let o = offset_x strip.count (strip.from + s) in omega (arith, ints)
 
+pub sample_right : (strip : Strip) (s row k : ℕ) (x : ℤ) → x ≤ℤ (pos 256 *ℤ strip.column) → x ≤ℤ (sample_of strip s row k).x
+sample_right strip s row k x h = let o = offset_x strip.count (strip.from + s) in omega (arith, ints)
+
 pub crossed_nowhere : (e : Edge) (strip : Strip) (columns s row k : ℕ) → IsApart e strip columns → row < 64 → k < 8 * columns → direction e (sample_of strip s row k) ≡ pos 0
 crossed_nowhere e strip columns s row k apart h l = elim apart [
   | inl above ↦ direction_over e (sample_of strip s row k) (sample_below strip s row k e.a.y above.0) (sample_below strip s row k e.b.y above.1)

@@ -80,6 +80,15 @@ plotted_as rule strip f g a b c d e h = record {
   kept = h.kept;
 }
 
+pub plotted_on : (rule : Rule) (strip : Strip) (f g : Position → ℤ) (a b c d : List (List ℕ)) → ((s row k : ℕ) → row < 64 → k < 8 * length a → f (sample_of strip s row k) ≡ g (sample_of strip s row k)) → IsPlotted rule strip f a b c d → IsPlotted rule strip g a b c d
+plotted_on rule strip f g a b c d e h = record {
+  flags_len = h.flags_len;
+  counters_len = h.counters_len;
+  totals = λ s row k x y z. alike_from (modulus rule) _ _ _ _ _ _ refl refl (e s row k y z) (h.totals s row k x y z);
+  marked = h.marked;
+  kept = h.kept;
+}
+
 pub plotted_none : (rule : Rule) (strip : Strip) (f : Position → ℤ) (a b : List (List ℕ)) → ((p : Position) → f p ≡ pos 0) → IsPlotted rule strip f a b a b
 plotted_none rule strip f a b e = record {
   flags_len = refl;

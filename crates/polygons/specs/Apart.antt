@@ -1,7 +1,10 @@
--- Edges that lie beside a strip.
+-- Edges and boxes that lie beside a strip.
 use Rattle.std.specs.Prelude.{◌⊎◌, ℕ, ◌+◌, ◌*◌, ◌<◌, pos, ◌+ℤ◌, ◌*ℤ◌, ◌≤ℤ◌}
 use Rattle.polygons.specs.declared.edge.Edge.{Edge}
+use Rattle.polygons.specs.declared.extent.Extent.{Extent}
 use Rattle.polygons.specs.declared.strip.Strip.{Strip}
+use Rattle.polygons.specs.Rings.{IsInExtent}
+use Rattle.polygons.specs.Strip.{sample_of}
 
 -- Both ends are at the upper border of the strip, or above it.
 abbrev pub IsAbove : Edge → Strip → Type 0
@@ -19,3 +22,7 @@ IsRight e strip columns =
 -- One of these.
 abbrev pub IsApart : Edge → Strip → ℕ → Type 0
 IsApart e strip columns = IsAbove e strip ⊎ (IsBelow e strip ⊎ IsRight e strip columns)
+
+-- No sample in these columns of blocks is in the box.
+abbrev pub LiesBeside : Extent → Strip → ℕ → Type 0
+LiesBeside e strip columns = (s row k : ℕ) → row < 64 → k < 8 * columns → ¬ IsInExtent e (sample_of strip s row k)

@@ -26,6 +26,7 @@
 --   position_of: Where a corner lies.
 --   AreCornersInBand: All corners are inside of the guard band.
 --   AreEnds: Each ring, the first of which begins at `start`, ends no earlier than it begins, and the next one begins there.
+--   end_of: The index behind the last ring's last corner.
 --   rings_from: The rings of these corners, by where the first begins and by the index behind the last corner of each.
 --   IsInExtent: The point is in the box, whose right and lower sides are outside of it.
 --   IsWithin: The point is in the box or on its border.
@@ -106,6 +107,14 @@
 --   IsBelow: Both ends are at the lower border of the strip, or below it.
 --   IsRight: Both ends are right of each pixel of these columns of blocks.
 --   IsApart: One of these.
+--   LiesBeside: No sample in these columns of blocks is in the box.
+--
+-- Runs.antt
+--   corner_at: Where corner i lies.
+--   corners_between: Where the corners from index `begin` to before `end` lie.
+--   IsCrossedAsChord: The path from a corner through others winds around p as the edge from its first corner to its last one does.
+--   box_of: The box of a run.
+--   AreRunsOf: Each box holds the corners of its run and the one behind it.
 --
 -- Cells.antt
 --   word_of: The word of a sample's row in a column of blocks: of each row of blocks there are four.
@@ -131,6 +140,7 @@
 --   run: The sum of a number and of the first n counters from `from` on, modulo 2 ^ 32.
 --   nonzero_bit: 1 if the number is other than 0.
 --   IsSummed: Each bit says whether the sum up to it of row q of a column's counters, eight of each row, is other than 0.
+--   IsLevelMask: The mask of word i of a column if all of its counters are 0.
 
 pub mod Crossing
 pub mod Polygon
@@ -145,6 +155,7 @@ pub mod ManyRows
 pub mod Screen
 pub mod Strip
 pub mod Apart
+pub mod Runs
 pub mod Cells
 pub mod Spreading
 pub mod Summing

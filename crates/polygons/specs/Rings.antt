@@ -23,6 +23,10 @@ pub record AreEnds (start : ℕ) (ends : List ℕ) (limit : ℕ) : Type 0 where
   pub rising : (k : ℕ) → k < length ends → slice_index (start ∷ ends) k ≤ slice_index ends k
   pub within : (k : ℕ) → k < length ends → slice_index ends k ≤ limit
 
+-- The index behind the last ring's last corner.
+abbrev pub end_of : ℕ → List ℕ → ℕ
+end_of start ends = slice_index (start ∷ ends) (length ends)
+
 -- The rings of these corners, by where the first begins and by the index behind the last corner of each.
 abbrev pub rings_from : List Corner → ℕ → List ℕ → List (List Position)
 rings_from corners start [] = []

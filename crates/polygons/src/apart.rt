@@ -1,11 +1,11 @@
 //! Edges that are crossed at no sample of a strip.
 ghost use Rattle.std.specs.Prelude.{ℕ, ◌+◌, ◌*◌, ◌<◌, pos, ◌+ℤ◌, ◌*ℤ◌, ◌≤ℤ◌, IsTrue};
-ghost use Rattle.grid.specs.Position.{IsInBand};
-ghost use Rattle.polygons.specs.Apart.{IsAbove, IsBelow, IsRight, IsApart};
+ghost use Rattle.polygons.specs.Apart.{IsAbove, IsBelow, IsRight, IsApart, LiesBeside};
 ghost use Rattle.polygons.specs.Screen.{IsPixelInBand};
 
 use crate::divide::divide;
 use crate::edge::Edge;
+use crate::extent::Extent;
 use crate::strip::Strip;
 
 /// Whether both ends are at the upper border of a row of pixels, or above it.
@@ -26,11 +26,19 @@ fn is_below(a: i32, b: i32, row: i32) -> bool
     256 * row + 16384 <= a.min(b)
 }
 
+/// Whether `x` is at the left border of a column of pixels, or left of it.
+#[inline(always)]
+fn is_left(x: i32, column: i32) -> bool
+    requires { IsPixelInBand column }
+    ensures { IsTrue result → x ≤ℤ (pos 256 *ℤ column) }
+{
+    x <= 256 * column
+}
+
 /// Whether `x` is right of these columns of blocks, the first of which begins at a column of pixels.
 #[inline(always)]
 fn is_right(x: i32, column: i32, columns: usize) -> bool
-    requires x { IsInBand x }
-    requires column { IsPixelInBand column }
+    requires { IsPixelInBand column }
     ensures { IsTrue result → (k : ℕ) → k < 8 * columns → (pos 256 *ℤ column +ℤ pos (256 * (k + 1))) ≤ℤ x }
 {
     let (pixel, _) = divide(i64::from(x), 256);
@@ -69,4 +77,21 @@ pub(crate) fn is_apart(edge: &Edge, strip: &Strip, columns: usize) -> bool
     ensures { IsTrue result → IsApart edge.now strip.now columns }
 {
     runs_above(edge, strip) || runs_below(edge, strip) || runs_right(edge, strip, columns)
+}
+
+/// Whether the box is above the strip, below it, left of it, or right of its columns of blocks.
+#[inline(always)]
+pub(crate) fn is_beside(extent: &Extent, strip: &Strip, columns: usize) -> bool
+    ensures { IsTrue result → LiesBeside extent.now strip.now columns }
+{
+    if is_above(extent.bottom, extent.bottom, strip.row) {
+        return true;
+    }
+    if is_below(extent.top, extent.top, strip.row) {
+        return true;
+    }
+    if is_left(extent.right, strip.column) {
+        return true;
+    }
+    is_right(extent.left, strip.column, columns)
 }

@@ -81,7 +81,8 @@ impl<'a> Polygons<'a> {
         ring_ends: &'a [u32],
         polygon_ends: &'a [u32],
     ) -> Result<Polygons<'a>, ArraysError>
-        ensures arrays { IfOk result (λ p. (p.corners.now ≡ corners.now) × (p.ring_ends.now ≡ ring_ends.now) × (p.polygon_ends.now ≡ polygon_ends.now)) }
+        ensures arrays { IfOk result (λ p. (p.corners.now ≡ corners.now) × (p.ring_ends.now ≡ ring_ends.now) ×
+            (p.polygon_ends.now ≡ polygon_ends.now)) }
         ensures wrong { IfErr result (λ e. IsWrong corners.now ring_ends.now polygon_ends.now e) }
     {
         if u32::try_from(corners.len()).is_err() {
@@ -119,7 +120,8 @@ impl<'a> Polygons<'a> {
     /// The rings of the polygon of this number.
     pub fn rings(&self, number: usize) -> Rings<'a>
         requires { number < length self.now.polygon_ends.now }
-        ensures { rings_from result.corners.now result.start result.ends.now ≡ rings_of self.now.corners.now self.now.ring_ends.now self.now.polygon_ends.now number }
+        ensures { rings_from result.corners.now result.start result.ends.now ≡
+            rings_of self.now.corners.now self.now.ring_ends.now self.now.polygon_ends.now number }
     {
         let first = begin_of(self.polygon_ends, number) as usize;
         let end = self.polygon_ends[number] as usize;

@@ -65,7 +65,8 @@ fn lower(y: i32, row: u32) -> i32
     y + 256 * row as i32
 }
 
-/// The mask of a block whose first sample is `start`: bit 8 * row + column says whether the sample there is inside of the edges.
+/// The mask of a block whose first sample is `start`: bit 8 * row + column says whether the sample there is inside of
+/// the edges.
 pub fn block_mask(edges: &[Edge], rule: Rule, start: Point) -> u64
     requires edges { length edges.now < 2 ^ 30 }
     requires start { IsInBand (start.y +ℤ pos 1792) }

@@ -16,14 +16,15 @@ fn spread_rows(word: u64) -> u64
 
 /// The last bit of each row, as its first.
 #[inline(always)]
-fn last_column(word: u64) -> u64
+pub(crate) fn last_column(word: u64) -> u64
     ensures bits { (r : ℕ) → r < 8 → bit_at result (8 * r) ≡ bit_at word (8 * r + 7) }
     ensures carry { IsCarry result }
 {
     (word >> 7) & 0x0101_0101_0101_0101
 }
 
-/// The word in whose rows each bit is the parity of a carry and of the bits up to it, and the carries into the next word.
+/// The word in whose rows each bit is the parity of a carry and of the bits up to it, and the carries into the next
+/// word.
 #[inline(always)]
 pub(crate) fn fill_rows(word: u64, carry: u64) -> (u64, u64)
     requires { IsCarry carry }

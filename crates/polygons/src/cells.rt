@@ -1,5 +1,6 @@
-//! The flags and counters of a strip's samples, by columns of blocks. A column has 32 words of flags: of each of its eight blocks one
-//! for each of four samples, whose bit 8 * row + column is that of a pixel. It has 64 counters for each word, one for each bit.
+//! The flags and counters of a strip's samples, by columns of blocks. A column has 32 words of flags: of each of its
+//! eight blocks one for each of four samples, whose bit 8 * row + column is that of a pixel. It has 64 counters for
+//! each word, one for each bit.
 ghost use Rattle.std.specs.Prelude.{◌≡◌, ℕ, ◌+◌, ◌*◌, ◌%◌, ◌^◌, ◌<◌, pos, negsuc, ◌+ℤ◌, cond, length};
 ghost use Rattle.polygons.specs.Rows.{from_column};
 ghost use Rattle.polygons.specs.Cells.{flag_of, count_of, total, modulus, signed, IsAlike, HasCounters, AreMarked};
@@ -41,7 +42,8 @@ fn flip(flags: &mut [Flags], s: usize, row: usize, column: usize)
     requires column { column < 8 * length flags.old }
     ensures len { length flags.new ≡ length flags.old }
     ensures here { flag_of flags.new s row column ≡ (flag_of flags.old s row column + 1) % 2 }
-    ensures others { (r j k : ℕ) → r < 4 → j < 64 → (r ≡ s → j ≡ row → k ≡ column → ⊥) → flag_of flags.new r j k ≡ flag_of flags.old r j k }
+    ensures others { (r j k : ℕ) → r < 4 → j < 64 → (r ≡ s → j ≡ row → k ≡ column → ⊥) →
+        flag_of flags.new r j k ≡ flag_of flags.old r j k }
 {
     flags[column / 8][word(s, row)] ^= 1 << bit(row, column);
 }
@@ -54,7 +56,8 @@ fn mark(flags: &mut [Flags], s: usize, row: usize, column: usize)
     requires column { column < 8 * length flags.old }
     ensures len { length flags.new ≡ length flags.old }
     ensures here { flag_of flags.new s row column ≡ 1 }
-    ensures others { (r j k : ℕ) → r < 4 → j < 64 → (r ≡ s → j ≡ row → k ≡ column → ⊥) → flag_of flags.new r j k ≡ flag_of flags.old r j k }
+    ensures others { (r j k : ℕ) → r < 4 → j < 64 → (r ≡ s → j ≡ row → k ≡ column → ⊥) →
+        flag_of flags.new r j k ≡ flag_of flags.old r j k }
 {
     flags[column / 8][word(s, row)] |= 1 << bit(row, column);
 }
@@ -66,15 +69,17 @@ fn count(counters: &mut [Counters], s: usize, row: usize, column: usize, down: b
     requires row { row < 64 }
     requires column { column < 8 * length counters.old }
     ensures len { length counters.new ≡ length counters.old }
-    ensures here { count_of counters.new s row column ≡ (count_of counters.old s row column + cond down 1 4294967295) % 2 ^ 32 }
-    ensures others { (r j k : ℕ) → r < 4 → j < 64 → (r ≡ s → j ≡ row → k ≡ column → ⊥) → count_of counters.new r j k ≡ count_of counters.old r j k }
+    ensures here { count_of counters.new s row column ≡
+        (count_of counters.old s row column + cond down 1 4294967295) % 2 ^ 32 }
+    ensures others { (r j k : ℕ) → r < 4 → j < 64 → (r ≡ s → j ≡ row → k ≡ column → ⊥) →
+        count_of counters.new r j k ≡ count_of counters.old r j k }
 {
     let counter = &mut counters[column / 8][64 * word(s, row) + bit(row, column)];
     *counter = counter.wrapping_add(if down { 1 } else { u32::MAX });
 }
 
-/// Counts an edge that is crossed at a sample's row from a column on, downwards or upwards. A column left of the strip counts as the
-/// first, and one right of it is left out.
+/// Counts an edge that is crossed at a sample's row from a column on, downwards or upwards. A column left of the strip
+/// counts as the first, and one right of it is left out.
 #[inline(always)]
 pub(crate) fn cross(
     flags: &mut [Flags],
@@ -90,8 +95,11 @@ pub(crate) fn cross(
     requires counters { HasCounters rule flags.old counters.old }
     ensures flags { length flags.new ≡ length flags.old }
     ensures counters { length counters.new ≡ length counters.old }
-    ensures here { (k : ℕ) → k < 8 * length flags.old → IsAlike (modulus rule) (total rule flags.new counters.new s row k) (total rule flags.old counters.old s row k +ℤ signed down (from_column column (pos 1) k)) }
-    ensures others { (r j k : ℕ) → r < 4 → j < 64 → (r ≡ s → j ≡ row → ⊥) → total rule flags.new counters.new r j k ≡ total rule flags.old counters.old r j k }
+    ensures here { (k : ℕ) → k < 8 * length flags.old →
+        IsAlike (modulus rule) (total rule flags.new counters.new s row k)
+        (total rule flags.old counters.old s row k +ℤ signed down (from_column column (pos 1) k)) }
+    ensures others { (r j k : ℕ) → r < 4 → j < 64 → (r ≡ s → j ≡ row → ⊥) →
+        total rule flags.new counters.new r j k ≡ total rule flags.old counters.old r j k }
     ensures marked { AreMarked rule flags.old counters.old → AreMarked rule flags.new counters.new }
     ensures kept { rule ≡ EvenOdd → counters.new ≡ counters.old }
 {

@@ -15,8 +15,8 @@ impl Edge {
     ghost use Rattle.polygons.specs.Laws.{reversed, AreOpposite};
     ghost use Rattle.grid.specs.Position.{Position};
 
-    /// Whether the edge runs downwards past `p`, with its line at or left of `p`. The sign of the edge function says on which side
-    /// the line is.
+    /// Whether the edge runs downwards past `p`, with its line at or left of `p`. The sign of the edge function says on
+    /// which side the line is.
     pub fn crosses_down(&self, p: Point) -> bool
         ensures value { result ≡ is_crossed_down self.now p }
         ensures meaning { IsTrue result ↔ CrossesDown self.now p }
@@ -33,8 +33,8 @@ impl Edge {
         is_in_range(self.b, self.a, p) && side(self.a, self.b, p) >= 0
     }
 
-    /// The edge in the other direction. It is crossed downwards where this one is crossed upwards, and upwards where this one is
-    /// crossed downwards.
+    /// The edge in the other direction. It is crossed downwards where this one is crossed upwards, and upwards where
+    /// this one is crossed downwards.
     pub fn reversed(&self) -> Edge
         ensures value { result ≡ reversed self.now }
         ensures opposite { (p : Position) → AreOpposite result self.now p }

@@ -10,8 +10,10 @@ use crate::cells::Flags;
 /// The masks of a column of blocks, and the carries into the next column.
 fn fill_column(words: &mut Flags, carry: &mut Flags)
     requires { (i : ℕ) → i < 32 → IsCarry (slice_index carry.old i) }
-    ensures filled { (i : ℕ) → i < 32 → IsFilled (slice_index words.old i) (slice_index carry.old i) (slice_index words.new i) }
-    ensures next { (i : ℕ) → i < 32 → IsNextCarry (slice_index words.old i) (slice_index carry.old i) (slice_index carry.new i) }
+    ensures filled { (i : ℕ) → i < 32 → IsFilled (slice_index words.old i) (slice_index carry.old i)
+        (slice_index words.new i) }
+    ensures next { (i : ℕ) → i < 32 → IsNextCarry (slice_index words.old i) (slice_index carry.old i)
+        (slice_index carry.new i) }
     ensures carry { (i : ℕ) → i < 32 → IsCarry (slice_index carry.new i) }
 {
     for i in 0..32 {
@@ -22,7 +24,7 @@ fn fill_column(words: &mut Flags, carry: &mut Flags)
 }
 
 /// The carries into the first column.
-fn no_carry() -> Flags
+pub(crate) fn no_carry() -> Flags
     ensures { (i : ℕ) → slice_index result i ≡ 0 }
 {
     [0; 32]
@@ -31,7 +33,8 @@ fn no_carry() -> Flags
 /// The masks of all columns.
 pub(crate) fn fill(flags: &mut [Flags])
     ensures len { length flags.new ≡ length flags.old }
-    ensures bits { (s row k : ℕ) → s < 4 → row < 64 → k < 8 * length flags.old → flag_of flags.new s row k ≡ parity (flag_of flags.old s row) (k + 1) }
+    ensures bits { (s row k : ℕ) → s < 4 → row < 64 → k < 8 * length flags.old →
+        flag_of flags.new s row k ≡ parity (flag_of flags.old s row) (k + 1) }
 {
     let mut carry = no_carry();
     for words in flags.iter_mut() {

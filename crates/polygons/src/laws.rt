@@ -14,8 +14,8 @@ use crate::polygon::polygon_covers;
 use crate::rule::Rule;
 use grid::{Point, Quad};
 
-/// Whether the polygon of three corners covers `p`. By either rule it covers what the triangle covers by the top-left rule
-/// (Direct3D 11): in either orientation, and nothing if it has no area.
+/// Whether the polygon of three corners covers `p`. By either rule it covers what the triangle covers by the top-left
+/// rule (Direct3D 11): in either orientation, and nothing if it has no area.
 pub fn triangle_covers(rule: Rule, a: Point, b: Point, c: Point, p: Point) -> bool
     ensures triangle { IsTrue result ↔ Covers a b c p }
     ensures polygon { IsTrue result ↔ PolygonCovers rule ((a ∷ b ∷ c ∷ []) ∷ []) p }
@@ -27,13 +27,15 @@ pub fn triangle_covers(rule: Rule, a: Point, b: Point, c: Point, p: Point) -> bo
 /// Whether the strictly convex quad covers `p`. The polygon of its four corners covers the same, by either rule.
 pub fn quad_covers(rule: Rule, quad: &Quad, p: Point) -> bool
     ensures quad { IsTrue result ↔ QuadCovers quad.now.a quad.now.b quad.now.c quad.now.d p }
-    ensures polygon { IsTrue result ↔ PolygonCovers rule ((quad.now.a ∷ quad.now.b ∷ quad.now.c ∷ quad.now.d ∷ []) ∷ []) p }
+    ensures polygon { IsTrue result ↔ PolygonCovers rule ((quad.now.a ∷ quad.now.b ∷ quad.now.c ∷ quad.now.d ∷ []) ∷ [])
+        p }
 {
     let _rule = rule;
     quad.covers(p)
 }
 
-/// Counts the crossings of two lists of edges together. They are the sum of the crossings of each, and so is the winding number.
+/// Counts the crossings of two lists of edges together. They are the sum of the crossings of each, and so is the
+/// winding number.
 pub fn count_both(first: &[Edge], second: &[Edge], p: Point) -> Crossings
     requires first { length first.now < 2 ^ 32 }
     requires second { length second.now < 2 ^ 32 }
@@ -49,9 +51,9 @@ pub fn count_both(first: &[Edge], second: &[Edge], p: Point) -> Crossings
     }
 }
 
-/// Whether `p` is inside of what the edges bound, by the rule. Edges that one polygon has in one direction and its neighbour in the
-/// other cancel, by either rule: the two polygons together cover what they would cover without these edges. If all edges and
-/// `p` are moved alike, the answer is the same.
+/// Whether `p` is inside of what the edges bound, by the rule. Edges that one polygon has in one direction and its
+/// neighbour in the other cancel, by either rule: the two polygons together cover what they would cover without these
+/// edges. If all edges and `p` are moved alike, the answer is the same.
 pub fn edges_cover(edges: &[Edge], rule: Rule, p: Point) -> bool
     requires { length edges.now < 2 ^ 32 }
     ensures value { IsTrue result ↔ IsInside rule edges.now p }

@@ -9,14 +9,17 @@ use crate::laws::edges_cover;
 use crate::rule::Rule;
 use grid::Point;
 
-/// How many of the cells cover `p`, by the rule. By the even-odd rule this number has the parity of the cells' outline, for any cells.
-/// If cells that share an edge have it in opposite directions and none winds backwards, `p` is inside of exactly one cell if the
-/// outline winds around it once.
+/// How many of the cells cover `p`, by the rule. By the even-odd rule this number has the parity of the cells' outline,
+/// for any cells. If cells that share an edge have it in opposite directions and none winds backwards, `p` is inside of
+/// exactly one cell if the outline winds around it once.
 pub fn count_covering(cells: &[&[Edge]], rule: Rule, p: Point) -> usize
     requires { All (λ edges. length edges.now < 2 ^ 32) cells.now }
     ensures count { result ≡ covering rule (map (λ edges. edges.now) cells.now) p }
-    ensures parity { (outline : List Edge) → IsOutline outline (map (λ edges. edges.now) cells.now) → HasParityOf outline (map (λ edges. edges.now) cells.now) p }
-    ensures partition { (outline : List Edge) → IsFitted outline (map (λ edges. edges.now) cells.now) → WindForwards (map (λ edges. edges.now) cells.now) p → IsPartition rule outline (map (λ edges. edges.now) cells.now) p }
+    ensures parity { (outline : List Edge) → IsOutline outline (map (λ edges. edges.now) cells.now) →
+        HasParityOf outline (map (λ edges. edges.now) cells.now) p }
+    ensures partition { (outline : List Edge) → IsFitted outline (map (λ edges. edges.now) cells.now) →
+        WindForwards (map (λ edges. edges.now) cells.now) p →
+        IsPartition rule outline (map (λ edges. edges.now) cells.now) p }
 {
     let mut count = 0;
     for edges in cells {

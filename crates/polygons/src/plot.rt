@@ -1,13 +1,15 @@
-//! Where the edges of a polygon are first crossed in the rows of a strip: each edge is walked down once for each sample of the part,
-//! and adds to one cell of each row that it runs through.
-ghost use Rattle.std.specs.Prelude.{◌≡◌, ℕ, ◌+◌, ◌*◌, ◌^◌, ◌<◌, ◌≤◌, pos, ◌+ℤ◌, ◌<ℤ◌, ◌≤ℤ◌, length, map};
+//! Where the edges of a polygon are first crossed in the rows of a strip: each edge is walked down once for each sample
+//! of the part, and adds to one cell of each row that it runs through.
+ghost use Rattle.std.specs.Prelude.{◌≡◌, ℕ, ◌+◌, ◌*◌, ◌^◌, ◌<◌, ◌≤◌, pos, ◌+ℤ◌, ◌<ℤ◌, ◌≤ℤ◌, length, map, IsTrue};
 ghost use Rattle.grid.specs.Position.{Position, IsInBand};
 ghost use Rattle.grid.specs.Samples.{part_size};
 ghost use Rattle.polygons.specs.Blocks.{down};
 ghost use Rattle.polygons.specs.Columns.{along, HasHeight};
 ghost use Rattle.polygons.specs.Crossing.{winding};
 ghost use Rattle.polygons.specs.Polygon.{path_edges, path_end, ring_edges, polygon_edges};
-ghost use Rattle.polygons.specs.Rings.{position_of, rings_from, AreCornersInBand};
+ghost use Rattle.polygons.specs.Rings.{position_of, rings_from, end_of, AreCornersInBand};
+ghost use Rattle.polygons.specs.Runs.{corner_at, corners_between, AreRunsOf, IsCrossedAsChord};
+ghost use Rattle.polygons.specs.Strip.{sample_of};
 ghost use Rattle.polygons.specs.Rows.{direction};
 ghost use Rattle.polygons.specs.Cells.{total, modulus, signed, IsAlike, HasCounters, AreMarked, IsPlotted};
 ghost use Rattle.polygons.specs.declared.rule.Rule.TheVariants.{EvenOdd};
@@ -19,6 +21,7 @@ use crate::divide::divide;
 use crate::edge::Edge;
 use crate::rings::Rings;
 use crate::rule::Rule;
+use crate::runs::Runs;
 use crate::strip::{Strip, point_at};
 use crate::walk::EdgeWalk;
 use grid::Point;
@@ -35,8 +38,8 @@ fn first_row(start: i32, y: i32) -> usize
     rows.clamp(0, 64) as usize
 }
 
-/// Counts an edge that runs downwards in the rows of sample `s`, whose first pixel has this sample at `start`. The edge counts as one
-/// in its own direction if `forward`, else in the opposite one.
+/// Counts an edge that runs downwards in the rows of sample `s`, whose first pixel has this sample at `start`. The edge
+/// counts as one in its own direction if `forward`, else in the opposite one.
 fn plot_sample(
     flags: &mut [Flags],
     counters: &mut [Counters],
@@ -51,8 +54,12 @@ fn plot_sample(
     requires counters { HasCounters rule flags.old counters.old }
     ensures flags { length flags.new ≡ length flags.old }
     ensures counters { length counters.new ≡ length counters.old }
-    ensures here { (row k : ℕ) → row < 64 → k < 8 * length flags.old → IsAlike (modulus rule) (total rule flags.new counters.new s row k) (total rule flags.old counters.old s row k +ℤ signed forward (direction edge.now (along (down start row) (pos k)))) }
-    ensures others { (r row k : ℕ) → r < 4 → row < 64 → (r ≡ s → ⊥) → total rule flags.new counters.new r row k ≡ total rule flags.old counters.old r row k }
+    ensures here { (row k : ℕ) → row < 64 → k < 8 * length flags.old →
+        IsAlike (modulus rule) (total rule flags.new counters.new s row k)
+        (total rule flags.old counters.old s row k +ℤ signed forward
+        (direction edge.now (along (down start row) (pos k)))) }
+    ensures others { (r row k : ℕ) → r < 4 → row < 64 → (r ≡ s → ⊥) →
+        total rule flags.new counters.new r row k ≡ total rule flags.old counters.old r row k }
     ensures marked { AreMarked rule flags.old counters.old → AreMarked rule flags.new counters.new }
     ensures kept { rule ≡ EvenOdd → counters.new ≡ counters.old }
 {
@@ -83,8 +90,12 @@ fn plot_rows(
     requires counters { HasCounters rule flags.old counters.old }
     ensures flags { length flags.new ≡ length flags.old }
     ensures counters { length counters.new ≡ length counters.old }
-    ensures here { (row k : ℕ) → first ≤ row → row < end → k < 8 * length flags.old → IsAlike (modulus rule) (total rule flags.new counters.new s row k) (total rule flags.old counters.old s row k +ℤ signed forward (direction edge.now (along (down start row) (pos k)))) }
-    ensures others { (r row k : ℕ) → r < 4 → row < 64 → (r ≡ s → first ≤ row → row < end → ⊥) → total rule flags.new counters.new r row k ≡ total rule flags.old counters.old r row k }
+    ensures here { (row k : ℕ) → first ≤ row → row < end → k < 8 * length flags.old →
+        IsAlike (modulus rule) (total rule flags.new counters.new s row k)
+        (total rule flags.old counters.old s row k +ℤ signed forward
+        (direction edge.now (along (down start row) (pos k)))) }
+    ensures others { (r row k : ℕ) → r < 4 → row < 64 → (r ≡ s → first ≤ row → row < end → ⊥) →
+        total rule flags.new counters.new r row k ≡ total rule flags.old counters.old r row k }
     ensures marked { AreMarked rule flags.old counters.old → AreMarked rule flags.new counters.new }
     ensures kept { rule ≡ EvenOdd → counters.new ≡ counters.old }
 {
@@ -108,7 +119,8 @@ fn plot_samples(
 )
     requires runs_down { edge.now.a.y ≤ℤ edge.now.b.y }
     requires counters { HasCounters rule flags.old counters.old }
-    ensures { IsPlotted rule strip.now (λ p. signed forward (direction edge.now p)) flags.old counters.old flags.new counters.new }
+    ensures { IsPlotted rule strip.now (λ p. signed forward (direction edge.now p)) flags.old counters.old flags.new
+        counters.new }
 {
     for s in 0..strip.count.part_size() {
         plot_sample(
@@ -150,7 +162,8 @@ fn plot_path(
 ) -> Point
     requires counters { HasCounters rule flags.old counters.old }
     requires corners { AreCornersInBand corners.now }
-    ensures plotted { IsPlotted rule strip.now (λ p. winding (path_edges from (map position_of corners.now)) p) flags.old counters.old flags.new counters.new }
+    ensures plotted { IsPlotted rule strip.now (λ p. winding (path_edges from (map position_of corners.now)) p)
+        flags.old counters.old flags.new counters.new }
     ensures end { result ≡ path_end from (map position_of corners.now) }
 {
     let mut from = from;
@@ -162,43 +175,121 @@ fn plot_path(
     from
 }
 
-/// Counts the edges of a ring.
-fn plot_ring(
+/// Counts the edges of a path from a corner through others. If these lie in a box beside the strip, the path is crossed
+/// there as the edge from its first corner to its last one is. Returns the last corner.
+fn plot_run(
     flags: &mut [Flags],
     counters: &mut [Counters],
     rule: Rule,
-    ring: &[Corner],
+    from: Point,
+    corners: &[Corner],
+    is_beside: bool,
     strip: &Strip,
-)
+) -> Point
     requires counters { HasCounters rule flags.old counters.old }
-    requires corners { AreCornersInBand ring.now }
-    ensures { IsPlotted rule strip.now (λ p. winding (ring_edges (map position_of ring.now)) p) flags.old counters.old flags.new counters.new }
+    requires corners { AreCornersInBand corners.now }
+    requires chord { IsTrue is_beside → (s row k : ℕ) → row < 64 → k < 8 * length flags.old →
+        IsCrossedAsChord from (map position_of corners.now) (sample_of strip.now s row k) }
+    ensures plotted { IsPlotted rule strip.now (λ p. winding (path_edges from (map position_of corners.now)) p)
+        flags.old counters.old flags.new counters.new }
+    ensures end { result ≡ path_end from (map position_of corners.now) }
 {
-    match ring {
-        [] => {}
-        [corner, rest @ ..] => {
-            let first = corner.at();
-            let last = plot_path(flags, counters, rule, first, rest, strip);
-            plot_edge(flags, counters, rule, Edge { a: last, b: first }, strip);
+    if !is_beside {
+        return plot_path(flags, counters, rule, from, corners, strip);
+    }
+    match corners {
+        [] => from,
+        [.., last] => {
+            let end = last.at();
+            plot_edge(flags, counters, rule, Edge { a: from, b: end }, strip);
+            end
         }
     }
 }
 
-/// Counts the edges of a polygon.
+/// Counts the edges of a ring but its last one, run by run. The ring has the corners from index `begin` to before
+/// `end`. Returns its last corner.
+fn plot_runs(
+    flags: &mut [Flags],
+    counters: &mut [Counters],
+    rule: Rule,
+    rings: &Rings<'_>,
+    runs: &Runs,
+    begin: usize,
+    end: usize,
+    strip: &Strip,
+) -> Point
+    requires counters { HasCounters rule flags.old counters.old }
+    requires runs { AreRunsOf runs.now rings.now }
+    requires first { rings.now.start ≤ begin }
+    requires some { begin < end }
+    requires last { end ≤ end_of rings.now.start rings.now.ends.now }
+    requires within { end ≤ length rings.now.corners.now }
+    ensures plotted { IsPlotted rule strip.now
+        (λ p. winding (path_edges (corner_at rings.now.corners.now begin)
+        (corners_between rings.now.corners.now (begin + 1) end)) p) flags.old counters.old flags.new counters.new }
+    ensures end { result ≡ path_end (corner_at rings.now.corners.now begin)
+        (corners_between rings.now.corners.now (begin + 1) end) }
+{
+    let start = rings.start as usize;
+    let mut from = rings.corners[begin].at();
+    let mut next = begin + 1;
+    while next < end {
+        let (run, held) = runs.run_of(next - 1 - start);
+        let behind = end.min(start + held);
+        let corners = &rings.corners[next..behind];
+        let is_beside = runs.is_beside(run, strip, flags.len());
+        from = plot_run(flags, counters, rule, from, corners, is_beside, strip);
+        next = behind;
+    }
+    from
+}
+
+/// Counts the edges of the ring of the corners from index `begin` to before `end`.
+fn plot_ring(
+    flags: &mut [Flags],
+    counters: &mut [Counters],
+    rule: Rule,
+    rings: &Rings<'_>,
+    runs: &Runs,
+    begin: usize,
+    end: usize,
+    strip: &Strip,
+)
+    requires counters { HasCounters rule flags.old counters.old }
+    requires runs { AreRunsOf runs.now rings.now }
+    requires first { rings.now.start ≤ begin }
+    requires last { end ≤ end_of rings.now.start rings.now.ends.now }
+    requires within { end ≤ length rings.now.corners.now }
+    ensures { IsPlotted rule strip.now (λ p. winding (ring_edges (corners_between rings.now.corners.now begin end)) p)
+        flags.old counters.old flags.new counters.new }
+{
+    if begin < end {
+        let first = rings.corners[begin].at();
+        let last = plot_runs(flags, counters, rule, rings, runs, begin, end, strip);
+        plot_edge(flags, counters, rule, Edge { a: last, b: first }, strip);
+    }
+}
+
+/// Counts the edges of a polygon, by the boxes of its runs.
 pub fn plot(
     flags: &mut [Flags],
     counters: &mut [Counters],
     rule: Rule,
     rings: &Rings<'_>,
+    runs: &Runs,
     strip: &Strip,
 )
-    requires { HasCounters rule flags.old counters.old }
-    ensures { IsPlotted rule strip.now (λ p. winding (polygon_edges (rings_from rings.now.corners.now rings.now.start rings.now.ends.now)) p) flags.old counters.old flags.new counters.new }
+    requires counters { HasCounters rule flags.old counters.old }
+    requires runs { AreRunsOf runs.now rings.now }
+    ensures { IsPlotted rule strip.now
+        (λ p. winding (polygon_edges (rings_from rings.now.corners.now rings.now.start rings.now.ends.now)) p) flags.old
+        counters.old flags.new counters.new }
 {
-    let mut start = rings.start as usize;
+    let mut begin = rings.start as usize;
     for ring_end in rings.ends {
         let end = *ring_end as usize;
-        plot_ring(flags, counters, rule, &rings.corners[start..end], strip);
-        start = end;
+        plot_ring(flags, counters, rule, rings, runs, begin, end, strip);
+        begin = end;
     }
 }

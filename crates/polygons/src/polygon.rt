@@ -7,7 +7,8 @@ use crate::edge::Edge;
 use crate::rule::Rule;
 use grid::Point;
 
-/// Whether the polygon of these rings covers `p`: every edge is tested, from each corner to the next and from the last to the first.
+/// Whether the polygon of these rings covers `p`: every edge is tested, from each corner to the next and from the last
+/// to the first.
 pub fn polygon_covers(rings: &[&[Point]], rule: Rule, p: Point) -> bool
     requires { corner_count (map (λ r. r.now) rings.now) < 2 ^ 32 }
     ensures { IsTrue result ↔ PolygonCovers rule (map (λ r. r.now) rings.now) p }

@@ -1,9 +1,10 @@
 //! The rings of a polygon in a list of corners.
-ghost use Rattle.std.specs.Prelude.{◌≡◌, ◌^◌, ◌<◌, pos, map, length};
+ghost use Rattle.std.specs.Prelude.{◌≡◌, ◌≤◌, ◌^◌, ◌<◌, pos, map, length};
+ghost use Rattle.std.specs.List.{All};
 ghost use Rattle.grid.specs.Position.{Position};
 ghost use Rattle.polygons.specs.Crossing.{winding};
 ghost use Rattle.polygons.specs.Polygon.{ring_edges, polygon_edges};
-ghost use Rattle.polygons.specs.Rings.{position_of, AreCornersInBand, AreEnds, IsInExtent};
+ghost use Rattle.polygons.specs.Rings.{position_of, AreCornersInBand, AreEnds, IsInExtent, IsWithin};
 
 use crate::corner::Corner;
 use crate::extent::{Extent, NOTHING};
@@ -23,7 +24,8 @@ pub struct Rings<'a> {
 }
 
 /// The box with the corners of one ring more.
-fn with_ring(extent: Extent, ring: &[Corner]) -> Extent
+pub(crate) fn with_ring(extent: Extent, ring: &[Corner]) -> Extent
+    ensures within { All (IsWithin result) (map position_of ring.now) }
     ensures grows { (p : Position) → IsInExtent extent p → IsInExtent result p }
     ensures ring { (p : Position) → ¬ IsInExtent result p → winding (ring_edges (map position_of ring.now)) p ≡ pos 0 }
 {
@@ -35,7 +37,18 @@ fn with_ring(extent: Extent, ring: &[Corner]) -> Extent
 }
 
 impl Rings<'_> {
-    ghost use Rattle.polygons.specs.Rings.{rings_from, HoldsInside};
+    ghost use Rattle.polygons.specs.Rings.{rings_from, end_of, HoldsInside};
+
+    /// The index behind the last corner.
+    pub(crate) fn end(&self) -> u32
+        ensures value { result ≡ end_of self.now.start self.now.ends.now }
+        ensures within { (self.now.start ≤ result) × (result ≤ length self.now.corners.now) }
+    {
+        match self.ends {
+            [] => self.start,
+            [.., last] => *last,
+        }
+    }
 
     /// The box of the corners: by either rule the polygon has nothing inside but in the box.
     pub fn extent(&self) -> Extent

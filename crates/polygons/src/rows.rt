@@ -23,7 +23,8 @@ pub(crate) fn clear(words: &mut [u64])
 #[inline(always)]
 pub(crate) fn flip(words: &mut [u64], column: i64)
     ensures len { length words.new ≡ length words.old }
-    ensures flags { (k : ℕ) → k < 64 * length words.old → parity (bit_of words.new) (k + 1) ≡ (parity (bit_of words.old) (k + 1) + cond (int_le column (pos k)) 1 0) % 2 }
+    ensures flags { (k : ℕ) → k < 64 * length words.old → parity (bit_of words.new) (k + 1) ≡
+        (parity (bit_of words.old) (k + 1) + cond (int_le column (pos k)) 1 0) % 2 }
 {
     let column = column.max(0) as usize;
     let word = column / 64;
@@ -35,7 +36,8 @@ pub(crate) fn flip(words: &mut [u64], column: i64)
 /// Flips the flag of the first column at which the edge is crossed, if it runs through the row of `start`.
 fn flip_crossed(words: &mut [u64], edge: Edge, start: Point)
     ensures len { length words.new ≡ length words.old }
-    ensures flags { (k : ℕ) → k < 64 * length words.old → parity (bit_of words.new) (k + 1) ≡ (parity (bit_of words.old) (k + 1) + crossing edge (along start (pos k))) % 2 }
+    ensures flags { (k : ℕ) → k < 64 * length words.old → parity (bit_of words.new) (k + 1) ≡
+        (parity (bit_of words.old) (k + 1) + crossing edge (along start (pos k))) % 2 }
 {
     if is_in_range(edge.a, edge.b, start) {
         flip(words, EdgeWalk::new(edge, start).column());
@@ -44,7 +46,8 @@ fn flip_crossed(words: &mut [u64], edge: Edge, start: Point)
     }
 }
 
-/// Sets bit k of the row to whether the sample k pixels to the right of `start` is inside of the edges by the even-odd rule.
+/// Sets bit k of the row to whether the sample k pixels to the right of `start` is inside of the edges by the even-odd
+/// rule.
 pub fn even_odd_row(words: &mut [u64], edges: &[Edge], start: Point)
     ensures len { length words.new ≡ length words.old }
     ensures bits { IsRowOf EvenOdd edges.now start words.new }

@@ -6,7 +6,8 @@ use crate::edge::Edge;
 use grid::{Point, side};
 use std::marker::Model;
 
-/// An edge that runs downwards, at one row of samples. It goes from row to row by a quotient and a remainder, with no division.
+/// An edge that runs downwards, at one row of samples. It goes from row to row by a quotient and a remainder, with no
+/// division.
 #[derive(Drop)]
 pub(crate) struct EdgeWalk {
     edge: Edge,

@@ -26,7 +26,8 @@ fn add(counters: &mut [i32], column: i64, number: i32)
     requires number { IsWithin 1 number }
     requires small { AreWithin (2 ^ 30) counters.old }
     ensures len { length counters.new ≡ length counters.old }
-    ensures sums { (k : ℕ) → k < length counters.old → sum_to (counter_of counters.new) (k + 1) ≡ sum_to (counter_of counters.old) (k + 1) +ℤ from_column column number k }
+    ensures sums { (k : ℕ) → k < length counters.old → sum_to (counter_of counters.new) (k + 1) ≡
+        sum_to (counter_of counters.old) (k + 1) +ℤ from_column column number k }
     ensures small { (n : ℕ) → AreWithin n counters.old → AreWithin (n + 1) counters.new }
 {
     let column = column.max(0) as usize;
@@ -39,7 +40,8 @@ fn add(counters: &mut [i32], column: i64, number: i32)
 fn add_crossed(counters: &mut [i32], edge: Edge, start: Point)
     requires small { AreWithin (2 ^ 30) counters.old }
     ensures len { length counters.new ≡ length counters.old }
-    ensures sums { (k : ℕ) → k < length counters.old → sum_to (counter_of counters.new) (k + 1) ≡ sum_to (counter_of counters.old) (k + 1) +ℤ direction edge (along start (pos k)) }
+    ensures sums { (k : ℕ) → k < length counters.old → sum_to (counter_of counters.new) (k + 1) ≡
+        sum_to (counter_of counters.old) (k + 1) +ℤ direction edge (along start (pos k)) }
     ensures small { (n : ℕ) → AreWithin n counters.old → AreWithin (n + 1) counters.new }
 {
     if is_in_range(edge.a, edge.b, start) {
@@ -67,7 +69,8 @@ fn mark_sums(words: &mut [u64], counters: &[i32])
     requires len { length counters.now ≡ 64 * length words.old }
     requires small { length counters.now < 2 ^ 30 }
     ensures len { length words.new ≡ length words.old }
-    ensures bits { (k : ℕ) → k < 64 * length words.old → ((bit_of words.new k ≡ 1) ↔ (sum_to (counter_of counters.now) (k + 1) ≢ pos 0)) }
+    ensures bits { (k : ℕ) → k < 64 * length words.old →
+        ((bit_of words.new k ≡ 1) ↔ (sum_to (counter_of counters.now) (k + 1) ≢ pos 0)) }
 {
     clear(words);
     let mut sum: i64 = 0;
@@ -77,8 +80,8 @@ fn mark_sums(words: &mut [u64], counters: &[i32])
     }
 }
 
-/// Sets bit k of the row to whether the sample k pixels to the right of `start` is inside of the edges by the nonzero rule. The
-/// counters are for its own use.
+/// Sets bit k of the row to whether the sample k pixels to the right of `start` is inside of the edges by the nonzero
+/// rule. The counters are for its own use.
 pub fn nonzero_row(words: &mut [u64], counters: &mut [i32], edges: &[Edge], start: Point)
     requires len { length counters.old ≡ 64 * length words.old }
     requires small { length counters.old < 2 ^ 30 }

@@ -9,7 +9,7 @@ use Rattle.pool.specs.declared.known.Known.{Known}
 use Rattle.pool.specs.declared.counter.Counter.{Counter}
 use Rattle.pool.specs.declared.counter.CounterHandle.{CounterHandle}
 use Rattle.pool.specs.Counters.{times, once_below}
-use Rattle.pool.specs.Handles.{count_of, known_of}
+use Rattle.pool.specs.Handles.{count_of, knowledge_of}
 use Rattle.pool.specs.Dealing.{times_in, NoneTwice, DealtOnce, SomeEnded}
 use Rattle.pool.specs.Rows.{desk_count, turns_to, AreDesks, AreJoined, IsClosed}
 use Rattle.pool.specs.Desks.{IsDeskSeat, GathersAt, Gathers}
@@ -19,15 +19,15 @@ use Rattle.pool.proofs.Turns.{desk_below, below_desk}
 
 -- a seat that has ended has marked each desk
 marked : (n : ℕ) (counters : List Counter) (number passed : ℕ) (handles : List CounterHandle) (numbers : List ℕ) (d : ℕ) (p : CounterHandle) → IsDeskSeat n counters number passed handles numbers → d < length counters
-    → cond {A = ℕ} (eqb passed (length handles)) 1 0 ≤ (known_of (get_or handles d p)).marks
+    → cond {A = ℕ} (eqb passed (length handles)) 1 0 ≤ (knowledge_of (get_or handles d p)).marks
 marked n counters number passed handles numbers d p is within =
     let m = is.marks d p within in
     let len = is.row.0 in
     let lt : turns_to (length counters) number d < length counters = mod-lt _ (omega arith) in
     go (eqb passed (length handles)) refl m len lt
   where
-    go : (b : Bool) → eqb passed (length handles) ≡ b → (known_of (get_or handles d p)).marks ≡ cond {A = ℕ} (ltb (turns_to (length counters) number d) passed) 1 0 → length handles ≡ length counters
-        → turns_to (length counters) number d < length counters → cond {A = ℕ} (eqb passed (length handles)) 1 0 ≤ (known_of (get_or handles d p)).marks
+    go : (b : Bool) → eqb passed (length handles) ≡ b → (knowledge_of (get_or handles d p)).marks ≡ cond {A = ℕ} (ltb (turns_to (length counters) number d) passed) 1 0 → length handles ≡ length counters
+        → turns_to (length counters) number d < length counters → cond {A = ℕ} (eqb passed (length handles)) 1 0 ≤ (knowledge_of (get_or handles d p)).marks
     go true e m len lt =
         let all : passed ≡ length handles = grind (arith, nat_tests) in
         let t : ltb (turns_to (length counters) number d) passed ≡ true = grind (arith, nat_tests) in
@@ -55,8 +55,8 @@ gathers_more n counters number passed handles numbers whole joined lists is g le
     let is_joined = j d p p p (omega arith) in
     let had = g d p within in
     let l : List ℕ × Bool = (numbers, eqb passed (length handles)) in
-    let v = known_of (get_or whole d p) in
-    let u = known_of (get_or handles d p) in
+    let v = knowledge_of (get_or whole d p) in
+    let u = knowledge_of (get_or handles d p) in
     subst (λ (k : Known). GathersAt (length counters) d k (lists ++ l ∷ [])) (sym is_joined) (
       (let o = is.one d p within in let e = length-append lists (l ∷ []) in let h = had.0 in omega arith),
       (λ i.
@@ -83,7 +83,7 @@ module _ (n : ℕ) (counters : List Counter) (whole : List CounterHandle) (lists
   within : (x : ℕ) → d x < length counters
   within x = mod-lt x some
 
-  times_there : (x : ℕ) → times_in x lists ≡ times (j x) (known_of (get_or whole (d x) handle)).numbers
+  times_there : (x : ℕ) → times_in x lists ≡ times (j x) (knowledge_of (get_or whole (d x) handle)).numbers
   times_there x = ap (λ (k : ℕ). times_in k lists) (sym (split x)) ∙ sym ((g (d x) handle (within x)).1 (j x))
 
   below_there : (x : ℕ) → once_below (j x) (count_of (get_or counters (d x) counter)) ≡ once_below x n

@@ -10,7 +10,7 @@ use native.Mathlib.Decide.{dec_le, ℕ_discrete}
 use Rattle.pool.specs.declared.counter.Counter.{Counter}
 use Rattle.pool.specs.declared.counter.CounterHandle.{CounterHandle}
 use Rattle.pool.specs.Counters.{times, once_below, with_number, with_mark, without_one, one_seat}
-use Rattle.pool.specs.Handles.{count_of, known_of, IsIn}
+use Rattle.pool.specs.Handles.{count_of, knowledge_of, IsIn}
 use Rattle.pool.specs.Rows.{desk_count, turns_to, IsRow, AreDesks, AreUncut}
 use Rattle.pool.specs.Desks.{IsDeskSeat, PrecedesInTurn}
 use Rattle.pool.proofs.Counts.{times_push}
@@ -31,7 +31,7 @@ module _ (n : ℕ) (counters : List Counter) (number passed : ℕ) (handles : Li
   here_turn = turn_forth (length counters) number passed is.within left
 
   -- it is unmarked
-  pub unmarked : (p : CounterHandle) → (known_of (get_or handles here p)).marks < (known_of (get_or handles here p)).seats
+  pub unmarked : (p : CounterHandle) → (knowledge_of (get_or handles here p)).marks < (knowledge_of (get_or handles here p)).seats
   unmarked p =
       let m = is.marks here p here_within in
       let o = is.one here p here_within in
@@ -56,14 +56,14 @@ module _ (n : ℕ) (counters : List Counter) (number passed : ℕ) (handles : Li
   )
 
   -- none is left at this desk
-  pub marked_kept : (new : CounterHandle) (old : CounterHandle) → ((counter : Counter) → IsIn (get_or counters here counter) new) → known_of new ≡ with_mark (known_of (get_or handles here old))
+  pub marked_kept : (new : CounterHandle) (old : CounterHandle) → ((counter : Counter) → IsIn (get_or counters here counter) new) → knowledge_of new ≡ with_mark (knowledge_of (get_or handles here old))
       → IsDeskSeat n counters number (passed + 1) (set handles here new) numbers
   marked_kept new old in_line is_new = record {
     row = row_kept new in_line;
     within = is.within;
     passed_some = omega arith;
-    one = at_places (λ d p. (known_of p).seats ≡ 1) new (ap (λ k. k.seats) is_new ∙ is.one here old here_within) (λ d p within _. is.one d p within);
-    marks = at_places (λ d p. (known_of p).marks ≡ cond (ltb (turns_to (length counters) number d) (passed + 1)) 1 0) new
+    one = at_places (λ d p. (knowledge_of p).seats ≡ 1) new (ap (λ k. k.seats) is_new ∙ is.one here old here_within) (λ d p within _. is.one d p within);
+    marks = at_places (λ d p. (knowledge_of p).marks ≡ cond (ltb (turns_to (length counters) number d) (passed + 1)) 1 0) new
         (let m = is.marks here old here_within in
         let t : ltb (turns_to (length counters) number here) passed ≡ false = rw here_turn (grind (arith, nat_tests)) in
         let z : cond {A = ℕ} (ltb (turns_to (length counters) number here) passed) 1 0 ≡ 0 = ap (λ (b : Bool). cond {A = ℕ} b 1 0) t in
@@ -74,15 +74,15 @@ module _ (n : ℕ) (counters : List Counter) (number passed : ℕ) (handles : Li
         let apart : turns_to (length counters) number d ≢ passed = λ e. ne (sym (turn_back (length counters) number d is.within within) ∙ ap (λ (k : ℕ). (number + k) % length counters) e) in
         let t : ltb (turns_to (length counters) number d) passed ≡ ltb (turns_to (length counters) number d) (passed + 1) = grind (arith, nat_tests) in
         is.marks d p within ∙ ap (λ (b : Bool). cond {A = ℕ} b 1 0) t);
-    same = (λ d j. at_places (λ d p. times (d + j * length counters) numbers ≡ times j (known_of p).numbers) new
+    same = (λ d j. at_places (λ d p. times (d + j * length counters) numbers ≡ times j (knowledge_of p).numbers) new
         (is.same here j old here_within ∙ ap (λ k. times j k.numbers) (sym is_new)) (λ d p within _. is.same d j p within) d);
     once = is.once;
     turn = All-weaker (λ k. turns_to (length counters) number k ≤ passed) (λ k. turns_to (length counters) number k ≤ passed + 1) (λ k h. omega arith) numbers is.turn;
     order = is.order;
   }
 
-  module _ (new : CounterHandle) (old : CounterHandle) (j : ℕ) (in_line : (counter : Counter) → IsIn (get_or counters here counter) new) (is_new : known_of new ≡ with_number (known_of (get_or handles here old)) j)
-      (rises : All (λ x. x < j) (known_of (get_or handles here old)).numbers) (some : j < desk_count n (length counters) here) where
+  module _ (new : CounterHandle) (old : CounterHandle) (j : ℕ) (in_line : (counter : Counter) → IsIn (get_or counters here counter) new) (is_new : knowledge_of new ≡ with_number (knowledge_of (get_or handles here old)) j)
+      (rises : All (λ x. x < j) (knowledge_of (get_or handles here old)).numbers) (some : j < desk_count n (length counters) here) where
     -- the number that was drawn
     abbrev drawn : ℕ
     drawn = here + j * length counters
@@ -94,7 +94,7 @@ module _ (n : ℕ) (counters : List Counter) (number passed : ℕ) (handles : Li
     drawn_turn = turn_of_number (length counters) number here j is.within ∙ here_turn
 
     drawn_new : times drawn numbers ≡ 0
-    drawn_new = is.same here j old here_within ∙ none_above (known_of (get_or handles here old)).numbers j j rises (omega arith)
+    drawn_new = is.same here j old here_within ∙ none_above (knowledge_of (get_or handles here old)).numbers j j rises (omega arith)
 
     once_kept : (k : ℕ) → times k (numbers ++ drawn ∷ []) ≤ once_below k n
     once_kept k =
@@ -123,9 +123,9 @@ module _ (n : ℕ) (counters : List Counter) (number passed : ℕ) (handles : Li
         let turn_d : turns_to (length counters) number d ≡ passed = sym (turn_of_number (length counters) number d i is.within) ∙ ap (turns_to (length counters) number) split ∙ turn in
         let at_here : d ≡ here = sym (turn_back (length counters) number d is.within d_within) ∙ ap (λ (t : ℕ). (number + t) % length counters) turn_d in
         let there : 0 < times x numbers = stands numbers k o within in
-        let eq : times x numbers ≡ times i (known_of (get_or handles here old)).numbers = ap (λ (y : ℕ). times y numbers) (sym split ∙ ap (λ (y : ℕ). y + i * length counters) at_here) ∙ is.same here i old here_within in
+        let eq : times x numbers ≡ times i (knowledge_of (get_or handles here old)).numbers = ap (λ (y : ℕ). times y numbers) (sym split ∙ ap (λ (y : ℕ). y + i * length counters) at_here) ∙ is.same here i old here_within in
         dite (dec_le j i)
-        (λ (le : j ≤ i). let z = none_above (known_of (get_or handles here old)).numbers j i rises le in absurd (omega arith))
+        (λ (le : j ≤ i). let z = none_above (knowledge_of (get_or handles here old)).numbers j i rises le in absurd (omega arith))
         (λ (not : ¬ (j ≤ i)). let m : i * length counters < j * length counters = less i j (length counters) (omega arith) (omega arith) in omega arith)
       where
         less : (a b c : ℕ) → a < b → 0 < c → a * c < b * c
@@ -148,13 +148,13 @@ module _ (n : ℕ) (counters : List Counter) (number passed : ℕ) (handles : Li
       row = row_kept new in_line;
       within = is.within;
       passed_some = is.passed_some;
-      one = at_places (λ d p. (known_of p).seats ≡ 1) new (ap (λ k. k.seats) is_new ∙ is.one here old here_within) (λ d p within _. is.one d p within);
-      marks = at_places (λ d p. (known_of p).marks ≡ cond (ltb (turns_to (length counters) number d) passed) 1 0) new
+      one = at_places (λ d p. (knowledge_of p).seats ≡ 1) new (ap (λ k. k.seats) is_new ∙ is.one here old here_within) (λ d p within _. is.one d p within);
+      marks = at_places (λ d p. (knowledge_of p).marks ≡ cond (ltb (turns_to (length counters) number d) passed) 1 0) new
           (ap (λ k. k.marks) is_new ∙ is.marks here old here_within) (λ d p within _. is.marks d p within);
-      same = (λ d i. at_places (λ d p. times (d + i * length counters) (numbers ++ drawn ∷ []) ≡ times i (known_of p).numbers) new
+      same = (λ d i. at_places (λ d p. times (d + i * length counters) (numbers ++ drawn ∷ []) ≡ times i (knowledge_of p).numbers) new
           (times_push (here + i * length counters) numbers drawn
           ∙ (let a = is.same here i old here_within in let e = ap (λ (b : Bool). cond {A = ℕ} b 1 0) (same_desk (length counters) here j i here_within) in
-          let p = times_push i (known_of (get_or handles here old)).numbers j in omega arith)
+          let p = times_push i (knowledge_of (get_or handles here old)).numbers j in omega arith)
           ∙ ap (λ k. times i k.numbers) (sym is_new))
           (λ d p within ne.
           let e = ap (λ (b : Bool). cond {A = ℕ} b 1 0) (other_desk (length counters) here d j i here_within within (λ q. ne (sym q))) in
@@ -192,17 +192,17 @@ module _ (n : ℕ) (counters : List Counter) (number passed : ℕ) (handles : Li
   in_line : IsIn counter new → counter ≡ get_or counters ((number + passed) % length counters) counter → (other : Counter) → IsIn (get_or counters ((number + passed) % length counters) other) new
   in_line is_in at other = subst (λ (l : Counter). IsIn l new) (at ∙ same_at counters ((number + passed) % length counters) counter other within) is_in
 
-  pub may_draw : (w : ℕ) → w ≡ length counters → At w → (known_of old).marks < (known_of old).seats
-  may_draw w e at = subst (λ (p : CounterHandle). (known_of p).marks < (known_of p).seats) (sym (subst At e at).1) (unmarked n counters number passed handles numbers is left old)
+  pub may_draw : (w : ℕ) → w ≡ length counters → At w → (knowledge_of old).marks < (knowledge_of old).seats
+  may_draw w e at = subst (λ (p : CounterHandle). (knowledge_of p).marks < (knowledge_of p).seats) (sym (subst At e at).1) (unmarked n counters number passed handles numbers is left old)
 
-  pub marks_desk : (w : ℕ) → w ≡ length counters → At w → IsIn counter new → known_of new ≡ with_mark (known_of old)
+  pub marks_desk : (w : ℕ) → w ≡ length counters → At w → IsIn counter new → knowledge_of new ≡ with_mark (knowledge_of old)
       → IsDeskSeat n counters number (passed + 1) (set handles ((number + passed) % w) new) numbers
   marks_desk w e at is_in is_new =
       let here = subst At e at in
       subst (λ (k : ℕ). IsDeskSeat n counters number (passed + 1) (set handles ((number + passed) % k) new) numbers) (sym e)
-      (marked_kept n counters number passed handles numbers is left new old (in_line is_in here.0) (is_new ∙ ap (λ (p : CounterHandle). with_mark (known_of p)) here.1))
+      (marked_kept n counters number passed handles numbers is left new old (in_line is_in here.0) (is_new ∙ ap (λ (p : CounterHandle). with_mark (knowledge_of p)) here.1))
 
-  module _ (j : ℕ) (desks : AreDesks n counters) (is_in : IsIn counter new) (is_new : known_of new ≡ with_number (known_of old) j) (rises : All (λ x. x < j) (known_of old).numbers) (some : j < count_of counter) where
+  module _ (j : ℕ) (desks : AreDesks n counters) (is_in : IsIn counter new) (is_new : knowledge_of new ≡ with_number (knowledge_of old) j) (rises : All (λ x. x < j) (knowledge_of old).numbers) (some : j < count_of counter) where
     counted : counter ≡ get_or counters ((number + passed) % length counters) counter → j < desk_count n (length counters) ((number + passed) % length counters)
     counted at = let c = (desks ((number + passed) % length counters) counter within).0 in let l = ap count_of at in omega arith
 
@@ -211,8 +211,8 @@ module _ (n : ℕ) (counters : List Counter) (number passed : ℕ) (handles : Li
         × ((number + passed) % w + j * w < n)
     takes_number w e at =
         let here = subst At e at in
-        let is_new' = is_new ∙ ap (λ (p : CounterHandle). with_number (known_of p) j) here.1 in
-        let rises' = subst (λ (p : CounterHandle). All (λ x. x < j) (known_of p).numbers) here.1 rises in
+        let is_new' = is_new ∙ ap (λ (p : CounterHandle). with_number (knowledge_of p) j) here.1 in
+        let rises' = subst (λ (p : CounterHandle). All (λ x. x < j) (knowledge_of p).numbers) here.1 rises in
         subst (λ (k : ℕ). IsDeskSeat n counters number passed (set handles ((number + passed) % k) new) (numbers ++ ((number + passed) % k + j * k) ∷ []) × (length numbers < n)
         × ((number + passed) % k + j * k < n)) (sym e) (
           number_kept n counters number passed handles numbers is left new old j (in_line is_in here.0) is_new' rises' (counted here.0),
@@ -251,9 +251,9 @@ fresh n counters number passed handles numbers row within uncut none nothing =
     (subst (λ (xs : List ℕ). IsDeskSeat n counters number 0 handles xs) (sym nothing) (nothing_yet n counters number handles row within uncut (Rattle.pool.proofs.Rowed.some_of counters (omega arith))))
 
 pub one_less : (seats : ℕ) (counters : List Counter) (rest after : List CounterHandle) → AreUncut seats counters rest
-    → ((d : ℕ) (p q : CounterHandle) → d < length counters → known_of (get_or after d p) ≡ without_one (known_of (get_or rest d q))) → AreUncut (seats - 1) counters after
+    → ((d : ℕ) (p q : CounterHandle) → d < length counters → knowledge_of (get_or after d p) ≡ without_one (knowledge_of (get_or rest d q))) → AreUncut (seats - 1) counters after
 one_less seats counters rest after uncut cut d l p h = cut d p p h ∙ ap without_one (uncut d l p h)
 
 pub cut_off : (seats : ℕ) (counters : List Counter) (rest row : List CounterHandle) → AreUncut seats counters rest
-    → ((d : ℕ) (p q : CounterHandle) → d < length counters → known_of (get_or row d p) ≡ one_seat (known_of (get_or rest d q))) → AreUncut 1 counters row
+    → ((d : ℕ) (p q : CounterHandle) → d < length counters → knowledge_of (get_or row d p) ≡ one_seat (knowledge_of (get_or rest d q))) → AreUncut 1 counters row
 cut_off seats counters rest row uncut cut d l p h = cut d p p h ∙ ap one_seat (uncut d l p h)

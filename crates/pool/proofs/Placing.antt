@@ -10,7 +10,7 @@ use mathlib.Core.Logic.{dite}
 use native.Mathlib.Decide.{ℕ_discrete}
 use Rattle.pool.specs.Counters.{times, once_below}
 use Rattle.pool.specs.Dealing.{times_in, DealtOnce}
-use Rattle.pool.specs.Work.{EachFrom, IsRight, AreRight, HasAnswer, RightInOrder}
+use Rattle.pool.specs.Work.{EachFrom, IsRightAnswer, AreRight, HasAnswer, RightInOrder}
 use Rattle.pool.proofs.Counts.{times_cons}
 
 -- one more element, with the next number
@@ -83,7 +83,7 @@ some_ended given ended (s ∷ seats) some all = let e : ended s ≡ true = All-h
 -- When some of all pairs are left to be put: those are right, and each number of the others has its answer
 abbrev pub Putting : {Out : Type 0} → (ℕ → Out → Type 0) → ℕ → List (Option Out) → List (ℕ × Out) → List (Option Out) → List (ℕ × Out) → Type 0
 Putting right n initial all places left =
-    All (IsRight right n) left
+    All (IsRightAnswer right n) left
     × AreRight right places
     × ((k : ℕ) → HasAnswer initial k → HasAnswer places k)
     × ((k : ℕ) → 0 < times k (map (λ pair. pair.0) all) → HasAnswer places k ⊎ (0 < times k (map (λ pair. pair.0) left)))
@@ -92,9 +92,9 @@ pub Putting-next : {Out : Type 0} (right : ℕ → Out → Type 0) (n : ℕ) (in
     → whole ≡ (number, answer) ∷ left → length places ≡ n → Putting right n initial all places whole → Putting right n initial all (set places number (Some answer)) left
 Putting-next {Out} right n initial all places whole left number answer is len was =
     let now : Putting right n initial all places ((number, answer) ∷ left) = subst (Putting right n initial all places) is was in
-    let here : IsRight right n (number, answer) = All-head (IsRight right n) (number, answer) left now.0 in
+    let here : IsRightAnswer right n (number, answer) = All-head (IsRightAnswer right n) (number, answer) left now.0 in
     let within : number < length places = (let h = here.0 in omega arith) in (
-      All-tail (IsRight right n) (number, answer) left now.0,
+      All-tail (IsRightAnswer right n) (number, answer) left now.0,
       AreRight-set right places number answer within now.1 here.1,
       (λ k has. HasAnswer-kept places number answer k within (now.2 k has)),
       (λ k some. ⊎_elim

@@ -3,7 +3,7 @@ use Rattle.std.specs.Prelude.{◌≡◌, ℕ, ◌+◌, ◌*◌, ◌<◌, ◌≤�
 use Rattle.pool.specs.Counters.{times, once_below}
 use Rattle.pool.specs.Dealing.{times_in, marks_in}
 use Rattle.pool.specs.declared.known.Known.{Known}
-use Rattle.pool.specs.Handles.{known_of}
+use Rattle.pool.specs.Handles.{knowledge_of}
 use Rattle.pool.specs.Rows.{turns_to, IsRow}
 use Rattle.pool.specs.declared.counter.Counter.{Counter}
 use Rattle.pool.specs.declared.counter.CounterHandle.{CounterHandle}
@@ -23,9 +23,9 @@ pub record IsDeskSeat (n : ℕ) (counters : List Counter) (number passed : ℕ) 
   pub row : IsRow counters handles
   pub within : number < length counters
   pub passed_some : passed ≤ length counters
-  pub one : (d : ℕ) (p : CounterHandle) → d < length counters → (known_of (slice_index_or handles d p)).seats ≡ 1
-  pub marks : (d : ℕ) (p : CounterHandle) → d < length counters → (known_of (slice_index_or handles d p)).marks ≡ (if nat_lt (turns_to (length counters) number d) passed then 1 else 0)
-  pub same : (d j : ℕ) (p : CounterHandle) → d < length counters → times (d + j * length counters) numbers ≡ times j (known_of (slice_index_or handles d p)).numbers
+  pub one : (d : ℕ) (p : CounterHandle) → d < length counters → (knowledge_of (slice_index_or handles d p)).seats ≡ 1
+  pub marks : (d : ℕ) (p : CounterHandle) → d < length counters → (knowledge_of (slice_index_or handles d p)).marks ≡ (if nat_lt (turns_to (length counters) number d) passed then 1 else 0)
+  pub same : (d j : ℕ) (p : CounterHandle) → d < length counters → times (d + j * length counters) numbers ≡ times j (knowledge_of (slice_index_or handles d p)).numbers
   pub once : (k : ℕ) → times k numbers ≤ once_below k n
   pub turn : All (λ k. turns_to (length counters) number k ≤ passed) numbers
   pub order : GoesRound (length counters) number numbers
@@ -65,4 +65,4 @@ GathersAt w d v lists = (v.seats ≡ length lists) × ((j : ℕ) → times j v.n
 
 -- At each desk the handle has what the lists have of the desk's numbers, and at least a mark for each that has ended.
 abbrev pub Gathers : ℕ → List CounterHandle → List (List ℕ × Bool) → Type 0
-Gathers w whole lists = (d : ℕ) (p : CounterHandle) → d < w → GathersAt w d (known_of (slice_index_or whole d p)) lists
+Gathers w whole lists = (d : ℕ) (p : CounterHandle) → d < w → GathersAt w d (knowledge_of (slice_index_or whole d p)) lists

@@ -13,9 +13,9 @@ abbrev pub seats_of : Counter → ℕ
 seats_of counter = counter.table.shared.key.seats
 
 -- What a handle knows of its counter.
-abbrev pub known_of : CounterHandle → Known
-known_of handle = handle.seat.me.0
+abbrev pub knowledge_of : CounterHandle → Known
+knowledge_of handle = handle.seat.me.0
 
 -- The handle is one of this counter.
 abbrev pub IsIn : Counter → CounterHandle → Type 0
-IsIn counter handle = (handle.seat.table_id ≡ counter.table.shared.table_id) × ((known_of handle).count ≡ count_of counter)
+IsIn counter handle = (handle.seat.table_id ≡ counter.table.shared.table_id) × ((knowledge_of handle).count ≡ count_of counter)

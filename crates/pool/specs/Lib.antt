@@ -31,7 +31,7 @@
 -- Handles.antt
 --   count_of: How many numbers the counter has.
 --   seats_of: How many seats share the counter.
---   known_of: What a handle knows of its counter.
+--   knowledge_of: What a handle knows of its counter.
 --   IsIn: The handle is one of this counter.
 --
 -- Rows.antt
@@ -68,7 +68,7 @@
 --
 -- Work.antt
 --   RightInOrder: The answer at each place is right for the number of the place.
---   IsRight: A number below n, with an answer that is right for it.
+--   IsRightAnswer: A number below n, with an answer that is right for it.
 --   EachFrom: The fact holds of each element and its number, counted from a first number.
 --   AreDealt: New seats of this dealer, in their order: they were given nothing, and are at most 16.
 --   AreWorkerAnswers: What a worker returns: exactly the numbers that its seat was given have an answer, in their order.

@@ -1,7 +1,7 @@
 -- Counters in a row, one for each seat, and the handles that a seat has in them.
 use Rattle.std.specs.Prelude.{◌≡◌, ℕ, ◌+◌, ◌-◌, ◌/◌, ◌%◌, ◌<◌, ◌≤◌, List, [], length, slice_index_or}
 use Rattle.pool.specs.Counters.{times, once_below, known, both}
-use Rattle.pool.specs.Handles.{count_of, seats_of, known_of, IsIn}
+use Rattle.pool.specs.Handles.{count_of, seats_of, knowledge_of, IsIn}
 use Rattle.pool.specs.declared.counter.Counter.{Counter}
 use Rattle.pool.specs.declared.counter.CounterHandle.{CounterHandle}
 
@@ -26,14 +26,14 @@ IsRow counters handles = (length handles ≡ length counters)
 -- Each handle of the last row has what those of the two rows have.
 abbrev pub AreJoined : List CounterHandle → List CounterHandle → List CounterHandle → Type 0
 AreJoined whole row joined = (d : ℕ) (p q r : CounterHandle) → d < length whole
-    → known_of (slice_index_or joined d p) ≡ both (known_of (slice_index_or whole d q)) (known_of (slice_index_or row d r))
+    → knowledge_of (slice_index_or joined d p) ≡ both (knowledge_of (slice_index_or whole d q)) (knowledge_of (slice_index_or row d r))
 
 -- The handle of all seats has each number at most once, and exactly once if a seat has marked the counter.
 abbrev pub IsClosed : Counter → CounterHandle → Type 0
-IsClosed counter handle = ((x : ℕ) → times x (known_of handle).numbers ≤ once_below x (count_of counter))
-    × (0 < (known_of handle).marks → (x : ℕ) → times x (known_of handle).numbers ≡ once_below x (count_of counter))
+IsClosed counter handle = ((x : ℕ) → times x (knowledge_of handle).numbers ≤ once_below x (count_of counter))
+    × (0 < (knowledge_of handle).marks → (x : ℕ) → times x (knowledge_of handle).numbers ≡ once_below x (count_of counter))
 
 -- Each handle stands for `seats` seats, which were given nothing.
 abbrev pub AreUncut : ℕ → List Counter → List CounterHandle → Type 0
 AreUncut seats counters handles = (d : ℕ) (counter : Counter) (handle : CounterHandle) → d < length counters
-    → known_of (slice_index_or handles d handle) ≡ known (count_of (slice_index_or counters d counter)) seats [] 0
+    → knowledge_of (slice_index_or handles d handle) ≡ known (count_of (slice_index_or counters d counter)) seats [] 0

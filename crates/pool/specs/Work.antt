@@ -14,8 +14,8 @@ abbrev pub RightInOrder : {Out : Type 0} → (ℕ → Out → Type 0) → List O
 RightInOrder {Out} right answers = (k : ℕ) (answer : Out) → slice_get answers k ≡ Some answer → right k answer
 
 -- A number below n, with an answer that is right for it.
-abbrev pub IsRight : {Out : Type 0} → (ℕ → Out → Type 0) → ℕ → ℕ × Out → Type 0
-IsRight right n pair = (pair.0 < n) × right pair.0 pair.1
+abbrev pub IsRightAnswer : {Out : Type 0} → (ℕ → Out → Type 0) → ℕ → ℕ × Out → Type 0
+IsRightAnswer right n pair = (pair.0 < n) × right pair.0 pair.1
 
 -- The fact holds of each element and its number, counted from a first number.
 abbrev pub EachFrom : {X : Type 0} → (ℕ → X → Type 0) → ℕ → List X → Type 0
@@ -36,7 +36,7 @@ module _ {D Seat : Type 0} (d : Dealer.Ghosts D Seat) {J Out Scratch : Type 0} (
     pub number : d.number answers.seat ≡ worker
     pub ended : d.ended answers.seat ≡ true
     pub numbers : map (λ pair. pair.0) answers.pairs.items ≡ d.given answers.seat
-    pub right : All (IsRight (j.right job) (d.count dealer)) answers.pairs.items
+    pub right : All (IsRightAnswer (j.right job) (d.count dealer)) answers.pairs.items
 
   -- The result of a worker: its answers, or that it is out of memory.
   abbrev pub IsWorkerResult : D → J → ℕ → Result (WorkerAnswers Seat Out) OutOfMemory → Type 0

@@ -1,7 +1,7 @@
 //! The answers of all workers, put at the places of their numbers.
 ghost use Rattle.std.specs.Prelude.{◌≡◌, ◌<◌, ℕ, Some, None, IsTrue, is_some, All, map, IfOk, vec_len};
 ghost use Rattle.pool.specs.Counters.{times};
-ghost use Rattle.pool.specs.Work.{AreWorkerResults, IsRight, RightInOrder, AreRight, HasAnswer};
+ghost use Rattle.pool.specs.Work.{AreWorkerResults, IsRightAnswer, RightInOrder, AreRight, HasAnswer};
 
 use crate::dealer::Dealer;
 use crate::fault::PoolFault;
@@ -24,7 +24,7 @@ fn empty_places<T: Drop>(alloc: Global, n: u32) -> Result<Vec<Option<T>>, OutOfM
 
 /// Puts each answer at the place of its number. The contract alone speaks of the job.
 fn put<J: Job>(_job: &J, places: &mut Vec<Option<J::Out>>, pairs: Vec<(u32, J::Out)>)
-    requires pairs { All (IsRight (J.right _job.now) (vec_len places.old)) pairs.items }
+    requires pairs { All (IsRightAnswer (J.right _job.now) (vec_len places.old)) pairs.items }
     requires right { AreRight (J.right _job.now) places.old.items }
     ensures len { vec_len places.new ≡ vec_len places.old }
     ensures right { AreRight (J.right _job.now) places.new.items }
@@ -49,8 +49,8 @@ fn answers_of<T: Drop>(alloc: Global, places: Vec<Option<T>>) -> Result<Vec<T>, 
     Ok(answers)
 }
 
-/// The answers of the workers, in the order of their numbers. If all workers were started and none ran out of memory, each number was
-/// given once, so that each place gets its answer.
+/// The answers of the workers, in the order of their numbers. If all workers were started and none ran out of memory,
+/// each number was given once, so that each place gets its answer.
 pub(crate) fn gather<D: Dealer, J: Job>(
     alloc: Global,
     dealer: D,
@@ -60,7 +60,8 @@ pub(crate) fn gather<D: Dealer, J: Job>(
 ) -> Result<Vec<J::Out>, PoolFault>
     requires count { D.count dealer ≡ n }
     requires seats { 0 < D.seat_count dealer }
-    requires results { IfOk worked (λ results. AreWorkerResults D.Dealer J.Job dealer job.now (D.seat_count dealer) results.items) }
+    requires results { IfOk worked (λ results. AreWorkerResults D.Dealer J.Job dealer job.now (D.seat_count dealer)
+        results.items) }
     ensures len { IfOk result (λ answers. vec_len answers ≡ n) }
     ensures right { IfOk result (λ answers. RightInOrder (J.right job.now) answers.items) }
 {

@@ -9,8 +9,9 @@ use std::alloc::Global;
 
 /// Distributes work: the numbers below a count, as of tiles, are given to seats, the handles of the workers.
 ///
-/// The threads share the dealer, and each draws with a seat of its own. Whatever the order of their calls, no number is given twice,
-/// and once one seat has found none left, each number was given once. `next` allocates nothing and never waits.
+/// The threads share the dealer, and each draws with a seat of its own. Whatever the order of their calls, no number is
+/// given twice, and once one seat has found none left, each number was given once. `next` allocates nothing and never
+/// waits.
 pub trait Dealer: Sized + Sync + Drop {
     /// The handle of one worker.
     type Seat: Send + Drop;
@@ -36,8 +37,8 @@ pub trait Dealer: Sized + Sync + Drop {
     /// The order in which a seat of this number is given its numbers.
     ghost in_order: { Self → ℕ → List ℕ → Type 0 };
 
-    /// A dealer of the numbers below `n`, and its seats in their order, which were given nothing. All memory of the later calls is
-    /// allocated here. Fails only if an allocation fails.
+    /// A dealer of the numbers below `n`, and its seats in their order, which were given nothing. All memory of the
+    /// later calls is allocated here. Fails only if an allocation fails.
     fn deal(alloc: Global, n: u32, seats: u32) -> Result<(Self, Vec<Self::Seat>), OutOfMemory>
         requires { (n ≤ 262144) × (0 < seats) × (seats ≤ 16) }
         ensures dealer { IfOk result (λ r. (count r.0 ≡ n) × (seat_count r.0 ≡ seats)) }
@@ -48,7 +49,8 @@ pub trait Dealer: Sized + Sync + Drop {
     fn next(&self, seat: &mut Self::Seat) -> Option<u32>
         requires { fits self.now seat.old }
         ensures fits { fits self.now seat.new × (number seat.new ≡ number seat.old) }
-        ensures some { IfSome result (λ k. (k < count self.now) × (given seat.new ≡ given seat.old ++ k ∷ []) × (ended seat.old ≡ false) × (ended seat.new ≡ false)) }
+        ensures some { IfSome result (λ k. (k < count self.now) × (given seat.new ≡ given seat.old ++ k ∷ []) ×
+            (ended seat.old ≡ false) × (ended seat.new ≡ false)) }
         ensures none { IfNone result ((given seat.new ≡ given seat.old) × (ended seat.new ≡ true)) }
         ensures short { length (given seat.new) ≤ count self.now }
         ensures order { in_order self.now (number seat.new) (given seat.new) };

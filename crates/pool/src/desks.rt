@@ -9,11 +9,12 @@ mod calls;
 mod deals;
 mod rows;
 
-/// Work-stealing queues, one for each seat, called desks: desk d has the numbers d, d + seats, d + 2 * seats and so on below the
-/// count.
+/// Work-stealing queues, one for each seat, called desks: desk d has the numbers d, d + seats, d + 2 * seats and so on
+/// below the count.
 ///
-/// A seat draws from its own desk, the one with its number, until that is empty, and then from the desks after it, cyclically. So
-/// threads mostly use counters of their own, and a thread that is done early takes over what others have left.
+/// A seat draws from its own desk, the one with its number, until that is empty, and then from the desks after it,
+/// cyclically. So threads mostly use counters of their own, and a thread that is done early takes over what others have
+/// left.
 #[derive(Drop)]
 pub struct Desks {
     counters: Vec<Counter>,

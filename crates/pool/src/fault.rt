@@ -4,8 +4,8 @@ ghost use Rattle.std.specs.Prelude.{◌≡◌};
 use grid::OutOfMemory;
 use std::alloc::AllocError;
 
-/// Why there are no answers. If several causes hold, the first of these is reported: out of memory before the workers start, a
-/// thread that was not started, out of memory in a worker or after it.
+/// Why there are no answers. If several causes hold, the first of these is reported: out of memory before the workers
+/// start, a thread that was not started, out of memory in a worker or after it.
 #[derive(Clone, Copy, Debug, PartialEq, Eq)]
 pub enum PoolFault {
     /// An allocation failed.

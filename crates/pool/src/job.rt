@@ -23,7 +23,8 @@ pub trait Job: Sync {
     fn scratch(&self, alloc: Global) -> Result<Self::Scratch, OutOfMemory>
         ensures { IfOk result (fits self.now) };
 
-    /// The answer for number `k`. Fails only if an allocation fails. The scratch fits after the call, also after an error.
+    /// The answer for number `k`. Fails only if an allocation fails. The scratch fits after the call, also after an
+    /// error.
     fn work(
         &self,
         alloc: Global,

@@ -1,5 +1,5 @@
-//! Distributes the numbers below n to workers in threads of their own, each number once, and gathers their answers in the order of the
-//! numbers.
+//! Distributes the numbers below n to workers in threads of their own, each number once, and gathers their answers in
+//! the order of the numbers.
 #![tactic(auto)]
 
 mod answers;

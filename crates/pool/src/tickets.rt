@@ -2,7 +2,7 @@
 ghost use Rattle.std.specs.Prelude.{◌≡◌, ◌<◌, ◌≤◌, ◌^◌, [], length, if◌then◌else◌};
 ghost use Rattle.std.specs.Vec.{vec_capacity};
 ghost use Rattle.pool.specs.Dealing.{Ascends};
-ghost use Rattle.pool.specs.Handles.{count_of, seats_of, known_of};
+ghost use Rattle.pool.specs.Handles.{count_of, seats_of, knowledge_of};
 
 use crate::counter::{Counter, CounterHandle};
 
@@ -28,10 +28,10 @@ pub struct TicketSeat {
     handle: CounterHandle,
     numbers: Vec<u32>,
     ended: bool,
-    ghost one: { (known_of handle).seats ≡ 1 },
-    ghost same: { (known_of handle).numbers ≡ numbers.items },
-    ghost marked: { (known_of handle).marks ≡ (if ended then 1 else 0) },
-    ghost room: { (known_of handle).count ≤ vec_capacity numbers },
-    ghost short: { length numbers.items ≤ (known_of handle).count },
+    ghost one: { (knowledge_of handle).seats ≡ 1 },
+    ghost same: { (knowledge_of handle).numbers ≡ numbers.items },
+    ghost marked: { (knowledge_of handle).marks ≡ (if ended then 1 else 0) },
+    ghost room: { (knowledge_of handle).count ≤ vec_capacity numbers },
+    ghost short: { length numbers.items ≤ (knowledge_of handle).count },
     ghost ascends: { Ascends numbers.items },
 }

@@ -44,7 +44,8 @@ fn start_all<'s, E, D: Dealer, J: Job, G: Gate>(
         let started = scope.spawn_with(
             promise,
             move || -> WorkerResult<D, J>
-                requires { D.fits dealer.now seat × (D.number seat ≡ number) × (D.given seat ≡ []) × CanWork D.Dealer J.Job G.Gate dealer.now job.now gate.now number }
+                requires { D.fits dealer.now seat × (D.number seat ≡ number) × (D.given seat ≡ []) ×
+                    CanWork D.Dealer J.Job G.Gate dealer.now job.now gate.now number }
                 ensures { IfOk result (AreWorkerAnswers D.Dealer J.Job dealer.entry.now job.entry.now number) }
             { work_through(alloc, dealer, job, gate, number, seat) },
         );
@@ -73,8 +74,8 @@ fn join_all<R: Threads, D: Dealer, J: Job>(
     }
 }
 
-/// Starts one worker for each seat, runs `beside` on the calling thread, and then joins all workers that were started. The handles
-/// are allocated before the first worker starts, so that none is left behind if memory runs out.
+/// Starts one worker for each seat, runs `beside` on the calling thread, and then joins all workers that were started.
+/// The handles are allocated before the first worker starts, so that none is left behind if memory runs out.
 fn work_seats<'a, R: Threads + Wait + Sync, D: Dealer, J: Job, G: Gate, T: Drop, F: FnOnce() -> T>(
     rt: &'a R,
     alloc: Global,
@@ -87,15 +88,18 @@ fn work_seats<'a, R: Threads + Wait + Sync, D: Dealer, J: Job, G: Gate, T: Drop,
     requires can_work { AllCanWork D.Dealer J.Job G.Gate dealer.now job.now gate.now (vec_len seats) }
     requires seats { AreDealt D.Dealer dealer.now seats.items }
     requires beside { F.pre beside }
-    ensures results { IfOk result.0 (λ results. AreWorkerResults D.Dealer J.Job dealer.now job.now (vec_len seats) results.items) }
+    ensures results { IfOk result.0 (λ results. AreWorkerResults D.Dealer J.Job dealer.now job.now (vec_len seats)
+        results.items) }
     ensures beside { F.post beside result.1 }
 {
     thread::scope(
         thread::scope_env(),
         rt,
         move |scope| -> (Result<Vec<WorkerResult<D, J>>, PoolFault>, T)
-            requires { AllCanWork D.Dealer J.Job G.Gate dealer.now job.now gate.now (vec_len seats) × AreDealt D.Dealer dealer.now seats.items × F.pre beside }
-            ensures { IfOk result.0 (λ results. AreWorkerResults D.Dealer J.Job dealer.entry.now job.entry.now (vec_len seats) results.items) × F.post beside result.1 }
+            requires { AllCanWork D.Dealer J.Job G.Gate dealer.now job.now gate.now (vec_len seats) ×
+                AreDealt D.Dealer dealer.now seats.items × F.pre beside }
+            ensures { IfOk result.0 (λ results. AreWorkerResults D.Dealer J.Job dealer.entry.now job.entry.now
+                (vec_len seats) results.items) × F.post beside result.1 }
         {
             let count = seats.len();
             let (Ok(mut workers), Ok(mut results)) = (
@@ -119,13 +123,14 @@ fn work_seats<'a, R: Threads + Wait + Sync, D: Dealer, J: Job, G: Gate, T: Drop,
 
 /// Returns the answers of the job for the numbers below `n`, in their order, and the result of the call `beside`.
 ///
-/// `workers` workers do the job, each in a thread of its own with its own seat and scratch. The calling thread does none of it.
-/// Once the workers are started it calls `beside`, and then joins them all, also if the result is a fault. Before a worker works on
-/// a number, it enters the gate for it under the number of its seat. The job may rely on what the gate ensures by that.
+/// `workers` workers do the job, each in a thread of its own with its own seat and scratch. The calling thread does
+/// none of it. Once the workers are started it calls `beside`, and then joins them all, also if the result is a fault.
+/// Before a worker works on a number, it enters the gate for it under the number of its seat. The job may rely on what
+/// the gate ensures by that.
 ///
 /// The result is a fault only if an allocation failed (`PoolFault::OutOfMemory`) or a thread was not started
-/// (`PoolFault::NoWorker`). Each number is given once, so that no number has no answer and none has two. `beside` is called once,
-/// whether or not there is a fault.
+/// (`PoolFault::NoWorker`). Each number is given once, so that no number has no answer and none has two. `beside` is
+/// called once, whether or not there is a fault.
 pub fn run_beside<R: Threads + Wait + Sync, D: Dealer, J: Job, G: Gate, T: Drop, F: FnOnce() -> T>(
     rt: &R,
     alloc: Global,
@@ -150,7 +155,8 @@ pub fn run_beside<R: Threads + Wait + Sync, D: Dealer, J: Job, G: Gate, T: Drop,
     (gather(alloc, dealer, job, n, worked), answer)
 }
 
-/// The answers of the job for the numbers below `n`, in their order: `run_beside` if the calling thread has nothing else to do.
+/// The answers of the job for the numbers below `n`, in their order: `run_beside` if the calling thread has nothing
+/// else to do.
 pub fn run<R: Threads + Wait + Sync, D: Dealer, J: Job, G: Gate>(
     rt: &R,
     alloc: Global,

@@ -9,8 +9,8 @@ use std::test::Fail;
 use std::thread;
 use std::thread::Threads;
 
-/// Waits in each work until the call `beside` was made, for at most 1,000,000 turns, and returns whether it was. After that the
-/// work on one number fails.
+/// Waits in each work until the call `beside` was made, for at most 1,000,000 turns, and returns whether it was. After
+/// that the work on one number fails.
 #[derive(Drop)]
 struct Waiting {
     calls: AtomicU64,
@@ -60,8 +60,8 @@ impl Job for Waiting {
     }
 }
 
-/// Has two workers do the job for three numbers, and concurrently makes a call that is counted. Returns the workers' result, and
-/// how often the call was made before.
+/// Has two workers do the job for three numbers, and concurrently makes a call that is counted. Returns the workers'
+/// result, and how often the call was made before.
 fn run_counted<R: Threads + Wait + Sync>(
     rt: &R,
     alloc: Global,

@@ -15,8 +15,8 @@ const WORKERS: u32 = 3;
 
 const TILES: u32 = 12;
 
-/// Watches the gate and the work behind it. The first three passes wait for one another, so that each worker makes one of
-/// them, for at most a million turns.
+/// Watches the gate and the work behind it. The first three passes wait for one another, so that each worker makes one
+/// of them, for at most a million turns.
 #[derive(Drop)]
 struct Watch {
     /// How often a worker passed.

@@ -10,7 +10,8 @@ use std::alloc::AllocError;
 use std::fmt;
 use thiserror::Error;
 
-/// Why a run gave no whole picture. `Display` writes the line that the program writes for it, without the end of the line.
+/// Why a run gave no whole picture. `Display` writes the line that the program writes for it, without the end of the
+/// line.
 #[derive(Clone, Copy, Debug, PartialEq, Eq, Error)]
 pub enum Fault {
     /// The input denotes no draw list. Nothing was written.

@@ -28,7 +28,8 @@ fn read_part<R: Read>(
     requires failures { input.old.failures < u64.MAX }
     requires room { 0 < length buffer.old }
     ensures count { IfOk result (λ n. (vec_len bytes.new ≡ vec_len bytes.old + n) × (n ≤ length buffer.old)) }
-    ensures given { OnOk result (TakesOver (R.remaining input.old.inner) (R.remaining input.new.inner) bytes.old.items bytes.new.items) }
+    ensures given { OnOk result (TakesOver (R.remaining input.old.inner) (R.remaining input.new.inner) bytes.old.items
+        bytes.new.items) }
     ensures end { result ≡ Ok 0 → IsAtEnd (R.remaining input.new.inner) }
     ensures failed { IsErrOf result Fault.InputFailed ↔ (input.old.failures < input.new.failures) }
     ensures faults { IfErr result (λ e. (e ≡ Fault.InputFailed) ⊎ (e ≡ Fault.OutOfMemory)) }
@@ -41,15 +42,18 @@ fn read_part<R: Read>(
     Ok(count)
 }
 
-/// The bytes of an input up to its end. Fails with `InputTooLong` after 64 MiB and a byte, with `InputFailed` if the reader failed, and with
-/// `OutOfMemory` if an allocation failed.
+/// The bytes of an input up to its end. Fails with `InputTooLong` after 64 MiB and a byte, with `InputFailed` if the
+/// reader failed, and with `OutOfMemory` if an allocation failed.
 pub fn read_input<R: Read>(alloc: Global, input: &mut Counted<R>) -> Result<Vec<u8>, Fault>
     requires { input.old.failures < u64.MAX }
-    ensures whole { IfOk result (λ bytes. GivesAll (R.remaining input.old.inner) (R.remaining input.new.inner) bytes.items) }
+    ensures whole { IfOk result (λ bytes. GivesAll (R.remaining input.old.inner) (R.remaining input.new.inner)
+        bytes.items) }
     ensures short { IfOk result (λ bytes. vec_len bytes ≤ MOST_BYTES) }
     ensures failed { IsErrOf result Fault.InputFailed ↔ (input.old.failures < input.new.failures) }
-    ensures too_long { IsErrOf result Fault.InputTooLong → Gives (R.remaining input.old.inner) (R.remaining input.new.inner) (MOST_BYTES + 1) }
-    ensures faults { IfErr result (λ e. (e ≡ Fault.InputFailed) ⊎ ((e ≡ Fault.InputTooLong) ⊎ (e ≡ Fault.OutOfMemory))) }
+    ensures too_long { IsErrOf result Fault.InputTooLong →
+        Gives (R.remaining input.old.inner) (R.remaining input.new.inner) (MOST_BYTES + 1) }
+    ensures faults { IfErr result (λ e. (e ≡ Fault.InputFailed) ⊎
+        ((e ≡ Fault.InputTooLong) ⊎ (e ≡ Fault.OutOfMemory))) }
 {
     let mut bytes = Vec::new(alloc);
     let mut buffer = room_for(alloc, CHUNK)?;

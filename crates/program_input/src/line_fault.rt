@@ -33,8 +33,8 @@ impl<T: Drop> From<AllocFailed<T>> for LineFault {
     }
 }
 
-/// The arguments of the program could not be read. If memory did not run out, one of them is not UTF-8: the program has no such
-/// arguments.
+/// The arguments of the program could not be read. If memory did not run out, one of them is not UTF-8: the program has
+/// no such arguments.
 impl From<io::Error> for LineFault {
     ghost from_gives = { λ _ fault. fault ≢ Help };
 

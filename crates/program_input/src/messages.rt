@@ -11,7 +11,8 @@ pub const LINE_BYTES: usize = 96;
 /// The line of an error.
 pub type FaultLine = ArrayString<LINE_BYTES>;
 
-/// The line that reports an error: its `Display` and a line feed. What of the text is past the greatest length is left out.
+/// The line that reports an error: its `Display` and a line feed. What of the text is past the greatest length is left
+/// out.
 pub fn fault_line<E: fmt::Display>(error: &E) -> FaultLine
     ensures { (text : List ℕ) × (result.bytes ≡ text ++ 10 ∷ []) }
 {

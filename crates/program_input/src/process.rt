@@ -10,14 +10,15 @@ use picture_file::Counted;
 use std::io::{Stderr, Stdin, Stdout};
 use std::process::ExitCode;
 
-/// Calls `command` with the program's arguments, of which the first is its name, and with its standard input, output and error. Returns
-/// its status. If the arguments could not be read, or memory runs out before the call, that is reported as by `refuse_with`, and
-/// `command` is not called.
+/// Calls `command` with the program's arguments, of which the first is its name, and with its standard input, output
+/// and error. Returns its status. If the arguments could not be read, or memory runs out before the call, that is
+/// reported as by `refuse_with`, and `command` is not called.
 pub fn run_program<
     F: FnOnce(&[&str], &mut Counted<Stdin>, &mut Counted<Stdout>, &mut Counted<Stderr>) -> u8,
 >(rt: &HostRuntime, usage: &[u8], arguments: Result<Vec<String>, LineFault>, command: F) -> ExitCode
     requires { (words : _) (input : _) (output : _) (errors : _)
-        → input.now.failures < u64.MAX → output.now.failures < u64.MAX → errors.now.failures < u64.MAX → F.pre command words input output errors }
+        → input.now.failures < u64.MAX → output.now.failures < u64.MAX → errors.now.failures < u64.MAX →
+        F.pre command words input output errors }
     ensures unread { IfErr arguments (λ fault. exit_status result ≡ status_of fault) }
     // The exit status is one that a call of `command` with these arguments returned, or memory ran out before the call.
     ensures called { IfOk arguments (λ texts. ((words : _) × (input : _) × (output : _) × (errors : _) × (input' : _) × (output' : _) × (errors' : _)

@@ -17,7 +17,8 @@ use Rattle.planes.specs.Group.{position_in}
 use Rattle.lanes.specs.Block.{stored_at, AreDrawn}
 use Rattle.lanes.specs.BlockMask.{CoversBlock, IsBlockDrawn, first_of, plane_of}
 use Rattle.shade.specs.declared.state.State.{State}
-use Rattle.shade.specs.Placed.{IsDrawnAt, Meets}
+use Rattle.shade.specs.Placed.{Meets}
+use Rattle.shade.specs.Canvas.{IsCanvasDrawnAt}
 use Rattle.raster.specs.declared.tile.Tile.{Tile}
 use Rattle.raster.specs.Samples.{IsSampleOf, place_of, planes_of, stored}
 use Rattle.raster.specs.Drawing.{DrawsPart, KeepsAt, IsInSquare, IsInSquarePart, LiesIn, ArePlanesOf, Allows, AreAllowed, CoversMasks, IsChosen, DrawsMasks}
@@ -165,7 +166,7 @@ module _ (t : Placed) (tile : Tile) (bx by from : ℕ) (masks : List ℕ) (lies 
 
     -- at the sample of this index in the part
     drawn_at : (row column s : ℕ) → s < part_size tile.count → IsInSquare tile bx by 8 row column s → IsBitSet (slice_index m.plane s) (pixel row column)
-        → IsDrawnAt t (sample_position (8 * tile.bx + column) (8 * tile.by + row) (from + s) tile.count) (stored tile xs row column (from + s)) (stored tile ys row column (from + s))
+        → IsCanvasDrawnAt t (sample_position (8 * tile.bx + column) (8 * tile.by + row) (from + s) tile.count) (stored tile xs row column (from + s)) (stored tile ys row column (from + s))
     drawn_at row column s small p set =
         rw (there row column s xs p, there row column s ys p, ← position row column s p) ((here s small).drawn (pixel row column) (omega arith) (omega arith) set)
 
@@ -177,14 +178,14 @@ module _ (t : Placed) (tile : Tile) (bx by from : ℕ) (masks : List ℕ) (lies 
     square_at row column s s' p = record { left = p.left; right = p.right; top = p.top; bottom = p.bottom }
 
     draws : (row column s : ℕ) → IsSampleOf tile row column s → Chosen row column s
-        → IsDrawnAt t (sample_position (8 * tile.bx + column) (8 * tile.by + row) s tile.count) (stored tile xs row column s) (stored tile ys row column s)
+        → IsCanvasDrawnAt t (sample_position (8 * tile.bx + column) (8 * tile.by + row) s tile.count) (stored tile xs row column s) (stored tile ys row column s)
     draws row column s h chosen =
         let part = chosen.part.samples in
         let same : from + (s - from) ≡ s = omega (arith, part.low) in
         let small : s - from < part_size tile.count = omega (arith, part.low, part.high) in
         let square = square_at row column s (s - from) chosen.part.square in
         let allows : Allows t.state (8 * tile.bx + column) (8 * tile.by + row) (from + (s - from)) = rw same chosen.allowed in
-        subst (λ k. IsDrawnAt t (sample_position (8 * tile.bx + column) (8 * tile.by + row) k tile.count) (stored tile xs row column k) (stored tile ys row column k)) same
+        subst (λ k. IsCanvasDrawnAt t (sample_position (8 * tile.bx + column) (8 * tile.by + row) k tile.count) (stored tile xs row column k) (stored tile ys row column k)) same
         (drawn_at row column (s - from) small square ((allowed_here row column (s - from) square small).1 (chosen.in_masks, allows)))
 
     in_block : (row column s : ℕ) → row / 8 ≡ by - tile.by → column / 8 ≡ bx - tile.bx → IsInSquare tile bx by 8 row column s
@@ -237,7 +238,7 @@ module _ (t : Placed) (tile : Tile) (bx by from : ℕ) (masks : List ℕ) (lies 
         omega (arith, starts, many, long, last, some.0)
 
     abbrev none : BlockSamples
-    none = record { z = []; r = []; g = []; b = [] }
+    none = record { z = []; r = []; g = []; b = []; alpha = [] }
 
     here : (s : ℕ) → s < part_size tile.count → AreDrawn t (first_of m s) (slice_index m.plane s) (plane_of xs (first + s)) (plane_of (put xs part at n) (first + s)) 0 64
     here s small =

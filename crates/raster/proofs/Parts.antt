@@ -1,15 +1,16 @@
 -- A triangle is drawn at one part of a tile after another.
 use Rattle.std.proofs.Common.{◌⊎◌, inl, inr, refl, ◌∙◌, ℕ, ◌+◌, ◌*◌, List}
-use Rattle.shade.specs.declared.sample.Sample.{Sample}
+use Rattle.shade.specs.declared.sample.CanvasSample.{CanvasSample}
 use Rattle.lanes.specs.declared.block_samples.BlockSamples.{BlockSamples}
 use Rattle.shade.specs.declared.placed.Placed.{Placed}
-use Rattle.shade.specs.Placed.{Meets, Draws}
+use Rattle.shade.specs.Placed.{Meets}
+use Rattle.shade.specs.Canvas.{CanvasDraws}
 use Rattle.raster.specs.declared.tile.Tile.{Tile}
 use Rattle.raster.specs.Samples.{IsSampleOf, stored}
 use Rattle.raster.specs.Drawing.{DrawsPart, DrawsAt, KeepsAt}
 
 -- a triangle that does not meet a sample leaves it
-pub draws_missed : (t : Placed) (tile : Tile) (row column s : ℕ) (x : Sample) → ¬ Meets t tile.count (8 * tile.bx + column) (8 * tile.by + row) s → Draws t tile.count (8 * tile.bx + column) (8 * tile.by + row) s x x
+pub draws_missed : (t : Placed) (tile : Tile) (row column s : ℕ) (x : CanvasSample) → ¬ Meets t tile.count (8 * tile.bx + column) (8 * tile.by + row) s → CanvasDraws t tile.count (8 * tile.bx + column) (8 * tile.by + row) s x x
 draws_missed t tile row column s x n = record { met = λ m. absurd (n m); missed = λ _. refl }
 
 module _ (t : Placed) (tile : Tile) where

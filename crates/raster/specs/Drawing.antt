@@ -11,14 +11,14 @@ use Rattle.cover.specs.Masks.{CoversInBlock, IsPlaneOf}
 use Rattle.cover.specs.Square.{TestedSquare, CoversIn}
 use Rattle.shade.specs.declared.placed.Placed.{Placed}
 use Rattle.shade.specs.declared.state.State.{State}
-use Rattle.shade.specs.Placed.{IsDrawnAt, Draws}
+use Rattle.shade.specs.Canvas.{IsCanvasDrawnAt, CanvasDraws}
 use Rattle.raster.specs.declared.tile.Tile.{Tile}
 use Rattle.raster.specs.Samples.{IsSampleOf, stored}
 
 -- What the triangle makes of sample s of the pixel in a row and a column of the tile.
 abbrev pub DrawsAt : Placed → Tile → List BlockSamples → List BlockSamples → ℕ → ℕ → ℕ → Type 0
 DrawsAt t tile old new row column s =
-    Draws t tile.count (8 * tile.bx + column) (8 * tile.by + row) s (stored tile old row column s) (stored tile new row column s)
+    CanvasDraws t tile.count (8 * tile.bx + column) (8 * tile.by + row) s (stored tile old row column s) (stored tile new row column s)
 
 -- Sample s of the pixel in a row and a column of the tile is unchanged.
 abbrev pub KeepsAt : Tile → List BlockSamples → List BlockSamples → ℕ → ℕ → ℕ → Type 0
@@ -105,5 +105,5 @@ pub record IsChosen (state : State) (tile : Tile) (bx by from : ℕ) (masks : Li
 -- The triangle is drawn at the samples in the masks that the state lets be drawn, and the others are unchanged.
 pub record DrawsMasks (t : Placed) (tile : Tile) (bx by from : ℕ) (masks : List ℕ) (old new : List BlockSamples) : Type 0 where
   pub drawn : (row column s : ℕ) → IsSampleOf tile row column s → IsChosen t.state tile bx by from masks row column s
-      → IsDrawnAt t (sample_position (8 * tile.bx + column) (8 * tile.by + row) s tile.count) (stored tile old row column s) (stored tile new row column s)
+      → IsCanvasDrawnAt t (sample_position (8 * tile.bx + column) (8 * tile.by + row) s tile.count) (stored tile old row column s) (stored tile new row column s)
   pub kept : (row column s : ℕ) → IsSampleOf tile row column s → ¬ IsChosen t.state tile bx by from masks row column s → KeepsAt tile old new row column s

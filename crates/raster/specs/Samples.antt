@@ -4,7 +4,7 @@ use Rattle.grid.specs.Pixels.{side_of}
 use Rattle.grid.specs.Samples.{count_of}
 use Rattle.grid.specs.declared.pixels.TileSide.{TileSide}
 use Rattle.grid.specs.declared.sample_count.SampleCount.{SampleCount}
-use Rattle.shade.specs.declared.sample.Sample.{Sample}
+use Rattle.shade.specs.declared.sample.CanvasSample.{CanvasSample}
 use Rattle.lanes.specs.declared.block_samples.BlockSamples.{BlockSamples}
 use Rattle.lanes.specs.Block.{stored_at}
 use Rattle.raster.specs.declared.tile.Tile.{Tile}
@@ -25,11 +25,11 @@ abbrev pub place_of : Tile → ℕ → ℕ → ℕ → ℕ
 place_of tile row column s = (row * (side_of tile.side / 8) + column) * count_of tile.count + s
 
 -- Each sample of these planes is this one.
-abbrev pub AreAll : List BlockSamples → Sample → Type 0
+abbrev pub AreAll : List BlockSamples → CanvasSample → Type 0
 AreAll samples sample =
-    (place k : ℕ) → place < length samples → k < 64 → stored_at (slice_index_or samples place (record { z = []; r = []; g = []; b = [] })) k ≡ sample
+    (place k : ℕ) → place < length samples → k < 64 → stored_at (slice_index_or samples place (record { z = []; r = []; g = []; b = []; alpha = [] })) k ≡ sample
 
 -- Sample s of the pixel in a row and a column of the tile, as it is stored.
-abbrev pub stored : Tile → List BlockSamples → ℕ → ℕ → ℕ → Sample
+abbrev pub stored : Tile → List BlockSamples → ℕ → ℕ → ℕ → CanvasSample
 stored tile samples row column s =
-    stored_at (slice_index_or samples (place_of tile (row / 8) (column / 8) s) (record { z = []; r = []; g = []; b = [] })) (8 * (row % 8) + column % 8)
+    stored_at (slice_index_or samples (place_of tile (row / 8) (column / 8) s) (record { z = []; r = []; g = []; b = []; alpha = [] })) (8 * (row % 8) + column % 8)

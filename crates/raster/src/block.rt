@@ -23,8 +23,8 @@ fn in_sample_mask(mask: u16, s: u32) -> u64
     if (mask >> s) % 2 == 1 { u64::MAX } else { 0 }
 }
 
-/// Which samples of block (bx, by) the state lets be drawn, of those in the masks of the part that begins with sample `from`. `scissor`
-/// says which pixels are in the scissor.
+/// Which samples of block (bx, by) the state lets be drawn, of those in the masks of the part that begins with sample
+/// `from`. `scissor` says which pixels are in the scissor.
 #[inline]
 fn allowed(
     state: &State,
@@ -38,7 +38,8 @@ fn allowed(
     requires column { bx < 512 }
     requires row { by < 512 }
     requires part { IsPart count from }
-    requires scissor { (row column : ℕ) → row < 8 → column < 8 → (IsBitSet scissor (8 * row + column) ↔ IsInBox state.now.scissor (8 * bx + column) (8 * by + row)) }
+    requires scissor { (row column : ℕ) → row < 8 → column < 8 →
+        (IsBitSet scissor (8 * row + column) ↔ IsInBox state.now.scissor (8 * bx + column) (8 * by + row)) }
     ensures allowed { AreAllowed state.now masks.now result }
     ensures block { (result.bx ≡ bx) × (result.by ≡ by) × (result.count ≡ count) }
     ensures part { result.from ≡ from }
@@ -58,9 +59,9 @@ fn allowed(
     }
 }
 
-/// Draws the triangle at the samples of block (bx, by) that are in the masks, each of which it covers, of the part that begins with
-/// sample `from`, if its state lets them be drawn. `whole` says that all pixels of the tile are in the scissor. A pixel has `count`
-/// samples.
+/// Draws the triangle at the samples of block (bx, by) that are in the masks, each of which it covers, of the part that
+/// begins with sample `from`, if its state lets them be drawn. `whole` says that all pixels of the tile are in the
+/// scissor. A pixel has `count` samples.
 #[inline(always)]
 pub fn draw_masks(
     triangle: &Interpolants,
@@ -93,9 +94,9 @@ pub fn draw_masks(
     );
 }
 
-/// Draws the triangle at the samples of block (bx, by), of the part that begins with sample `from`. The bits of `covered` say which
-/// of them it covers; `whole` says that all pixels of the tile are in the scissor. A pixel has `count` samples.
-/// Each `N` has code of its own.
+/// Draws the triangle at the samples of block (bx, by), of the part that begins with sample `from`. The bits of
+/// `covered` say which of them it covers; `whole` says that all pixels of the tile are in the scissor. A pixel has
+/// `count` samples. Each `N` has code of its own.
 #[inline(always)]
 pub(crate) fn draw_block<const N: u32>(
     triangle: &Interpolants,

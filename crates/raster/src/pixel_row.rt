@@ -4,15 +4,15 @@ ghost use Rattle.grid.specs.Pixels.{side_of};
 ghost use Rattle.grid.specs.Samples.{count_of};
 ghost use Rattle.grid.specs.declared.sample_count.SampleCount.TheVariants.{One, Four};
 ghost use Rattle.raster.specs.Samples.{planes_of};
-ghost use Rattle.raster.specs.Colours.{AreColoursAt, AreMeansAt, AreInterleaved};
+ghost use Rattle.raster.specs.Colours.{AreColoursAt, AreAlphasAt, AreMeansAt, AreAlphaMeansAt, AreInterleaved};
 
 use crate::tile::Tile;
 use grid::SampleCount;
-use lanes::{BlockSamples, means_of_four, means_of_sums, sums};
+use lanes::{BlockSamples, alpha_sums, means_of_four, means_of_sums, sums};
 use std::simd::prelude::*;
 
-/// Red, green and blue of eight pixels, pixel by pixel, and behind them eight bytes that nobody reads: a vector has as many lanes
-/// as a power of two.
+/// Red, green and blue of eight pixels, pixel by pixel, and behind them eight bytes that nobody reads: a vector has as
+/// many lanes as a power of two.
 #[inline(always)]
 fn interleaved(r: u8x8, g: u8x8, b: u8x8) -> u8x32
     requires red { length r ≡ 8 }
@@ -32,8 +32,8 @@ fn interleaved(r: u8x8, g: u8x8, b: u8x8) -> u8x32
     )
 }
 
-/// Red, green and blue of eight pixels of a block from pixel `from` on, pixel by pixel: the means of 2^bits planes of samples, by
-/// their sums. Half the number of samples is `half`.
+/// Red, green and blue of eight pixels of a block from pixel `from` on, pixel by pixel: the means of 2^bits planes of
+/// samples, by their sums. Half the number of samples is `half`.
 fn colours_by_sums(samples: &[BlockSamples], from: usize, half: u16, bits: u16) -> u8x32
     requires from { from + 8 ≤ 64 }
     requires bits { bits ≤ 4 }
@@ -131,8 +131,8 @@ pub fn colours_by<const MORE: bool>(
     }
 }
 
-/// Red, green and blue of the eight pixels in a row of the tile and a column of its blocks, pixel by pixel: the first 24 bytes of
-/// the result.
+/// Red, green and blue of the eight pixels in a row of the tile and a column of its blocks, pixel by pixel: the first
+/// 24 bytes of the result.
 #[inline(always)]
 pub fn colours(tile: &Tile, samples: &[BlockSamples], row: u32, column: u32) -> u8x32
     requires samples { length samples.now ≡ planes_of tile.now.side tile.now.count }
@@ -148,4 +148,110 @@ pub fn colours(tile: &Tile, samples: &[BlockSamples], row: u32, column: u32) -> 
             colours_of_more(tile, samples, row, column)
         }
     }
+}
+
+/// The alpha of eight pixels in a row of a block as the first of 32 bytes.
+#[inline(always)]
+fn first_of_many(alphas: u8x8) -> u8x32
+    requires { length alphas ≡ 8 }
+    ensures whole { length result ≡ 32 }
+    ensures first { (i : ℕ) → i < 8 → slice_index result i ≡ slice_index alphas i }
+{
+    alphas.shuffle(
+        alphas,
+        [
+            0, 1, 2, 3, 4, 5, 6, 7, 0, 1, 2, 3, 4, 5, 6, 7, 0, 1, 2, 3, 4, 5, 6, 7, 0, 1, 2, 3, 4,
+            5, 6, 7,
+        ],
+    )
+}
+
+/// The alpha of eight pixels of a block from pixel `from` on: the means of 2^bits planes of samples, by their sums. Half
+/// the number of samples is `half`.
+fn alphas_by_sums(samples: &[BlockSamples], from: usize, half: u16, bits: u16) -> u8x8
+    requires from { from + 8 ≤ 64 }
+    requires bits { bits ≤ 4 }
+    requires samples { length samples.now ≡ 2 ^ bits }
+    requires half { half ≡ 2 ^ bits / 2 }
+    ensures whole { length result ≡ 8 }
+    ensures means { AreAlphaMeansAt samples.now from result }
+{
+    means_of_sums(alpha_sums(samples, from), half, bits)
+}
+
+/// The same as `alphas_by`, by the sums of the samples.
+#[inline(never)]
+fn alphas_of_more(tile: &Tile, samples: &[BlockSamples], row: u32, column: u32) -> u8x8
+    requires samples { length samples.now ≡ planes_of tile.now.side tile.now.count }
+    requires row { row < side_of tile.now.side }
+    requires column { column < side_of tile.now.side / 8 }
+    ensures whole { length result ≡ 8 }
+    ensures alphas { AreAlphasAt tile.now samples.now row column result }
+{
+    let place = tile.place(row / 8, column, 0);
+    let planes = &samples[place..place + tile.count.count() as usize];
+    let (bits, half) = logarithm_and_half(tile.count);
+    alphas_by_sums(planes, 8 * (row % 8) as usize, half, bits)
+}
+
+/// Eight bytes from a place on.
+#[inline(always)]
+fn eight_from(bytes: &[u8], from: usize) -> u8x8
+    requires { from + 8 ≤ length bytes.now }
+    ensures whole { length result ≡ 8 }
+    ensures each { (i : ℕ) → i < 8 → slice_index result i ≡ slice_index bytes.now (from + i) }
+{
+    u8x8::from_slice(&bytes[from..])
+}
+
+/// The same as `alphas_by`, with one sample a pixel or four.
+#[inline(always)]
+fn alphas_of_few(tile: &Tile, samples: &[BlockSamples], row: u32, column: u32) -> u8x8
+    requires samples { length samples.now ≡ planes_of tile.now.side tile.now.count }
+    requires row { row < side_of tile.now.side }
+    requires column { column < side_of tile.now.side / 8 }
+    requires few { (tile.now.count ≡ One) ⊎ (tile.now.count ≡ Four) }
+    ensures whole { length result ≡ 8 }
+    ensures alphas { AreAlphasAt tile.now samples.now row column result }
+{
+    let start = 8 * (row % 8) as usize;
+    if tile.count == SampleCount::One {
+        let plane = &samples[tile.place_by_count(SampleCount::One, row / 8, column, 0)];
+        eight_from(&plane.alpha, start)
+    } else {
+        let place = tile.place_by_count(SampleCount::Four, row / 8, column, 0);
+        let (first, second) = (&samples[place], &samples[place + 1]);
+        let (third, fourth) = (&samples[place + 2], &samples[place + 3]);
+        means_of_four(
+            &first.alpha,
+            &second.alpha,
+            &third.alpha,
+            &fourth.alpha,
+            start,
+        )
+    }
+}
+
+/// The alpha of the eight pixels in a row of the tile and a column of its blocks: the first 8 bytes of the result. `MORE`
+/// is as in `colours_by`.
+#[inline(always)]
+pub fn alphas_by<const MORE: bool>(
+    tile: &Tile,
+    samples: &[BlockSamples],
+    row: u32,
+    column: u32,
+) -> u8x32
+    requires samples { length samples.now ≡ planes_of tile.now.side tile.now.count }
+    requires row { row < side_of tile.now.side }
+    requires column { column < side_of tile.now.side / 8 }
+    requires few { MORE ≡ false → (tile.now.count ≡ One) ⊎ (tile.now.count ≡ Four) }
+    ensures whole { length result ≡ 32 }
+    ensures alphas { AreAlphasAt tile.now samples.now row column result }
+{
+    let alphas = if MORE {
+        alphas_of_more(tile, samples, row, column)
+    } else {
+        alphas_of_few(tile, samples, row, column)
+    };
+    first_of_many(alphas)
 }

@@ -33,8 +33,8 @@ fn class_of(block: &Square, all: bool) -> Class
     if all { Class::All } else { block.class() }
 }
 
-/// Which samples of a block of this class the triangle covers, of the part that begins with sample `from`, or `None` if it covers none of
-/// them. Each `N` has code of its own.
+/// Which samples of a block of this class the triangle covers, of the part that begins with sample `from`, or `None` if
+/// it covers none of them. Each `N` has code of its own.
 #[inline(always)]
 fn planes<const N: u32>(block: &Square, class: Class, from: u32) -> Option<[u64; 4]>
     requires side { block.now.side ≡ T8 }
@@ -64,6 +64,19 @@ pub fn covers_tile(setup: &Setup, tile: &Tile) -> bool
     }
 }
 
+/// Makes the triangle ready, if it is not yet, in place of the one before.
+#[inline(always)]
+fn make_once(triangle: &Placed, interpolants: &mut Interpolants, is_made: &mut bool)
+    requires drawn { IsRasterized triangle.now.tri triangle.now.state.cull }
+    requires made { IsTrue is_made.old → interpolants.old ≡ triangle.now }
+    ensures { interpolants.new ≡ triangle.now }
+{
+    if !*is_made {
+        interpolants.make(triangle);
+        *is_made = true;
+    }
+}
+
 /// Makes the triangle ready anew, once, if much of it was corrected: with whole values searched for.
 #[inline]
 fn raise_if_asked(interpolants: &mut Interpolants, corrections: &mut Corrections)
@@ -75,8 +88,8 @@ fn raise_if_asked(interpolants: &mut Interpolants, corrections: &mut Corrections
     }
 }
 
-/// Draws the triangle at the samples of block (bx, by) of the tile, of the part that begins with sample `from`. The block is of this
-/// class. The triangle is made ready at the first block that is not left out.
+/// Draws the triangle at the samples of block (bx, by) of the tile, of the part that begins with sample `from`. The
+/// block is of this class. The triangle is made ready at the first block that is not left out.
 #[inline(always)]
 fn draw_part<const N: u32>(
     triangle: &Placed,
@@ -88,7 +101,8 @@ fn draw_part<const N: u32>(
     by: u32,
     from: u32,
     whole: bool,
-    interpolants: &mut Option<Interpolants>,
+    interpolants: &mut Interpolants,
+    is_made: &mut bool,
     samples: &mut [BlockSamples],
     corrections: &mut Corrections,
 )
@@ -97,15 +111,16 @@ fn draw_part<const N: u32>(
     requires lies { LiesIn tile.now bx by 8 }
     requires drawn { IsRasterized triangle.now.tri triangle.now.state.cull }
     requires block { block.now ≡ record { triangle = triangle.now.tri; bx = bx; by = by; side = T8; count = count } }
-    requires class { IsClassOf (record { triangle = triangle.now.tri; bx = bx; by = by; side = T8; count = count }) class }
+    requires class { IsClassOf (record { triangle = triangle.now.tri; bx = bx; by = by; side = T8; count = count })
+        class }
     requires part { IsPart count from }
     requires whole { IsTrue whole → HoldsTile triangle.now.state.scissor tile.now }
-    requires made { IfSome interpolants.old (λ made. made ≡ triangle.now) }
+    requires made { IsTrue is_made.old → interpolants.old ≡ triangle.now }
     ensures drawn { DrawsPart triangle.now tile.now (IsInSquarePart tile.now bx by 8 from) samples.old samples.new }
-    ensures made { IfSome interpolants.new (λ made. made ≡ triangle.now) }
+    ensures made { IsTrue is_made.new → interpolants.new ≡ triangle.now }
 {
     if let Some(covered) = planes::<N>(block, class, from) {
-        let interpolants = interpolants.get_or_insert_with(|| Interpolants::new(triangle));
+        make_once(triangle, interpolants, is_made);
         draw_block::<N>(
             interpolants,
             tile,
@@ -122,8 +137,8 @@ fn draw_part<const N: u32>(
     }
 }
 
-/// Draws the triangle at the samples of block (bx, by) of the tile, one part of at most four samples of a pixel after another. A pixel
-/// has `N` samples, which is `count`. `all` says that all samples of the tile are covered.
+/// Draws the triangle at the samples of block (bx, by) of the tile, one part of at most four samples of a pixel after
+/// another. A pixel has `N` samples, which is `count`. `all` says that all samples of the tile are covered.
 #[inline(always)]
 fn draw_parts<const N: u32>(
     triangle: &Placed,
@@ -134,7 +149,8 @@ fn draw_parts<const N: u32>(
     by: u32,
     all: bool,
     whole: bool,
-    interpolants: &mut Option<Interpolants>,
+    interpolants: &mut Interpolants,
+    is_made: &mut bool,
     samples: &mut [BlockSamples],
     corrections: &mut Corrections,
 )
@@ -146,9 +162,9 @@ fn draw_parts<const N: u32>(
     requires drawn { IsRasterized triangle.now.tri triangle.now.state.cull }
     requires all { IsTrue all → CoversAll (square_of triangle.now.tri tile.now) }
     requires whole { IsTrue whole → HoldsTile triangle.now.state.scissor tile.now }
-    requires made { IfSome interpolants.old (λ made. made ≡ triangle.now) }
+    requires made { IsTrue is_made.old → interpolants.old ≡ triangle.now }
     ensures drawn { DrawsPart triangle.now tile.now (IsInSquare tile.now bx by 8) samples.old samples.new }
-    ensures made { IfSome interpolants.new (λ made. made ≡ triangle.now) }
+    ensures made { IsTrue is_made.new → interpolants.new ≡ triangle.now }
 {
     let block = setup.square(bx, by, TileSide::T8, count);
     let class = class_of(&block, all);
@@ -165,6 +181,7 @@ fn draw_parts<const N: u32>(
             0,
             whole,
             interpolants,
+            is_made,
             samples,
             corrections,
         );
@@ -181,6 +198,7 @@ fn draw_parts<const N: u32>(
                 4 * part,
                 whole,
                 interpolants,
+                is_made,
                 samples,
                 corrections,
             );
@@ -188,8 +206,9 @@ fn draw_parts<const N: u32>(
     }
 }
 
-/// Draws the triangle at the samples of the tile that it meets, block by block of the region in which its box and its scissor meet the
-/// tile. A pixel has `N` samples, which is `count`, so that each number of samples has code of its own.
+/// Draws the triangle at the samples of the tile that it meets, block by block of the region in which its box and its
+/// scissor meet the tile. A pixel has `N` samples, which is `count`, so that each number of samples has code of its
+/// own.
 #[inline(never)]
 fn draw_blocks<const N: u32>(
     triangle: &Placed,
@@ -197,6 +216,7 @@ fn draw_blocks<const N: u32>(
     tile: &Tile,
     count: SampleCount,
     samples: &mut [BlockSamples],
+    interpolants: &mut Interpolants,
 )
     requires samples { length samples.old ≡ planes_of tile.now.side tile.now.count }
     requires setup { setup.now ≡ triangle.now.tri }
@@ -209,7 +229,7 @@ fn draw_blocks<const N: u32>(
     // A triangle whose region has not all of the tile's blocks does not cover the tile.
     let all = region.has_all_of(tile) && covers_tile(setup, tile);
     let whole = holds_tile(&triangle.state.scissor, tile);
-    let mut interpolants = None;
+    let mut is_made = false;
     let mut corrections = Corrections::none();
     for by in region.top..region.bottom {
         for bx in region.left..region.right {
@@ -222,7 +242,8 @@ fn draw_blocks<const N: u32>(
                 by,
                 all,
                 whole,
-                &mut interpolants,
+                interpolants,
+                &mut is_made,
                 samples,
                 &mut corrections,
             );
@@ -235,19 +256,71 @@ pub fn draw_triangle(triangle: &Placed, tile: &Tile, samples: &mut [BlockSamples
     requires { length samples.old ≡ planes_of tile.now.side tile.now.count }
     ensures { DrawsTile triangle.now tile.now samples.old samples.new }
 {
+    let mut interpolants = Interpolants::one_by_one(triangle);
+    draw_next(triangle, tile, samples, &mut interpolants);
+}
+
+/// The same for one triangle of many: it is made ready in the memory of the one before.
+pub fn draw_next(
+    triangle: &Placed,
+    tile: &Tile,
+    samples: &mut [BlockSamples],
+    interpolants: &mut Interpolants,
+)
+    requires { length samples.old ≡ planes_of tile.now.side tile.now.count }
+    ensures { DrawsTile triangle.now tile.now samples.old samples.new }
+{
     if let Some(setup) = Setup::new(&triangle.tri, triangle.state.cull) {
-        let count = tile.count;
-        match count {
-            SampleCount::One => draw_blocks::<1>(triangle, &setup, tile, SampleCount::One, samples),
-            SampleCount::Two => draw_blocks::<2>(triangle, &setup, tile, SampleCount::Two, samples),
+        match tile.count {
+            SampleCount::One => {
+                draw_blocks::<1>(
+                    triangle,
+                    &setup,
+                    tile,
+                    SampleCount::One,
+                    samples,
+                    interpolants,
+                );
+            }
+            SampleCount::Two => {
+                draw_blocks::<2>(
+                    triangle,
+                    &setup,
+                    tile,
+                    SampleCount::Two,
+                    samples,
+                    interpolants,
+                );
+            }
             SampleCount::Four => {
-                draw_blocks::<4>(triangle, &setup, tile, SampleCount::Four, samples);
+                draw_blocks::<4>(
+                    triangle,
+                    &setup,
+                    tile,
+                    SampleCount::Four,
+                    samples,
+                    interpolants,
+                );
             }
             SampleCount::Eight => {
-                draw_blocks::<8>(triangle, &setup, tile, SampleCount::Eight, samples);
+                draw_blocks::<8>(
+                    triangle,
+                    &setup,
+                    tile,
+                    SampleCount::Eight,
+                    samples,
+                    interpolants,
+                );
             }
             SampleCount::Sixteen => {
-                draw_blocks::<16>(triangle, &setup, tile, SampleCount::Sixteen, samples);
+                draw_blocks::<16>(
+                    triangle,
+                    &setup,
+                    tile,
+                    SampleCount::Sixteen,
+                    samples,
+                    interpolants,
+                );
             }
         }
     }

@@ -1,16 +1,15 @@
 -- Tiles of any size: where they begin, and columns of tiles without those that a triangle misses.
-use Rattle.std.proofs.Common.{◌≡◌, ◌≢◌, ℕ, ◌+◌, ◌-◌, ◌*◌, ◌/◌, ◌<◌, ◌≤◌, subst, arith}
+use Rattle.std.proofs.Common.{◌≡◌, ℕ, ◌+◌, ◌-◌, ◌*◌, ◌/◌, ◌<◌, ◌≤◌, subst, arith}
 use Rattle.std.specs.Int.{div_ceil}
 use Rattle.grid.specs.Pixels.{side_of}
-use Rattle.grid.specs.Samples.{count_of, sample_position}
+use Rattle.grid.specs.Samples.{sample_position}
 use Rattle.grid.specs.Triangle.{Covers}
 use Rattle.grid.specs.declared.pixels.TileSide.{TileSide}
 use Rattle.grid.specs.declared.pixels.TileSide.TheVariants.{T8, T16, T32, T64}
 use Rattle.grid.specs.declared.sample_count.SampleCount.{SampleCount}
 use Rattle.grid.specs.declared.triangle.Tri.{Tri}
 use Rattle.cover.specs.Square.{CoversNone}
-use Rattle.reach.specs.declared.span.Span.{Span}
-use Rattle.reach.specs.Reach.{MissesTile, HaveReached}
+use Rattle.reach.specs.Reach.{MissesTile}
 
 -- where a tile begins, in a row or a column
 abbrev pub start_of : TileSide → ℕ → ℕ
@@ -44,19 +43,3 @@ misses_tile t count side column row none i j s across down is_sample covers =
     let of_j = in_tile side j row down in
     let there : Covers t.a t.b t.c (sample_position (x + (i - x)) (y + (j - y)) s count) = subst (λ (n : ℕ). Covers t.a t.b t.c (sample_position (x + (i - x)) n s count)) of_j.0 (subst (λ (m : ℕ). Covers t.a t.b t.c (sample_position m j s count)) of_i.0 covers) in
     none s (j - y) (i - x) is_sample of_j.1 of_i.1 there
-
-module _ (t : Tri) (count : SampleCount) (side : TileSide) (row : ℕ) (columns : Span) where
-  passed : (missed : ℕ) → MissesTile t count side missed row → (i j s : ℕ) → j / side_of side ≡ row → s < count_of count → Covers t.a t.b t.c (sample_position i j s count) → i / side_of side ≢ missed
-  passed missed misses i j s down is_sample covers here = misses i j s here down is_sample covers
-
-  pub first_missed : (first end : ℕ) → HaveReached t count side row columns (record { first = first; end = end }) → MissesTile t count side first row → HaveReached t count side row columns (record { first = first + 1; end = end })
-  first_missed first end have misses i j s down is_sample covers inside =
-      let there = have i j s down is_sample covers inside in
-      let other = passed first misses i j s down is_sample covers in
-      record { from = omega (arith, there.from, other); below = there.below }
-
-  pub last_missed : (first end : ℕ) → HaveReached t count side row columns (record { first = first; end = end }) → MissesTile t count side (end - 1) row → HaveReached t count side row columns (record { first = first; end = end - 1 })
-  last_missed first end have misses i j s down is_sample covers inside =
-      let there = have i j s down is_sample covers inside in
-      let other = passed (end - 1) misses i j s down is_sample covers in
-      record { from = there.from; below = omega (arith, there.below, other) }

@@ -22,7 +22,8 @@ impl<const N: usize> Bounds<N> {
     /// Sets the bounds of the triangles, each under its number in draw order.
     pub fn set<T: Triangles>(&mut self, triangles: &T)
         requires { length (T.listed triangles.now) ≤ N }
-        ensures { AreBounds (T.listed triangles.now) (length (T.listed triangles.now)) self.new.columns.firsts self.new.columns.ends self.new.rows.firsts self.new.rows.ends self.new.span }
+        ensures { AreBounds (T.listed triangles.now) (length (T.listed triangles.now)) self.new.columns.firsts
+            self.new.columns.ends self.new.rows.firsts self.new.rows.ends self.new.span }
     {
         for number in 0..triangles.count() {
             let (columns, rows) = tiles_of(&triangles.triangle(number));

@@ -48,7 +48,8 @@ pub struct Reached {
     pub rows: Marks,
 }
 
-/// Which columns of tiles and which tile rows each of up to 64 triangles can meet. The mark of triangle k is bit k of a word.
+/// Which columns of tiles and which tile rows each of up to 64 triangles can meet. The mark of triangle k is bit k of a
+/// word.
 pub fn reach_of(chunk: &[Placed]) -> Reached
     requires { length chunk.now ≤ 64 }
     ensures { AreReached chunk.now result }

@@ -5,7 +5,8 @@ ghost use Rattle.reach.specs.Bounds.{HasPlace};
 use crate::span::Span;
 use crate::words::{above, at_most};
 
-/// Spans of tiles, in a row or a column of tiles, for each of up to `N` triangles: bytes, so that sixteen are compared at once.
+/// Spans of tiles, in a row or a column of tiles, for each of up to `N` triangles: bytes, so that sixteen are compared
+/// at once.
 #[derive(Drop)]
 pub struct Spans<const N: usize> {
     /// The first tile of each span.
@@ -44,12 +45,14 @@ impl<const N: usize> Spans<N> {
         }
     }
 
-    /// A bit for each of the sixteen spans from number `from` on, the lowest for the first: it is set for those that have this tile.
+    /// A bit for each of the sixteen spans from number `from` on, the lowest for the first: it is set for those that
+    /// have this tile.
     #[inline(always)]
     pub fn having(&self, from: usize, place: u32) -> u64
         requires from { from + 16 ≤ N }
         requires place { place < 64 }
-        ensures { (bit : ℕ) → bit < 16 → HasPlace self.now.firsts self.now.ends (from + bit) place → IsBitSet result bit }
+        ensures { (bit : ℕ) → bit < 16 → HasPlace self.now.firsts self.now.ends (from + bit) place →
+            IsBitSet result bit }
     {
         let place = place as u8;
         let (firsts, ends) = (&self.firsts[..], &self.ends[..]);

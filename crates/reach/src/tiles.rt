@@ -8,7 +8,8 @@ use cover::{Class, Setup};
 use grid::{SampleCount, TileSide};
 use shade::Placed;
 
-/// The columns and the rows of tiles of this size in which the triangle can meet a sample: those of the box round it, cut by its scissor.
+/// The columns and the rows of tiles of this size in which the triangle can meet a sample: those of the box round it,
+/// cut by its scissor.
 #[inline]
 pub fn tiles_met(triangle: &Placed, setup: &Setup, side: TileSide) -> (Span, Span)
     requires { setup.now ≡ triangle.now.tri }
@@ -52,8 +53,8 @@ fn misses(setup: &Setup, count: SampleCount, side: TileSide, column: u32, row: u
     }
 }
 
-/// Those of some columns of tiles in which the triangle can cover a sample of the tile row: without those at both ends that it is seen
-/// to miss.
+/// Those of some columns of tiles in which the triangle can cover a sample of the tile row: without those at both ends
+/// that it is seen to miss.
 pub fn columns_met(
     setup: &Setup,
     count: SampleCount,
@@ -71,7 +72,8 @@ pub fn columns_met(
     while first < end && misses(setup, count, side, first, row) {
         first += 1;
     }
-    while first < end && misses(setup, count, side, end - 1, row) {
+    // The first tile that is left is not missed.
+    while end.saturating_sub(first) > 1 && misses(setup, count, side, end - 1, row) {
         end -= 1;
     }
     Span { first, end }

@@ -3,10 +3,10 @@ use Rattle.std.proofs.Common.{◌≡◌, refl, sym, ap, subst, ◌∙◌, ℕ, �
 use Rattle.shade.specs.declared.sample.Sample.{Sample}
 use Rattle.list_history.specs.Walk.{ListPlace}
 use Rattle.list_history.specs.declared.list_event.ListEvent.{ListEvent}
-use Rattle.list_history.proofs.Passed.{IsOfSame, of_itself, same_next, same_covered, shorter_next, shorter_covered}
+use Rattle.list_history.proofs.Passed.{IsOfSame, same_next, same_covered, shorter_next, shorter_covered}
 use Rattle.sample_events.specs.declared.event.SampleEvent.{SampleEvent}
 use Rattle.sample_events.specs.Events.{event_of}
-use Rattle.sample_events.specs.Walk.{IsNextAsked, IsOver, AreEventsFrom, written, AreWritten}
+use Rattle.sample_events.specs.Walk.{IsNextAsked, IsNoneToCome, AreEventsFrom, written, AreEventsWritten}
 
 -- ---- one more event in the array
 pub written_more : (es : List ListEvent) (e : ListEvent) (old : List SampleEvent) → length es < length old → written (es ++ e ∷ []) old ≡ set (written es old) (length es) (event_of e)
@@ -44,9 +44,6 @@ pub record IsWalked (all : Bool) (q now : ListPlace) (old new : List SampleEvent
   pub counted : count ≡ length events
   pub few : count + length now.history.left ≤ length q.history.left
 
-pub none_walked : (all : Bool) (q : ListPlace) (old : List SampleEvent) → IsWalked all q q old old 0
-none_walked all q old = record { same = of_itself q; events = []; are = λ rest end h. h; put = refl; counted = refl; few = omega arith }
-
 module _ (all : Bool) (q now next : ListPlace) (e : ListEvent) (old new : List SampleEvent) (count : ℕ) where
   more : (after : List SampleEvent) → (so_far : IsWalked all q now old new count) → IsNextAsked all now e next → after ≡ written (so_far.events ++ e ∷ []) old → IsWalked all q next old after (count + 1)
   more after so_far step put =
@@ -79,7 +76,7 @@ module _ (all : Bool) (q now next : ListPlace) (e : ListEvent) (old new : List S
   pub pass_more : (after : List SampleEvent) → IsWalked all q now old new count → IsNextAsked all now e next → length new ≤ count → after ≡ new → IsWalked all q next old after (count + 1)
   pass_more after so_far step full kept = more after so_far step (kept ∙ pass_one so_far full)
 
-pub all_walked : (all : Bool) (q now : ListPlace) (old new : List SampleEvent) (count : ℕ) (end : Sample) → IsWalked all q now old new count → IsOver all now → end ≡ now.history.stored → AreWritten all q old new count end
+pub all_walked : (all : Bool) (q now : ListPlace) (old new : List SampleEvent) (count : ℕ) (end : Sample) → IsWalked all q now old new count → IsNoneToCome all now → end ≡ now.history.stored → AreEventsWritten all q old new count end
 all_walked all q now old new count end so_far over is = record {
   events = so_far.events;
   are = subst (λ (es : List ListEvent). AreEventsFrom all q es end) (append-nil so_far.events) (so_far.are [] end (over, is));

@@ -57,9 +57,9 @@ abbrev pub stored_of : Sample → StoredSample
 stored_of s = record { red = s.r; green = s.g; blue = s.b; depth = s.z }
 
 -- A fragment as C has it: all zeros if there is none.
-abbrev pub fragment_of : Option Shaded → Fragment
-fragment_of None = record { red = 0; green = 0; blue = 0; alpha = 0; depth = 0 }
-fragment_of (Some f) = record { red = f.r; green = f.g; blue = f.b; alpha = f.a; depth = f.z }
+abbrev pub fragment_in_c : Option Shaded → Fragment
+fragment_in_c None = record { red = 0; green = 0; blue = 0; alpha = 0; depth = 0 }
+fragment_in_c (Some f) = record { red = f.r; green = f.g; blue = f.b; alpha = f.a; depth = f.z }
 
 -- An event as C has it.
 abbrev pub event_of : ListEvent → SampleEvent
@@ -78,7 +78,7 @@ event_of e = record {
   reasons = reasons_of e.event;
   writes = writes_of e;
   covered = flag (is_some e.event.fragment) 1;
-  fragment = fragment_of e.event.fragment;
+  fragment = fragment_in_c e.event.fragment;
   before = stored_of e.event.before;
   after = stored_of e.event.after;
 }

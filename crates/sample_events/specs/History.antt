@@ -16,8 +16,8 @@ use Rattle.sample_events.specs.declared.event.SampleEvent.{SampleEvent}
 use Rattle.sample_events.specs.declared.request.HistoryRequest.{HistoryRequest}
 use Rattle.sample_events.specs.declared.sample_info.SampleInfo.{SampleInfo}
 use Rattle.sample_events.specs.Events.{stored_of}
-use Rattle.list_history.specs.Walk.{start_of}
-use Rattle.sample_events.specs.Walk.{AreWritten}
+use Rattle.list_history.specs.Walk.{history_start}
+use Rattle.sample_events.specs.Walk.{AreEventsWritten}
 
 -- The structs have the sizes, in bytes, that this library knows, or 0 for just these.
 pub record HasSizes (request : HistoryRequest) : Type 0 where
@@ -26,13 +26,13 @@ pub record HasSizes (request : HistoryRequest) : Type 0 where
   pub info_size : IsOwnSize request.info_size 56
 
 -- The picture has the pixel that is asked for.
-pub record HasPixel (l : Scene) (request : HistoryRequest) : Type 0 where
+pub record HasRequestedPixel (l : Scene) (request : HistoryRequest) : Type 0 where
   pub column : request.x < l.width
   pub row : request.y < l.height
 
 -- A pixel has the sample that is asked for.
-abbrev pub HasSample : Scene → HistoryRequest → Type 0
-HasSample l request = request.sample < count_of l.count
+abbrev pub HasRequestedSample : Scene → HistoryRequest → Type 0
+HasRequestedSample l request = request.sample < count_of l.count
 
 -- What a picture shows, by its number in C.
 abbrev pub output_number : Output → ℕ
@@ -40,7 +40,7 @@ output_number Color = 0
 output_number Depth = 1
 
 -- The sample beside its events: their number, what the picture is, where it lies, and what it begins and ends with.
-pub record IsInfoOf (l : Scene) (request : HistoryRequest) (event_count : ℕ) (end : Stored) (info : SampleInfo) : Type 0 where
+pub record IsSampleInfo (l : Scene) (request : HistoryRequest) (event_count : ℕ) (end : Stored) (info : SampleInfo) : Type 0 where
   pub count : info.event_count ≡ event_count
   pub samples : info.samples ≡ count_of l.count
   pub output : info.output ≡ output_number l.output
@@ -54,25 +54,25 @@ pub record IsInfoOf (l : Scene) (request : HistoryRequest) (event_count : ℕ) (
 pub record HoldsHistory (json : List ℕ) (request : HistoryRequest) (old new : List SampleEvent) (info : SampleInfo) : Type 0 where
   pub list : Scene
   pub means : Denotes json list
-  pub pixel : HasPixel list request
-  pub sample : HasSample list request
+  pub pixel : HasRequestedPixel list request
+  pub sample : HasRequestedSample list request
   pub all : Bool
   pub is_all : IsTrue all ↔ (request.all ≢ 0)
   pub event_count : ℕ
   pub end : Stored
-  pub written : AreWritten all (start_of list request.x request.y request.sample) old new event_count end
+  pub written : AreEventsWritten all (history_start list request.x request.y request.sample) old new event_count end
   pub is_end : IsEnd list request.x request.y request.sample end
-  pub is_info : IsInfoOf list request event_count end info
+  pub is_info : IsSampleInfo list request event_count end info
 
 -- The checks of a list that was read: its picture has the pixel, and the pixel has the sample.
 abbrev pub place_checks : Scene → HistoryRequest → Checks Status
-place_checks l request = check (HasPixel l request) BadPixel (check (HasSample l request) BadSample done)
+place_checks l request = check (HasRequestedPixel l request) BadPixel (check (HasRequestedSample l request) BadSample done)
 
 -- The checks of a call that writes a history. Those of the pixel and the sample are of each list that the text denotes.
 abbrev pub history_checks : List ℕ → HistoryRequest → Checks Status
 history_checks json request =
     check (HasSizes request) BadStructSize (
     text_checks json (
-    check ((l : Scene) → Denotes json l → HasPixel l request) BadPixel (
-    check ((l : Scene) → Denotes json l → HasSample l request) BadSample
+    check ((l : Scene) → Denotes json l → HasRequestedPixel l request) BadPixel (
+    check ((l : Scene) → Denotes json l → HasRequestedSample l request) BadSample
     done)))

@@ -8,28 +8,28 @@
 --   failure_of: How a sample fails the top-left rule at an edge, by its number in C; 0 if it does not.
 --   result_of: The result of an event, by its number in C.
 --   stored_of: What a sample stores, as C has it.
---   fragment_of: A fragment as C has it: all zeros if there is none.
+--   fragment_in_c: A fragment as C has it: all zeros if there is none.
 --   event_of: An event as C has it.
 --
 -- Walk.antt
 --   IsNextAsked: The next event that is asked for: if all are, that of the next triangle, else that of the next one that covers the sample.
---   IsOver: No event that is asked for is to come.
+--   IsNoneToCome: No event that is asked for is to come.
 --   AreEventsFrom: These are the events to come that are asked for, all of them, in draw order.
 --   written: What an array holds after these events are written at its beginning, as many as it has elements.
---   AreWritten: The events to come that are asked for are written at the beginning of the array.
+--   AreEventsWritten: The events to come that are asked for are written at the beginning of the array.
 --
 -- History.antt
 --   HasSizes: The structs have the sizes, in bytes, that this library knows, or 0 for just these.
---   HasPixel: The picture has the pixel that is asked for.
---   HasSample: A pixel has the sample that is asked for.
+--   HasRequestedPixel: The picture has the pixel that is asked for.
+--   HasRequestedSample: A pixel has the sample that is asked for.
 --   output_number: What a picture shows, by its number in C.
---   IsInfoOf: The sample beside its events: their number, what the picture is, where it lies, and what it begins and ends with.
+--   IsSampleInfo: The sample beside its events: their number, what the picture is, where it lies, and what it begins and ends with.
 --   HoldsHistory: The caller's memory holds the history of the sample that is asked for, of the list that the text denotes.
 --   place_checks: The checks of a list that was read: its picture has the pixel, and the pixel has the sample.
 --   history_checks: The checks of a call that writes a history.
 --
 -- Triangles.antt
---   HoldsSamples: The caller's memory holds the counts of the triangle in this place, of the list that the text denotes.
+--   HoldsCounts: The caller's memory holds the counts of the triangle in this place, of the list that the text denotes.
 --   HasTriangle: The list has a triangle in this place.
 --   samples_checks: The checks of a call that counts the samples of a triangle.
 

@@ -12,7 +12,7 @@ use Rattle.c_abi.specs.declared.status.Status.TheVariants.{BadTriangle}
 use Rattle.sample_events.specs.declared.triangle.TriangleSamples.{TriangleSamples}
 
 -- The caller's memory holds the counts of the triangle in this place, of the list that the text denotes.
-pub record HoldsSamples (json : List ℕ) (place : TrianglePlace) (samples : TriangleSamples) : Type 0 where
+pub record HoldsCounts (json : List ℕ) (place : TrianglePlace) (samples : TriangleSamples) : Type 0 where
   pub list : Scene
   pub means : Denotes json list
   pub number : ℕ

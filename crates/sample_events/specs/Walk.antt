@@ -13,13 +13,13 @@ IsNextAsked true = IsNextOfList
 IsNextAsked false = IsNextCoveredOfList
 
 -- No event that is asked for is to come.
-abbrev pub IsOver : Bool → ListPlace → Type 0
-IsOver true q = q.history.left ≡ []
-IsOver false q = AreUncovered q.history q.history.left
+abbrev pub IsNoneToCome : Bool → ListPlace → Type 0
+IsNoneToCome true q = q.history.left ≡ []
+IsNoneToCome false q = AreUncovered q.history q.history.left
 
 -- These are the events to come that are asked for, all of them, in draw order. The last leaves `end`.
 abbrev pub AreEventsFrom : Bool → ListPlace → List ListEvent → Sample → Type 0
-AreEventsFrom all q [] end = IsOver all q × (end ≡ q.history.stored)
+AreEventsFrom all q [] end = IsNoneToCome all q × (end ≡ q.history.stored)
 AreEventsFrom all q (e ∷ es) end = (next : ListPlace) × IsNextAsked all q e next × AreEventsFrom all next es end
 
 -- What an array holds after these events are written at its beginning, as many as it has elements. Behind them it holds what it held.
@@ -30,7 +30,7 @@ written (e ∷ es) (o ∷ os) = event_of e ∷ written es os
 
 -- The events to come that are asked for are written at the beginning of the array. The count is that of all of them, also if the array
 -- holds only the first ones, and the last leaves `end`.
-pub record AreWritten (all : Bool) (q : ListPlace) (old new : List SampleEvent) (count : ℕ) (end : Sample) : Type 0 where
+pub record AreEventsWritten (all : Bool) (q : ListPlace) (old new : List SampleEvent) (count : ℕ) (end : Sample) : Type 0 where
   pub events : List ListEvent
   pub are : AreEventsFrom all q events end
   pub put : new ≡ written events old

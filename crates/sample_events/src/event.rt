@@ -23,8 +23,8 @@ pub struct SampleEvent {
     pub draw: usize,
     /// Its number in the draw, from 0.
     pub triangle: usize,
-    /// How the sample fails the top-left rule at the edge from the first to the second vertex: 0 not at all, 1 outside, 2 on an edge
-    /// that is neither top nor left.
+    /// How the sample fails the top-left rule at the edge from the first to the second vertex: 0 not at all, 1 outside,
+    /// 2 on an edge that is neither top nor left.
     pub failure_ab: u32,
     /// The same at the edge from the second to the third vertex.
     pub failure_bc: u32,
@@ -32,7 +32,8 @@ pub struct SampleEvent {
     pub failure_ca: u32,
     /// What the triangle did: 0 missed, 1 depth failed, 2 drawn.
     pub result: u32,
-    /// The reasons that hold: 1 culled, 2 zero area, 4 not covered, 8 outside of the scissor, 16 masked, 32 depth failed, added.
+    /// The reasons that hold: 1 culled, 2 zero area, 4 not covered, 8 outside of the scissor, 16 masked, 32 depth
+    /// failed, added.
     pub reasons: u32,
     /// What its draw writes: 1 red, 2 green, 4 blue, 8 depth, added.
     pub writes: u32,

@@ -1,5 +1,5 @@
-//! The history of a sample of a draw list's picture, and how many samples a triangle has, written into the caller's memory, laid out as
-//! in C.
+//! The history of a sample of a draw list's picture, and how many samples a triangle has, written into the caller's
+//! memory, laid out as in C.
 #![tactic(auto)]
 
 mod event;

@@ -1,7 +1,7 @@
 ghost use Rattle.std.specs.Prelude.{◌≡◌, ◌≢◌, ◌<◌, ◌↔◌, IsTrue, OnOk, ⊤};
 ghost use Rattle.grid.specs.Samples.{count_of};
 ghost use Rattle.model.specs.Checking.{IsJudged};
-ghost use Rattle.sample_events.specs.History.{HasSizes, HasPixel, HasSample, place_checks};
+ghost use Rattle.sample_events.specs.History.{HasSizes, HasRequestedPixel, HasRequestedSample, place_checks};
 
 use crate::event::SampleEvent;
 use crate::sample_info::SampleInfo;
@@ -54,7 +54,7 @@ impl HistoryRequest {
 
     /// Whether the picture has the pixel.
     fn has_pixel(&self, list: &DrawList) -> bool
-        ensures has { IsTrue result ↔ HasPixel list.now self.now }
+        ensures has { IsTrue result ↔ HasRequestedPixel list.now self.now }
         ensures screen { IsTrue result → (self.now.x < 4096) × (self.now.y < 4096) }
     {
         self.x < list.width() && self.y < list.height()

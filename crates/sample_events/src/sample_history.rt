@@ -11,9 +11,9 @@ use crate::walk::write_events;
 use c_abi::{CallError, Status};
 use std::alloc::Global;
 
-/// Writes the events of a sample's history at the beginning of the array, in draw order, as many as it holds, and into `info` how many
-/// there are in all, and what the sample begins and ends with. The array is unchanged behind the events. After an error the array and
-/// `info` are unchanged.
+/// Writes the events of a sample's history at the beginning of the array, in draw order, as many as it holds, and into
+/// `info` how many there are in all, and what the sample begins and ends with. The array is unchanged behind the
+/// events. After an error the array and `info` are unchanged.
 pub fn write_history(
     alloc: Global,
     json: &[u8],

@@ -1,5 +1,5 @@
 ghost use Rattle.std.specs.Prelude.{◌≡◌, ◌<◌};
-ghost use Rattle.sample_events.specs.History.{HasSample, IsInfoOf, output_number};
+ghost use Rattle.sample_events.specs.History.{HasRequestedSample, IsSampleInfo, output_number};
 
 use crate::request::HistoryRequest;
 use crate::stored::StoredSample;
@@ -37,8 +37,8 @@ impl SampleInfo {
     ) -> SampleInfo
         requires column { request.now.x < 4096 }
         requires row { request.now.y < 4096 }
-        requires sample { HasSample list.now request.now }
-        ensures { IsInfoOf list.now request.now event_count end result }
+        requires sample { HasRequestedSample list.now request.now }
+        ensures { IsSampleInfo list.now request.now event_count end result }
     {
         let count = list.count();
         let position = sample_at(request.x, request.y, request.sample, count);

@@ -1,5 +1,5 @@
 ghost use Rattle.std.specs.Prelude.{◌≡◌};
-ghost use Rattle.sample_events.specs.Events.{stored_of, fragment_of};
+ghost use Rattle.sample_events.specs.Events.{stored_of, fragment_in_c};
 
 use shade::{Sample, Shaded};
 
@@ -41,7 +41,7 @@ pub struct Fragment {
 impl Fragment {
     /// The fragment of an event.
     pub(crate) fn of(fragment: Option<Shaded>) -> Fragment
-        ensures { result ≡ fragment_of fragment }
+        ensures { result ≡ fragment_in_c fragment }
     {
         match fragment {
             None => Fragment {

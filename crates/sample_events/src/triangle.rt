@@ -1,7 +1,7 @@
 //! How many samples of the picture a triangle has, in the caller's memory.
 ghost use Rattle.std.specs.Prelude.{◌≡◌, OnOk, OnErr, ⊤};
 ghost use Rattle.c_abi.specs.Calls.{IsCall, IsFirstOfText};
-ghost use Rattle.sample_events.specs.Triangles.{HoldsSamples, samples_checks};
+ghost use Rattle.sample_events.specs.Triangles.{HoldsCounts, samples_checks};
 
 use crate::text::list_of;
 use c_abi::{CallError, Status};
@@ -21,15 +21,15 @@ pub struct TriangleSamples {
     pub shown: u32,
 }
 
-/// Writes into `samples` how many samples of the picture the triangle covers, how many it changes, and how many still show it in the
-/// end. After an error `samples` is unchanged.
+/// Writes into `samples` how many samples of the picture the triangle covers, how many it changes, and how many still
+/// show it in the end. After an error `samples` is unchanged.
 pub fn write_triangle_samples(
     alloc: Global,
     json: &[u8],
     place: TrianglePlace,
     samples: &mut TriangleSamples,
 ) -> Result<(), CallError>
-    ensures written { OnOk result (HoldsSamples json.now place samples.new) }
+    ensures written { OnOk result (HoldsCounts json.now place samples.new) }
     ensures kept { OnErr result (samples.new ≡ samples.old) }
     ensures judged { IsCall (samples_checks json.now place) (IsFirstOfText json.now) (λ done. ⊤) result }
 {

@@ -7,6 +7,7 @@ use Rattle.shade.specs.declared.equation.BlendOperation.TheVariants.{Add, Subtra
 use Rattle.shade.specs.declared.equation.Equation.{Equation}
 use Rattle.shade.specs.declared.factor.BlendFactor.{BlendFactor}
 use Rattle.shade.specs.declared.factor.BlendFactor.TheVariants as by
+use Rattle.shade.specs.declared.operands.Channel.{Channel}
 use Rattle.shade.specs.declared.operands.Channel.TheVariants.{Colour}
 use Rattle.shade.specs.declared.operands.Operands.{Operands}
 use Rattle.shade.specs.Blend.{factor, IsNearest, IsCombined, IsBlended, IsOver, IsOfSourceAlpha, ReadsSourceAlpha}
@@ -34,8 +35,8 @@ any_combined ReverseSubtract s f d g = let n = of_difference (d * g) (s * f) in 
 any_combined Min s f d g = (min s d, refl)
 any_combined Max s f d g = (max s d, refl)
 
-pub blended : (e : Equation) (o : Operands) → (n : ℕ) × IsBlended e Colour o n
-blended e o = any_combined e.operation _ _ _ _
+pub blended : (e : Equation) (channel : Channel) (o : Operands) → (n : ℕ) × IsBlended e channel o n
+blended e channel o = any_combined e.operation _ _ _ _
 
 -- ---- one value
 nearest-unique : (x : ℤ) (m n : ℕ) → IsNearest x m → IsNearest x n → m ≡ n
@@ -48,8 +49,8 @@ combined-unique ReverseSubtract s f d g m n h k = nearest-unique _ m n h k
 combined-unique Min s f d g m n h k = h ∙ sym k
 combined-unique Max s f d g m n h k = h ∙ sym k
 
-pub blended-unique : (e : Equation) (o : Operands) (m n : ℕ) → IsBlended e Colour o m → IsBlended e Colour o n → m ≡ n
-blended-unique e o m n h k = combined-unique e.operation _ _ _ _ m n h k
+pub blended-unique : (e : Equation) (channel : Channel) (o : Operands) (m n : ℕ) → IsBlended e channel o m → IsBlended e channel o n → m ≡ n
+blended-unique e channel o m n h k = combined-unique e.operation _ _ _ _ m n h k
 
 -- ---- the equations of draw lists
 pub sum_small : (s a d : ℕ) → s ≤ 255 → a ≤ 255 → d ≤ 255 → s * a + d * (255 - a) ≤ 65025

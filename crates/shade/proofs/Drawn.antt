@@ -8,6 +8,7 @@ use Rattle.shade.specs.declared.sample.Sample.{Sample}
 use Rattle.shade.specs.declared.sample.Shaded.{Shaded}
 use Rattle.shade.specs.declared.sample.Merge.{Merge}
 use Rattle.shade.specs.declared.equation.Equation.{Equation}
+use Rattle.shade.specs.declared.operands.Channel.{Channel}
 use Rattle.shade.specs.declared.operands.Channel.TheVariants.{Colour}
 use Rattle.shade.specs.declared.operands.Operands.{Operands}
 use Rattle.shade.specs.Blend.{IsBlended}
@@ -58,31 +59,32 @@ fragment-unique t p f f' h k =
     same_shaded f f' (quotient-unique _ _ _ _ h.red k.red) (quotient-unique _ _ _ _ h.green k.green) (quotient-unique _ _ _ _ h.blue k.blue) (quotient-unique _ _ _ _ h.alpha k.alpha) (quotient-unique _ _ _ _ h.depth k.depth)
 
 -- ---- what it makes of a sample
-drawn : (written : Bool) (e : Equation) (o : Operands) (stored : ℕ) → (new : ℕ) × IsWritten written (IsBlended e Colour o) stored new
-drawn false e o stored = (stored, refl)
-drawn true e o stored = blended e o
+pub drawn : (written : Bool) (e : Equation) (channel : Channel) (o : Operands) (stored : ℕ) → (new : ℕ) × IsWritten written (IsBlended e channel o) stored new
+drawn false e channel o stored = (stored, refl)
+drawn true e channel o stored = blended e channel o
 
-drawn-unique : (written : Bool) (e : Equation) (o : Operands) (stored new new' : ℕ) → IsWritten written (IsBlended e Colour o) stored new → IsWritten written (IsBlended e Colour o) stored new' → new ≡ new'
-drawn-unique false e o stored new new' h k = h ∙ sym k
-drawn-unique true e o stored new new' h k = blended-unique e o new new' h k
+pub drawn-unique : (written : Bool) (e : Equation) (channel : Channel) (o : Operands) (stored new new' : ℕ) → IsWritten written (IsBlended e channel o) stored new → IsWritten written (IsBlended e channel o) stored new' → new ≡ new'
+drawn-unique false e channel o stored new new' h k = h ∙ sym k
+drawn-unique true e channel o stored new new' h k = blended-unique e channel o new new' h k
 
-channel_drawn : (m : Merge) (k source alpha stored : ℕ) → (new : ℕ) × IsChannelMerged m k source alpha stored new
-channel_drawn m k source alpha stored = drawn (slice_index_or m.write k false) m.blend.colour (operands_of m k source alpha stored) stored
+pub channel_drawn : (m : Merge) (k source alpha e stored : ℕ) → (new : ℕ) × IsChannelMerged m k source alpha e stored new
+channel_drawn m k source alpha e stored = drawn (slice_index_or m.write k false) m.blend.colour Colour (operands_of m k source alpha e stored) stored
 
-channel_drawn-unique : (m : Merge) (k source alpha stored new new' : ℕ) → IsChannelMerged m k source alpha stored new → IsChannelMerged m k source alpha stored new' → new ≡ new'
-channel_drawn-unique m k source alpha stored new new' h i = drawn-unique (slice_index_or m.write k false) m.blend.colour (operands_of m k source alpha stored) stored new new' h i
+pub channel_drawn-unique : (m : Merge) (k source alpha e stored new new' : ℕ) → IsChannelMerged m k source alpha e stored new → IsChannelMerged m k source alpha e stored new' → new ≡ new'
+channel_drawn-unique m k source alpha e stored new new' h i =
+    drawn-unique (slice_index_or m.write k false) m.blend.colour Colour (operands_of m k source alpha e stored) stored new new' h i
 
 merged : (m : Merge) (f : Shaded) (old : Sample) → (new : Sample) × IsMerged m f old new
 merged m f old =
-    let r = channel_drawn m 0 f.r f.a old.r in
-    let g = channel_drawn m 1 f.g f.a old.g in
-    let b = channel_drawn m 2 f.b f.a old.b in
+    let r = channel_drawn m 0 f.r f.a 255 old.r in
+    let g = channel_drawn m 1 f.g f.a 255 old.g in
+    let b = channel_drawn m 2 f.b f.a 255 old.b in
     (record { r = r.0; g = g.0; b = b.0; z = if m.depth_write then f.z else old.z }, record { red = r.1; green = g.1; blue = b.1; depth = refl })
 
 merged-unique : (m : Merge) (f : Shaded) (old new new' : Sample) → IsMerged m f old new → IsMerged m f old new' → new ≡ new'
 merged-unique m f old new new' h k =
-    same_sample new new' (channel_drawn-unique m 0 f.r f.a old.r _ _ h.red k.red) (channel_drawn-unique m 1 f.g f.a old.g _ _ h.green k.green)
-    (channel_drawn-unique m 2 f.b f.a old.b _ _ h.blue k.blue) (h.depth ∙ sym k.depth)
+    same_sample new new' (channel_drawn-unique m 0 f.r f.a 255 old.r _ _ h.red k.red) (channel_drawn-unique m 1 f.g f.a 255 old.g _ _ h.green k.green)
+    (channel_drawn-unique m 2 f.b f.a 255 old.b _ _ h.blue k.blue) (h.depth ∙ sym k.depth)
 
 applied_when : (m : Merge) (f : Shaded) (old : Sample) → IsDecided (Passes m.test f.z old.z) → (new : Sample) × IsApplied m f old new
 applied_when m f old (inl p) = let new = merged m f old in (new.0, record { passed = λ _. new.1; failed = λ n. absurd (n p) })

@@ -6,3 +6,5 @@ pub mod Drawn
 pub mod Endings
 pub mod Merged
 pub mod Resolved
+pub mod CanvasDrawn
+pub mod CanvasEndings

@@ -53,8 +53,8 @@
 --
 -- Merging.antt
 --   Writes: Whether a draw writes red, green or blue, which are the channels 0 to 2 (Direct3D 11, write mask).
---   ReadsAlpha: Whether the colours of a draw are blended by the alpha of its fragments.
---   operands_of: What the blend equation of channel k reads of a fragment's channel and alpha and of the stored channel.
+--   ReadsAlpha: Whether a draw reads the alpha of its fragments.
+--   operands_of: What the blend equation of channel k reads of a fragment's channel and alpha, and of the stored alpha and channel.
 --   IsWritten: A channel of the write mask takes a value with P, and another is unchanged.
 --   IsChannelMerged: What a channel of a sample becomes, by its index in the write mask: red is 0, green is 1, blue is 2.
 --   IsMerged: The sample after a fragment that passed the depth test (Direct3D 11, output merger).
@@ -73,7 +73,7 @@
 --   channel: What the three vertices have as red, green, blue or alpha, which are the channels 0 to 3.
 --   IsInterpolated: The value at p of an attribute that has these values at the three vertices.
 --   IsFragmentAt: The fragment of a triangle at p: depth, colour and alpha, each the value at p of what the vertices have.
---   IsNeededAt: What a draw reads of a fragment at p: the depth, each channel that is written, and alpha if the draw blends by it.
+--   IsNeededAt: What a draw reads of a fragment at p: the depth, each channel that is written, and alpha if the draw reads it.
 --   AreWeightsOf: The weights are those of this triangle, at their point.
 --   IsDrawnAt: What the triangle makes of a sample at a point p that it covers.
 --   Meets: The triangle meets sample s of pixel (i, j), whatever depth is stored there.
@@ -81,6 +81,18 @@
 --
 -- Ending.antt
 --   Ends: What the triangles make of sample s of pixel (i, j), one after another in draw order.
+--
+-- Canvas.antt
+--   with_alpha: The sample with this alpha.
+--   colour_and_depth: The colour and the depth of a sample.
+--   keeping_alpha: The triangle, drawn without writing alpha.
+--   alpha_operands: What the blend equation of alpha reads of a fragment's alpha and of the stored alpha.
+--   IsAlphaMerged: What stored alpha becomes.
+--   IsCanvasMerged: The sample of a canvas after a fragment that passed the depth test (Direct3D 11, output merger).
+--   IsCanvasApplied: The sample of a canvas after a fragment.
+--   IsCanvasDrawnAt: What the triangle makes of a sample of a canvas at a point p that it covers.
+--   CanvasDraws: What the triangle makes of sample s of pixel (i, j) of a canvas.
+--   CanvasEnds: What the triangles make of sample s of pixel (i, j) of a canvas, one after another in draw order.
 
 pub mod Quotient
 pub mod Depth
@@ -94,3 +106,4 @@ pub mod Resolve
 pub mod Mean
 pub mod Placed
 pub mod Ending
+pub mod Canvas

@@ -1,5 +1,5 @@
 -- Blend equations and states with names of their own.
-use Rattle.std.specs.Prelude.{◌≡◌, ◌≤◌, ℤ, pos, [], ◌∷◌}
+use Rattle.std.specs.Prelude.{false, ◌≡◌, ◌≤◌, ℤ, pos, [], ◌∷◌}
 use Rattle.std.specs.Int.{int_min, int_max}
 use Rattle.shade.specs.declared.blend.Blend.{Blend}
 use Rattle.shade.specs.declared.equation.Equation.{Equation}
@@ -55,11 +55,11 @@ multiply_stored = record { source = Zero; stored = SourceColour; operation = Add
 
 -- The blend state in which the new colour replaces the stored one.
 abbrev pub none_blend : Blend
-none_blend = record { colour = replace; alpha = replace; constant = 0 ∷ 0 ∷ 0 ∷ 0 ∷ [] }
+none_blend = record { colour = replace; alpha = replace; constant = 0 ∷ 0 ∷ 0 ∷ 0 ∷ []; write_alpha = false }
 
 -- The blend state in which the new colour is laid over the stored one by its alpha.
 abbrev pub over_blend : Blend
-over_blend = record { colour = over; alpha = premultiplied_over; constant = 0 ∷ 0 ∷ 0 ∷ 0 ∷ [] }
+over_blend = record { colour = over; alpha = premultiplied_over; constant = 0 ∷ 0 ∷ 0 ∷ 0 ∷ []; write_alpha = false }
 
 -- Two equations have the same parts.
 pub record AreAlike (d e : Equation) : Type 0 where

@@ -12,6 +12,8 @@ pub struct Blend {
     pub alpha: Equation,
     /// Red, green, blue and alpha of the constant colour.
     pub constant: [u8; 4],
+    /// Whether alpha is written, where it is stored.
+    pub write_alpha: bool,
 }
 
 impl Equation {
@@ -65,41 +67,47 @@ impl Blend {
         colour: Equation::REPLACE,
         alpha: Equation::REPLACE,
         constant: [0; 4],
+        write_alpha: false,
     };
     /// The new colour over the stored one by its alpha.
     pub const OVER: Blend = Blend {
         colour: Equation::OVER,
         alpha: Equation::PREMULTIPLIED_OVER,
         constant: [0; 4],
+        write_alpha: false,
     };
     /// The same for colours that are multiplied by their alpha.
     pub const PREMULTIPLIED: Blend = Blend {
         colour: Equation::PREMULTIPLIED_OVER,
         alpha: Equation::PREMULTIPLIED_OVER,
         constant: [0; 4],
+        write_alpha: false,
     };
     /// The new colour, multiplied by its alpha, is added to the stored one.
     pub const ADD: Blend = Blend {
         colour: Equation::ADD_BY_ALPHA,
         alpha: Equation::ADD,
         constant: [0; 4],
+        write_alpha: false,
     };
     /// The product of both.
     pub const MULTIPLY: Blend = Blend {
         colour: Equation::MULTIPLY,
         alpha: Equation::MULTIPLY,
         constant: [0; 4],
+        write_alpha: false,
     };
     /// The stored colour is left.
     pub const KEEP: Blend = Blend {
         colour: Equation::KEEP,
         alpha: Equation::KEEP,
         constant: [0; 4],
+        write_alpha: false,
     };
 }
 
-/// The source channel `s` over the stored channel `d` by the source's alpha `a`, of which 255 is opaque (source-over of Porter and
-/// Duff 1984), rounded to nearest (the rounding is this project's rule).
+/// The source channel `s` over the stored channel `d` by the source's alpha `a`, of which 255 is opaque (source-over of
+/// Porter and Duff 1984), rounded to nearest (the rounding is this project's rule).
 pub fn over(s: u8, a: u8, d: u8) -> u8
     ensures { IsOver s a d result }
 {

@@ -4,8 +4,8 @@ ghost use Rattle.shade.specs.Blend.{IsNearest};
 use crate::factor::BlendFactor;
 use crate::operands::{Channel, Operands};
 
-/// How the two terms of a blend equation are combined (Direct3D 11, `D3D11_BLEND_OP`). `Min` and `Max` take the channels
-/// themselves, without factors.
+/// How the two terms of a blend equation are combined (Direct3D 11, `D3D11_BLEND_OP`). `Min` and `Max` take the
+/// channels themselves, without factors.
 #[derive(Clone, Copy, Debug, PartialEq, Eq)]
 pub enum BlendOperation {
     Add,
@@ -26,7 +26,8 @@ pub struct Equation {
     pub operation: BlendOperation,
 }
 
-/// The number from 0 to 255 nearest to the difference of two numbers divided by 255 (the rounding is this project's rule).
+/// The number from 0 to 255 nearest to the difference of two numbers divided by 255 (the rounding is this project's
+/// rule).
 fn nearest(plus: u32, minus: u32) -> u8
     requires { plus ≤ 130050 }
     ensures { IsNearest (pos plus -ℤ pos minus) result }

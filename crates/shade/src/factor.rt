@@ -2,7 +2,8 @@ ghost use Rattle.std.specs.Prelude.{◌≡◌, ◌↔◌, IsTrue};
 
 use crate::operands::{Channel, Operands};
 
-/// What a blend equation multiplies a term by (Direct3D 11, `D3D11_BLEND`, where the constant is called the blend factor).
+/// What a blend equation multiplies a term by (Direct3D 11, `D3D11_BLEND`, where the constant is called the blend
+/// factor).
 #[derive(Clone, Copy, Debug, PartialEq, Eq)]
 pub enum BlendFactor {
     Zero,
@@ -52,20 +53,8 @@ impl BlendFactor {
     pub(crate) fn is_of_source_alpha(self) -> bool
         ensures { IsTrue result ↔ IsOfSourceAlpha self }
     {
-        match self {
-            BlendFactor::SourceAlpha
-            | BlendFactor::InverseSourceAlpha
-            | BlendFactor::SourceAlphaSaturated => true,
-            BlendFactor::Zero
-            | BlendFactor::One
-            | BlendFactor::SourceColour
-            | BlendFactor::InverseSourceColour
-            | BlendFactor::StoredAlpha
-            | BlendFactor::InverseStoredAlpha
-            | BlendFactor::StoredColour
-            | BlendFactor::InverseStoredColour
-            | BlendFactor::Constant
-            | BlendFactor::InverseConstant => false,
-        }
+        self == BlendFactor::SourceAlpha
+            || self == BlendFactor::InverseSourceAlpha
+            || self == BlendFactor::SourceAlphaSaturated
     }
 }

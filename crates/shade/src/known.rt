@@ -1,7 +1,6 @@
 ghost use Rattle.shade.specs.Presets.{IsKnown};
 
-use crate::equation::{BlendOperation, Equation};
-use crate::factor::BlendFactor;
+use crate::equation::Equation;
 
 /// Which of the two equations of draw lists a colour equation is: they have code of their own.
 #[derive(Clone, Copy, Debug, PartialEq, Eq)]
@@ -18,11 +17,12 @@ impl KnownEquation {
     pub fn of(e: &Equation) -> KnownEquation
         ensures { IsKnown result e.now }
     {
-        match (e.source, e.stored, e.operation) {
-            (BlendFactor::One, BlendFactor::Zero, BlendOperation::Add) => KnownEquation::Replace,
-            (BlendFactor::SourceAlpha, BlendFactor::InverseSourceAlpha, BlendOperation::Add) =>
-                KnownEquation::Over,
-            _ => KnownEquation::Other,
+        if *e == Equation::REPLACE {
+            KnownEquation::Replace
+        } else if *e == Equation::OVER {
+            KnownEquation::Over
+        } else {
+            KnownEquation::Other
         }
     }
 }

@@ -5,8 +5,8 @@ pub enum Channel {
     Alpha,
 }
 
-/// What a blend equation reads for one channel, 0 to 255 each. For the alpha channel `source` is the source's alpha, `stored` the
-/// stored alpha and `constant` the constant's alpha.
+/// What a blend equation reads for one channel, 0 to 255 each. For the alpha channel `source` is the source's alpha,
+/// `stored` the stored alpha and `constant` the constant's alpha.
 #[derive(Clone, Copy, Debug, PartialEq, Eq)]
 pub struct Operands {
     /// The channel of the fragment.

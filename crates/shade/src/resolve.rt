@@ -10,8 +10,8 @@ use grid::SampleCount;
 /// The most samples of a pixel.
 pub const MAX_SAMPLES: usize = 16;
 
-/// A channel of a pixel from the sum of that channel of its samples: their mean, rounded to nearest with halves up (the rounding is
-/// this project's rule).
+/// A channel of a pixel from the sum of that channel of its samples: their mean, rounded to nearest with halves up (the
+/// rounding is this project's rule).
 fn mean(sum: u32, count: SampleCount) -> u8
     requires { sum ≤ 255 * count_of count }
     ensures { (channel : ℕ → ℕ) → sum ≡ total (count_of count) channel → IsResolved count channel result }

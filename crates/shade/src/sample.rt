@@ -12,6 +12,17 @@ pub struct Sample {
     pub z: u16,
 }
 
+/// A stored sample of a canvas: its colour and its depth as those of `Sample`, and its alpha, 0 to 255. Where no alpha is
+/// wanted, it is 255, and no draw writes it.
+#[derive(Clone, Copy, Debug, PartialEq, Eq)]
+pub struct CanvasSample {
+    pub r: u8,
+    pub g: u8,
+    pub b: u8,
+    pub alpha: u8,
+    pub z: u16,
+}
+
 /// The colour, alpha and depth of a triangle at one point, with the ranges of a stored sample.
 #[derive(Clone, Copy, Debug, PartialEq, Eq)]
 pub struct Shaded {
@@ -38,11 +49,46 @@ pub struct Merge {
 impl Merge {
     ghost use Rattle.shade.specs.Merging.{ReadsAlpha};
 
-    /// Whether the colours are blended by the alpha of fragments.
+    /// Whether the alpha of fragments is read: the colours are blended by it, or alpha is written.
     #[inline(always)]
     pub fn reads_alpha(&self) -> bool
         ensures { IsTrue result ↔ ReadsAlpha self.now }
     {
-        self.blend.colour.reads_source_alpha()
+        self.blend.colour.reads_source_alpha() || self.blend.write_alpha
+    }
+}
+
+impl Sample {
+    ghost use Rattle.shade.specs.Canvas.{with_alpha};
+
+    /// The sample with this alpha.
+    #[inline(always)]
+    pub fn with_alpha(self, alpha: u8) -> CanvasSample
+        ensures { result ≡ with_alpha self alpha }
+    {
+        CanvasSample {
+            r: self.r,
+            g: self.g,
+            b: self.b,
+            alpha,
+            z: self.z,
+        }
+    }
+}
+
+impl CanvasSample {
+    ghost use Rattle.shade.specs.Canvas.{colour_and_depth};
+
+    /// Its colour and its depth.
+    #[inline(always)]
+    pub fn colour_and_depth(self) -> Sample
+        ensures { result ≡ colour_and_depth self }
+    {
+        Sample {
+            r: self.r,
+            g: self.g,
+            b: self.b,
+            z: self.z,
+        }
     }
 }

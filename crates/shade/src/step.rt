@@ -6,8 +6,9 @@ ghost use Rattle.shade.specs.Row.{IsChange, IsSplit};
 
 use grid::{Point, Tri};
 
-/// The change of a weighted sum of three values per pixel step to the right, as quotient and remainder of a division by the
-/// absolute doubled area. So a value is stepped along a row by additions alone, as by a digital differential analyzer.
+/// The change of a weighted sum of three values per pixel step to the right, as quotient and remainder of a division by
+/// the absolute doubled area. So a value is stepped along a row by additions alone, as by a digital differential
+/// analyzer.
 #[derive(Clone, Copy, Debug)]
 pub(crate) struct Step {
     pub(crate) quotient: i64,
@@ -43,7 +44,8 @@ fn sum_of(first: i64, second: i64, third: i64) -> i64
     first + second + third
 }
 
-/// How much the weighted sum of `v` changes from a covered point to the one a pixel to the right, if that is covered too.
+/// How much the weighted sum of `v` changes from a covered point to the one a pixel to the right, if that is covered
+/// too.
 fn change(t: &Tri, v: [u16; 3]) -> i64
     ensures change { IsChange t.now.a t.now.b t.now.c (slice_index v 0) (slice_index v 1) (slice_index v 2) result }
     ensures size { IsWithin (2 ^ 50) result }

@@ -8,8 +8,9 @@ ghost use Rattle.shade.specs.Value.{weighted_sum, IsValueAt};
 use grid::{Point, Tri, side};
 use std::marker::Model;
 
-/// The weights of a triangle's vertices at a point that it covers: the absolute value of the edge function of each vertex's opposite
-/// edge there. They are found once for all values at the point. Contracts see the triangle and the point, which are kept for them.
+/// The weights of a triangle's vertices at a point that it covers: the absolute value of the edge function of each
+/// vertex's opposite edge there. They are found once for all values at the point. Contracts see the triangle and the
+/// point, which are kept for them.
 #[derive(Debug, Drop)]
 pub struct Weights {
     triangle: Tri,
@@ -64,8 +65,11 @@ impl Weights {
 
     /// The weighted sum of `v` at the point divided by the absolute doubled area: quotient and remainder.
     pub(crate) fn divided(&self, v: [u16; 3]) -> (u16, u64)
-        ensures divided { IsDivided (weighted_sum self.now.a self.now.b self.now.c self.now.p (slice_index v 0) (slice_index v 1) (slice_index v 2)) (unsigned_abs (doubled_area self.now.a self.now.b self.now.c)) result.0 result.1 }
-        ensures at_most { (most : ℕ) → slice_index v 0 ≤ most → slice_index v 1 ≤ most → slice_index v 2 ≤ most → result.0 ≤ most }
+        ensures divided { IsDivided (weighted_sum self.now.a self.now.b self.now.c self.now.p (slice_index v 0)
+            (slice_index v 1) (slice_index v 2)) (unsigned_abs (doubled_area self.now.a self.now.b self.now.c)) result.0
+            result.1 }
+        ensures at_most { (most : ℕ) → slice_index v 0 ≤ most → slice_index v 1 ≤ most → slice_index v 2 ≤ most →
+            result.0 ≤ most }
     {
         let area = self.area;
         // The weights add up to the area, so the mean of equal values is exact and needs no division.
@@ -78,11 +82,13 @@ impl Weights {
         ((sum / area) as u16, sum % area)
     }
 
-    /// The value at the point of what is `v` at the vertices: the mean of `v` by the weights, rounded down (the rounding is this
-    /// project's rule). It is at most the greatest of `v`.
+    /// The value at the point of what is `v` at the vertices: the mean of `v` by the weights, rounded down (the
+    /// rounding is this project's rule). It is at most the greatest of `v`.
     pub fn value(&self, v: [u16; 3]) -> u16
-        ensures value { IsValueAt self.now.a self.now.b self.now.c self.now.p (slice_index v 0) (slice_index v 1) (slice_index v 2) result }
-        ensures at_most { (most : ℕ) → slice_index v 0 ≤ most → slice_index v 1 ≤ most → slice_index v 2 ≤ most → result ≤ most }
+        ensures value { IsValueAt self.now.a self.now.b self.now.c self.now.p (slice_index v 0) (slice_index v 1)
+            (slice_index v 2) result }
+        ensures at_most { (most : ℕ) → slice_index v 0 ≤ most → slice_index v 1 ≤ most → slice_index v 2 ≤ most →
+            result ≤ most }
     {
         let (value, _) = self.divided(v);
         value
@@ -90,7 +96,8 @@ impl Weights {
 
     /// The value at the point of what is `v` at the vertices, as `value` gives it.
     pub fn channel(&self, v: [u8; 3]) -> u8
-        ensures { IsValueAt self.now.a self.now.b self.now.c self.now.p (slice_index v 0) (slice_index v 1) (slice_index v 2) result }
+        ensures { IsValueAt self.now.a self.now.b self.now.c self.now.p (slice_index v 0) (slice_index v 1)
+            (slice_index v 2) result }
     {
         let [a, b, c] = v;
         self.value([u16::from(a), u16::from(b), u16::from(c)]) as u8

@@ -9,9 +9,9 @@ use Rattle.model.specs.declared.output.Output.TheVariants.{Color, Depth}
 use Rattle.model.proofs.PixelPrefix.{prefix_run}
 use Rattle.model.proofs.Pixels.{same_pixel, pixel_of_part, pixel_of_three, pixel_of_two, pixel_of_colour, pixel_of_depth}
 use Rattle.raster.specs.declared.tile.Tile.{Tile}
-use Rattle.raster.specs.Samples.{place_of, stored}
+use Rattle.raster.specs.Samples.{place_of}
 use Rattle.tiling.specs.Pixels.{AddsPixelRun}
-use Rattle.tile.specs.Picture.{IsShown, AreEnds, AreDepthsAt}
+use Rattle.tile.specs.Picture.{stored_sample, IsShown, AreEnds, AreDepthsAt}
 use Rattle.raster.specs.Colours.{AreColoursAt}
 use Rattle.tile.proofs.Shown.{colour_shown}
 
@@ -44,7 +44,7 @@ set_two_more P xs i x y below begun here k h =
 -- ---- eight samples in a row of a block
 module _ (tile : Tile) (samples : List BlockSamples) (row column : ℕ) where
   abbrev plane : ℕ → BlockSamples
-  plane s = slice_index_or samples (place_of tile (row / 8) column s) (record { z = []; r = []; g = []; b = [] })
+  plane s = slice_index_or samples (place_of tile (row / 8) column s) (record { z = []; r = []; g = []; b = []; alpha = [] })
 
   module _ (i : ℕ) (h : i < 8) where
     abbrev k : ℕ
@@ -57,7 +57,7 @@ module _ (tile : Tile) (samples : List BlockSamples) (row column : ℕ) where
     pixel = omega arith
 
     pub depth_in : (high low : ℕ) → high ≡ slice_index (plane 0).z k / 256 → low ≡ slice_index (plane 0).z k % 256
-        → (high ≡ (stored tile samples row (8 * column + i) 0).z / 256) × (low ≡ (stored tile samples row (8 * column + i) 0).z % 256)
+        → (high ≡ (stored_sample tile samples row (8 * column + i) 0).z / 256) × (low ≡ (stored_sample tile samples row (8 * column + i) 0).z % 256)
     depth_in high low e f = rw (block, pixel) (e, f)
 
 -- ---- runs of pixels
@@ -89,9 +89,9 @@ module _ (l : Scene) (tile : Tile) (samples : List BlockSamples) (row column man
     size = rw e (omega (arith, length-take (2 * many) bytes));
     pixels = λ i below.
         let depth = depths i (omega arith) in
-        let here : pixel_at Depth i (take (2 * many) bytes) ≡ (stored tile samples row (8 * column + i) 0).z / 256 ∷ (stored tile samples row (8 * column + i) 0).z % 256 ∷ [] =
+        let here : pixel_at Depth i (take (2 * many) bytes) ≡ (stored_sample tile samples row (8 * column + i) 0).z / 256 ∷ (stored_sample tile samples row (8 * column + i) 0).z % 256 ∷ [] =
         pixel_of_part Depth 0 i i many 0 (2 * many) bytes refl refl (omega arith) below (omega arith) ∙ pixel_of_two i bytes (omega arith)
-        ∙ ap (λ high. high ∷ slice_index bytes (2 * i + 1) ∷ []) depth.0 ∙ ap (λ low. (stored tile samples row (8 * column + i) 0).z / 256 ∷ low ∷ []) depth.1 in
+        ∙ ap (λ high. high ∷ slice_index bytes (2 * i + 1) ∷ []) depth.0 ∙ ap (λ low. (stored_sample tile samples row (8 * column + i) 0).z / 256 ∷ low ∷ []) depth.1 in
         same_pixel l (8 * tile.bx + (8 * column + i)) (8 * tile.by + row) _ _ _ _ (across i) refl (sym (ap (λ o. pixel_at o i (take (2 * many) bytes)) e ∙ here))
         (pixel_of_depth l (8 * tile.bx + (8 * column + i)) (8 * tile.by + row) _ e (ends row (8 * column + i) 0 (shown i below)));
   }

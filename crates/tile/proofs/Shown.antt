@@ -13,9 +13,8 @@ use Rattle.bins.specs.Bin.{IsBinOf}
 use Rattle.tiling.proofs.Tiles.{starts_within, in_rect}
 use Rattle.bins.proofs.Drawn.{bin_at_sample}
 use Rattle.raster.specs.declared.tile.Tile.{Tile}
-use Rattle.raster.specs.Samples.{stored}
 use Rattle.tiling.specs.Pixels.{IsPictureIn}
-use Rattle.tile.specs.Picture.{IsTileAt, IsShown, IsTileBin, AreEnds}
+use Rattle.tile.specs.Picture.{stored_sample, IsTileAt, IsShown, IsTileBin, AreEnds}
 use Rattle.raster.specs.Colours.{IsColourAt}
 
 -- tile k stands in one of the columns and rows
@@ -76,13 +75,13 @@ module _ (g : TileGrid) (k : ℕ) (h : k < tiles_of g) (tile : Tile) (at : IsTil
 pub colour_shown : (l : Scene) (tile : Tile) (samples : List BlockSamples) (row column r g b : ℕ) → AreEnds l tile samples → tile.count ≡ l.count → IsShown l tile row column 0
     → IsColourAt tile samples row column r g b → IsColour l (8 * tile.bx + column) (8 * tile.by + row) r g b
 colour_shown l tile samples row column r g b ends count shown c = record {
-  end = λ s. stored tile samples row column s;
+  end = λ s. stored_sample tile samples row column s;
   ends = λ s below. ends row column s (record {
     sample = record { high = shown.sample.high; wide = shown.sample.wide; is_sample = rw count below };
     in_width = shown.in_width;
     in_height = shown.in_height;
   });
-  red = subst (λ n. IsResolved n (λ s. (stored tile samples row column s).r) r) count c.red;
-  green = subst (λ n. IsResolved n (λ s. (stored tile samples row column s).g) g) count c.green;
-  blue = subst (λ n. IsResolved n (λ s. (stored tile samples row column s).b) b) count c.blue;
+  red = subst (λ n. IsResolved n (λ s. (stored_sample tile samples row column s).r) r) count c.red;
+  green = subst (λ n. IsResolved n (λ s. (stored_sample tile samples row column s).g) g) count c.green;
+  blue = subst (λ n. IsResolved n (λ s. (stored_sample tile samples row column s).b) b) count c.blue;
 }

@@ -7,6 +7,7 @@
 --   IsTileAt: The tile lies where tile k of the picture does, and has its size.
 --   IsShown: A sample of the tile whose pixel is in the picture.
 --   IsTileBin: The numbers are a bin of each sample of the tile whose pixel is in the picture.
+--   stored_sample: Sample s of the pixel in a row and a column of the tile, as it is stored, but without its alpha.
 --   AreEnds: The samples whose pixels are in the picture have their final values.
 --   AreDepthsAt: The bytes of the depths of the eight pixels in a row of the tile and a column of its blocks.
 

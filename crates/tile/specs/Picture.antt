@@ -2,7 +2,9 @@
 use Rattle.std.specs.Prelude.{◌≡◌, ℕ, ◌+◌, ◌*◌, ◌/◌, ◌%◌, ◌<◌, List, slice_index}
 use Rattle.grid.specs.Pixels.{side_of}
 use Rattle.lanes.specs.declared.block_samples.BlockSamples.{BlockSamples}
+use Rattle.shade.specs.declared.sample.Sample.{Sample}
 use Rattle.shade.specs.Placed.{Meets}
+use Rattle.shade.specs.Canvas.{colour_and_depth}
 use Rattle.model.specs.Scene.{Scene}
 use Rattle.model.specs.Picture.{IsEnd}
 use Rattle.tiling.specs.Grid.{TileGrid, columns_of}
@@ -27,14 +29,18 @@ abbrev pub IsTileBin : Scene → Tile → List ℕ → Type 0
 IsTileBin l tile numbers =
     (row column s : ℕ) → IsShown l tile row column s → IsBin l (λ t. Meets t l.count (8 * tile.bx + column) (8 * tile.by + row) s) numbers
 
+-- Sample s of the pixel in a row and a column of the tile, as it is stored, but without its alpha.
+abbrev pub stored_sample : Tile → List BlockSamples → ℕ → ℕ → ℕ → Sample
+stored_sample tile samples row column s = colour_and_depth (stored tile samples row column s)
+
 -- The samples whose pixels are in the picture have their final values.
 abbrev pub AreEnds : Scene → Tile → List BlockSamples → Type 0
 AreEnds l tile samples =
-    (row column s : ℕ) → IsShown l tile row column s → IsEnd l (8 * tile.bx + column) (8 * tile.by + row) s (stored tile samples row column s)
+    (row column s : ℕ) → IsShown l tile row column s → IsEnd l (8 * tile.bx + column) (8 * tile.by + row) s (stored_sample tile samples row column s)
 
 -- The bytes of the depths of the eight pixels in a row of the tile and a column of its blocks. Of each pixel they are the more and
 -- the less significant byte of the depth of sample 0.
 abbrev pub AreDepthsAt : Tile → List BlockSamples → ℕ → ℕ → List ℕ → Type 0
 AreDepthsAt tile samples row column bytes =
     (i : ℕ) → i < 8
-    → (slice_index bytes (2 * i) ≡ (stored tile samples row (8 * column + i) 0).z / 256) × (slice_index bytes (2 * i + 1) ≡ (stored tile samples row (8 * column + i) 0).z % 256)
+    → (slice_index bytes (2 * i) ≡ (stored_sample tile samples row (8 * column + i) 0).z / 256) × (slice_index bytes (2 * i + 1) ≡ (stored_sample tile samples row (8 * column + i) 0).z % 256)

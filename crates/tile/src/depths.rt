@@ -12,7 +12,8 @@ use raster::Tile;
 #[inline(always)]
 fn in_bytes(depths: &[u16; 64], from: usize) -> [u8; 16]
     requires { from ≤ 56 }
-    ensures { (i : ℕ) → i < 8 → ((slice_index result (2 * i) ≡ slice_index depths.now (from + i) / 256) × (slice_index result (2 * i + 1) ≡ slice_index depths.now (from + i) % 256)) }
+    ensures { (i : ℕ) → i < 8 → ((slice_index result (2 * i) ≡ slice_index depths.now (from + i) / 256) ×
+        (slice_index result (2 * i + 1) ≡ slice_index depths.now (from + i) % 256)) }
 {
     let mut bytes = [0; 16];
     for i in 0..8 {

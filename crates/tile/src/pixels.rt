@@ -15,8 +15,8 @@ use raster::{Tile, colours};
 use std::alloc::Global;
 use std::simd::prelude::*;
 
-/// Appends the first `many` pixels of eight, with `each` bytes per pixel. If this is inlined, the length of a whole run is known,
-/// so that it is copied without a call.
+/// Appends the first `many` pixels of eight, with `each` bytes per pixel. If this is inlined, the length of a whole run
+/// is known, so that it is copied without a call.
 #[inline(always)]
 fn push_first(run: &[u8], each: u32, many: u32, bytes: &mut Vec<u8>) -> Result<(), OutOfMemory>
     requires each { each ≤ 3 }
@@ -57,7 +57,8 @@ impl SampledTile<'_> {
         requires column { column < side_of self.now.tile.now.side / 8 }
         requires many { many ≤ 8 }
         requires shown { (i : ℕ) → i < many → IsShown self.now.list.now self.now.tile.now row (8 * column + i) 0 }
-        ensures { OnOk result (AddsPixelRun self.now.list.now (8 * self.now.tile.now.bx + 8 * column) (8 * self.now.tile.now.by + row) many bytes.old.items bytes.new.items) }
+        ensures { OnOk result (AddsPixelRun self.now.list.now (8 * self.now.tile.now.bx + 8 * column)
+            (8 * self.now.tile.now.by + row) many bytes.old.items bytes.new.items) }
     {
         let (tile, samples) = (self.tile, self.samples);
         match self.list.output() {
@@ -76,8 +77,10 @@ impl SampledTile<'_> {
         requires row { row < side_of self.now.tile.now.side }
         requires width { width ≤ side_of self.now.tile.now.side }
         requires shown { (column : ℕ) → column < width → IsShown self.now.list.now self.now.tile.now row column 0 }
-        requires above { IsPixelPrefix self.now.list.now (8 * self.now.tile.now.bx) (8 * self.now.tile.now.by) width (row * width) bytes.old.items }
-        ensures { OnOk result (IsPixelPrefix self.now.list.now (8 * self.now.tile.now.bx) (8 * self.now.tile.now.by) width ((row + 1) * width) bytes.new.items) }
+        requires above { IsPixelPrefix self.now.list.now (8 * self.now.tile.now.bx) (8 * self.now.tile.now.by) width
+            (row * width) bytes.old.items }
+        ensures { OnOk result (IsPixelPrefix self.now.list.now (8 * self.now.tile.now.bx) (8 * self.now.tile.now.by)
+            width ((row + 1) * width) bytes.new.items) }
     {
         for column in 0..(width + 7) / 8 {
             let many = (width - 8 * column).min(8);
@@ -98,7 +101,8 @@ impl SampledTile<'_> {
         requires height { height ≤ side_of self.now.tile.now.side }
         requires in_width { 8 * self.now.tile.now.bx + width ≤ self.now.list.now.width }
         requires in_height { 8 * self.now.tile.now.by + height ≤ self.now.list.now.height }
-        ensures { IfOk result (λ bytes. IsPart self.now.list.now (8 * self.now.tile.now.bx) (8 * self.now.tile.now.by) width height bytes.items) }
+        ensures { IfOk result (λ bytes. IsPart self.now.list.now (8 * self.now.tile.now.bx) (8 * self.now.tile.now.by)
+            width height bytes.items) }
     {
         let size = self.list.output().pixel_bytes() * width * height;
         let mut bytes = Vec::with_capacity(alloc, size as usize)?;

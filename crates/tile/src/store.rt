@@ -40,7 +40,7 @@ impl Model for Store {
 fn blank(alloc: Global, number: usize) -> Result<Vec<BlockSamples>, OutOfMemory>
     ensures { IfOk result (λ samples. vec_len samples ≡ number) }
 {
-    Ok(vec![in alloc; BlockSamples::filled(BLANK); number]?)
+    Ok(vec![in alloc; BlockSamples::filled(BLANK, 255); number]?)
 }
 
 impl Store {

@@ -3,7 +3,8 @@ ghost use Rattle.std.specs.Prelude.{◌≡◌, ◌+◌, ◌*◌, ◌/◌, ◌%�
 ghost use Rattle.std.specs.List.{All};
 ghost use Rattle.grid.specs.Pixels.{side_of};
 ghost use Rattle.tiling.specs.Grid.{tiles_of, rect_of};
-ghost use Rattle.bins.specs.Bin.{HasTile, IsBinOf, bin_of};
+ghost use Rattle.bins.specs.Bin.{HasBin, IsBinOf, bin_of};
+ghost use Rattle.shade.specs.Canvas.{with_alpha};
 ghost use Rattle.raster.specs.Samples.{planes_of, AreAll};
 ghost use Rattle.tiling.specs.Pixels.{IsPictureIn};
 ghost use Rattle.tile.specs.Picture.{IsTileAt, IsTileBin, AreEnds};
@@ -12,17 +13,18 @@ use crate::pixels::SampledTile;
 use crate::store::Store;
 use bins::{Bins, Fetched};
 use grid::{OutOfMemory, SampleCount, TileSide};
-use lanes::BlockSamples;
+use lanes::{BlockSamples, Interpolants};
 use model::DrawList;
-use raster::{Tile, clear, draw_triangle};
+use raster::{Tile, clear, draw_next};
 use std::alloc::Global;
 use tiling::{TilePixels, Tiling};
 
-/// Draws the triangles of the tile's bin, one after another, over cleared samples. They are fetched some at a time.
+/// Draws the triangles of the tile's bin, one after another, over cleared samples. They are fetched some at a time. Their
+/// alpha stays 255, as lists store none.
 fn draw_bin(list: &DrawList, numbers: &[u32], tile: &Tile, samples: &mut [BlockSamples])
     requires samples { length samples.old ≡ planes_of tile.now.side tile.now.count }
     requires count { tile.now.count ≡ list.now.count }
-    requires cleared { AreAll samples.old list.now.clear }
+    requires cleared { AreAll samples.old (with_alpha list.now.clear 255) }
     requires numbers { All (λ number. number < length list.now.triangles) numbers.now }
     requires bin { IsTileBin list.now tile.now numbers.now }
     ensures { AreEnds list.now tile.now samples.new }
@@ -30,9 +32,11 @@ fn draw_bin(list: &DrawList, numbers: &[u32], tile: &Tile, samples: &mut [BlockS
     let Some(mut fetched) = Fetched::of(list, numbers) else {
         return;
     };
+    let mut interpolants = Interpolants::one_by_one(fetched.triangle(0));
     for place in 0..numbers.len() {
         fetched.go_on(list, numbers, place);
-        draw_triangle(fetched.triangle(place), tile, samples);
+        let triangle = fetched.triangle(place).keeping_alpha();
+        draw_next(&triangle, tile, samples, &mut interpolants);
     }
 }
 
@@ -61,10 +65,10 @@ fn shown(pixels: u32, block: u32, side: TileSide) -> u32
     (pixels - 8 * block).min(side.pixels())
 }
 
-/// Tile `k` of the picture, drawn from its bin in a store for the tile's samples. Each triangle of the bin is drawn, in draw order,
-/// at the samples that it meets. At the end each pixel has the colour of its samples (multisample resolve), or the depth of its
-/// sample 0. Only the result is allocated. Fails only if an allocation fails. The store may be used again for another tile, also
-/// after an error.
+/// Tile `k` of the picture, drawn from its bin in a store for the tile's samples. Each triangle of the bin is drawn, in
+/// draw order, at the samples that it meets. At the end each pixel has the colour of its samples (multisample resolve),
+/// or the depth of its sample 0. Only the result is allocated. Fails only if an allocation fails. The store may be used
+/// again for another tile, also after an error.
 pub fn render(
     alloc: Global,
     list: &DrawList,
@@ -76,7 +80,7 @@ pub fn render(
     requires width { tiling.now.width ≡ list.now.width }
     requires height { tiling.now.height ≡ list.now.height }
     requires tile { k < tiles_of tiling.now }
-    requires has_tile { HasTile bins.now k }
+    requires has_tile { HasBin bins.now k }
     requires bin { IsBinOf list.now tiling.now k (bin_of bins.now k) }
     requires store { store.old ≡ record { side = tiling.now.side; count = list.now.count } }
     ensures rect { IfOk result (λ tile. tile.rect ≡ rect_of tiling.now k) }
@@ -86,7 +90,7 @@ pub fn render(
     let rect = tiling.rect(k);
     let tile = tile_of(tiling, k, list.count());
     let samples = store.samples.as_mut_slice();
-    clear(samples, list.clear());
+    clear(samples, list.clear(), 255);
     draw_bin(list, bins.bin(k), &tile, samples);
     let width = shown(tiling.width(), tile.bx, tile.side);
     let height = shown(tiling.height(), tile.by, tile.side);

@@ -12,14 +12,15 @@ use std::thread::Threads;
 use tile::{Store, render};
 use tiling::{TilePixels, TileRow, Tiling};
 
-/// The most pixels in a batch of more than one tile row: as many as one tile row of the widest picture has with the largest tiles.
+/// The most pixels in a batch of more than one tile row: as many as one tile row of the widest picture has with the
+/// largest tiles.
 const MAX_PIXELS: u32 = 262_144;
 
 /// The least number of batches of a picture that has as many tile rows, so that the whole of it never stands in memory.
 const MIN_BATCHES: u32 = 8;
 
-/// How many tile rows several workers draw together. Threads are started and joined for each batch, so a batch of a narrow
-/// picture has more than one tile row.
+/// How many tile rows several workers draw together. Threads are started and joined for each batch, so a batch of a
+/// narrow picture has more than one tile row.
 pub fn rows_together(tiling: &Tiling) -> u32
     ensures least { 1 ≤ result }
     ensures greatest { result ≤ 512 }
@@ -48,8 +49,8 @@ pub struct TileRows<'a> {
     pub ghost few: { end ≤ 512 },
 }
 
-/// The tiles of tile rows as numbered work: they are counted row by row, and a tile may begin once a worker has entered the gate
-/// for it.
+/// The tiles of tile rows as numbered work: they are counted row by row, and a tile may begin once a worker has entered
+/// the gate for it.
 #[derive(Drop)]
 struct TileJob<'a, G> {
     rows: &'a TileRows<'a>,
@@ -68,9 +69,11 @@ impl<G: Gate> Job for TileJob<'_, G> {
 
     ghost right = { λ job n pixels. IsTileIn job.rows.now.list.now job.rows.now.tiling.now job.rows.now.first n pixels };
 
-    ghost fits = { λ job store. store ≡ record { side = job.rows.now.tiling.now.side; count = job.rows.now.list.now.count } };
+    ghost fits = { λ job store. store ≡
+        record { side = job.rows.now.tiling.now.side; count = job.rows.now.list.now.count } };
 
-    ghost can_work = { λ job n. (n < tiles_in job.rows.now) × AreBinsOf job.rows.now job.bins.now × ((worker : ℕ) × G.entered job.gate.now worker n) };
+    ghost can_work = { λ job n. (n < tiles_in job.rows.now) × AreBinsOf job.rows.now job.bins.now ×
+        ((worker : ℕ) × G.entered job.gate.now worker n) };
 
     fn scratch(&self, alloc: Global) -> Result<Store, OutOfMemory> {
         self.rows.store(alloc)
@@ -118,7 +121,8 @@ impl<'a> TileRows<'a> {
         requires order { first ≤ end }
         requires within { end ≤ rows_of tiling.now }
         requires few { end ≤ 512 }
-        ensures { (result.list.now ≡ list.now) × (result.tiling.now ≡ tiling.now) × (result.first ≡ first) × (result.end ≡ end) }
+        ensures { (result.list.now ≡ list.now) × (result.tiling.now ≡ tiling.now) × (result.first ≡ first) ×
+            (result.end ≡ end) }
     {
         TileRows {
             list,
@@ -132,7 +136,8 @@ impl<'a> TileRows<'a> {
     pub fn others(&self, first: u32, end: u32) -> TileRows<'a>
         requires order { first ≤ end }
         requires within { end ≤ rows_of self.now.tiling.now }
-        ensures { (result.list.now ≡ self.now.list.now) × (result.tiling.now ≡ self.now.tiling.now) × (result.first ≡ first) × (result.end ≡ end) }
+        ensures { (result.list.now ≡ self.now.list.now) × (result.tiling.now ≡ self.now.tiling.now) ×
+            (result.first ≡ first) × (result.end ≡ end) }
     {
         TileRows::new(self.list, self.tiling, first, end)
     }
@@ -141,7 +146,8 @@ impl<'a> TileRows<'a> {
     pub fn batch(&self, first: u32, most: u32) -> TileRows<'a>
         requires first { first ≤ self.now.end }
         requires most { most ≤ 512 }
-        ensures { (result.list.now ≡ self.now.list.now) × (result.tiling.now ≡ self.now.tiling.now) × (result.first ≡ first) × (result.end ≡ min self.now.end (first + most)) }
+        ensures { (result.list.now ≡ self.now.list.now) × (result.tiling.now ≡ self.now.tiling.now) ×
+            (result.first ≡ first) × (result.end ≡ min self.now.end (first + most)) }
     {
         self.others(first, self.end.min(first + most))
     }
@@ -177,7 +183,8 @@ impl<'a> TileRows<'a> {
 
     /// A store for one tile.
     pub fn store(&self, alloc: Global) -> Result<Store, OutOfMemory>
-        ensures { IfOk result (λ store. store ≡ record { side = self.now.tiling.now.side; count = self.now.list.now.count }) }
+        ensures { IfOk result (λ store. store ≡
+            record { side = self.now.tiling.now.side; count = self.now.list.now.count }) }
     {
         Store::new(alloc, self.tiling.side(), self.list.count())
     }
@@ -192,7 +199,8 @@ impl<'a> TileRows<'a> {
     /// Puts the tiles together, row by row, behind the bytes that are there.
     fn join(&self, tiles: &[TilePixels], bytes: &mut Vec<u8>) -> Result<(), OutOfMemory>
         requires { AreTilesOf self.now tiles.now }
-        ensures bytes { OnOk result (AddsTileRows self.now.list.now self.now.tiling.now.side self.now.first self.now.end bytes.old.items bytes.new.items) }
+        ensures bytes { OnOk result (AddsTileRows self.now.list.now self.now.tiling.now.side self.now.first self.now.end
+            bytes.old.items bytes.new.items) }
         ensures refused { IfErr result (λ _. self.now.first < self.now.end) }
     {
         let columns = self.tiling.columns() as usize;
@@ -215,9 +223,9 @@ impl<'a> TileRows<'a> {
         Ok(bytes)
     }
 
-    /// What the calling thread does while workers draw these tile rows. It puts the tiles of those above, from `above` on, together
-    /// in place of the bytes that are given, and makes the bins of those below, to before `below`. If these bins cannot be
-    /// allocated, they are made when their turn comes.
+    /// What the calling thread does while workers draw these tile rows. It puts the tiles of those above, from `above`
+    /// on, together in place of the bytes that are given, and makes the bins of those below, to before `below`. If
+    /// these bins cannot be allocated, they are made when their turn comes.
     fn beside(
         &self,
         alloc: Global,
@@ -241,9 +249,9 @@ impl<'a> TileRows<'a> {
         }
     }
 
-    /// Has the tiles drawn by this many workers, or by one for each tile if there are fewer tiles. Their bins are made if they are
-    /// not given. Meanwhile, and also if an allocation fails or a worker is not started, the calling thread does the work of
-    /// `beside`.
+    /// Has the tiles drawn by this many workers, or by one for each tile if there are fewer tiles. Their bins are made
+    /// if they are not given. Meanwhile, and also if an allocation fails or a worker is not started, the calling thread
+    /// does the work of `beside`.
     pub fn draw<R: Threads + Wait + Sync, G: Gate>(
         &self,
         rt: &R,
@@ -256,7 +264,8 @@ impl<'a> TileRows<'a> {
         requires workers { (1 ≤ workers) × (workers ≤ 16) }
         requires bins { IfSome in_flight.bins (AreBinsOf self.now) }
         requires above { in_flight.above ≤ self.now.first }
-        requires tiles { AreTiles self.now.list.now self.now.tiling.now in_flight.above self.now.first in_flight.tiles.items }
+        requires tiles { AreTiles self.now.list.now self.now.tiling.now in_flight.above self.now.first
+            in_flight.tiles.items }
         requires below { (self.now.end ≤ below) × (below ≤ rows_of self.now.tiling.now) }
         ensures tiles { IfOk result.0 (λ tiles. AreTilesOf self.now tiles.items) }
         ensures beside { IsBeside self.now in_flight.above below result.1 }
@@ -291,8 +300,8 @@ impl<'a> TileRows<'a> {
         run_beside::<_, Desks, _, _, _, _>(rt, alloc, self.tiles(), workers, &job, gate, beside)
     }
 
-    /// Draws the tiles one after another on the calling thread, in this store. It passes through the gate as the worker with number
-    /// 0 would.
+    /// Draws the tiles one after another on the calling thread, in this store. It passes through the gate as the worker
+    /// with number 0 would.
     fn draw_alone<G: Gate>(
         &self,
         alloc: Global,
@@ -328,7 +337,8 @@ impl<'a> TileRows<'a> {
         bytes: &mut Vec<u8>,
     ) -> Result<(), OutOfMemory>
         requires { store.old ≡ record { side = self.now.tiling.now.side; count = self.now.list.now.count } }
-        ensures bytes { OnOk result (AddsTileRows self.now.list.now self.now.tiling.now.side self.now.first self.now.end bytes.old.items bytes.new.items) }
+        ensures bytes { OnOk result (AddsTileRows self.now.list.now self.now.tiling.now.side self.now.first self.now.end
+            bytes.old.items bytes.new.items) }
         ensures store { store.new ≡ store.old }
     {
         let bins = self.bins(alloc)?;

@@ -77,7 +77,8 @@ impl<'a> TileRow<'a> {
     fn push_row(&self, tiles: &[TilePixels], j: u32, bytes: &mut Vec<u8>) -> Result<(), OutOfMemory>
         requires tiles { AreColumns self.now.list.now self.now.tiling.now self.now.row tiles.now }
         requires row { j < tile_row_height self.now.tiling.now self.now.row }
-        ensures { OnOk result (AddsPixelRun self.now.list.now 0 (tile_row_top self.now.tiling.now self.now.row + j) self.now.list.now.width bytes.old.items bytes.new.items) }
+        ensures { OnOk result (AddsPixelRun self.now.list.now 0 (tile_row_top self.now.tiling.now self.now.row + j)
+            self.now.list.now.width bytes.old.items bytes.new.items) }
     {
         for column in 0..self.tiling.columns() {
             bytes.extend_from_slice(self.row_of(&tiles[column as usize], column, j))?;
@@ -88,7 +89,8 @@ impl<'a> TileRow<'a> {
     /// Puts the tiles together, row by row, behind the bytes that are there.
     pub fn join(&self, tiles: &[TilePixels], bytes: &mut Vec<u8>) -> Result<(), OutOfMemory>
         requires { AreColumns self.now.list.now self.now.tiling.now self.now.row tiles.now }
-        ensures { OnOk result (AddsTileRow self.now.list.now self.now.tiling.now self.now.row bytes.old.items bytes.new.items) }
+        ensures { OnOk result (AddsTileRow self.now.list.now self.now.tiling.now self.now.row bytes.old.items
+            bytes.new.items) }
     {
         for j in 0..self.height() {
             self.push_row(tiles, j, bytes)?;

@@ -5,8 +5,8 @@ ghost use Rattle.tiling.specs.Grid as tiles;
 use grid::{PixelBox, TileSide};
 use std::marker::Model;
 
-/// A picture that is cut into square tiles. They are numbered row by row, from the upper left one; the last column and the
-/// last row may be cut by the picture's edge.
+/// A picture that is cut into square tiles. They are numbered row by row, from the upper left one; the last column and
+/// the last row may be cut by the picture's edge.
 #[derive(Clone, Copy, Debug, PartialEq, Eq)]
 pub struct Tiling {
     width: u32,
@@ -155,8 +155,8 @@ impl Tiling {
         (blocks * column, blocks * row)
     }
 
-    /// Returns the tile whose rectangle contains the pixel in column `px` and row `py`, or `None` outside of the picture. A pixel
-    /// of the picture lies in the rectangle of exactly one tile.
+    /// Returns the tile whose rectangle contains the pixel in column `px` and row `py`, or `None` outside of the
+    /// picture. A pixel of the picture lies in the rectangle of exactly one tile.
     pub fn tile_of(&self, px: u32, py: u32) -> Option<u32>
         ensures { MatchOption result (¬ IsInPicture self.now px py) (IsTileOf self.now px py) }
     {

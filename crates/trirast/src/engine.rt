@@ -17,17 +17,19 @@ use std::io::{Read, Write};
 use std::sync::Wait;
 use std::thread::Threads;
 
-/// The draw list that the bytes denote, at most 64 MiB, or their first fault. Returns `OutOfMemory` if an allocation fails.
+/// The draw list that the bytes denote, at most 64 MiB, or their first fault. Returns `OutOfMemory` if an allocation
+/// fails.
 pub fn read_list(alloc: Global, bytes: &[u8]) -> Result<DrawList, Fault>
     requires { length bytes.now ≤ MOST_BYTES }
     ensures ok { IfOk result (Denotes bytes.now) }
-    ensures fault { IfErr result (λ e. (e ≡ Fault.OutOfMemory) ⊎ ((fault : ReadFault) × (e ≡ Fault.List fault) × IsFirstFault (all_checks (json_of bytes.now)) fault)) }
+    ensures fault { IfErr result (λ e. (e ≡ Fault.OutOfMemory) ⊎
+        ((fault : ReadFault) × (e ≡ Fault.List fault) × IsFirstFault (all_checks (json_of bytes.now)) fault)) }
 {
     Ok(read(alloc, bytes)?)
 }
 
-/// Reads an input, draws what it denotes with these options, and writes the picture. Each worker passes through the gate before
-/// it draws a tile.
+/// Reads an input, draws what it denotes with these options, and writes the picture. Each worker passes through the
+/// gate before it draws a tile.
 pub fn run_with<Rt: Threads + Wait + Sync, R: Read, W: Write, G: Gate>(
     rt: &Rt,
     alloc: Global,

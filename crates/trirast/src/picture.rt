@@ -21,8 +21,8 @@ use tiling::Tiling;
 pub enum PictureFault {
     /// The bytes of tile rows could not be allocated. Nothing was written.
     NotBegun,
-    /// Memory ran out. The header and all tile rows before the one of this number, counted from the top, were written, each whole, and
-    /// nothing else.
+    /// Memory ran out. The header and all tile rows before the one of this number, counted from the top, were written,
+    /// each whole, and nothing else.
     OutOfMemory(u32),
     /// The writer failed after this many bytes of the file.
     WriteFailed(u64),
@@ -47,8 +47,9 @@ impl From<PictureFault> for Fault {
     }
 }
 
-/// Draws tile rows on the calling thread, in one store, and writes each of them before the next one is drawn. `before` bytes of the
-/// file were written earlier; returns how many are written after the call. Each row's bytes take the place of those in `bytes`.
+/// Draws tile rows on the calling thread, in one store, and writes each of them before the next one is drawn. `before`
+/// bytes of the file were written earlier; returns how many are written after the call. Each row's bytes take the place
+/// of those in `bytes`.
 fn write_alone<W: Write, G: Gate>(
     alloc: Global,
     rows: TileRows,
@@ -60,7 +61,8 @@ fn write_alone<W: Write, G: Gate>(
     requires before { before ≤ 50331667 }
     requires some { rows.first < rows.end }
     requires failures { output.old.failures < u64.MAX }
-    ensures { EndsRows rows.entry.list.now rows.entry.tiling.now.side rows.entry.first rows.entry.end before result (W.contents output.old.inner) (W.contents output.new.inner) output.old.failures output.new.failures }
+    ensures { EndsRows rows.entry.list.now rows.entry.tiling.now.side rows.entry.first rows.entry.end before result
+        (W.contents output.old.inner) (W.contents output.new.inner) output.old.failures output.new.failures }
 {
     let Ok(mut store) = rows.store(alloc) else {
         return Err(PictureFault::OutOfMemory(rows.first()));
@@ -79,9 +81,9 @@ fn write_alone<W: Write, G: Gate>(
     Ok(written)
 }
 
-/// Draws tile rows by several workers, a batch of them at a time, and writes them. While a batch is drawn, the calling thread puts
-/// the one above together, which is written then, and makes the bins of the one below. A batch for which an allocation fails or a
-/// worker is not started is drawn by the calling thread.
+/// Draws tile rows by several workers, a batch of them at a time, and writes them. While a batch is drawn, the calling
+/// thread puts the one above together, which is written then, and makes the bins of the one below. A batch for which an
+/// allocation fails or a worker is not started is drawn by the calling thread.
 fn write_together<R: Threads + Wait + Sync, W: Write, G: Gate>(
     rt: &R,
     alloc: Global,
@@ -97,7 +99,8 @@ fn write_together<R: Threads + Wait + Sync, W: Write, G: Gate>(
     requires together { (1 ≤ together) × (together ≤ 512) }
     requires before { before ≤ 19 }
     requires failures { output.old.failures < u64.MAX }
-    ensures { EndsRows rows.entry.list.now rows.entry.tiling.now.side rows.entry.first rows.entry.end before result (W.contents output.old.inner) (W.contents output.new.inner) output.old.failures output.new.failures }
+    ensures { EndsRows rows.entry.list.now rows.entry.tiling.now.side rows.entry.first rows.entry.end before result
+        (W.contents output.old.inner) (W.contents output.new.inner) output.old.failures output.new.failures }
 {
     // The tile rows before `above` are written, and those from there to before `first` are drawn.
     let mut above = rows.first();
@@ -156,9 +159,12 @@ fn write_rows<R: Threads + Wait + Sync, W: Write, G: Gate>(
 ) -> Result<u64, PictureFault>
     requires workers { (1 ≤ options.workers) × (options.workers ≤ 16) }
     requires failures { output.old.failures < u64.MAX }
-    ensures file { IfOk result (λ count. WritesAll list.now count (W.contents output.old.inner) (W.contents output.new.inner)) }
-    ensures fault { IfErr result (λ e. ExplainsPicture list.now options.tile e (W.contents output.old.inner) (W.contents output.new.inner)) }
-    ensures write_failed { ((count : ℕ) × IsErrOf result (PictureFault.WriteFailed count)) ↔ (output.old.failures < output.new.failures) }
+    ensures file { IfOk result (λ count. WritesAll list.now count (W.contents output.old.inner)
+        (W.contents output.new.inner)) }
+    ensures fault { IfErr result (λ e. ExplainsPicture list.now options.tile e (W.contents output.old.inner)
+        (W.contents output.new.inner)) }
+    ensures write_failed { ((count : ℕ) × IsErrOf result (PictureFault.WriteFailed count)) ↔
+        (output.old.failures < output.new.failures) }
     ensures same_failures { OnOk result (output.new.failures ≡ output.old.failures) }
 {
     let tiling = Tiling::new(list.width(), list.height(), options.tile);
@@ -192,8 +198,9 @@ fn write_rows<R: Threads + Wait + Sync, W: Write, G: Gate>(
     }
 }
 
-/// Draws a list's picture, writes its file, and flushes the output. Each worker passes through the gate before it draws a tile.
-/// `run_with` is this after reading the list; a program that has a list, or draws one several times, calls this.
+/// Draws a list's picture, writes its file, and flushes the output. Each worker passes through the gate before it draws
+/// a tile. `run_with` is this after reading the list; a program that has a list, or draws one several times, calls
+/// this.
 pub fn write_picture<R: Threads + Wait + Sync, W: Write, G: Gate>(
     rt: &R,
     alloc: Global,
@@ -205,8 +212,10 @@ pub fn write_picture<R: Threads + Wait + Sync, W: Write, G: Gate>(
     requires workers { (1 ≤ options.workers) × (options.workers ≤ 16) }
     requires failures { output.old.failures < u64.MAX }
     ensures file { OnOk result (WritesFile list.now (W.contents output.old.inner) (W.contents output.new.inner)) }
-    ensures fault { IfErr result (λ e. ExplainsPicture list.now options.tile e (W.contents output.old.inner) (W.contents output.new.inner)) }
-    ensures write_failed { ((count : ℕ) × IsErrOf result (PictureFault.WriteFailed count)) ↔ (output.old.failures < output.new.failures) }
+    ensures fault { IfErr result (λ e. ExplainsPicture list.now options.tile e (W.contents output.old.inner)
+        (W.contents output.new.inner)) }
+    ensures write_failed { ((count : ℕ) × IsErrOf result (PictureFault.WriteFailed count)) ↔
+        (output.old.failures < output.new.failures) }
 {
     let length = write_rows(rt, alloc, list, options, gate, output)?;
     match output.flush() {

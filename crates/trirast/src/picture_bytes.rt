@@ -42,9 +42,9 @@ fn push_tile_rows(
     Ok(())
 }
 
-/// The bytes of the rows of pixels in these tile rows, from `first` to before `end`, drawn on the calling thread. Each row has its
-/// pixels from left to right: red, green and blue of each or, if the list's output is its depths, the more and the less significant
-/// byte of the depth. Nothing else of the picture is drawn. Fails only if an allocation fails.
+/// The bytes of the rows of pixels in these tile rows, from `first` to before `end`, drawn on the calling thread. Each
+/// row has its pixels from left to right: red, green and blue of each or, if the list's output is its depths, the more
+/// and the less significant byte of the depth. Nothing else of the picture is drawn. Fails only if an allocation fails.
 pub fn draw_rows(
     alloc: Global,
     list: &DrawList,
@@ -61,8 +61,8 @@ pub fn draw_rows(
     Ok(bytes)
 }
 
-/// The file of a list's picture, drawn on the calling thread. The whole file stands in memory, once. Fails only if an allocation
-/// fails.
+/// The file of a list's picture, drawn on the calling thread. The whole file stands in memory, once. Fails only if an
+/// allocation fails.
 pub fn draw(alloc: Global, list: &DrawList, tile: TileSide) -> Result<Vec<u8>, OutOfMemory>
     ensures { IfOk result (λ file. IsPictureFile list.now file.items) }
 {

@@ -17,10 +17,10 @@ use std::thread::Threads;
 pub const USAGE: &[u8] =
     b"usage: trirast [--tile 8|16|32|64] [--workers 1..16] < list.json > picture.ppm\n";
 
-/// Reads the arguments, of which the first is the program's name, and a draw list from the input, and writes its picture. Returns the
-/// program's status: 0 if the picture was written or the usage line was asked for, 1 if the run failed or memory ran out while the
-/// arguments were read, and 2 if the program has no such arguments. After 1 and 2 a line on `errors` reports the error. A line that
-/// cannot be written is passed over.
+/// Reads the arguments, of which the first is the program's name, and a draw list from the input, and writes its
+/// picture. Returns the program's status: 0 if the picture was written or the usage line was asked for, 1 if the run
+/// failed or memory ran out while the arguments were read, and 2 if the program has no such arguments. After 1 and 2 a
+/// line on `errors` reports the error. A line that cannot be written is passed over.
 pub fn command<'a, Rt: Threads + Wait + Sync, R: Read, W: Write, E: Write>(
     rt: &Rt,
     alloc: Global,
@@ -39,9 +39,11 @@ pub fn command<'a, Rt: Threads + Wait + Sync, R: Read, W: Write, E: Write>(
     // What is on the output is what a fault of the run explains, and nothing behind it.
     ensures failed { result ≡ 1 → EndsByFault (R.remaining input.old.inner) (R.remaining input.new.inner) (W.contents output.old.inner) (W.contents output.new.inner)
         (input.old.failures < input.new.failures) (output.old.failures < output.new.failures) }
-    ensures failure { result ≡ 1 → WritesSomeLine (E.contents errors.old.inner) (E.contents errors.new.inner) errors.old.failures errors.new.failures }
+    ensures failure { result ≡ 1 → WritesSomeLine (E.contents errors.old.inner) (E.contents errors.new.inner)
+        errors.old.failures errors.new.failures }
     ensures refused { result ≡ 2 → (input.new ≡ input.old) × (output.new ≡ output.old) }
-    ensures refusal { result ≡ 2 → WritesLine refusal_line (E.contents errors.old.inner) (E.contents errors.new.inner) errors.old.failures errors.new.failures }
+    ensures refusal { result ≡ 2 → WritesLine refusal_line (E.contents errors.old.inner) (E.contents errors.new.inner)
+        errors.old.failures errors.new.failures }
 {
     match options(alloc, arguments) {
         Ok(options) => match run(rt, alloc, input, output, options) {

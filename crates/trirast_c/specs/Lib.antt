@@ -5,15 +5,15 @@
 --   IsPut: The buffer begins with the bytes, and holds behind them what it held before.
 --   HoldsFile: The buffer begins with the file of a list's picture, and holds behind it what it held before.
 --   DrawsFile: The buffer begins with the file of the picture of the list that the caller gave.
---   HasRows: The list's picture has these tile rows, at least one.
+--   HasTileRows: The list's picture has these tile rows, at least one.
 --   HoldsRows: The buffer begins with the bytes of the rows of pixels in these tile rows.
 --   DrawsRows: The buffer begins with the bytes of these tile rows of the list that the caller gave.
 --   file_length: How many bytes the file of a list's picture has: those of the header, and of each pixel.
---   IsInfoOf: The width and height of a list's picture in pixels, and the bytes of a pixel, of the header and of the whole file.
+--   IsImageInfo: The width and height of a list's picture in pixels, and the bytes of a pixel, of the header and of the whole file.
 --   HoldsInfo: The image info of the list that the caller gave.
 --   rows_length: How many bytes the rows of pixels in these tile rows have.
 --   file_checks: The checks of a list whose file is drawn: its bytes fit.
---   draw_checks: The checks of a call that draws the file of a list.
+--   picture_checks: The checks of a call that draws the file of a list.
 --   rows_checks: The checks of a call that draws tile rows of a list.
 
 pub mod Library

@@ -38,12 +38,12 @@ pub record DrawsFile (Means : Scene → Type 0) (old new : List ℕ) : Type 0 wh
   pub holds : HoldsFile list old new
 
 -- The list's picture has these tile rows, at least one.
-abbrev pub HasRows : Scene → TileSide → ℕ → ℕ → Type 0
-HasRows list side first end = (first < end) × (end ≤ tiles_over list.height side)
+abbrev pub HasTileRows : Scene → TileSide → ℕ → ℕ → Type 0
+HasTileRows list side first end = (first < end) × (end ≤ tiles_over list.height side)
 
 -- The buffer begins with the bytes of the rows of pixels in these tile rows. Behind them it holds what it held before.
 pub record HoldsRows (list : Scene) (side : TileSide) (first end : ℕ) (old new : List ℕ) : Type 0 where
-  pub has : HasRows list side first end
+  pub has : HasTileRows list side first end
   pub rows : List ℕ
   pub are : AreTileRows list side first end rows
   pub put : IsPut rows old new
@@ -64,7 +64,7 @@ abbrev pub file_length : Scene → ℕ
 file_length l = length (header_of l.output l.width l.height) + pixel_bytes l.output * (l.height * l.width)
 
 -- The width and height of a list's picture in pixels, and the bytes of a pixel, of the header and of the whole file.
-pub record IsInfoOf (list : Scene) (info : ImageInfo) : Type 0 where
+pub record IsImageInfo (list : Scene) (info : ImageInfo) : Type 0 where
   pub width : info.width ≡ list.width
   pub height : info.height ≡ list.height
   pub pixel : info.pixel_bytes ≡ pixel_bytes list.output
@@ -75,7 +75,7 @@ pub record IsInfoOf (list : Scene) (info : ImageInfo) : Type 0 where
 pub record HoldsInfo (Means : Scene → Type 0) (info : ImageInfo) : Type 0 where
   pub list : Scene
   pub means : Means list
-  pub is : IsInfoOf list info
+  pub is : IsImageInfo list info
 
 -- ---- the checks of calls
 
@@ -88,8 +88,8 @@ abbrev pub file_checks : Scene → ℕ → Checks Status
 file_checks l size = check (file_length l ≤ size) BufferTooSmall (allocate OutOfMemory done)
 
 -- The checks of a call that draws the file of a list. That of the buffer is of each list that the text denotes.
-abbrev pub draw_checks : List ℕ → ℕ → ℕ → Checks Status
-draw_checks json tile_size size =
+abbrev pub picture_checks : List ℕ → ℕ → ℕ → Checks Status
+picture_checks json tile_size size =
     check (IsTileSize tile_size) BadTileSize (
     text_checks json (
     check ((l : Scene) → Denotes json l → file_length l ≤ size) BufferTooSmall
@@ -100,6 +100,6 @@ abbrev pub rows_checks : List ℕ → ℕ → ℕ → ℕ → ℕ → Checks Sta
 rows_checks json tile_size first end size =
     check (IsTileSize tile_size) BadTileSize (
     text_checks json (
-    check ((l : Scene) (side : TileSide) → Denotes json l → side_of side ≡ tile_size → HasRows l side first end) BadTileRows (
+    check ((l : Scene) (side : TileSide) → Denotes json l → side_of side ≡ tile_size → HasTileRows l side first end) BadTileRows (
     check ((l : Scene) (side : TileSide) → Denotes json l → side_of side ≡ tile_size → rows_length l side first end ≤ size) BufferTooSmall
     done)))

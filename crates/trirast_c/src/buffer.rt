@@ -18,8 +18,8 @@ pub(crate) fn put(bytes: &[u8], buffer: &mut [u8])
     buffer[..bytes.len()].copy_from_slice(bytes);
 }
 
-/// Draws the file of a list's picture into the buffer. It is drawn into memory of its own first, so that the buffer is unchanged
-/// if an allocation fails.
+/// Draws the file of a list's picture into the buffer. It is drawn into memory of its own first, so that the buffer is
+/// unchanged if an allocation fails.
 pub(crate) fn file_into(
     alloc: Global,
     list: &DrawList,

@@ -3,7 +3,7 @@ ghost use Rattle.std.specs.Prelude.{◌≡◌, ◌≢◌, length, OnOk, OnErr, �
 ghost use Rattle.model.specs.Checking.{done as checked};
 ghost use Rattle.model.specs.Denotes.{Denotes};
 ghost use Rattle.c_abi.specs.Calls.{IsCall, IsFirstOfText, IsReport, text_checks};
-ghost use Rattle.trirast_c.specs.Library.{HoldsInfo, IsInfoOf};
+ghost use Rattle.trirast_c.specs.Library.{HoldsInfo, IsImageInfo};
 
 use c_abi::{CallError, Error, report};
 use list::DrawList;
@@ -30,7 +30,7 @@ pub struct ImageInfo {
 impl ImageInfo {
     /// The sizes of a list's picture.
     pub(crate) fn of(list: &DrawList) -> ImageInfo
-        ensures { IsInfoOf list.now result }
+        ensures { IsImageInfo list.now result }
     {
         let pixel_bytes = list.output().pixel_bytes();
         let header_bytes = file_header(list).len() as u32;
@@ -55,8 +55,8 @@ fn info_into(alloc: Global, json: &[u8], info: &mut ImageInfo) -> Result<(), Cal
     Ok(())
 }
 
-/// Reads a list and writes the size of its picture into `info`. Nothing is drawn. Returns the status, and writes the error. If the
-/// status is not 0, `info` is unchanged.
+/// Reads a list and writes the size of its picture into `info`. Nothing is drawn. Returns the status, and writes the
+/// error. If the status is not 0, `info` is unchanged.
 #[unsafe(no_mangle)]
 pub extern "C" fn trirast_proved_list_info(
     alloc: Global,

@@ -1,14 +1,14 @@
 //! The message of an error, in the caller's buffer.
 ghost use Rattle.std.specs.Prelude.{◌≡◌, ◌+◌, ◌-◌, ◌<◌, ◌≤◌, min, length, drop, slice_index, IfSome};
-ghost use Rattle.model.specs.Fault.{number_of as list_number_of};
+ghost use Rattle.model.specs.Fault.{kind_number as list_number_of};
 
 use arrayvec::ArrayString;
 use c_abi::{Error, NONE, Status};
 use list::ReadKind;
 use std::fmt::Write as _;
 
-/// A message, of at most 95 bytes.
-type Message = ArrayString<95>;
+/// A message, of at most 127 bytes.
+type Message = ArrayString<127>;
 
 /// The kind of a list's error with this number.
 fn list_kind(number: u32) -> Option<ReadKind>
@@ -63,6 +63,15 @@ fn batch_words(cause: u32) -> (&'static str, &'static str) {
         12 => ("polygon", "ends before it begins, or behind the last ring"),
         13 => ("", "there are fewer colors than polygons"),
         14 => ("", "there are fewer depths than polygons"),
+        15 => ("", "no such topology"),
+        16 => ("", "no such culling"),
+        17 => ("", "no such depth test"),
+        18 => ("", "depth_write is neither 0 nor 1"),
+        19 => ("", "keep has a bit of no channel"),
+        20 => ("", "scissor_enable is neither 0 nor 1"),
+        21 => ("", "no such blend factor"),
+        22 => ("", "no such blend operation"),
+        23 => ("", "no such fill rule"),
         _ => ("", Status::BadBatch.text()),
     }
 }
@@ -78,6 +87,9 @@ fn batch_message(error: &Error) -> Message {
         let _ = write!(text, "{element} {} ", error.element);
     } else if !element.is_empty() {
         let _ = write!(text, "one {element} ");
+    }
+    if error.value != NONE {
+        let _ = write!(text, "is {}, which ", error.value);
     }
     let _ = text.try_push_str(words);
     text
@@ -96,11 +108,11 @@ fn message_of(error: &Error) -> Message {
     text
 }
 
-/// Writes the message of an error at the beginning of the buffer, with a zero byte behind it, or as much of it as fits before a zero
-/// byte. Bytes behind that are unchanged. Returns the length of the whole message in bytes.
+/// Writes the message of an error at the beginning of the buffer, with a zero byte behind it, or as much of it as fits
+/// before a zero byte. Bytes behind that are unchanged. Returns the length of the whole message in bytes.
 #[unsafe(no_mangle)]
 pub extern "C" fn trirast_error_message(error: &Error, buffer: &mut [u8]) -> usize
-    ensures short { result < 96 }
+    ensures short { result < 128 }
     ensures end { 1 ≤ length buffer.old → slice_index buffer.new (min result (length buffer.old - 1)) ≡ 0 }
     ensures behind { drop (result + 1) buffer.new ≡ drop (result + 1) buffer.old }
 {

@@ -29,8 +29,8 @@ fn bytes_of_rows(list: &DrawList, side: TileSide, first: u32, end: u32) -> u64
     u64::from(list.output().pixel_bytes()) * u64::from((bottom - top) * list.width())
 }
 
-/// Draws the rows of pixels in these tile rows into the buffer. They are drawn into memory of their own first, so that the buffer is
-/// unchanged if an allocation fails.
+/// Draws the rows of pixels in these tile rows into the buffer. They are drawn into memory of their own first, so that
+/// the buffer is unchanged if an allocation fails.
 fn draw_rows_into(
     alloc: Global,
     json: &[u8],
@@ -41,7 +41,8 @@ fn draw_rows_into(
 ) -> Result<(), CallError>
     ensures drawn { OnOk result (DrawsRows (Denotes json.now) tile_size first end buffer.old buffer.new) }
     ensures kept { OnErr result (buffer.new ≡ buffer.old) }
-    ensures judged { IsCall (rows_checks json.now tile_size first end (length buffer.old)) (IsFirstOfText json.now) (λ done. ⊤) result }
+    ensures judged { IsCall (rows_checks json.now tile_size first end (length buffer.old)) (IsFirstOfText json.now)
+        (λ done. ⊤) result }
 {
     let side = side_of(tile_size)?;
     let list = list_of(alloc, json)?;
@@ -55,10 +56,10 @@ fn draw_rows_into(
     Ok(())
 }
 
-/// Draws the tile rows from `first` to before `end`, counted from the top, of a list's picture by tiles of this size, in pixels. The
-/// bytes of their rows of pixels go to the beginning of the buffer, without a header; bytes behind them are unchanged. Returns the
-/// status, and writes the error. If the status is not 0, the buffer is unchanged. Two calls share nothing, so several threads may
-/// each draw tile rows of one picture.
+/// Draws the tile rows from `first` to before `end`, counted from the top, of a list's picture by tiles of this size,
+/// in pixels. The bytes of their rows of pixels go to the beginning of the buffer, without a header; bytes behind them
+/// are unchanged. Returns the status, and writes the error. If the status is not 0, the buffer is unchanged. Two calls
+/// share nothing, so several threads may each draw tile rows of one picture.
 #[unsafe(no_mangle)]
 pub extern "C" fn trirast_proved_list_draw_rows(
     alloc: Global,
@@ -71,7 +72,8 @@ pub extern "C" fn trirast_proved_list_draw_rows(
 ) -> u32
     ensures drawn { result ≡ 0 → DrawsRows (Denotes json.now) tile_size first end buffer.old buffer.new }
     ensures kept { result ≢ 0 → buffer.new ≡ buffer.old }
-    ensures report { IsReport (rows_checks json.now tile_size first end (length buffer.old)) (IsFirstOfText json.now) result error.new }
+    ensures report { IsReport (rows_checks json.now tile_size first end (length buffer.old)) (IsFirstOfText json.now)
+        result error.new }
 {
     report(
         draw_rows_into(alloc, json, tile_size, first, end, buffer),

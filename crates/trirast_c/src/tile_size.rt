@@ -10,7 +10,8 @@ use grid::TileSide;
 
 /// Returns the tile size of this many pixels. Fails with `BadTileSize` if there is none.
 pub(crate) fn side_of(tile_size: u32) -> Result<TileSide, Status>
-    ensures { IsJudged (check (IsTileSize tile_size) status.BadTileSize done) (λ side. pixels_of side ≡ tile_size) result }
+    ensures { IsJudged (check (IsTileSize tile_size) status.BadTileSize done) (λ side. pixels_of side ≡
+        tile_size) result }
 {
     match tile_size {
         8 => Ok(TileSide::T8),

@@ -99,8 +99,8 @@ fn triangle_asked(triangle: &str, form: Form) -> Result<Question, LineFault> {
     Ok(Question::Triangle(AskedTriangle { place, form }))
 }
 
-/// What the arguments ask for. The first argument is the program's name. Either a pixel or a triangle is asked for, and of a triangle
-/// neither one sample nor all triangles.
+/// What the arguments ask for. The first argument is the program's name. Either a pixel or a triangle is asked for, and
+/// of a triangle neither one sample nor all triangles.
 pub fn read_arguments<'a>(alloc: Global, arguments: &'a [&'a str]) -> Result<Question, LineFault> {
     let pixel = Arg::new(alloc, "pixel").action(ArgAction::Set);
     let sample = Arg::new(alloc, "sample")

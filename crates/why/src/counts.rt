@@ -77,8 +77,8 @@ fn push_counts(
     }
 }
 
-/// How many samples the triangle that is asked for covers, changes and is shown by, as a text in the form that is asked for, and the
-/// counts themselves. Fails with `NoSuchTriangle` if and only if the list has no such triangle.
+/// How many samples the triangle that is asked for covers, changes and is shown by, as a text in the form that is asked
+/// for, and the counts themselves. Fails with `NoSuchTriangle` if and only if the list has no such triangle.
 pub fn report_triangle(
     alloc: Global,
     list: &DrawList,

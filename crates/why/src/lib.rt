@@ -1,5 +1,5 @@
-//! Why a pixel is what it is: the history of its samples as a table that a person reads, or as JSON. And how many samples a triangle
-//! covers, changes and is shown by.
+//! Why a pixel is what it is: the history of its samples as a table that a person reads, or as JSON. And how many
+//! samples a triangle covers, changes and is shown by.
 #![tactic(auto)]
 
 mod arguments;

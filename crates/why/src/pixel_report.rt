@@ -40,7 +40,8 @@ fn push_json(
     histories: &str,
     out: &mut String,
 ) -> Result<(), AllocError>
-    ensures { OnOk result (string_bytes out.new ≡ string_bytes out.old ++ pixel_in Form.Json output asked.now pixel.now histories.now) }
+    ensures { OnOk result (string_bytes out.new ≡
+        string_bytes out.old ++ pixel_in Form.Json output asked.now pixel.now histories.now) }
 {
     let (x, y) = (asked.x, asked.y);
     write!(out, "{{\"x\":{x},\"y\":{y},")?;
@@ -56,7 +57,8 @@ fn push_table(
     histories: &str,
     out: &mut String,
 ) -> Result<(), AllocError>
-    ensures { OnOk result (string_bytes out.new ≡ string_bytes out.old ++ pixel_in Form.Table output asked.now pixel.now histories.now) }
+    ensures { OnOk result (string_bytes out.new ≡
+        string_bytes out.old ++ pixel_in Form.Table output asked.now pixel.now histories.now) }
 {
     let (x, y) = (asked.x, asked.y);
     write!(out, "pixel ({x}, {y})\n{histories}")?;
@@ -71,7 +73,8 @@ pub(crate) fn push_pixel(
     histories: &str,
     out: &mut String,
 ) -> Result<(), AllocError>
-    ensures { OnOk result (string_bytes out.new ≡ string_bytes out.old ++ pixel_text output asked.now pixel.now histories.now) }
+    ensures { OnOk result (string_bytes out.new ≡
+        string_bytes out.old ++ pixel_text output asked.now pixel.now histories.now) }
 {
     match asked.form {
         Form::Json => push_json(output, asked, pixel, histories, out),

@@ -62,7 +62,8 @@ impl From<ReportFault> for Failure {
 /// Writes all of a text.
 fn write_text<W: Write>(text: &str, output: &mut Counted<W>) -> Result<(), Fault>
     requires { output.old.failures < u64.MAX }
-    ensures { WritesText text.now result (W.contents output.old.inner) (W.contents output.new.inner) output.old.failures output.new.failures }
+    ensures { WritesText text.now result (W.contents output.old.inner) (W.contents output.new.inner) output.old.failures
+        output.new.failures }
 {
     let written = output.write_all(text.as_bytes(), 0)?;
     match output.flush() {
@@ -74,7 +75,8 @@ fn write_text<W: Write>(text: &str, output: &mut Counted<W>) -> Result<(), Fault
 /// The text of the report that is asked for.
 fn text_of(alloc: Global, list: &DrawList, question: &Question) -> Result<String, ReportFault>
     ensures report { IfOk result (λ text. IsAskedReport list.now question.now (string_bytes text)) }
-    ensures fault { IfErr result (λ e. (e ≡ ReportFault.OutOfMemory) ⊎ ((failure_of_report e ≡ Failure.NotThere) × Lacks list.now question.now)) }
+    ensures fault { IfErr result (λ e. (e ≡ ReportFault.OutOfMemory) ⊎
+        ((failure_of_report e ≡ Failure.NotThere) × Lacks list.now question.now)) }
 {
     match question {
         Question::Pixel(asked) => match report(alloc, list, asked) {
@@ -95,8 +97,10 @@ fn text_asked<R: Read>(
     question: &Question,
 ) -> Result<String, Failure>
     requires { input.old.failures < u64.MAX }
-    ensures given { IfOk result (λ text. GivesReport question.now (string_bytes text) (R.remaining input.old.inner) (R.remaining input.new.inner)) }
-    ensures failed { IfErr result (λ failure. ExplainsFailure question.now failure (R.remaining input.old.inner) (R.remaining input.new.inner)) }
+    ensures given { IfOk result (λ text. GivesReport question.now (string_bytes text) (R.remaining input.old.inner)
+        (R.remaining input.new.inner)) }
+    ensures failed { IfErr result (λ failure. ExplainsFailure question.now failure (R.remaining input.old.inner)
+        (R.remaining input.new.inner)) }
     ensures input_failed { IsErrOf result (Failure.Run Fault.InputFailed) ↔ (input.old.failures < input.new.failures) }
 {
     let bytes = read_input(alloc, input)?;
@@ -106,10 +110,11 @@ fn text_asked<R: Read>(
     Ok(text_of(alloc, &list, question)?)
 }
 
-/// Reads the arguments, of which the first is the program's name, and a draw list from the input, and writes the history of a pixel's
-/// samples, or the counts of a triangle's. Returns the program's status: 0 if it was written or the usage line was asked for, 1 if the run failed or memory ran out,
-/// and 2 if the program has no such arguments, the picture no such pixel, the pixel no such sample, or the list no such triangle. After 1 and 2 a line on
-/// `errors` reports the error, as `trirast` would. A line that cannot be written is passed over.
+/// Reads the arguments, of which the first is the program's name, and a draw list from the input, and writes the
+/// history of a pixel's samples, or the counts of a triangle's. Returns the program's status: 0 if it was written or
+/// the usage line was asked for, 1 if the run failed or memory ran out, and 2 if the program has no such arguments, the
+/// picture no such pixel, the pixel no such sample, or the list no such triangle. After 1 and 2 a line on `errors`
+/// reports the error, as `trirast` would. A line that cannot be written is passed over.
 pub fn command<'a, R: Read, W: Write, E: Write>(
     alloc: Global,
     arguments: &'a [&'a str],
@@ -127,10 +132,13 @@ pub fn command<'a, R: Read, W: Write, E: Write>(
     // What is on the output is what a fault of the run explains, and nothing behind it.
     ensures failed { result ≡ 1 → ReportEndsByFault (R.remaining input.old.inner) (R.remaining input.new.inner) (W.contents output.old.inner) (W.contents output.new.inner)
         (input.old.failures < input.new.failures) (output.old.failures < output.new.failures) }
-    ensures failure { result ≡ 1 → WritesSomeLine (E.contents errors.old.inner) (E.contents errors.new.inner) errors.old.failures errors.new.failures }
+    ensures failure { result ≡ 1 → WritesSomeLine (E.contents errors.old.inner) (E.contents errors.new.inner)
+        errors.old.failures errors.new.failures }
     ensures refused { result ≡ 2 → output.new ≡ output.old }
-    ensures lacking { result ≡ 2 → (input.new ≡ input.old) ⊎ LacksAnswer (R.remaining input.old.inner) (R.remaining input.new.inner) }
-    ensures refusal { result ≡ 2 → WritesLine refusal_line (E.contents errors.old.inner) (E.contents errors.new.inner) errors.old.failures errors.new.failures }
+    ensures lacking { result ≡ 2 → (input.new ≡ input.old) ⊎
+        LacksAnswer (R.remaining input.old.inner) (R.remaining input.new.inner) }
+    ensures refusal { result ≡ 2 → WritesLine refusal_line (E.contents errors.old.inner) (E.contents errors.new.inner)
+        errors.old.failures errors.new.failures }
 {
     let question = match read_arguments(alloc, arguments) {
         Ok(question) => question,

@@ -6,7 +6,8 @@ use shade::{Sample, Shaded};
 use std::alloc::AllocError;
 use std::fmt::Write as _;
 
-/// Appends a position in pixels and in 1/256 pixel, and the end of the line. The samples of a pixel lie at whole thousandths.
+/// Appends a position in pixels and in 1/256 pixel, and the end of the line. The samples of a pixel lie at whole
+/// thousandths.
 pub(crate) fn push_place(out: &mut String, x: i32, y: i32) -> Result<(), AllocError> {
     let (column, row) = (x.div_euclid(256), y.div_euclid(256));
     let (right, down) = (

@@ -69,13 +69,15 @@ fn has_sample(list: &DrawList, asked: &Asked) -> bool
     is_there && asked.x < list.width() && asked.y < list.height()
 }
 
-/// The history of the samples of a pixel, or of one of them, as a text in the form that is asked for, and what the picture shows at
-/// the pixel. Fails with `NoSuchSample` if and only if the picture has no such pixel, or the pixel no such sample.
+/// The history of the samples of a pixel, or of one of them, as a text in the form that is asked for, and what the
+/// picture shows at the pixel. Fails with `NoSuchSample` if and only if the picture has no such pixel, or the pixel no
+/// such sample.
 pub fn report(alloc: Global, list: &DrawList, asked: &Asked) -> Result<(String, Pixel), ReportFault>
     ensures shown { IfOk result (λ r. IsShownAt list.now asked.now.x asked.now.y r.1) }
     ensures there { OnOk result (HasAskedSample list.now asked.now) }
     // The text has these numbers, and histories of which nothing is said.
-    ensures text { IfOk result (λ r. (histories : List ℕ) × (string_bytes r.0 ≡ pixel_text list.now.output asked.now r.1 histories)) }
+    ensures text { IfOk result (λ r. (histories : List ℕ) ×
+        (string_bytes r.0 ≡ pixel_text list.now.output asked.now r.1 histories)) }
     ensures faults { IfErr result (λ e. (e ≡ ReportFault.NoSuchSample) ⊎ (e ≡ ReportFault.OutOfMemory)) }
     ensures no_sample { (result ≡ Err ReportFault.NoSuchSample) ↔ ¬ HasAskedSample list.now asked.now }
 {

@@ -14,7 +14,8 @@ pub(crate) fn result_name(outcome: Outcome) -> &'static str {
 
 /// Whether the sample fails the top-left rule at one of the edges.
 pub(crate) fn fails_an_edge(reasons: &Reasons) -> bool
-    ensures { IsTrue result ↔ (IsSome reasons.now.ab.reason ⊎ IsSome reasons.now.bc.reason ⊎ IsSome reasons.now.ca.reason) }
+    ensures { IsTrue result ↔ (IsSome reasons.now.ab.reason ⊎ IsSome reasons.now.bc.reason ⊎
+        IsSome reasons.now.ca.reason) }
 {
     reasons.ab.reason.is_some() || reasons.bc.reason.is_some() || reasons.ca.reason.is_some()
 }

@@ -23,7 +23,8 @@ pub(crate) fn bins_of(
     Ok(all)
 }
 
-/// Whether the triangle is drawn, its box cut to its scissor has pixels of tile `k`, and it is not seen to miss the tile.
+/// Whether the triangle is drawn, its box cut to its scissor has pixels of tile `k`, and it is not seen to miss the
+/// tile.
 fn belongs(triangle: &Placed, count: SampleCount, tiling: &Tiling, k: u32) -> bool {
     let Some(setup) = Setup::new(&triangle.tri, triangle.state.cull) else {
         return false;

@@ -51,8 +51,8 @@ pub(crate) fn values_of(
     format!(in alloc; "{z:?} {rgba:?}")
 }
 
-/// Which triangles are culled, the depth test, whether depths are written, which channels are, whether it blends, the sample mask
-/// and the scissor.
+/// Which triangles are culled, the depth test, whether depths are written, which channels are, whether it blends, the
+/// sample mask and the scissor.
 pub(crate) fn state_of(
     alloc: Global,
     list: &DrawList,

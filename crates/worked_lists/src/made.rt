@@ -57,7 +57,8 @@ pub(crate) fn made_of(alloc: Global, width: u32, height: u32) -> Result<String, 
     made(alloc, (width, height), Vec::new(alloc))
 }
 
-/// What comes of a list of one pixel with a quad of these indices, over the corners of a square, in order, and its middle.
+/// What comes of a list of one pixel with a quad of these indices, over the corners of a square, in order, and its
+/// middle.
 pub(crate) fn quad_of(alloc: Global, quad: [u32; 4]) -> Result<String, AllocError> {
     let mut vertices = Vec::new(alloc);
     for (x, y) in [(0, 0), (512, 0), (512, 512), (0, 512), (256, 256)] {

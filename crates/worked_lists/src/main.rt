@@ -1,6 +1,7 @@
-//! Worked values of `list` and of `bins` over lists. Each line of standard input that does not begin with `#` is a call with a draw list
-//! in JSON, and behind an equals sign what the list then has; or a draw list that both readers, one or none of them read. A line that does
-//! not hold, or that is not a call with its result, is printed, and last how many held and how many did not.
+//! Worked values of `list` and of `bins` over lists. Each line of standard input that does not begin with `#` is a call
+//! with a draw list in JSON, and behind an equals sign what the list then has; or a draw list that both readers, one or
+//! none of them read. A line that does not hold, or that is not a call with its result, is printed, and last how many
+//! held and how many did not.
 #![tactic(auto)]
 
 mod binned;

@@ -41,8 +41,8 @@ fn are_same(one: &DrawList, other: &DrawList) -> bool {
     true
 }
 
-/// Which reader reads the text: `both` the same list, `left` is one that one pass leaves to the other reader, `none` one that neither
-/// reads, and neither does `read`. The list that `read` returns is that of the value.
+/// Which reader reads the text: `both` the same list, `left` is one that one pass leaves to the other reader, `none`
+/// one that neither reads, and neither does `read`. The list that `read` returns is that of the value.
 pub(crate) fn kind_of(alloc: Global, text: &str) -> Result<&'static str, AllocError> {
     let text = expanded(alloc, text)?;
     let bytes = text.as_bytes();

@@ -1,6 +1,6 @@
-//! Worked values of `grid`, `polygons`, `shade`, `cover` and `tiling`. Each line of standard input is a call, an equals sign and the result that a
-//! reader finds by hand from the rules; what follows a `#` is a comment. A line that does not hold, or that is not a call with its
-//! result, is printed, and last how many held and how many did not.
+//! Worked values of `grid`, `polygons`, `shade`, `cover` and `tiling`. Each line of standard input is a call, an equals
+//! sign and the result that a reader finds by hand from the rules; what follows a `#` is a comment. A line that does
+//! not hold, or that is not a call with its result, is printed, and last how many held and how many did not.
 #![tactic(auto)]
 
 mod answer;

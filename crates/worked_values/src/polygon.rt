@@ -5,7 +5,7 @@ use crate::answer::{Answer, whole};
 use crate::words::Words;
 use grid::{Point, SampleCount};
 use polygons::{
-    Corner, Edge, Flags, Polygons, Rule, Strip, count_covering, cover_strip, polygon_covers,
+    Corner, Edge, Flags, Polygons, Rule, Runs, Strip, count_covering, cover_strip, polygon_covers,
 };
 
 /// As many corners as a ring of a line has at most.
@@ -93,13 +93,10 @@ pub(crate) fn strip_of(words: &mut Words<'_>) -> Option<Answer> {
     if polygons.count() == 0 {
         return None;
     }
+    let rings = polygons.rings(0);
+    let mut runs = Runs::none();
+    runs.measure(&rings);
     let mut flags: [Flags; 1] = [[0; 32]];
-    cover_strip(
-        &mut flags,
-        &mut [],
-        Rule::EvenOdd,
-        &polygons.rings(0),
-        &strip,
-    );
+    cover_strip(&mut flags, &mut [], Rule::EvenOdd, &rings, &runs, &strip);
     Some(Answer::Mask(flags[0][0]))
 }

@@ -36,6 +36,7 @@ from ._errors import (
     DrawListError,
     Error,
     FormatError,
+    IndexSizeError,
     LimitError,
     MemorySizeError,
     OutOfMemoryError,
@@ -58,7 +59,7 @@ from ._vertices import VERTEX
 
 __all__ = [
     "BLENDS", "BatchError", "Blend", "BufferTooSmallError", "Canvas", "CanvasError", "Clipped", "Draw", "DrawList", "DrawListError", "Error",
-    "Event", "FormatError", "Fragment", "Fragments", "ImageInfo", "LimitError", "MemorySizeError", "OutOfMemoryError",
+    "Event", "FormatError", "Fragment", "Fragments", "ImageInfo", "IndexSizeError", "LimitError", "MemorySizeError", "OutOfMemoryError",
     "Picture", "PixelError", "PixelHistory", "PositionError", "SampleError", "SampleHistory", "State", "Stored", "StrideError",
     "StructSizeError", "TileError", "TileRowsError", "TileSizeError", "TriangleError", "TriangleSamples", "VERTEX",
     "__version__", "clip", "draw", "draw_file", "edges_at", "image_info", "snap",

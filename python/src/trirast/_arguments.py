@@ -12,6 +12,7 @@ from typing import Any, Collection, Sequence, SupportsIndex, Tuple
 
 NUMBERS = 1 << 32
 LONGEST = 60
+CHANNEL = " of 0 to 255"
 SHORT = reprlib.Repr()
 SHORT.maxother = SHORT.maxstring = LONGEST
 
@@ -21,12 +22,12 @@ def shown(value: Any) -> str:
     return " ".join(SHORT.repr(value).split())
 
 
-def integer(name: str, value: SupportsIndex) -> int:
-    """An integer of Python or numpy. Raises TypeError at any other number."""
+def integer(name: str, value: SupportsIndex, unit: str = "") -> int:
+    """An integer of Python or numpy. Raises TypeError at any other number. The unit stands in the message."""
     try:
         return operator.index(value)
     except TypeError:
-        raise TypeError(f"{name}: an integer, and not {shown(value)}") from None
+        raise TypeError(f"{name}: an integer{unit}, and not {shown(value)}") from None
 
 
 def number(name: str, value: SupportsIndex, otherwise: int = NUMBERS - 1) -> int:
@@ -77,7 +78,7 @@ def of_length(name: str, values: Any, length: int) -> Sequence[Any]:
     try:
         count = len(values)
     except TypeError:
-        raise TypeError(f"{name}: {length} values, and not {shown(values)}") from None
+        raise TypeError(f"{name}: a sequence of {length} values, and not {shown(values)}") from None
     if count != length:
         raise ValueError(f"{name}: {length} values, and not {count}")
     return tuple(values)
@@ -87,7 +88,7 @@ def color_of(name: str, values: Any, *lengths: int) -> Tuple[int, ...]:
     """As many channels as one of the lengths, the first of which counts in a message: 0 to 255 each. Raises ValueError
     at any other."""
     found = next((each for each in lengths if hasattr(values, "__len__") and len(values) == each), lengths[0])
-    return tuple(between(name, channel, 0, 255) for channel in of_length(name, values, found))
+    return tuple(between(name, integer(name, channel, CHANNEL), 0, 255) for channel in of_length(name, values, found))
 
 
 def flag(name: str, value: Any) -> int:

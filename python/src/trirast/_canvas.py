@@ -6,14 +6,15 @@ from threading import RLock
 from typing import Any, Callable, Dict, List, Literal, Optional, Sequence, SupportsFloat, SupportsIndex, Tuple, Union
 
 from ._arguments import between, color_of, flag, integer, named, number, of_length, signed, thread_count
-from ._batch import batch_of, draws_of, explained
+from ._batch import batch_of, draws_of
 from ._blend import Blend, Preset
 from ._buffers import Buffer, Form, check_writable, raw, readable
 from ._draw import EVERY_SAMPLE, Cull, DepthTest, Draw, state_in_c
-from ._errors import BatchError, CanvasError
+from ._errors import CanvasError
 from ._ffi import CCanvas, CClear, CCorners, CError, library
 from ._fragments import Fragments, Rate, fragments_of
-from ._picture import Path, Picture
+from ._picture import Path, Picture, save_png
+from ._png import png_chunks
 from ._polygons import RULES, Rule, polygons_of, scratch_of
 from ._records import table_of
 from ._threads import share
@@ -21,20 +22,25 @@ from ._version import INTERFACE
 from ._vertices import PLACE
 
 ALIGNMENT = 64
-FORMATS = {"rgb": (0, 3), "rgba": (1, 4), "bgra": (2, 4)}
+FORMATS = {"rgb": (0, 3), "rgba": (1, 4), "bgra": (2, 4), "rgba_straight": (3, 4), "bgra_straight": (4, 4)}
 CODES = {"uint8": "B", "uint16": "H", "uint32": "I", "int64": "q"}
 # The rows of pixels of a tile.
 TILE_SIZE = 64
-Format = Literal["rgb", "rgba", "bgra"]
+# The channels of a sample without alpha, and with it.
+CHANNELS = (3, 4)
+# An id is less.
+IDS = 1 << 24
+Format = Literal["rgb", "rgba", "bgra", "rgba_straight", "bgra_straight"]
 
 
 class Canvas:
     """The samples of `width` by `height` pixels, 1 to 4096 each, with 1, 2, 4, 8 or 16 `samples` a pixel.
 
-    What they begin with is not specified: call `clear`, or `load` and `clear`, first. `origin` is the pixel of the
-    screen at which the upper left pixel of the canvas lies; positions and scissors are those of the screen. `memory` is
-    a buffer of at least Canvas.size(..) bytes that can be written, in which the samples lie; without it the canvas has
-    memory of its own. A stored `alpha` there is not yet: True raises NotImplementedError.
+    `origin` is the pixel of the screen at which the upper left pixel of the canvas lies; positions and scissors are
+    those of the screen. `memory` is a buffer of at least Canvas.size(..) bytes that can be written, in which the samples
+    lie; what they begin with is not specified, so call `clear` first. Without it the canvas has memory of its own, and
+    begins as `clear()` makes it. With `alpha` a sample has a fourth channel: one that is cleared to alpha 0 and drawn on by "over"
+    or "premultiplied" holds what was drawn without a background, its colours multiplied by their alpha.
 
     Calls of several threads on one canvas wait for each other. `threads` is the number of threads among which a call
     shares its tile rows. An interrupt, as by Ctrl-C, is raised when the call is done. A copy, by copy or pickle, has
@@ -53,17 +59,18 @@ class Canvas:
         origin: Sequence[SupportsIndex] = (0, 0),
         memory: Optional[Any] = None,
     ) -> None:
-        if flag("alpha", alpha):
-            raise NotImplementedError("alpha: a canvas has no stored alpha yet, so False")
+        channels = channels_of(alpha)
         x, y = (signed("origin", each) for each in of_length("origin", origin, 2))
         size = Canvas.size(width, height, samples)
-        sides = integer("width", width), integer("height", height)
-        self._set(sides, integer("samples", samples), (x, y), aligned(size) if memory is None else given(memory, size), size)
+        kind = integer("width", width), integer("height", height), integer("samples", samples), channels
+        self._set(kind, (x, y), aligned(size) if memory is None else given(memory, size), size)
+        if memory is None:
+            self.clear()
 
-    def _set(self, sides: Tuple[int, int], samples: int, origin: Tuple[int, int], memory: Tuple[Any, int], size: int) -> None:
+    def _set(self, kind: Tuple[int, ...], origin: Tuple[int, int], memory: Tuple[Any, int], size: int) -> None:
         self._memory, first = memory
         self._bytes, self._first = size, ctypes.addressof(self._memory) + first
-        self._whole = CCanvas(0, *sides, samples, 0, *origin)
+        self._whole = CCanvas(0, *kind, *origin)
         library().trirast_canvas_init(self._whole, self._first, size)
         self._lock = RLock()
 
@@ -86,14 +93,19 @@ class Canvas:
         return found
 
     @property
+    def alpha(self) -> bool:
+        """Whether alpha is stored."""
+        return bool(self._whole.channels == CHANNELS[1])
+
+    @property
     def origin(self) -> Tuple[int, int]:
         """The pixel of the screen at which the upper left pixel lies."""
         return self._whole.origin_x, self._whole.origin_y
 
     @staticmethod
     def size(width: SupportsIndex, height: SupportsIndex, samples: SupportsIndex = 1) -> int:
-        """The bytes of the samples of such a canvas, 5.2 a sample in whole tiles of 64 by 64 pixels. Raises CanvasError if there is
-        none."""
+        """The bytes of the samples of such a canvas, with alpha or without it, 6.2 a sample in whole tiles of 64 by 64
+        pixels. Raises CanvasError if there is none."""
         numbers = (number("width", width, 0), number("height", height, 0), number("samples", samples))
         # 0 is the default of C.
         size: int = library().trirast_canvas_size(CCanvas(0, *numbers)) if numbers[2] else 0
@@ -103,17 +115,21 @@ class Canvas:
         return size
 
     def clear(
-        self, color: Sequence[SupportsIndex] = (0, 0, 0), depth: SupportsIndex = 65535, *, threads: SupportsIndex = 1
+        self, color: Sequence[SupportsIndex] = (0, 0, 0, 0), depth: SupportsIndex = 65535, *, threads: SupportsIndex = 1
     ) -> None:
-        """Makes each sample one of this colour, red, green and blue of 0 to 255, and of this depth, 0 to 65535. Raises
-        ValueError at any other."""
-        clear = CClear(*color_of("color", color, 3), 0, between("depth", depth, 0, 65535))
+        """Makes each sample one of this colour, red, green, blue and alpha of 0 to 255, and of this depth, 0 to 65535.
+        Without alpha in the colour it is 255; a canvas without alpha does not look at it. Raises ValueError at any
+        other."""
+        red, green, blue, *alpha = color_of("color", color, 3, 4)
+        clear = CClear(red, green, blue, *(alpha or [255]), between("depth", depth, 0, 65535))
         self._each(threads, lambda piece, _top: library().trirast_canvas_clear(piece, clear))
 
     def load(self, image: Any, *, format: Optional[Format] = None, threads: SupportsIndex = 1) -> None:
         """Makes an image the colour of all samples of its pixels; depths stay. The image is a buffer of bytes of the shape (height,
         width, 3) or (height, width, 4), or of as many bytes without a shape. `format` is "rgb", "rgba" or "bgra"; without it the
-        image is "rgb" or "rgba" by its length. Alpha is not read. An image that cannot be written or is not contiguous is copied."""
+        image is "rgb" or "rgba" by its length. "rgba_straight" and "bgra_straight" are images as files have them, whose colours
+        are multiplied by their alpha; the others are stored as they are. The alpha of "rgb" is 255. An image that cannot be
+        written or is not contiguous is copied."""
         self._stored(library().trirast_canvas_load, image, format, threads)
 
     def store(
@@ -160,8 +176,8 @@ class Canvas:
 
         One of `triangles`, `strip` and `quads` has rows of 3, 1 and 4 indices of vertices; without any, each three
         vertices are a triangle. Rows are sequences, or buffers of integers of any type and layout, as arrays of numpy.
-        They are copied, and nothing of them is rounded or wrapped. An array of VERTEX that is contiguous is not copied:
-        nobody may change it meanwhile. bytes and a bytearray have records of 16 bytes, and indices of 32 bits. Without
+        They are copied, and nothing of them is rounded or wrapped. An array of VERTEX, or of records of 20 to 2048 bytes
+        that have its members in their order among others, is not copied: nobody may change it meanwhile. bytes and a bytearray have records of 16 bytes, and indices of 32 bits. Without
         rows nothing is drawn.
 
         `blend` is one of BLENDS, by its name, or a Blend. `cull` drops front-facing triangles, which run clockwise on
@@ -186,14 +202,10 @@ class Canvas:
         self, draws: Sequence[Draw], *, first_id: Optional[SupportsIndex] = None, threads: SupportsIndex = 1
     ) -> None:
         """Draws several draws, in their colours, or by ids that are counted from `first_id` over all of them."""
-        listed = draws_of(draws)
-        batch = batch_of(listed)
-        ids = () if first_id is None else (number("first_id", first_id),)
+        batch = batch_of(draws_of(draws))
+        ids = () if first_id is None else (between("first_id", first_id, 0, IDS),)
         call = library().trirast_canvas_draw_ids if ids else library().trirast_canvas_draw
-        try:
-            self._each(threads, lambda piece, _top: call(piece, batch, *ids, CError()))
-        except BatchError as error:
-            raise explained(error, listed, self.origin) from None
+        self._each(threads, lambda piece, _top: call(piece, batch, *ids, CError()))
 
     def draw_polygons(
         self,
@@ -235,7 +247,7 @@ class Canvas:
         """
         state = state_in_c("none", depth_test, depth_write, keep, sample_mask, scissor, blend)
         polygons = polygons_of(corners, ring_ends, polygon_ends, colors, depth, named("rule", RULES, rule), state)
-        ids = () if first_id is None else (number("first_id", first_id),)
+        ids = () if first_id is None else (between("first_id", first_id, 0, IDS),)
         call = library().trirast_canvas_draw_polygon_ids if ids else library().trirast_canvas_draw_polygons
         size = library().trirast_polygons_scratch(self._whole, polygons.fill_rule)
         self._each(threads, lambda piece, _top: call(piece, polygons, *ids, scratch_of(size), size, CError()))
@@ -244,22 +256,30 @@ class Canvas:
         """The colours, of the shape (height, width, 3): a numpy array, or without numpy a memoryview; or what `out` is."""
         return self._resolved("rgb", out, threads)
 
-    def rgba(self, out: Optional[Any] = None, *, threads: SupportsIndex = 1) -> Any:
-        """The same with alpha 255, of the shape (height, width, 4)."""
-        return self._resolved("rgba", out, threads)
+    def rgba(self, out: Optional[Any] = None, *, straight: bool = False, threads: SupportsIndex = 1) -> Any:
+        """The same with alpha, of the shape (height, width, 4). It is 255 on a canvas without alpha. If it is `straight`, colours
+        are divided by alpha, as image files have them."""
+        return self._resolved("rgba_straight" if flag("straight", straight) else "rgba", out, threads)
 
-    def bgra(self, out: Optional[Any] = None, *, threads: SupportsIndex = 1) -> Any:
+    def bgra(self, out: Optional[Any] = None, *, straight: bool = False, threads: SupportsIndex = 1) -> Any:
         """The same in the order blue, green, red, alpha."""
-        return self._resolved("bgra", out, threads)
+        return self._resolved("bgra_straight" if flag("straight", straight) else "bgra", out, threads)
 
     def save(self, path: Path, *, dpi: Optional[SupportsFloat] = None, threads: SupportsIndex = 1) -> None:
-        """Writes the colours to a PNG file, or to a PPM file, by the end of the path. `dpi` is the number of pixels per
-        inch, which a PNG file alone has. Raises ValueError at any other end, and at `dpi` for another file."""
-        self._picture(threads).save(path, dpi=dpi)
+        """Writes the colours to a PNG file, or to a PPM file, by the end of the path. A canvas with alpha is a PNG file
+        with alpha, whose colours are divided by it. `dpi` is the number of pixels per inch, which a PNG file alone has.
+        Raises ValueError at any other end, and at `dpi` for another file."""
+        if self.alpha:
+            save_png(path, self._straight(threads), dpi)
+        else:
+            self._picture(threads).save(path, dpi=dpi)
 
     def _repr_png_(self) -> bytes:
         """The colours as a PNG file, by which notebooks show the canvas."""
-        return self._picture(1)._repr_png_()
+        return b"".join(png_chunks(self._straight(1))) if self.alpha else self._picture(1)._repr_png_()
+
+    def _straight(self, threads: SupportsIndex) -> memoryview:
+        return memoryview(self.rgba(straight=True, threads=threads))
 
     def _picture(self, threads: SupportsIndex) -> Picture:
         return Picture(self.width, self.height, False, memoryview(self.rgb(threads=threads)).cast("B"))
@@ -284,26 +304,72 @@ class Canvas:
     # ---- Shading
 
     def fragments(
-        self, vertices: Any, triangles: Any, w: Any, *, rate: Rate = "pixel", threads: SupportsIndex = 1
+        self, vertices: Any, triangles: Any, w: Any, *, rate: Rate = "pixel",
+        tile: Optional[Tuple[SupportsIndex, SupportsIndex]] = None, threads: SupportsIndex = 1
     ) -> Fragments:
         """What the ids of this canvas show, for shading by numpy: it was cleared to white and drawn with these vertices
         and triangles from the id 0. `w` is that of clip space, one for each vertex; `trirast.clip` has all three.
 
         `rate` is "pixel", each triangle that a pixel shows once, in the middle of the samples that show it; "centre",
-        the same in the pixel's centre, which may lie beside the triangle; or "sample", each sample. Needs numpy, and
-        vertices with the fields x and y."""
+        the same in the pixel's centre, which may lie beside the triangle; or "sample", each sample. `tile` is a tile
+        alone, by its column and row of 64 by 64 pixels: its fragments take little memory, and other threads may shade
+        other tiles. Needs numpy, and vertices with the fields x and y.
+
+        Raises TileError if the canvas has no such tile."""
         import numpy as np
 
-        ids = np.stack([self.ids(sample, threads=threads) for sample in range(self.samples)])
-        return fragments_of(ids, self.origin, vertices, triangles, w, rate)
+        if tile is None:
+            ids = np.stack([self.ids(sample, threads=threads) for sample in range(self.samples)])
+            return fragments_of(ids, self.origin, vertices, triangles, w, rate)
+        column, row = (number("tile", each) for each in of_length("tile", tile, 2))
+        origin = self.origin[0] + column * TILE_SIZE, self.origin[1] + row * TILE_SIZE
+        return fragments_of(self._tile_ids(column, row), origin, vertices, triangles, w, rate)._replace(tile=(column, row))
 
     def shade(
         self, fragments: Fragments, colors: Any, background: Any = (0, 0, 0), *, threads: SupportsIndex = 1
     ) -> None:
-        """Puts the colours of fragments in place of the ids, a row of 0 to 255 for each, and elsewhere the background.
-        Depths stay."""
-        for sample, image in enumerate(fragments.picture(colors, background)):
+        """Puts the colours of fragments in place of the ids, a row of 0 to 255 for each, and elsewhere the background:
+        in the tile of the fragments, or in the whole canvas. Depths stay."""
+        wanted = (self.samples, *self._sides(fragments.tile))
+        if fragments.index.shape != wanted:
+            what = "samples, height and width"
+            raise ValueError(f"fragments: of a canvas of the same {what}, {wanted}, and not {fragments.index.shape}")
+        pictures = fragments.picture(colors, background)
+        if fragments.tile is not None:
+            self._store_tile(fragments.tile, pictures)
+            return
+        for sample, image in enumerate(pictures):
             self.store(image, sample, threads=threads)
+
+    def _sides(self, tile: Optional[Tuple[int, int]]) -> Tuple[int, int]:
+        """The height and width of the canvas, or of what it has of a tile."""
+        if tile is None:
+            return self.height, self.width
+        return min(self.height - TILE_SIZE * tile[1], TILE_SIZE), min(self.width - TILE_SIZE * tile[0], TILE_SIZE)
+
+    def _tile_ids(self, column: int, row: int) -> Any:
+        """The ids of all samples of a tile, as far as it lies in the canvas: of the shape (samples, height, width)."""
+        import numpy as np
+
+        entries, uniform = np.empty(self.samples * TILE_SIZE**2, np.uint32), ctypes.c_uint32()
+        with self._lock:
+            library().trirast_canvas_tile_ids(self._whole, column, row, entries.ctypes.data, len(entries), uniform)
+        if uniform.value:
+            entries[:] = entries[0]
+        ids = entries.reshape(8, 8, -1, 8, 8).transpose(2, 0, 3, 1, 4).reshape(-1, TILE_SIZE, TILE_SIZE)
+        height, width = self._sides((column, row))
+        return ids[:, :height, :width]
+
+    def _store_tile(self, tile: Tuple[int, int], pictures: Any) -> None:
+        """Stores the colours of all samples of a tile: bytes of the shape (samples, height, width, 4)."""
+        import numpy as np
+
+        colors = np.zeros((self.samples, TILE_SIZE, TILE_SIZE), "<u4")
+        height, width = self._sides(tile)
+        colors[:, :height, :width] = pictures.view("<u4")[..., 0]
+        entries = colors.reshape(-1, 8, 8, 8, 8).transpose(1, 3, 0, 2, 4).reshape(-1).astype(np.uint32)
+        with self._lock:
+            library().trirast_canvas_tile_store(self._whole, *tile, entries.ctypes.data, len(entries))
 
     # ---- Copies
 
@@ -311,15 +377,16 @@ class Canvas:
         with self._lock:
             samples = ctypes.string_at(self._first, self._bytes)
         state = {name: value for name, value in self.__dict__.items() if name not in OWN}
-        return {**state, "_canvas": (INTERFACE, (self.width, self.height), self.samples, self.origin, samples)}
+        kind = self.width, self.height, self.samples, self._whole.channels
+        return {**state, "_canvas": (INTERFACE, kind, self.origin, samples)}
 
     def __setstate__(self, state: Dict[str, Any]) -> None:
-        interface, sides, count, origin, samples = state.pop("_canvas")
-        if interface != INTERFACE or len(samples) != Canvas.size(sides[0], sides[1], count):
+        interface, kind, origin, samples = state.pop("_canvas")
+        if interface != INTERFACE or len(samples) != library().trirast_canvas_size(CCanvas(0, *kind)):
             raise ValueError(f"a canvas of interface {interface}, whose samples may lie in another way than those of {INTERFACE}")
         memory, first = aligned(len(samples))
         ctypes.memmove(ctypes.addressof(memory) + first, samples, len(samples))
-        self._set(sides, count, origin, (memory, first), len(samples))
+        self._set(kind, origin, (memory, first), len(samples))
         self.__dict__.update(state)
 
     # ---- Pieces
@@ -401,6 +468,11 @@ def edges_at(
 
 
 # ---- Memory
+
+
+def channels_of(alpha: bool) -> int:
+    """The channels of a sample in C, by whether it has alpha."""
+    return CHANNELS[flag("alpha", alpha)]
 
 
 def aligned(size: int) -> Tuple[Any, int]:

@@ -4,7 +4,7 @@ from typing import Any, List, NamedTuple, Sequence, SupportsIndex, Tuple
 
 from ._arguments import between, named, of_length, shown
 from ._buffers import refuse_masked
-from ._polygon import MADE, Corner, Ears, Plane, kept
+from ._cut_triangle import MADE, Corner, Ears, Plane, kept
 from ._records import HIGH, LOW, index_columns, indices_of
 from ._vertices import VERTEX
 
@@ -20,7 +20,8 @@ LEAST_W = 2.0**-30
 
 class Clipped(NamedTuple):
     """Triangles on the screen. The first vertices are the projected positions, at their own indices; those that a plane does not keep are
-    unspecified. Behind them lie those that cuts made."""
+    unspecified. Behind them lie those that cuts made: `cuts` has of each the triangle of the source in which it lies, `corners` the three
+    indices of that triangle, and `weights` the weights of its corners. `sources` has of each triangle that of the source."""
 
     vertices: Array  # of VERTEX, in colours of 0: Canvas.draw takes them with `colors`, or whose fields are set
     w: Array  # float32, of each vertex
@@ -161,7 +162,7 @@ def clip(
     view = View(viewport, named("near_plane", NEAR_PLANES, near_plane), named("sides", SIDES, sides), depths)
     places = places_of(positions)
     rows = np.frombuffer(indices_of("triangles", triangles, index_columns(3)), np.uint32).reshape(-1, 3)
-    check_indices(rows, places.shape[1])
+    check_indices(rows, places.shape[1], "positions")
     marks = view.marks(places)
     vertices = np.zeros(places.shape[1], VERTEX)
     whole = marks & (view.all_planes | view.not_finite) == 0
@@ -226,12 +227,12 @@ def places_of(positions: Any) -> Array:
     return np.ascontiguousarray(given.T, np.float64)
 
 
-def check_indices(rows: Array, count: int) -> None:
-    """Raises ValueError at an index that names no position."""
+def check_indices(rows: Array, count: int, of_what: str) -> None:
+    """Raises ValueError at an index that is past the last position or vertex."""
     import numpy as np
 
     wrong = np.argwhere(rows >= count)
     if len(wrong):
         row, column = wrong[0].tolist()
-        wanted = f"an index of {count} positions"
+        wanted = f"an index of {count} {of_what}"
         raise ValueError(f"triangles: row {row}, index {column}: {wanted}, and not {rows[row, column]}")

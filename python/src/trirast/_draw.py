@@ -8,7 +8,7 @@ from ._arguments import between, flag, named, of_length, shown, signed
 from ._blend import Blend, Preset, blend_in_c
 from ._ffi import CDraw
 from ._records import Copy, index_columns, indices_of
-from ._vertices import VERTEX_BYTES, vertices_of
+from ._vertices import count_of, vertices_of
 
 Cull = Literal["none", "front", "back"]
 DepthTest = Literal["always", "never", "less", "equal", "less_equal", "greater", "not_equal", "greater_equal"]
@@ -39,7 +39,7 @@ class Draw:
     """A draw of a batch, for `Canvas.draw_batch`. Its parameters are those of `Canvas.draw`.
 
     The draw has copies of what it is made of, so what becomes of arrays later is not drawn; but an array of VERTEX is
-    not copied.
+    not copied, nor one of records that have its members among others.
     """
 
     def __init__(
@@ -65,20 +65,26 @@ class Draw:
         self._topology, indices = given[0] if given else (0, None)
         name, length = TOPOLOGIES[self._topology]
         self._vertices = vertices_of(vertices, colors, depth)
-        self._indices = indices_of(name, indices, index_columns(length)) if given else in_order(self._count)
-        if not self._indices:
-            # A batch without indices is not one of vertices in their order.
+        # Without any the vertices are taken in their order. An empty array of indices may have no address, and is not without any.
+        self._indices = indices_of(name, indices, index_columns(length)) if given else None
+        if given and not self._indices:
             self._vertices = b""
         self._state = state_in_c(cull, depth_test, depth_write, keep, sample_mask, scissor, blend)
 
-    def _in_c(self) -> CDraw:
-        """The draw as C has it."""
-        return CDraw(self._count, len(self._indices) // INDEX_BYTES, self._topology, *self._state)
+    def _in_c(self, indices: Copy) -> CDraw:
+        """The draw as C has it, with these indices."""
+        return CDraw(self._count, len(indices) // INDEX_BYTES, self._topology, *self._state)
+
+    def _indices_in(self, has_indices: bool) -> Copy:
+        """Its indices in a batch that has indices, or has none at all."""
+        if self._indices is not None:
+            return self._indices
+        return in_order(self._count) if has_indices else b""
 
     @property
     def _count(self) -> int:
         """How many vertices it has."""
-        return len(self._vertices) // VERTEX_BYTES
+        return count_of(self._vertices)
 
 
 def state_in_c(

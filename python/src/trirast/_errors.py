@@ -21,17 +21,19 @@ class Error(Exception):
 class PlacedError(Error, ValueError):
     """An error that says where it is. `number` and `name` say what it is, as 6 and BadIndex. `draw` is the index of the
     draw, or `None` if it is in none; `element` that of an index, a vertex or a quad in the draw's own array, or
-    `None`."""
+    `None`; `value` is the index itself if one is wrong, else `None`."""
 
     causes: Dict[int, str] = {}
 
-    def __init__(self, status: int, line: str, number: int, draw: Optional[int], element: Optional[int] = None) -> None:
+    def __init__(
+        self, status: int, line: str, number: int, draw: Optional[int], element: Optional[int] = None, value: Optional[int] = None
+    ) -> None:
         super().__init__(status, line)
         self.number, self.name = number, self.causes.get(number, "")
-        self.draw, self.element = draw, element
+        self.draw, self.element, self.value = draw, element, value
 
     def __reduce__(self) -> Tuple[Any, ...]:
-        return type(self), (self.status, *self.args, self.number, self.draw, self.element)
+        return type(self), (self.status, *self.args, self.number, self.draw, self.element, self.value)
 
 
 class DrawListError(PlacedError):
@@ -49,6 +51,8 @@ class BatchError(PlacedError):
     causes = {
         1: "TooFewVertices", 2: "TooFewIndices", 3: "BadState", 4: "NotWhole", 5: "TooManyIds", 6: "BadIndex", 7: "BadPosition", 8: "NotConvex",
         9: "LeftOver", 10: "TooManyCorners", 11: "BadRing", 12: "BadPolygon", 13: "TooFewColors", 14: "TooFewDepths",
+        15: "BadTopology", 16: "BadCull", 17: "BadDepthTest", 18: "BadDepthWrite", 19: "BadKeep", 20: "BadScissorEnable", 21: "BadFactor",
+        22: "BadOperation", 23: "BadFillRule",
     }
 
 
@@ -105,11 +109,15 @@ class TriangleError(Error, IndexError):
 
 
 class StrideError(Error, ValueError):
-    """A stride is too short or not aligned. No function of this package passes one."""
+    """A stride is too short, too long or not aligned. No function of this package passes one."""
 
 
 class TileError(Error, ValueError):
-    """The tile rows have no such tile. No function of this package asks for one."""
+    """The canvas has no such tile."""
+
+
+class IndexSizeError(Error, ValueError):
+    """There are no indices of this size. No function of this package passes such a size."""
 
 
 BY_STATUS: Dict[int, Type[Error]] = {
@@ -128,12 +136,13 @@ BY_STATUS: Dict[int, Type[Error]] = {
     14: TriangleError,
     16: StrideError,
     17: TileError,
+    18: IndexSizeError,
 }
 PLACED: Dict[int, Type[PlacedError]] = {BAD_LIST: DrawListError, BAD_BATCH: BatchError}
 
 
-def error_of(status: int, line: str, cause: int = 0, draw: int = NONE, element: int = NONE) -> Error:
+def error_of(status: int, line: str, cause: int = 0, draw: int = NONE, element: int = NONE, value: int = NONE) -> Error:
     """The exception of a status, by what trirast_error has."""
     if status in PLACED:
-        return PLACED[status](status, line, cause, *(None if place == NONE else place for place in (draw, element)))
+        return PLACED[status](status, line, cause, *(None if place == NONE else place for place in (draw, element, value)))
     return BY_STATUS.get(status, Error)(status, line)

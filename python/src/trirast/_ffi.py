@@ -13,7 +13,7 @@ from ._errors import error_of
 from ._version import INTERFACE
 
 HOW_TO_GET_IT = "run make library in the repository of trirast, then set TRIRAST_LIBRARY to its lib/libtrirast.so"
-MESSAGE_SIZE = 96
+MESSAGE_SIZE = 128
 SHARED = f"libtrirast.so.{INTERFACE}"
 BYTE, HALF, WORD, SIGNED = ctypes.c_uint8, ctypes.c_uint16, ctypes.c_uint32, ctypes.c_int32
 LONG, COUNT, POINTER = ctypes.c_int64, ctypes.c_size_t, ctypes.c_void_p
@@ -27,7 +27,7 @@ def fields(kind: Any, names: str) -> List[Tuple[str, Any]]:
 class CError(ctypes.Structure):
     """trirast_error of the header."""
 
-    _fields_ = fields(WORD, "status cause") + fields(COUNT, "draw element")
+    _fields_ = fields(WORD, "status cause") + fields(COUNT, "draw element value")
 
 
 class CImageInfo(ctypes.Structure):
@@ -238,7 +238,7 @@ def raise_error(status: int, _call: Any, arguments: Tuple[Any, ...]) -> int:
     """Raises the exception of a call's error, which is its last argument. Returns the status if it is 0."""
     if status:
         error = arguments[-1]
-        raise error_of(status, message_of(error), error.cause, error.draw, error.element)
+        raise error_of(status, message_of(error), error.cause, error.draw, error.element, error.value)
     return status
 
 

@@ -1,9 +1,10 @@
 """Fragments: what the ids of a canvas show, as arrays of numpy, for shading. include/trirast_shade.hpp has the same for
 C++, and docs/shading.md pictures and bounds."""
 
-from typing import Any, Literal, NamedTuple, Sequence, Tuple
+from typing import Any, Literal, NamedTuple, Optional, Sequence, Tuple
 
 from ._arguments import named
+from ._clip import check_indices
 
 # One of numpy, which the package does without until a call needs it.
 Array = Any
@@ -35,6 +36,7 @@ class Fragments(NamedTuple):
     right: Array
     down: Array  # the same of the pixel below, or above
     index: Array  # int64, of the shape (samples, height, width): the row of each sample's fragment, or -1
+    tile: Optional[Tuple[int, int]] = None  # the column and row of the tile whose fragments these are; None of the whole canvas
 
     def value(self, values: Any) -> Array:
         """A number at the points, or a row of them, of those of the vertices."""
@@ -51,7 +53,12 @@ class Fragments(NamedTuple):
     def _mean(self, by: Array, values: Any) -> Array:
         import numpy as np
 
-        return np.einsum("fc,fc...->f...", by, np.asarray(values)[self.corners])
+        given = np.asarray(values)
+        wanted = int(self.corners.max(initial=-1)) + 1
+        if given.ndim == 0 or len(given) < wanted:
+            which = "one for each vertex, also of those that cuts made (Clipped.attributes)"
+            raise ValueError(f"values: {wanted} rows at least, {which}, and not the shape {given.shape}")
+        return np.einsum("fc,fc...->f...", by, given[self.corners])
 
     def picture(self, colors: Any, background: Any = (0, 0, 0)) -> Array:
         """The colours of all samples: bytes of the shape (samples, height, width, 4), of which the last are 255.
@@ -59,7 +66,10 @@ class Fragments(NamedTuple):
         0. Where there is no fragment the background stands, one colour or one for each pixel."""
         import numpy as np
 
-        table = packed(colors)
+        given = np.asarray(colors, float)
+        if given.shape != (len(self.id), 3):
+            raise ValueError(f"colors: {len(self.id)} rows of red, green and blue, one for each fragment, and not the shape {given.shape}")
+        table = packed(given)
         found = table[self.index] if len(table) else np.zeros(self.index.shape, np.uint32)
         np.copyto(found, packed(background), where=self.index < 0)
         return found.view(np.uint8).reshape(*self.index.shape, 4)
@@ -150,7 +160,12 @@ def fragments_of(
     import numpy as np
 
     named("rate", RATES, rate)
-    rows = np.asarray(triangles).astype(np.int64).reshape(-1, 3)
+    if not {"x", "y"} <= set(getattr(getattr(vertices, "dtype", None), "names", None) or ()):
+        raise TypeError("vertices: an array with the fields x and y, as those of trirast.clip")
+    rows, distances = np.asarray(triangles).astype(np.int64).reshape(-1, 3), np.asarray(w, float)
+    if distances.shape != vertices.shape:
+        raise ValueError(f"w: {len(vertices)} numbers, one for each vertex, and not the shape {distances.shape}")
+    check_indices(rows, len(vertices), "vertices")
     places = np.stack([vertices["x"], vertices["y"]], 1).astype(np.int64)
     index, number, (x, y) = shown_by(ids, len(rows), rate)
     if rate == "sample":
@@ -161,5 +176,5 @@ def fragments_of(
         within = np.full((len(number), 2), CENTRE)
     points = UNIT * (np.stack([x, y], 1) + np.array(origin)) + within
     corners = rows[number]
-    weights, right, down = weigh(places[corners], np.asarray(w, float)[corners], points)
+    weights, right, down = weigh(places[corners], distances[corners], points)
     return Fragments(number, points[:, 0], points[:, 1], corners, weights, right, down, index)

@@ -141,6 +141,14 @@ class Picture:
         return bytes(self._pixels)
 
 
+def save_png(path: Path, pixels: memoryview, dpi: Optional[SupportsFloat]) -> None:
+    """Writes pixels with alpha, which a PNG file alone has. Raises ValueError at any other end of the path."""
+    name = os.fsdecode(path)
+    if os.path.splitext(name)[1].lower() != PNG:
+        raise ValueError(f"path: an end of {PNG}, for a picture with alpha, and not {shown(name)}")
+    write(path, png_chunks(pixels, checked_dpi(dpi, name)))
+
+
 def write(path: Path, parts: Iterable[Any]) -> None:
     """Writes a file of several parts."""
     whole = list(parts)

@@ -1,8 +1,8 @@
-"""PNG (W3C, Portable Network Graphics, second edition): 8-bit RGB, and 16-bit grey of depths."""
+"""PNG (W3C, Portable Network Graphics, second edition): 8-bit RGB and RGBA, and 16-bit grey of depths."""
 
 import struct
 import zlib
-from typing import Any, Iterator, Optional
+from typing import Any, Iterator, Optional, Tuple
 
 from ._arguments import real, shown
 
@@ -10,7 +10,7 @@ from ._arguments import real, shown
 PNG = ".png"
 SIGNATURE = b"\x89PNG\r\n\x1a\n"
 # Bits of a channel and colour type, by the bytes of a pixel.
-KINDS = {3: (8, 2), 2: (16, 0)}
+KINDS = {3: (8, 2), 4: (8, 6), 2: (16, 0)}
 NO_FILTER = b"\0"
 # In metres. A chunk pHYs has dots per metre, 1 to 2**31 - 1, and the unit 1 for metres.
 INCH = 0.0254
@@ -22,15 +22,15 @@ def chunk(kind: bytes, data: bytes) -> bytes:
     return struct.pack(">I", len(data)) + kind + data + struct.pack(">I", zlib.crc32(data, zlib.crc32(kind)))
 
 
-def checked_dpi(dpi: Optional[Any], path: Optional[str]) -> Optional[float]:
+def checked_dpi(dpi: Optional[Any], path: Optional[str], ends: Tuple[str, ...] = (PNG,)) -> Optional[float]:
     """The dots per inch for a file, or `None` if none are given. `path` is `None` for tiles.
 
-    Raises ValueError if they are out of range, or the file is no PNG file.
+    Raises ValueError if they are out of range, or the file's name has none of the ends, with which it is of a kind that has them.
     """
     if dpi is None:
         return None
-    if path is None or not path.lower().endswith(PNG):
-        raise ValueError(f"dpi: only for a PNG file, and not for {'tiles' if path is None else shown(path)}")
+    if path is None or not path.lower().endswith(ends):
+        raise ValueError(f"dpi: only for a name that ends in {', '.join(ends)}, and not for {'tiles' if path is None else shown(path)}")
     given = real("dpi", dpi)
     if not LEAST_DPI <= given <= GREATEST_DPI:
         raise ValueError(f"dpi: {LEAST_DPI} to {GREATEST_DPI}, and not {shown(dpi)}")
@@ -48,7 +48,8 @@ def head_of(width: int, height: int, pixel_bytes: int, dpi: Optional[float] = No
 
 
 def png_chunks(pixels: memoryview, dpi: Optional[float] = None) -> Iterator[bytes]:
-    """The pieces of a file, of pixels of the shape (height, width, 3), or (height, width, 2) of depths with the high byte first."""
+    """The pieces of a file, of pixels of the shape (height, width, 3), with alpha (height, width, 4), or (height, width, 2) of depths
+    with the high byte first."""
     height, width, pixel_bytes = pixels.shape or (0, 0, 0)
     yield head_of(width, height, pixel_bytes, dpi)
     flat, row = pixels.cast("B"), width * pixel_bytes

@@ -9,7 +9,7 @@ import sys
 from array import array
 from typing import Any, Iterable, List, NamedTuple, Optional, Sequence, Tuple, Union
 
-from ._arguments import of_length, shown
+from ._arguments import CHANNEL, of_length, shown
 from ._buffers import buffer_of, family_of, kind_of, refuse_masked
 
 LOW, HIGH = -8388608, 8388607
@@ -33,6 +33,11 @@ class Column(NamedTuple):
     def is_position(self) -> bool:
         return self.code == "i"
 
+    @property
+    def unit(self) -> str:
+        """What its integers are, in a message that refuses a float."""
+        return {"i": " in 1/256 pixel", "B": CHANNEL}.get(self.code, "")
+
     def refused(self, name: str, row: int, value: Any) -> Optional[Exception]:
         """The error of a value, or `None` if it is an integer that fits."""
         least, greatest = LIMITS[self.code]
@@ -41,8 +46,8 @@ class Column(NamedTuple):
                 return None
         except TypeError:
             is_real = self.is_position and hasattr(value, "__float__")
-            unit, how = (" in 1/256 pixel", f"; {SNAP}") if is_real else ("", "")
-            return TypeError(f"{name}: row {row}, {self.name}: an integer{unit}, and not {shown(value)}{how}")
+            unit = self.unit if is_real or not self.is_position else ""
+            return TypeError(f"{name}: row {row}, {self.name}: an integer{unit}, and not {shown(value)}{f'; {SNAP}' * is_real}")
         # What lies between the band and 32 bits the library refuses, if an index names it.
         least, greatest = (LOW, HIGH) if self.is_position else (least, greatest)
         return ValueError(f"{name}: row {row}, {self.name}: {least} to {greatest}, and not {shown(value)}")
@@ -162,8 +167,8 @@ def nothing_of(
         raise ValueError(f"{name}: {rows_of(choices)}, and not the shape {shape}")
     if 0 in shape:
         return Table(name, columns, [()] * len(columns))
-    unit, how = (" in 1/256 pixel", f"; {SNAP}" * (family == "float")) if columns[0].is_position else ("", "")
-    raise TypeError(f"{name}: integers{unit}, and not {kind}{how}")
+    how = f"; {SNAP}" * (family == "float" and columns[0].is_position)
+    raise TypeError(f"{name}: integers{columns[0].unit}, and not {kind}{how}")
 
 
 def rows_of(choices: Sequence[Columns]) -> str:

@@ -1,7 +1,8 @@
 """Vertices as C has them: records of 16 bytes."""
 
+import sys
 from array import array
-from typing import Any, Optional
+from typing import Any, NamedTuple, Optional
 
 from ._arguments import between, color_of
 from ._buffers import refuse_masked
@@ -20,16 +21,27 @@ WHOLE = (*PLACE, DEPTH, *COLOR)
 BLANK = bytes(10) + b"\xff" * 4 + bytes(2)
 OPAQUE = 255
 
-# Records that nobody else has, as bytes or a bytearray; or the caller's own, as an array of bytes of numpy.
+MAX_STRIDE = 2048
+
+# Records that nobody else has, as bytes or a bytearray; or the caller's own, as an array of bytes of numpy, or Strided.
 Vertices = Any
+
+
+class Strided(NamedTuple):
+    """The caller's own vertices where they lie in an array of numpy, with other bytes behind each."""
+
+    array: Any
+    address: int
+    stride: int
 
 
 def vertices_of(vertices: Any, colors: Optional[Any] = None, depth: Optional[Any] = None) -> Vertices:
     """Vertices, with these colours and depths in place of their own. They are copied, unless they are an array of numpy
-    of VERTEX, which is contiguous, and whose colours and depths stay."""
-    made = records_of(vertices)
+    that has the members of VERTEX in their order, and whose colours and depths stay."""
     if colors is None and depth is None:
-        return made
+        strided = strided_of(vertices)
+        return records_of(vertices) if strided is None else strided
+    made = records_of(vertices)
     records = made if isinstance(made, bytearray) else bytearray(made)
     count = len(records) // VERTEX_BYTES
     if colors is not None:
@@ -37,6 +49,27 @@ def vertices_of(vertices: Any, colors: Optional[Any] = None, depth: Optional[Any
     if depth is not None:
         put_depths(records, count, depth)
     return records
+
+
+def strided_of(vertices: Any) -> Optional[Strided]:
+    """Vertices that the library can read where they lie, with a stride of their own. `None` if there are none such."""
+    numpy = sys.modules.get("numpy")
+    is_array = numpy is not None and isinstance(vertices, numpy.ndarray) and not isinstance(vertices, numpy.ma.MaskedArray)
+    if not is_array or not vertices.dtype.names or vertices.ndim != 1 or not has_members(numpy, vertices):
+        return None
+    stride, address = vertices.strides[0], vertices.ctypes.data + vertices.dtype.fields["x"][1]
+    is_read = VERTEX_BYTES < stride <= MAX_STRIDE and stride % 4 == 0 and address % 4 == 0
+    return Strided(vertices, address, stride) if is_read and len(vertices) > 1 else None
+
+
+def count_of(vertices: Vertices) -> int:
+    """How many vertices there are."""
+    return len(vertices.array) if isinstance(vertices, Strided) else len(vertices) // VERTEX_BYTES
+
+
+def packed(vertices: Vertices) -> Vertices:
+    """The same vertices one at the end of another."""
+    return records_of(vertices.array) if isinstance(vertices, Strided) else vertices
 
 
 def records_of(vertices: Any) -> Vertices:
@@ -68,12 +101,21 @@ def of_fields(vertices: Any, names: Any) -> Vertices:
 
 
 def is_own_layout(np: Any, vertices: Any) -> bool:
-    """Whether an array has the records that C reads."""
-    fields, whole = vertices.dtype.fields, np.dtype(VERTEX).fields
-    has_all = all(name in fields and fields[name][:2] == whole[name][:2] for name in (column.name for column in WHOLE))
+    """Whether an array has the records that C reads, one at the end of another."""
     # numpy takes records at any address for aligned.
     is_packed = vertices.itemsize == VERTEX_BYTES and vertices.flags.c_contiguous and vertices.ctypes.data % 4 == 0
-    return bool(has_all and is_packed and len(vertices))
+    return bool(is_packed and has_members(np, vertices) and len(vertices))
+
+
+def has_members(np: Any, vertices: Any) -> bool:
+    """Whether each record of an array has the members of VERTEX in their order, anywhere in it."""
+    fields, whole = vertices.dtype.fields, np.dtype(VERTEX).fields
+    names = [column.name for column in WHOLE]
+    if not all(name in fields and fields[name][0] == whole[name][0] for name in names):
+        return False
+    first = fields["x"][1]
+    is_inside = first + VERTEX_BYTES <= vertices.dtype.itemsize
+    return is_inside and all(fields[name][1] - first == whole[name][1] for name in names)
 
 
 def put_colors(records: bytearray, count: int, colors: Any, columns: Columns = COLOR, size: int = VERTEX_BYTES) -> None:

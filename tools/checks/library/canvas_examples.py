@@ -66,7 +66,7 @@ def check_picks() -> str:
     path, _ = saved("picks", "--size", *map(str, size))
     scene = json.loads(places.text_of(f"{path}.json"))
     model = renderer.read(encode(draw_list(*size, scene["draws"][3])))
-    (wanted,) = compare_canvas.of_reference(renderer, compare_canvas.with_ids(model)).colours
+    (wanted,) = compare_canvas.of_reference(renderer, compare_canvas.with_ids(model)).ids
     seen = set()
     for y in range(3, size[1], 13):
         for x in range(5, size[0], 17):

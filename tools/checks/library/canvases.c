@@ -257,14 +257,14 @@ static uint32_t tile_rows_of(uint32_t height) {
 }
 
 static void compare_sizes(void) {
-    expect(size_of(4096, 4096, 4, 0) == (size_t)4096 * 261 * 320, "the largest canvas");
-    expect(size_of(4096, 4096, 16, 3) == (size_t)4096 * 1041 * 320, "the largest canvas of sixteen samples");
+    expect(size_of(4096, 4096, 4, 0) == (size_t)4096 * 261 * 384, "the largest canvas");
+    expect(size_of(4096, 4096, 16, 3) == (size_t)4096 * 1041 * 384, "the largest canvas of sixteen samples");
     for (uint32_t samples = 0; samples <= 33; samples++) {
         int is_count = samples <= 2 || samples == 4 || samples == 8 || samples == 16;
         uint32_t count = samples ? samples : 1;
-        expect(size_of(1, 1, samples, 0) == (is_count ? (1 + 65 * count) * 320 : 0), "one tile of %u samples", samples);
+        expect(size_of(1, 1, samples, 0) == (is_count ? (1 + 65 * count) * 384 : 0), "one tile of %u samples", samples);
     }
-    expect(size_of(65, 1, 1, 0) == 2 * 66 * 320 && size_of(1, 65, 1, 0) == 2 * 66 * 320, "two tiles");
+    expect(size_of(65, 1, 1, 0) == 2 * 66 * 384 && size_of(1, 65, 1, 0) == 2 * 66 * 384, "two tiles");
     expect(!size_of(0, 1, 1, 0) && !size_of(4097, 1, 1, 0) && !size_of(1, 0, 1, 0) && !size_of(1, 4097, 1, 0) && !size_of(1, 1, 1, 5) &&
                !size_of(1, 1, 1, 1) && !size_of(1, 1, UINT32_MAX, 0),
            "none");
@@ -274,35 +274,46 @@ static void compare_sizes(void) {
     report("the bytes and the tile rows of a canvas");
 }
 
-// The same triangles with sizes and strides that are named, and those of structs that lie further apart or of indices of 16 bits, which
-// are drawn or refused.
+// The same triangles with sizes and strides that are named, with indices of 16 bits, and with vertices that are members of other structs.
 static void compare_forms(void) {
     quad all;
     make_quad(&all);
     struct {
-        trirast_vertex vertex;
         uint32_t label[3];
+        trirast_vertex vertex;
+        uint32_t others[5];
     } apart[5];
+    // The last one ends where its memory ends, and the first one lies 2,048 bytes before the second.
+    marked far = mark(4 * TRIRAST_MAX_STRIDE + sizeof(trirast_vertex));
     uint16_t short_indices[4];
     memset(apart, MARK, sizeof apart);
     for (int k = 0; k < 5; k++) apart[k].vertex = all.vertices[k], apart[k].vertex.red = (uint8_t)(10 * k);
     for (int k = 0; k < 5; k++) all.vertices[k] = apart[k].vertex;
+    for (int k = 0; k < 5; k++) memcpy(far.bytes + k * TRIRAST_MAX_STRIDE, &all.vertices[k], sizeof *all.vertices);
     for (int k = 0; k < 4; k++) short_indices[k] = (uint16_t)all.indices[k];
-    trirast_batch forms[4] = {all.made.batch, all.made.batch, all.made.batch, all.made.batch};
+    // The quad by its corners in their order, without indices.
+    trirast_vertex in_order[4];
+    trirast_draw alone = all.draws[1];
+    for (int k = 0; k < 4; k++) in_order[k] = all.vertices[all.indices[k]];
+    alone.vertex_count = 4, alone.index_count = 0;
+    trirast_batch forms[6];
+    for (int k = 0; k < 6; k++) forms[k] = all.made.batch;
     forms[1].struct_size = sizeof *forms, forms[1].vertex_stride = sizeof(trirast_vertex), forms[1].index_size = 4;
     forms[2].indices = short_indices, forms[2].index_size = 2;
-    forms[3].vertices = apart, forms[3].vertex_stride = sizeof *apart;
+    forms[3].draws = &alone, forms[3].draw_count = 1, forms[3].vertices = in_order, forms[3].vertex_count = 4;
+    forms[3].indices = NULL, forms[3].index_count = 0;
+    forms[4].vertices = &apart->vertex, forms[4].vertex_stride = sizeof *apart;
+    forms[5].vertices = far.bytes, forms[5].vertex_stride = TRIRAST_MAX_STRIDE, forms[5].indices = short_indices, forms[5].index_size = 2;
     uint8_t *pixels[2] = {calloc(PIXELS, 3), calloc(PIXELS, 3)};
     if (!pixels[0] || !pixels[1]) stop("out of memory", "pixels");
-    for (int k = 0; k < 4; k++) {
+    for (int k = 0; k < 6; k++) {
         trirast_status status = trirast_canvas_clear(&all.made.whole, NULL);
         trirast_status drawn_so = trirast_canvas_draw(&all.made.whole, &forms[k], NULL);
         if (!status) status = trirast_canvas_resolve(&all.made.whole, TRIRAST_FORMAT_RGB8, pixels[k > 0], 3 * PIXELS, 0);
-        int is_same = !drawn_so && (!k || !memcmp(pixels[0], pixels[1], 3 * PIXELS)), is_refused = k > 1 && drawn_so == TRIRAST_STATUS_BAD_STRIDE;
-        expect(!status && (is_same || is_refused), "form %d: status %u, or other pixels", k, drawn_so);
+        expect(!status && !drawn_so && (!k || !memcmp(pixels[0], pixels[1], 3 * PIXELS)), "form %d: status %u, or other pixels", k, drawn_so);
     }
-    free(pixels[0]), free(pixels[1]), free(all.made.memory.all);
-    report("the same batch with its sizes named makes the same pixels, and with other strides these or none");
+    free(pixels[0]), free(pixels[1]), free(all.made.memory.all), free(far.all);
+    report("the same batch with its sizes named, with indices of 16 bits, without indices, and with other strides makes the same pixels");
 }
 
 // What a white pixel with alpha 128 over 10, 100, 200 becomes by each preset.
@@ -325,6 +336,40 @@ static void compare_blends(void) {
     report("each blend preset makes its colour");
 }
 
+// What a white pixel with alpha 128 over 10, 100, 200 and alpha 64 becomes, whatever the format in which it is written.
+static void compare_alpha(void) {
+    const struct {
+        trirast_blend blend;
+        uint8_t keep, stored[4], straight[4];
+    } cases[] = {
+        {TRIRAST_BLEND_NONE, 0, {255, 255, 255, 128}, {255, 255, 255, 128}},
+        {TRIRAST_BLEND_OVER, 0, {133, 178, 228, 160}, {212, 255, 255, 160}},
+        {TRIRAST_BLEND_NONE, TRIRAST_KEEP_ALPHA, {255, 255, 255, 64}, {255, 255, 255, 64}},
+        {TRIRAST_BLEND_KEEP, 0, {10, 100, 200, 64}, {40, 255, 255, 64}},
+    };
+    const trirast_clear clear = {10, 100, 200, 64, 9, 0};
+    for (size_t k = 0; k < sizeof cases / sizeof *cases; k++) {
+        quad all;
+        uint8_t rgba[4 * PIXELS], straight[4 * PIXELS], again[4 * PIXELS];
+        make_quad(&all);
+        all.made.whole.channels = 4;
+        all.draws[1].blend = cases[k].blend, all.draws[1].keep = cases[k].keep;
+        for (int n = 0; n < 5; n++) all.vertices[n].alpha = 128;
+        trirast_canvas *const canvas = &all.made.whole;
+        trirast_status status = trirast_canvas_clear(canvas, &clear);
+        if (!status) status = trirast_canvas_draw(canvas, &all.made.batch, NULL);
+        if (!status) status = trirast_canvas_resolve(canvas, TRIRAST_FORMAT_RGBA8, rgba, sizeof rgba, 0);
+        if (!status) status = trirast_canvas_resolve(canvas, TRIRAST_FORMAT_RGBA8_STRAIGHT, straight, sizeof straight, 0);
+        expect(!status && !memcmp(rgba, cases[k].stored, 4), "alpha %zu: status %u: %d, %d, %d, %d", k, status, rgba[0], rgba[1], rgba[2], rgba[3]);
+        expect(!memcmp(straight, cases[k].straight, 4), "straight %zu: %d, %d, %d, %d", k, straight[0], straight[1], straight[2], straight[3]);
+        status = trirast_canvas_load(canvas, TRIRAST_FORMAT_RGBA8, rgba, sizeof rgba, 0);
+        if (!status) status = trirast_canvas_resolve(canvas, TRIRAST_FORMAT_RGBA8, again, sizeof again, 0);
+        expect(!status && !memcmp(rgba, again, sizeof rgba), "a picture with alpha is loaded as it was written");
+        free(all.made.memory.all);
+    }
+    report("a canvas with alpha blends and keeps it, and writes colours as they are and divided by it");
+}
+
 void compare_canvases(void) {
     compare_sizes();
     for (int k = 0; k < drawn_count; k++) compare_whole(&drawn[k]);
@@ -343,7 +388,9 @@ void compare_canvases(void) {
     compare_edges();
     compare_forms();
     compare_blends();
+    compare_alpha();
     compare_samples();
     compare_shading();
+    compare_polygons();
     compare_refused_canvases();
 }

@@ -113,7 +113,31 @@ static void compare_indices() {
         is_same &= canvas.pixels() == drawn.pixels();
     }
     report(is_same, "indices have 16 bits or 32, and without any there are the vertices in their order");
+    struct Derived : trirast_vertex {
+        float weight;
+    };
+    struct Holder {
+        float weight;
+        trirast_vertex vertex;
+        float others[3];
+    };
+    std::vector<Derived> derived(3);
+    std::vector<Holder> holders(3);
+    for (std::size_t k = 0; k < 3; k++) {
+        static_cast<trirast_vertex &>(derived[k]) = holders[k].vertex = CORNERS[k];
+        derived[k].weight = holders[k].weight = -1.5f;
+    }
+    for (int form = 0; form < 4; form++) {
+        Canvas canvas = cleared();
+        if (form == 0) canvas.draw(derived, small);
+        if (form == 1) canvas.draw({holders, &Holder::vertex}, large);
+        if (form == 2) canvas.draw({holders, &Holder::vertex});
+        if (form == 3) canvas.draw({derived.data(), 3}, small, {}, 3);
+        is_same &= canvas.pixels() == drawn.pixels();
+    }
+    report(is_same, "vertices are read where they lie in other structs");
     Canvas canvas = cleared();
+    canvas.draw(std::vector<Derived>{}), canvas.draw({std::vector<Holder>{}, &Holder::vertex});
     canvas.draw(CORNERS, std::vector<std::uint16_t>{}), canvas.draw({}, {}), canvas.draw({}, std::vector<std::uint32_t>{}), canvas.draw({});
     report(canvas.pixels() == cleared().pixels(), "empty arrays draw nothing");
     const trirast_draw draws[2] = {};
@@ -176,6 +200,132 @@ static void compare_samples() {
     report(has_all, "a draw has every one of 1, 2, 4, 8 and 16 samples");
 }
 
+// ---- Polygons
+
+// A polygon of the triangle's corners, and a ring with a hole.
+static const std::array<trirast_corner, 11> RING_CORNERS = {
+    {{0, 0}, {25600, 0}, {0, 51200}, {2560, 2560}, {7680, 2560}, {7680, 7680}, {2560, 7680}, {3840, 3840}, {3840, 5120}, {5120, 5120}, {5120, 3840}}};
+static const std::vector<std::uint32_t> RING_ENDS = {3, 7, 11}, POLYGON_ENDS = {1, 3};
+static const std::vector<trirast::Rgba> POLYGON_COLORS = {{9, 8, 7, 255}, {40, 50, 60, 255}};
+
+static void compare_polygons() {
+    const std::vector<std::uint16_t> depths = {7, 6};
+    trirast::Polygons polygons;
+    polygons.corners = RING_CORNERS, polygons.ring_ends = RING_ENDS, polygons.polygon_ends = POLYGON_ENDS, polygons.colors = POLYGON_COLORS;
+    polygons.depths = depths;
+    State state;
+    state.depth_write = true;
+    Canvas triangle = cleared(), wanted = cleared();
+    triangle.draw(CORNERS, TRIANGLE, state);
+    wanted.draw_polygons(polygons, state);
+    const std::vector<std::uint8_t> pixels = wanted.pixels();
+    const std::array<std::uint8_t, 3> ring = {40, 50, 60}, hole = {9, 8, 7};
+    report(std::equal(ring.begin(), ring.end(), pixels.begin() + 3 * (12 * 100 + 12)) && std::equal(hole.begin(), hole.end(), pixels.begin() + 3 * (16 * 100 + 16)) &&
+               wanted.depths(3)[12 * 100 + 12] == 6 && wanted.depths(0)[0] == 7,
+           "polygons are drawn in their colours and at their depths");
+    bool is_same = true;
+    for (const std::uint32_t threads : {1u, 3u, 100u})
+        for (const trirast_fill_rule rule : {TRIRAST_FILL_EVEN_ODD, TRIRAST_FILL_NONZERO}) {
+            polygons.fill_rule = rule;
+            Canvas canvas = cleared(), ids = cleared();
+            canvas.draw_polygons(polygons, state, threads);
+            ids.draw_polygon_ids(polygons, 70000, state, threads);
+            is_same &= canvas.pixels() == wanted.pixels() && canvas.depths(2) == wanted.depths(2) && ids.depths(2) == wanted.depths(2);
+            is_same &= ids.ids(1)[0] == 70000 && ids.ids(1)[12 * 100 + 12] == 70001 && ids.ids(1).back() == 16777215;
+        }
+    report(is_same, "by each number of threads and by both rules the same, since the hole runs the other way round");
+    polygons.polygon_ends = Span<const std::uint32_t>(POLYGON_ENDS.data(), 1), polygons.ring_ends = Span<const std::uint32_t>(RING_ENDS.data(), 1);
+    polygons.corners = Span<const trirast_corner>(RING_CORNERS.data(), 3);
+    Canvas one = cleared();
+    one.draw_polygons(polygons, state);
+    report(one.pixels() == triangle.pixels() && one.depths(1) == triangle.depths(1), "a ring of three corners is the triangle");
+    one.draw_polygons(trirast::Polygons{}), one.draw_polygons(trirast_polygons{}), one.draw_polygon_ids(trirast_polygons{}, 5);
+    report(one.pixels() == triangle.pixels(), "no polygons draw nothing");
+}
+
+static void compare_refused_polygons() {
+    const std::vector<std::uint32_t> falling = {3, 2, 11}, behind = {1, 4};
+    trirast::Polygons polygons;
+    polygons.corners = RING_CORNERS, polygons.ring_ends = RING_ENDS, polygons.polygon_ends = POLYGON_ENDS, polygons.colors = POLYGON_COLORS;
+    Canvas canvas = cleared();
+    const auto refused = [&canvas](const trirast::Polygons &drawn, trirast_batch_cause cause, std::optional<std::size_t> element, std::uint32_t first_id = 0) {
+        bool is_refused = true;
+        for (const std::uint32_t threads : {1u, 4u}) {
+            try {
+                first_id ? canvas.draw_polygon_ids(drawn, first_id, {}, threads) : canvas.draw_polygons(drawn, {}, threads);
+                is_refused = false;
+            } catch (const trirast::Error &error) {
+                is_refused &= error.batch_cause() == cause && error.element() == element && !error.draw();
+            }
+        }
+        return is_refused;
+    };
+    trirast::Polygons broken = polygons;
+    broken.ring_ends = falling;
+    report(refused(broken, TRIRAST_BATCH_BAD_RING, 1), "a ring that ends before it begins is refused by its index");
+    broken = polygons, broken.polygon_ends = behind;
+    report(refused(broken, TRIRAST_BATCH_BAD_POLYGON, 1), "so is a polygon that ends behind the rings");
+    std::array<trirast_corner, 11> far = RING_CORNERS;
+    far[5].y = 8388608;
+    broken = polygons, broken.corners = far;
+    report(refused(broken, TRIRAST_BATCH_BAD_POSITION, 5), "so is a corner that is too far away");
+    broken = polygons, broken.colors = {};
+    report(refused(broken, TRIRAST_BATCH_TOO_FEW_COLORS, std::nullopt) && refused(polygons, TRIRAST_BATCH_TOO_MANY_IDS, std::nullopt, 16777215),
+           "so are polygons without colours, and ids that are too large");
+    report(canvas.pixels() == cleared().pixels(), "nothing of them is drawn");
+    Canvas moved = std::move(canvas);
+    report(throws(TRIRAST_STATUS_BAD_CANVAS, [&] { canvas.draw_polygons(polygons); }), "a canvas that was moved from draws no polygons");
+}
+
+// ---- Tiles
+
+static void compare_tiles() {
+    Canvas canvas = cleared();
+    std::vector<std::uint32_t> entries(canvas.tile_entries(), 5);
+    report(canvas.tile_columns() == 2 && entries.size() == 4 * 4096, "the tiles of a canvas and their entries");
+    const Span<const std::uint32_t> cleared_tile = canvas.tile_ids(1, 3, entries);
+    report(cleared_tile.size() == 1 && cleared_tile[0] == 16777215 && entries[1] == 5, "a tile that is as it was cleared has one entry");
+    canvas.draw_ids(CORNERS, TRIANGLE, 70000);
+    const std::vector<std::uint8_t> before = canvas.pixels();
+    const Span<const std::uint32_t> drawn = canvas.tile_ids(0, 0, entries);
+    report(drawn.size() == entries.size() && drawn[0] == 70000, "another has all");
+    canvas.tile_store(0, 0, drawn);
+    report(canvas.pixels() == before, "what was read is stored, and changes nothing");
+    canvas.tile_store(0, 1, std::vector<std::uint32_t>(1, 0x030201));
+    report(canvas.ids(3)[64 * 100] == 0x030201 && canvas.ids(3)[63 * 100] == 70000 && canvas.depths(3)[64 * 100] == 9, "one colour is that of a whole tile");
+    report(throws(TRIRAST_STATUS_BAD_TILE, [&] { canvas.tile_ids(2, 0, entries); }) &&
+               throws(TRIRAST_STATUS_BAD_TILE, [&] { canvas.rows(1, 2).tile_store(0, 0, entries); }) &&
+               throws(TRIRAST_STATUS_BUFFER_TOO_SMALL, [&] { canvas.tile_ids(0, 0, Span<std::uint32_t>(entries.data(), 1)); }),
+           "a tile that there is not and too few entries are refused");
+}
+
+// ---- Draw lists
+
+static void compare_lists() {
+    const std::string list = R"({"width":3,"height":3,"draws":[{"vertices":[[128,128,0,255,255,255,255],[640,128,0,255,255,255,255],)"
+                             R"([128,640,0,255,255,255,255]],"triangles":[[0,1,2]]}]})";
+    const trirast_image_info info = trirast::list_info(list);
+    const std::vector<std::uint8_t> file = trirast::list_draw(list);
+    std::vector<std::uint8_t> rows(27);
+    trirast::list_draw_rows(list, 0, 1, rows, 8);
+    report(info.width == 3 && file.size() == info.file_bytes && file[11] == 255 && std::equal(rows.begin(), rows.end(), file.begin() + 11),
+           "a draw list is drawn, whole and by tile rows");
+    const trirast::History all = trirast::list_history(list, 1, 1, 0, true), covering = trirast::list_history(list, 1, 1);
+    report(all.events.size() == 1 && all.events[0].reasons == TRIRAST_REASON_NOT_COVERED && covering.events.empty() && covering.info.end.depth == 65535,
+           "the history of a sample");
+    const trirast_sample_counts counts = trirast::list_triangle_samples(list, 0, 0);
+    report(counts.covered == 3 && counts.shown == 3, "the samples of a triangle");
+    try {
+        trirast::list_info("{");
+        report(false, "a text that is no list is refused");
+    } catch (const trirast::Error &error) {
+        report(error.list_cause() == TRIRAST_LIST_NOT_JSON && error.batch_cause() == 0 && !error.draw(), "a text that is no list is refused");
+    }
+    report(throws(TRIRAST_STATUS_BUFFER_TOO_SMALL, [&] { trirast::list_draw(list, Span<std::uint8_t>(rows)); }) &&
+               throws(TRIRAST_STATUS_BAD_PIXEL, [&] { trirast::list_history(list, 3, 0); }),
+           "so are a buffer that is too small and a pixel that there is not");
+}
+
 // ---- Threads
 
 static void compare_threads() {
@@ -219,7 +369,8 @@ static void compare_refused_batches(Canvas &canvas) {
             report(false, "a batch with an index past the vertices is refused");
         } catch (const trirast::Error &error) {
             report(error.status() == TRIRAST_STATUS_BAD_BATCH && error.batch_cause() == TRIRAST_BATCH_BAD_INDEX && error.draw() == 0u &&
-                       error.element().value_or(2) == 2 && std::string(error.what()).rfind("draw 0: ", 0) == 0,
+                       error.element() == 2u && error.value() == 3u &&
+                       std::string(error.what()) == "draw 0: index 2 is 3, which is not less than the number of vertices",
                    "a batch with an index past the vertices is refused, and where it is");
         }
     }
@@ -238,7 +389,7 @@ static void compare_refused_batches(Canvas &canvas) {
         canvas.draw(CORNERS, {}, state);
         report(false, "a topology that there is not is refused");
     } catch (const trirast::Error &error) {
-        report(error.batch_cause() == TRIRAST_BATCH_BAD_STATE, "a topology that there is not is refused");
+        report(error.batch_cause() == TRIRAST_BATCH_BAD_TOPOLOGY, "a topology that there is not is refused");
     }
 }
 
@@ -321,6 +472,10 @@ int main() {
     compare_indices();
     compare_states();
     compare_samples();
+    compare_polygons();
+    compare_refused_polygons();
+    compare_tiles();
+    compare_lists();
     compare_threads();
     compare_errors();
     compare_spans();

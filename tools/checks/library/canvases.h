@@ -31,6 +31,9 @@ void compare_samples(void);
 // Colours of one sample index and of one tile, in shading.c.
 void compare_shading(void);
 
+// Polygons, in polygons.c.
+void compare_polygons(void);
+
 // What each call refuses, in refused_canvases.c.
 void compare_refused_canvases(void);
 

@@ -114,11 +114,11 @@ int holds_just(const marked *buffer, const void *bytes, size_t length) {
 
 int is_error(const trirast_error *error, trirast_status status, trirast_status due) {
     int is_placed = due == TRIRAST_STATUS_OK || due == TRIRAST_STATUS_BAD_LIST || due == TRIRAST_STATUS_BAD_BATCH;
-    int is_alone = !error->cause && error->draw == TRIRAST_NONE && error->element == TRIRAST_NONE;
+    int is_alone = !error->cause && error->draw == TRIRAST_NONE && error->element == TRIRAST_NONE && error->value == TRIRAST_NONE;
     return status == due && error->status == (uint32_t)due && (is_placed || is_alone);
 }
 
-const trirast_error UNSET = {99, 99, 99, 99};
+const trirast_error UNSET = {99, 99, 99, 99, 99};
 
 uint32_t rows_of(const list_case *one, uint32_t tile_size) { return (one->info.height + tile_size - 1) / tile_size; }
 

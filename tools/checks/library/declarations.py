@@ -11,7 +11,7 @@ TYPES = {
 }
 # Numbers of the header that are not written in digits, as the crate writes them.
 WORDS = {"((size_t)-1)": "usize::MAX"}
-# Calls that the plain ones make for those who program in C.
+# Calls that the plain ones make for those who program in C, and what they pass.
 PROVED = "trirast_proved_"
 
 
@@ -49,7 +49,8 @@ def in_c(header: str) -> dict[str, str]:
     found = dict(re.findall(r"(?:#define )?\b(TRIRAST_\w+) (?:= )?(\d+|\(\(size_t\)-1\))(?=[ ,])", text))
     found = {name: WORDS.get(number, number) for name, number in found.items()}
     for members, name in re.findall(r"typedef struct \w+ \{([^{}]*)\} (\w+);", text):
-        found[name] = variables(members, ";", enums)
+        if not name.startswith(PROVED):
+            found[name] = variables(members, ";", enums)
     for result, name, parameters in re.findall(r"((?:const )?\w+ \**)(trirast_\w+)\(([^()]*)\)(?:;| \{)", text):
         listed = "" if parameters == "void" else variables(parameters, ",", enums)
         if not name.startswith(PROVED):

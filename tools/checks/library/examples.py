@@ -14,7 +14,7 @@ from tools.draw_list import DrawList, encode
 from tools.checks.library.commands import (
     OUT, PACKAGE_ENVIRONMENT, SHARED, WARNINGS, drawn_by_program, must_be_silent, must_be_the_programs, need, python_with, run,
 )
-from tools.checks.cases import MAX_SECONDS, must
+from tools.checks.cases import MAX_SECONDS, MissingError, must
 from tools.checks.library.lists import read_lists
 from tools.checks.pages.examples import SCENE
 from tools.places import EXAMPLES, INCLUDE, STATIC_LIBRARY
@@ -79,6 +79,29 @@ def check_python_canvas() -> None:
     must(places.bytes_of(path) == drawn_by_program(encode(SCENE)).output, "another picture")
 
 
+# What threads.c draws.
+THREADED = [[50, 10, 0, 255, 0, 0, 255], [95, 190, 0, 0, 255, 0, 255], [5, 190, 0, 0, 0, 255, 255]]
+THREADED_GLASS = [[10, 50, 0, 255, 255, 255, 160], [90, 70, 0, 255, 255, 255, 160], [45, 170, 0, 255, 255, 255, 30]]
+
+
+def in_units(rows: list[list[int]]) -> list[list[int]]:
+    """Vertices whose positions are in pixels with positions in 1/256 pixel."""
+    return [[256 * row[0], 256 * row[1], *row[2:]] for row in rows]
+
+
+def check_c_threads() -> None:
+    """threads.c writes the picture that the reference renderer makes of both triangles with 16 samples."""
+    program = os.path.join(OUT, "threads")
+    source = os.path.join(EXAMPLES, "c", "threads.c")
+    run([need("gcc"), "-std=c99", *WARNINGS, "-I", INCLUDE, "-pthread", "-o", program, source, STATIC_LIBRARY])
+    draws = [
+        {"vertices": in_units(rows), "triangles": [[0, 1, 2]], "blend": blend} for rows, blend in ((THREADED, "none"), (THREADED_GLASS, "over"))
+    ]
+    scene = renderer.read(encode({"width": 100, "height": 200, "samples": 16, "clear": [24, 24, 32], "draws": draws}), renderer.CANVAS)
+    found = picture_file.decode(run([program]))
+    must(found.pixel_data == renderer.resolve(renderer.drawn(scene), scene.samples), "another picture")
+
+
 # What canvas.cpp draws.
 SOLID = [[160, 10, 1000, 255, 0, 0, 255], [310, 200, 30000, 0, 255, 0, 255], [10, 230, 60000, 0, 0, 255, 255]]
 GLASS = [[0, 40, 20000, 255, 255, 255, 200], [320, 100, 20000, 255, 255, 0, 90], [40, 200, 20000, 0, 255, 255, 30]]
@@ -97,7 +120,7 @@ def check_cpp_canvas() -> None:
     program = build_cpp_canvas()
     states: list[DrawList] = [{"depth_write": True}, {"blend": "over"}]
     draws = [
-        {"vertices": [[256 * row[0], 256 * row[1], *row[2:]] for row in rows], "triangles": [[0, 1, 2]], "depth_test": "less", **state}
+        {"vertices": in_units(rows), "triangles": [[0, 1, 2]], "depth_test": "less", **state}
         for rows, state in zip((SOLID, GLASS), states)
     ]
     scene: DrawList = {"width": 320, "height": 240, "samples": 4, "clear": [24, 24, 32], "draws": draws}
@@ -206,13 +229,23 @@ def printed_by(python: str, name: str, *arguments: str) -> str:
 
 def check_gouraud() -> str:
     """gouraud.py finds no pixel of a seam in the meshes of trirast.matplotlib, and many in Agg's."""
-    path = os.path.join(OUT, "gouraud.png")
-    text = printed_by(python_with("numpy", "matplotlib"), "gouraud.py", path)
+    return seams_of_plots("gouraud", 4, 0.5)
+
+
+def check_plots() -> str:
+    """plots.py does so in filled plots."""
+    return seams_of_plots("plots", 8, 0.02)
+
+
+def seams_of_plots(program: str, count: int, share: float) -> str:
+    """A program names this number of plots, without a seam by trirast.matplotlib, and by Agg with more than this share of their pixels."""
+    path = os.path.join(OUT, f"{program}.png")
+    text = printed_by(python_with("numpy", "matplotlib"), f"{program}.py", path)
     found = re.findall(r"^(Agg|trirast): (.*): (\d+) of (\d+) pixels", text, re.MULTILINE)
-    must(len(found) == 4 and os.path.getsize(path) > 0, text)
-    for name, mesh, seams, pixels in found:
-        must(int(seams) == 0 if name == "trirast" else int(seams) > int(pixels) // 2, f"{name}, {mesh}: {seams} of {pixels} pixels")
-    return "; ".join(f"{name}, {mesh}: {seams}" for name, mesh, seams, _pixels in found)
+    must(len(found) == count and os.path.getsize(path) > 0, text)
+    for name, plot, seams, pixels in found:
+        must(int(seams) == 0 if name == "trirast" else int(seams) > share * int(pixels), f"{name}, {plot}: {seams} of {pixels} pixels")
+    return "; ".join(f"{name}, {plot}: {seams}" for name, plot, seams, _pixels in found)
 
 
 def check_textured() -> str:
@@ -226,6 +259,42 @@ def check_textured() -> str:
     # A vertex lies up to 1/512 pixel off in each direction, since positions on the screen are rounded.
     must(off < 1 / 64, text)
     must(pictures[0] == pictures[1] and len(pictures[0]) == len(b"P6\n450 130\n255\n") + 450 * 130 * 3, "another picture")
+    return text.splitlines()[-1]
+
+
+COASTLINES = "/usr/share/gmt-gshhg/binned_GSHHS_i.nc"
+# Two countries with a crooked border, and the borders of the map.
+BORDER = [[3, 40], [5.3, 43], [2.1, 46.7], [4, 50]]
+COUNTRIES = [[[-5, 40], *BORDER, [-5, 50]], [[12, 50], [12, 40], *BORDER]]
+
+
+def check_seams() -> str:
+    """seams.py finds no seam with 1, 4 and 16 samples, and cairo's along all coasts."""
+    python = python_with("numpy", "cairo", "netCDF4")
+    if not os.path.isfile(COASTLINES):
+        raise MissingError("gmt-gshhg-high")
+    path = os.path.join(OUT, "seams.png")
+    text = printed_by(python, "seams.py", path)
+    (cairo, *ours) = [int(count.replace(",", "")) for count in re.findall(r": ([\d,]+) of", text)]
+    must(ours == [0, 0, 0] and cairo > 1000 and os.path.getsize(path) > 0, text)
+    return f"cairo: {cairo}"
+
+
+def check_choropleth() -> str:
+    """choropleth.py finds each sample of a map of two countries in exactly one of them, and draws each in its colour."""
+    python, path = python_with("numpy"), os.path.join(OUT, "choropleth.ppm")
+    features = [
+        {"type": "Feature", "properties": {"people": people}, "geometry": {"type": "Polygon", "coordinates": [ring]}}
+        for people, ring in zip((1, 9), COUNTRIES)
+    ]
+    style = {"window": [-5, 40, 12, 50], "width": 340, "property": "people", "steps": [[0, "#ff0000"], [5, "#0000ff"]], "opacity": 0.5}
+    names = [os.path.join(OUT, name) for name in ("countries.geojson", "style.json")]
+    for name, value in zip(names, ({"type": "FeatureCollection", "features": features}, style)):
+        write(name, json.dumps(value))
+    text = printed_by(python, "choropleth.py", path, "--map", names[0], "--style", names[1])
+    must("2 polygons have 272,000 samples, and no polygon has 0: 0 beside" in text and "272,000 in one, 0 in several" in text, text)
+    pixels = picture_file.decode(places.bytes_of(path)).pixels()
+    must((pixels[0], pixels[-1]) == (bytes((255, 127, 127)), bytes((127, 127, 255))), text)
     return text.splitlines()[-1]
 
 

@@ -1,5 +1,5 @@
-// Draws random scenes by trirast.hpp: whole, draw by draw, by threads, by parts, by ids and as windows, resolved with strides, loaded
-// again and refused. Each is compared with what the others draw, and a scene that a draw list can have with trirast_list_draw's picture.
+// Draws random scenes by trirast.hpp: whole, draw by draw, by threads, by parts, by ids, as polygons and as windows, resolved with strides,
+// loaded and stored again and refused. Each is compared with what the others draw, and a scene that a draw list can have with trirast_list_draw's picture.
 // Its arguments are seconds and a seed. Prints how many scenes there were, or why it stops. tools/checks/fuzz_header.py builds it with
 // sanitizers.
 #include <algorithm>
@@ -89,7 +89,7 @@ void add_quad(Pick &pick, Scene &scene) {
 
 trirast_blend some_blend(Pick &pick, bool is_listed) {
     if (is_listed) return pick.chance(2) ? trirast::blend_over : trirast::blend_none;
-    constexpr std::uint8_t factors[] = {0, 1, 2, 3, 4, 5, 6, 7, 8, 9, 10, 11, 14, 15};
+    static constexpr std::uint8_t factors[] = {0, 1, 2, 3, 4, 5, 6, 7, 8, 9, 10, 11, 14, 15};
     const auto factor = [&pick] { return factors[pick.below(sizeof factors)]; };
     const auto operation = [&pick] { return static_cast<std::uint8_t>(pick.below(6)); };
     const auto byte = [&pick] { return static_cast<std::uint8_t>(pick.below(256)); };
@@ -337,7 +337,7 @@ void compare_ids(Pick &pick, const Scene &scene) {
     must(std::all_of(ids.begin(), ids.end(), [&](std::uint32_t id) { return id == NO_ID || (first <= id && id < end); }), "an id of no triangle");
 }
 
-// ---- What is refused
+// ---- Polygons and tiles
 
 template <class Call>
 void must_throw(trirast_status status, Call call) {
@@ -350,6 +350,67 @@ void must_throw(trirast_status status, Call call) {
     must(false, "a wrong call did not throw");
 }
 
+// Each three of the vertices as a triangle in one colour, which is a ring of three corners.
+struct Rings {
+    std::vector<trirast_vertex> vertices;
+    std::vector<trirast_corner> corners;
+    std::vector<std::uint32_t> ring_ends, polygon_ends;
+    std::vector<trirast::Rgba> colors;
+    std::vector<std::uint16_t> depths;
+
+    explicit Rings(const Scene &scene) {
+        for (std::size_t k = 0; k < scene.vertices.size() / 3 * 3; k++) {
+            trirast_vertex vertex = scene.vertices[k - k % 3];
+            vertex.x = scene.vertices[k].x, vertex.y = scene.vertices[k].y;
+            vertices.push_back(vertex), corners.push_back({vertex.x, vertex.y});
+            if (k % 3 != 2) continue;
+            ring_ends.push_back(static_cast<std::uint32_t>(k + 1)), polygon_ends.push_back(static_cast<std::uint32_t>(ring_ends.size()));
+            colors.push_back({{vertex.red, vertex.green, vertex.blue, vertex.alpha}}), depths.push_back(vertex.depth);
+        }
+    }
+
+    trirast::Polygons polygons(trirast_fill_rule rule) const { return {corners, ring_ends, polygon_ends, colors, depths, rule}; }
+};
+
+void compare_polygons(Pick &pick, const Scene &scene) {
+    const auto is_far = [](std::int32_t origin) { return origin < -32768 || origin > 28672; };
+    if (is_far(scene.origin.x) || is_far(scene.origin.y)) return;
+    Rings rings(scene);
+    const trirast::Polygons polygons = rings.polygons(pick.chance(2) ? TRIRAST_FILL_NONZERO : TRIRAST_FILL_EVEN_ODD);
+    State state = scene.draws.empty() ? State{} : state_of(scene.draws[0]);
+    state.topology = TRIRAST_TOPOLOGY_TRIANGLES, state.cull = TRIRAST_CULL_NONE;
+    Canvas triangles = cleared(scene), whole = cleared(scene), parts = cleared(scene);
+    triangles.draw(rings.vertices, {}, state);
+    whole.draw_polygons(polygons, state, pick.below(5));
+    for (TileRows &part : parts.split(pick.below(4) + 1)) part.draw_polygons(polygons, state);
+    must(whole.pixels() == triangles.pixels() && depths_of(whole) == depths_of(triangles), "rings of three corners are other than triangles");
+    must(parts.pixels() == whole.pixels() && depths_of(parts) == depths_of(whole), "other polygons by parts");
+    if (rings.polygon_ends.empty()) return;
+    rings.polygon_ends.back() += 1 + pick.below(1000);
+    must_throw(TRIRAST_STATUS_BAD_BATCH, [&] { parts.draw_polygons(polygons, state, pick.below(5)); });
+    must_throw(TRIRAST_STATUS_BAD_BATCH, [&] { parts.draw_polygon_ids(polygons, 0, state, pick.below(5)); });
+    must(parts.pixels() == whole.pixels(), "polygons that were refused changed the canvas");
+}
+
+// Each tile, stored as it is read.
+void compare_tiles(Pick &pick, const Scene &scene) {
+    Canvas canvas = cleared(scene);
+    canvas.draw_batch_ids(scene.batch(), pick.below(1000), 2);
+    const std::uint32_t sample = pick.below(scene.samples);
+    const std::vector<std::uint32_t> before = canvas.ids(sample);
+    std::vector<std::uint32_t> entries(canvas.tile_entries());
+    for (TileRows &part : canvas.split(3))
+        for (std::uint32_t row = part.first(); row < part.end(); row++)
+            for (std::uint32_t column = 0; column < part.tile_columns(); column++) part.tile_store(column, row, part.tile_ids(column, row, entries));
+    must(canvas.ids(sample) == before, "tiles that were stored as they were read");
+    must_throw(TRIRAST_STATUS_BAD_TILE, [&] { canvas.tile_ids(canvas.tile_columns() + pick.below(1000), 0, entries); });
+    must_throw(TRIRAST_STATUS_BAD_TILE, [&] { canvas.tile_store(0, canvas.end() + pick.below(1000), entries); });
+    entries.pop_back();
+    must_throw(TRIRAST_STATUS_BUFFER_TOO_SMALL, [&] { canvas.tile_ids(0, 0, entries); });
+}
+
+// ---- What is refused
+
 void refuse(Pick &pick, Scene scene) {
     Canvas canvas = cleared(scene);
     const Pixels before = canvas.pixels();
@@ -360,7 +421,7 @@ void refuse(Pick &pick, Scene scene) {
     must_throw(TRIRAST_STATUS_BAD_SAMPLE, [&] { canvas.depths(scene.samples + pick.below(1000)); });
     must_throw(TRIRAST_STATUS_BAD_TILE_ROWS, [&] { canvas.rows(0, canvas.end() + 1 + pick.below(1000)); });
     must_throw(TRIRAST_STATUS_BAD_CANVAS, [&] { Canvas({pick.chance(2) ? 0 : 4097 + pick.below(1u << 31), 1 + pick.below(4096)}); });
-    must_throw(TRIRAST_STATUS_BAD_FORMAT, [&] { canvas.resolve(static_cast<trirast_format>(3), small, 4 * scene.width); });
+    must_throw(TRIRAST_STATUS_BAD_FORMAT, [&] { canvas.resolve(static_cast<trirast_format>(5), small, 4 * scene.width); });
     if (!scene.indices.empty()) {
         scene.indices[pick.below(static_cast<std::uint32_t>(scene.indices.size()))] = static_cast<std::uint32_t>(scene.vertices.size()) + pick.below(1000);
         must_throw(TRIRAST_STATUS_BAD_BATCH, [&] { canvas.draw_batch(scene.batch(), pick.below(4)); });
@@ -370,6 +431,8 @@ void refuse(Pick &pick, Scene scene) {
     trirast_batch batch = scene.batch();
     batch.vertex_stride = 15;
     must_throw(TRIRAST_STATUS_BAD_STRIDE, [&] { canvas.draw_batch(batch); });
+    batch.vertex_stride = 0, batch.index_size = 3;
+    must_throw(TRIRAST_STATUS_BAD_INDEX_SIZE, [&] { canvas.draw_batch(batch); });
     batch.struct_size = 8;
     must_throw(TRIRAST_STATUS_BAD_STRUCT_SIZE, [&] { canvas.draw_batch(batch); });
     const Canvas moved_to = std::move(canvas);
@@ -382,6 +445,8 @@ void try_scene(std::uint64_t seed) {
     const Scene scene = some_scene(pick);
     compare(pick, scene, wanted_of(scene, false));
     compare_ids(pick, scene);
+    compare_polygons(pick, scene);
+    compare_tiles(pick, scene);
     refuse(pick, scene);
 }
 

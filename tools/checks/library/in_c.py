@@ -15,7 +15,7 @@ from tools.places import INCLUDE, LEVEL, LIB, SECOND_LEVEL, SHARED_LIBRARY, STAT
 
 SOURCES = os.path.join(TOP, "tools", "checks", "library")
 # The parts of the test but the way in which allocations fail.
-PARTS = ("main", "cases", "scenes", "canvases", "samples", "shading", "refused_canvases", "large_batch", "histories", "stack")
+PARTS = ("main", "cases", "scenes", "canvases", "samples", "shading", "polygons", "refused_canvases", "large_batch", "histories", "stack")
 WAYS = (
     "pictures", "rows", "buffers", "refused", "messages", "odd", "canvases", "large", "histories", "threads", "stack", "memory",
 )
@@ -52,7 +52,7 @@ def symbols(path: str, *flags: str, tool: str) -> set[str]:
 def declared() -> set[str]:
     """The calls that the header declares, also those that it defines for C."""
     header = places.text_of(INCLUDE, "trirast.h")
-    return set(re.findall(r"^(?:inline )?(?:trirast_status|uint32_t|size_t|const char) \*?(trirast_\w+)\(", header, re.MULTILINE))
+    return set(re.findall(r"^(?:inline )?(?:trirast_status|trirast_proved_batch|uint32_t|size_t|const char) \*?(trirast_\w+)\(", header, re.MULTILINE))
 
 
 def check_exports(path: str, *flags: str, tool: str = "nm") -> str:
@@ -67,6 +67,13 @@ def check_needs(path: str, *flags: str, tool: str = "nm") -> str:
     found = symbols(path, *flags, "--undefined-only", tool=tool) - OF_THE_LINKER
     must(found <= OF_THE_C_LIBRARY, f"it needs {sorted(found - OF_THE_C_LIBRARY)}")
     return ", ".join(sorted(found))
+
+
+def check_stack(path: str) -> None:
+    """A shared library needs no stack from which code can be run: as of glibc 2.41 no other is loaded into a running program."""
+    headers = [line.split() for line in run([need("readelf"), "-lW", path]).decode().splitlines()]
+    flags = [header[-2] for header in headers if header[:1] == ["GNU_STACK"]]
+    must(flags == ["RW"], f"GNU_STACK has the flags {flags}")
 
 
 def check_release() -> str:
@@ -92,6 +99,8 @@ def library_cases() -> Iterator[Case]:
         name = os.path.relpath(path, LIB)
         yield case(f"{name} shows the calls of the header alone", check_exports, path, *flags)
         yield case(f"{name} needs the heap and moves of memory alone", check_needs, path, *flags)
+    for path in (SHARED_LIBRARY, SECOND_LEVEL, os.path.join(LIB, "load.so")):
+        yield case(f"{os.path.relpath(path, LIB)} needs no stack from which code can be run", check_stack, path)
 
 
 # ---- The test in C

@@ -181,6 +181,88 @@ static void compare_draw(void) {
     end(&made);
 }
 
+// The same triangle with each stride that there is; of the last vertex there are 16 bytes, and with none of these none is read.
+static void compare_strides(void) {
+    stage packed, made;
+    make(&packed), make(&made);
+    expect(!trirast_canvas_clear(&packed.canvas, NULL) && !trirast_canvas_draw(&packed.canvas, &packed.batch, NULL), "a packed batch", 0);
+    for (uint32_t stride = 0; stride <= TRIRAST_MAX_STRIDE + 5; stride++) {
+        const int is_there = stride == 0 || (stride >= 16 && stride <= TRIRAST_MAX_STRIDE && stride % 4 == 0);
+        const size_t step = stride ? stride : sizeof(trirast_vertex), size = is_there ? 2 * step + sizeof(trirast_vertex) : 0;
+        unsigned char *apart = (unsigned char *)malloc(size ? size : 1);
+        if (!apart) exit(2);
+        memset(apart, 77, size ? size : 1);
+        for (size_t k = 0; k < 3 && size; k++) memcpy(apart + k * step, &made.vertices[k], sizeof(trirast_vertex));
+        trirast_batch batch = made.batch;
+        batch.vertices = apart, batch.vertex_stride = stride;
+        expect(!trirast_canvas_clear(&made.canvas, NULL), "clear", (int)stride);
+        memcpy(made.kept, made.memory, made.size);
+        const trirast_status status = trirast_canvas_draw(&made.canvas, &batch, NULL);
+        expect(status == (is_there ? TRIRAST_STATUS_OK : TRIRAST_STATUS_BAD_STRIDE), "a stride", (int)stride);
+        expect(!memcmp(made.memory, is_there ? packed.memory : made.kept, made.size), "what is drawn with a stride", (int)stride);
+        free(apart);
+    }
+    trirast_batch none = made.batch;
+    none.vertices = NULL, none.vertex_count = 0, none.index_count = 0, none.vertex_stride = 20;
+    expect(trirast_canvas_draw(&made.canvas, &none, NULL) == TRIRAST_STATUS_OK, "no vertices with a stride", 20);
+    end(&packed), end(&made);
+}
+
+// ---- Polygons
+
+static trirast_status draw_polygons(trirast_canvas *canvas, const trirast_polygons *polygons, int by_ids, void *scratch, size_t size,
+                                    trirast_error *error) {
+    return by_ids ? trirast_canvas_draw_polygon_ids(canvas, polygons, 5, scratch, size, error)
+                  : trirast_canvas_draw_polygons(canvas, polygons, scratch, size, error);
+}
+
+// Draws a polygon with scratch memory that is as large as it has to be, and with what the header refuses.
+static void compare_polygon(stage *made, const trirast_polygons *polygons, int by_ids, trirast_error *error) {
+    const size_t size = trirast_polygons_scratch(&made->canvas, (trirast_fill_rule)polygons->fill_rule);
+    unsigned char *scratch = (unsigned char *)malloc(size);
+    if (!scratch) exit(2);
+    expect(size == (polygons->fill_rule == TRIRAST_FILL_EVEN_ODD ? 16 * 256 : 16 * 8448), "the size of scratch memory", (int)size);
+    expect(draw_polygons(&made->canvas, polygons, by_ids, scratch, size, error) == TRIRAST_STATUS_OK, "polygons", by_ids);
+    memcpy(made->kept, made->memory, made->size);
+    void *const places[] = {scratch, scratch + 1, scratch + 4, scratch, NULL};
+    const size_t sizes[] = {size - 1, size, size, 0, 0};
+    for (int k = 0; k < 5; k++)
+        expect(draw_polygons(&made->canvas, polygons, by_ids, places[k], sizes[k], error) == TRIRAST_STATUS_BUFFER_TOO_SMALL && is_unchanged(made),
+               "scratch memory", k);
+    for (int change = 0;; change++) {
+        trirast_canvas canvas = made->canvas;
+        if (!break_canvas(&canvas, change)) break;
+        const trirast_status due = change < 8 ? TRIRAST_STATUS_BAD_CANVAS : TRIRAST_STATUS_BAD_STRUCT_SIZE;
+        expect(trirast_polygons_scratch(&canvas, TRIRAST_FILL_NONZERO) == 0, "scratch memory of no canvas", change);
+        expect(draw_polygons(&canvas, polygons, by_ids, scratch, size, error) == due && is_unchanged(made), "polygons on no canvas", change);
+    }
+    trirast_polygons broken = *polygons;
+    broken.fill_rule = 2;
+    expect(draw_polygons(&made->canvas, &broken, by_ids, scratch, size, error) != TRIRAST_STATUS_OK && is_unchanged(made), "no such rule", by_ids);
+    broken = *polygons, broken.corner_count = 2;
+    expect(draw_polygons(&made->canvas, &broken, by_ids, scratch, size, error) == TRIRAST_STATUS_BAD_BATCH && is_unchanged(made), "a ring", by_ids);
+    if (error) expect(error->cause == TRIRAST_BATCH_BAD_RING && error->draw == TRIRAST_NONE && error->element == 0, "its error", by_ids);
+    free(scratch);
+}
+
+static void compare_polygons(void) {
+    static const trirast_corner corners[] = {{0, 0}, {17920, 0}, {0, 33280}};
+    static const uint32_t ends[] = {3, 1};
+    static const uint8_t color[1][4] = {{9, 8, 7, 255}};
+    trirast_error error;
+    stage made;
+    make(&made);
+    trirast_polygons polygons;
+    memset(&polygons, 0, sizeof polygons);
+    polygons.corners = corners, polygons.corner_count = 3, polygons.ring_ends = ends, polygons.ring_count = 1;
+    polygons.polygon_ends = ends + 1, polygons.polygon_count = 1, polygons.colors = color, polygons.color_count = 1;
+    for (int way = 0; way < 8; way++) {
+        polygons.fill_rule = way & 1;
+        compare_polygon(&made, &polygons, way & 2, way & 4 ? &error : NULL);
+    }
+    end(&made);
+}
+
 // ---- Edge functions
 
 static void compare_edges(void) {
@@ -250,7 +332,7 @@ static void compare_lists(void) {
 // ---- Statuses
 
 static void compare_statuses(void) {
-    for (int number = 0; number < 16; number++) {
+    for (int number = 0; number < 19; number++) {
         const char *text = trirast_status_string((trirast_status)number);
         expect(text && strcmp(text, "unknown status") && strlen(text) < TRIRAST_ERROR_MESSAGE_SIZE, "the string of a status", number);
     }
@@ -262,6 +344,8 @@ int main(void) {
     compare_split();
     compare_clear();
     compare_draw();
+    compare_strides();
+    compare_polygons();
     compare_edges();
     compare_lists();
     compare_statuses();

@@ -13,8 +13,9 @@ from tools.places import EXAMPLES, LEVEL
 # What the program of docs/library.md that asks for a history prints.
 HISTORY = b"triangle 0: result 0, reasons 4, edge bc 0\nred 0, depth 65535\n"
 INSTALLED = (
-    "bin/trirast", "bin/trirast_why", "include/trirast.h", "include/trirast.hpp", "include/trirast_clip.h", "include/trirast_clip.hpp",
-    "include/trirast_lanes.hpp", "include/trirast_shade.hpp",
+    "bin/trirast", "bin/trirast_why", "include/trirast.h", "include/trirast.hpp",
+    *(f"include/trirast/{part}.hpp" for part in ("canvas", "edges", "error", "list", "polygons", "span", "state", "tile_rows")),
+    "include/trirast_clip.h", "include/trirast_clip.hpp", "include/trirast_lanes.hpp", "include/trirast_shade.h", "include/trirast_shade.hpp",
     "lib/cmake/trirast/trirast-config-version.cmake", "lib/cmake/trirast/trirast-config.cmake", f"lib/glibc-hwcaps/{LEVEL}/libtrirast.so.2", "lib/libtrirast.a",
     "lib/libtrirast.so", "lib/libtrirast.so.2",
     "lib/pkgconfig/trirast.pc", f"lib/trirast/glibc-hwcaps/{LEVEL}/program.so", "lib/trirast/program.so",
@@ -52,6 +53,8 @@ def check_install() -> None:
         due = HISTORY if "trirast_list_history(" in text else wanted
         for flags in ((), ("-static",)):
             must(build_outside(text, prefix, *flags) == due, f"other bytes with {flags}")
+    cube = build_outside(places.text_of(EXAMPLES, "c", "cube.c"), prefix, "-lm")
+    must(cube.startswith(b"P6\n400 300\n255\n") and len(set(cube)) > 30, "no cube by trirast_shade.h")
     make("uninstall", f"PREFIX={prefix}")
     must(not files_below(prefix), f"{files_below(prefix)} were left")
 

@@ -172,7 +172,7 @@ static void compare_refused(void) {
 }
 
 static void compare_messages(void) {
-    const trirast_error long_one = {TRIRAST_STATUS_BAD_BATCH, TRIRAST_BATCH_BAD_INDEX, SIZE_MAX - 1, SIZE_MAX - 1};
+    const trirast_error long_one = {TRIRAST_STATUS_BAD_BATCH, TRIRAST_BATCH_BAD_INDEX, SIZE_MAX - 1, SIZE_MAX - 1, UINT32_MAX};
     char whole[256];
     size_t length = trirast_error_message(&long_one, whole, sizeof whole);
     expect(length == strlen(whole) && length < TRIRAST_ERROR_MESSAGE_SIZE && strstr(whole, "18446744073709551614"), "%s", whole);
@@ -187,20 +187,20 @@ static void compare_messages(void) {
     }
     report("as much of a message is written as fits, with a zero byte");
     for (uint32_t number = 0; number < 40; number++) {
-        const trirast_error error = {number, 0, TRIRAST_NONE, TRIRAST_NONE};
+        const trirast_error error = {number, 0, TRIRAST_NONE, TRIRAST_NONE, TRIRAST_NONE};
         const char *name = trirast_status_string((trirast_status)number);
         int is_placed = number == TRIRAST_STATUS_BAD_LIST || number == TRIRAST_STATUS_BAD_BATCH;
         length = trirast_error_message(&error, whole, sizeof whole);
         expect(length == strlen(whole) && length < TRIRAST_ERROR_MESSAGE_SIZE && (is_placed || !strcmp(whole, name)), "status %u: %s", number, whole);
-        int is_known = number <= TRIRAST_STATUS_BAD_TILE;
+        int is_known = number <= TRIRAST_STATUS_BAD_INDEX_SIZE;
         for (uint32_t other = 0; other < number && is_known; other++)
             expect(strcmp(name, trirast_status_string((trirast_status)other)), "%u and %u: %s", other, number, name);
         expect(is_known == !!strcmp(name, "unknown status"), "%u: %s", number, name);
     }
     report("each status has a string of its own, which is its message");
-    for (uint32_t cause = 1; cause <= TRIRAST_BATCH_LEFT_OVER; cause++)
+    for (uint32_t cause = 1; cause <= TRIRAST_BATCH_BAD_FILL_RULE; cause++)
         for (uint32_t other = 1; other < cause; other++) {
-            const trirast_error one = {TRIRAST_STATUS_BAD_BATCH, cause, 7, 9}, two = {TRIRAST_STATUS_BAD_BATCH, other, 7, 9};
+            const trirast_error one = {TRIRAST_STATUS_BAD_BATCH, cause, 7, 9, TRIRAST_NONE}, two = {TRIRAST_STATUS_BAD_BATCH, other, 7, 9, TRIRAST_NONE};
             char words[256];
             trirast_error_message(&one, whole, sizeof whole), trirast_error_message(&two, words, sizeof words);
             expect(strcmp(whole, words) && !strncmp(whole, "draw 7: ", 8), "causes %u and %u: %s", cause, other, whole);

@@ -4,7 +4,7 @@
 
 #include "canvases.h"
 
-enum { CALLS = 7, BROKEN = 26, BROKEN_PIECES = 8, SHORT = 30, BROKEN_BATCHES = 44, BY_IDS = 3, WRONG_SIZES = 8 };
+enum { CALLS = 13, BROKEN = 26, BROKEN_PIECES = 8, SHORT = 30, BROKEN_BATCHES = 45, BY_IDS = 3, WRONG_SIZES = 11 };
 
 // ---- Canvases -------------------------------------------------------------------------------------------------------
 
@@ -46,6 +46,8 @@ static trirast_status break_canvas(trirast_canvas *canvas, int change) {
 // Each call on tile rows, by its number, with a buffer for what it reads or writes.
 static trirast_status call_on(int call, trirast_canvas *canvas, const quad *all, const marked *buffer, trirast_error *error) {
     static const trirast_clear clear = {1, 2, 3, 4, 9, 0};
+    static const trirast_polygons no_polygons = {0};
+    static uint64_t scratch[8 * 32 * 2];
     void *bytes = buffer->bytes;
     switch (call) {
     case 0: return trirast_canvas_clear(canvas, &clear);
@@ -54,9 +56,18 @@ static trirast_status call_on(int call, trirast_canvas *canvas, const quad *all,
     case 3: return trirast_canvas_draw_ids(canvas, &all->made.batch, 0, error);
     case 4: return trirast_canvas_resolve(canvas, TRIRAST_FORMAT_BGRA8, bytes, buffer->size, 4 * WIDTH);
     case 5: return trirast_canvas_depths(canvas, 3, bytes, buffer->size / 4, 2 * WIDTH);
-    default: return trirast_canvas_ids(canvas, 3, bytes, buffer->size / 4, 4 * WIDTH);
+    case 6: return trirast_canvas_ids(canvas, 3, bytes, buffer->size / 4, 4 * WIDTH);
+    case 7: return trirast_canvas_colors(canvas, 3, TRIRAST_FORMAT_RGBA8, bytes, buffer->size, 4 * WIDTH);
+    case 8: return trirast_canvas_store(canvas, 3, TRIRAST_FORMAT_RGBA8, bytes, buffer->size, 4 * WIDTH);
+    case 9: return trirast_canvas_tile_ids(canvas, 0, 0, bytes, buffer->size / 4, &(uint32_t){9});
+    case 10: return trirast_canvas_tile_store(canvas, 0, 0, bytes, buffer->size / 4);
+    case 11: return trirast_canvas_draw_polygons(canvas, &no_polygons, scratch, sizeof scratch, error);
+    default: return trirast_canvas_draw_polygon_ids(canvas, &no_polygons, 0, scratch, sizeof scratch, error);
     }
 }
+
+// Whether a call writes an error.
+static int writes_error(int call) { return call == 2 || call == 3 || call >= 11; }
 
 static int is_unchanged(const quad *all, const marked *buffer) {
     return holds_just(&all->made.memory, NULL, 0) && holds_just(buffer, NULL, 0);
@@ -71,7 +82,7 @@ static void compare_broken_canvases(void) {
             marked buffer = mark(4 * PIXELS);
             trirast_canvas canvas = all.made.whole;
             trirast_status due = break_canvas(&canvas, change), status = call_on(call, &canvas, &all, &buffer, &error);
-            int has_error = call == 2 || call == 3 ? is_error(&error, status, due) : !memcmp(&error, &UNSET, sizeof UNSET);
+            int has_error = writes_error(call) ? is_error(&error, status, due) : !memcmp(&error, &UNSET, sizeof UNSET);
             expect(status == due && has_error && is_unchanged(&all, &buffer),
                    "change %d, call %d: status %u where %u was due, or a change", change, call, status, due);
             free(buffer.all), free(all.made.memory.all);
@@ -91,10 +102,11 @@ static void compare_no_rows(void) {
             canvas.first = canvas.end = row, canvas.memory = NULL, canvas.plane_count = 0;
             const marked none = {NULL, NULL, 0};
             trirast_status status = call_on(call, &canvas, &all, call ? &none : &buffer, &error);
-            expect(!status && is_unchanged(&all, &buffer), "row %u, call %d: status %u, or a change", row, call, status);
+            trirast_status due = call == 9 || call == 10 ? TRIRAST_STATUS_BAD_TILE : TRIRAST_STATUS_OK;
+            expect(status == due && is_unchanged(&all, &buffer), "row %u, call %d: status %u, or a change", row, call, status);
             free(buffer.all), free(all.made.memory.all);
         }
-    report("each call takes no tile rows, with NULL for their samples and pixels, and does nothing");
+    report("each call takes no tile rows, with NULL for their samples and pixels, and does nothing; there is no tile");
 }
 
 // ---- Pieces ---------------------------------------------------------------------------------------------------------
@@ -224,29 +236,31 @@ typedef struct {
     size_t draw, element;
 } place;
 
-// One number of a draw is outside of its range.
-static void break_state(quad *all, int change) {
+// One number of a draw is outside of its range. Returns the cause that is due.
+static trirast_batch_cause break_state(quad *all, int change) {
     trirast_draw *last = &all->draws[1];
     switch (change) {
-    case 0: all->draws[0].cull = 3; return;
-    case 1: last->topology = 3; return;
-    case 2: last->topology = 255; return;
-    case 3: last->cull = 255; return;
-    case 4: last->depth_test = 8; return;
-    case 5: last->depth_test = 255; return;
-    case 6: last->depth_write = 2; return;
-    case 7: last->keep = 16; return;
-    case 8: last->keep = 255; return;
-    case 9: last->scissor_enable = 2; return;
-    case 10: last->blend.color_source = 12; return;
-    case 11: last->blend.color_source = 13; return;
-    case 12: last->blend.color_source = 16; return;
-    case 13: last->blend.color_stored = 12; return;
-    case 14: last->blend.color_stored = 255; return;
-    case 15: last->blend.color_operation = 6; return;
-    case 16: last->blend.alpha_source = 13; return;
-    case 17: last->blend.alpha_stored = 16; return;
-    default: last->blend.alpha_operation = 255; return;
+    case 0: all->draws[0].cull = 3; return TRIRAST_BATCH_BAD_CULL;
+    case 1: last->topology = 3; return TRIRAST_BATCH_BAD_TOPOLOGY;
+    case 2: last->topology = 255; return TRIRAST_BATCH_BAD_TOPOLOGY;
+    case 3: last->cull = 255; return TRIRAST_BATCH_BAD_CULL;
+    case 4: last->depth_test = 8; return TRIRAST_BATCH_BAD_DEPTH_TEST;
+    case 5: last->depth_test = 255; return TRIRAST_BATCH_BAD_DEPTH_TEST;
+    case 6: last->depth_write = 2; return TRIRAST_BATCH_BAD_DEPTH_WRITE;
+    case 7: last->keep = 16; return TRIRAST_BATCH_BAD_KEEP;
+    case 8: last->keep = 255; return TRIRAST_BATCH_BAD_KEEP;
+    case 9: last->scissor_enable = 2; return TRIRAST_BATCH_BAD_SCISSOR_ENABLE;
+    case 10: last->blend.color_source = 12; return TRIRAST_BATCH_BAD_FACTOR;
+    case 11: last->blend.color_source = 13; return TRIRAST_BATCH_BAD_FACTOR;
+    case 12: last->blend.color_source = 16; return TRIRAST_BATCH_BAD_FACTOR;
+    case 13: last->blend.color_stored = 12; return TRIRAST_BATCH_BAD_FACTOR;
+    case 14: last->blend.color_stored = 255; return TRIRAST_BATCH_BAD_FACTOR;
+    case 15: last->blend.color_operation = 6; return TRIRAST_BATCH_BAD_OPERATION;
+    case 16: last->blend.alpha_source = 13; return TRIRAST_BATCH_BAD_FACTOR;
+    case 17: last->blend.alpha_stored = 16; return TRIRAST_BATCH_BAD_FACTOR;
+    case 18: last->blend.alpha_operation = 255; return TRIRAST_BATCH_BAD_OPERATION;
+    // Of several the first is named.
+    default: last->blend.color_source = 12, last->keep = 16, last->cull = 3; return TRIRAST_BATCH_BAD_CULL;
     }
 }
 
@@ -282,7 +296,7 @@ static place break_batch(quad *all, int change, uint32_t *first_id) {
     case 22: batch->vertex_count = 6; return (place){TRIRAST_BATCH_LEFT_OVER, TRIRAST_NONE, TRIRAST_NONE};
     case 23: batch->vertex_count = 4; return (place){TRIRAST_BATCH_TOO_FEW_VERTICES, 1, TRIRAST_NONE};
     case 24: batch->index_count = 3; return (place){TRIRAST_BATCH_TOO_FEW_INDICES, 1, TRIRAST_NONE};
-    default: break_state(all, change - 25); return (place){TRIRAST_BATCH_BAD_STATE, change == 25 ? 0 : 1, TRIRAST_NONE};
+    default: return (place){break_state(all, change - 25), change == 25 ? 0 : 1, TRIRAST_NONE};
     }
 }
 
@@ -296,9 +310,9 @@ static void compare_broken_batches(void) {
             const place due = break_batch(&all, change, &first_id);
             trirast_status status = by_ids ? trirast_canvas_draw_ids(&all.made.whole, &all.made.batch, first_id, &error)
                                            : trirast_canvas_draw(&all.made.whole, &all.made.batch, &error);
-            // The library need not say which element it is.
-            int is_there = error.cause == (uint32_t)due.cause && error.draw == due.draw &&
-                           (error.element == due.element || error.element == TRIRAST_NONE);
+            int is_index = due.cause == TRIRAST_BATCH_BAD_INDEX;
+            int is_there = error.cause == (uint32_t)due.cause && error.draw == due.draw && error.element == due.element &&
+                           error.value == (is_index ? all.indices[due.element] : TRIRAST_NONE);
             expect(is_error(&error, status, TRIRAST_STATUS_BAD_BATCH) && is_there && holds_just(&all.made.memory, NULL, 0),
                    "change %d: status %u, cause %u in draw %zu at %zu, or a change", change, status, error.cause, error.draw, error.element);
             // Nobody has to want the error.
@@ -318,9 +332,13 @@ static trirast_status break_size(trirast_batch *batch, int change) {
     case 2: batch->vertex_stride = 15; return TRIRAST_STATUS_BAD_STRIDE;
     case 3: batch->vertex_stride = 12; return TRIRAST_STATUS_BAD_STRIDE;
     case 4: batch->vertex_stride = 18; return TRIRAST_STATUS_BAD_STRIDE;
-    case 5: batch->index_size = 3; return TRIRAST_STATUS_BAD_STRIDE;
-    case 6: batch->index_size = 1; return TRIRAST_STATUS_BAD_STRIDE;
-    default: batch->index_size = 8; return TRIRAST_STATUS_BAD_STRIDE;
+    case 5: batch->index_size = 3; return TRIRAST_STATUS_BAD_INDEX_SIZE;
+    case 6: batch->index_size = 1; return TRIRAST_STATUS_BAD_INDEX_SIZE;
+    case 7: batch->index_size = 8; return TRIRAST_STATUS_BAD_INDEX_SIZE;
+    case 8: batch->vertex_stride = TRIRAST_MAX_STRIDE + 4; return TRIRAST_STATUS_BAD_STRIDE;
+    case 9: batch->vertex_stride = UINT32_MAX - 3; return TRIRAST_STATUS_BAD_STRIDE;
+    // The stride is looked at before the size.
+    default: batch->index_size = 3, batch->vertex_stride = 22; return TRIRAST_STATUS_BAD_STRIDE;
     }
 }
 
@@ -337,7 +355,7 @@ static void compare_wrong_sizes(void) {
             expect(is_error(&error, status, due) && holds_just(&all.made.memory, NULL, 0), "change %d: status %u where %u was due", change, status, due);
             free(all.made.memory.all);
         }
-    report("a struct of another release, a stride of 15 and indices of 3 bytes are refused");
+    report("a struct of another release, strides of 15, 18 and 2,052 bytes and indices of 3 bytes are refused");
 }
 
 void compare_refused_canvases(void) {

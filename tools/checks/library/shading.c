@@ -180,10 +180,10 @@ static void compare_refused(void) {
     for (size_t count = 0; count <= entries + 1; count++)
         if (count != 1 && count != entries && (count < 3 || count + 2 > entries))
             expect(trirast_canvas_tile_store(&all.whole, 0, 0, ids, count) == TRIRAST_STATUS_BUFFER_TOO_SMALL, "%zu colours", count);
-    expect(trirast_canvas_colors(&all.whole, 4, (trirast_format)3, bytes, 0, 1) == TRIRAST_STATUS_BAD_FORMAT, "a format");
+    expect(trirast_canvas_colors(&all.whole, 4, (trirast_format)5, bytes, 0, 1) == TRIRAST_STATUS_BAD_FORMAT, "a format");
     expect(trirast_canvas_colors(&all.whole, 4, TRIRAST_FORMAT_RGB8, bytes, 0, 1) == TRIRAST_STATUS_BAD_SAMPLE, "a sample");
     expect(trirast_canvas_colors(&all.whole, 3, TRIRAST_FORMAT_RGB8, bytes, size - 1, 0) == TRIRAST_STATUS_BUFFER_TOO_SMALL, "a byte");
-    expect(trirast_canvas_store(&all.whole, 4, (trirast_format)3, bytes, 0, 1) == TRIRAST_STATUS_BAD_FORMAT, "a format to store");
+    expect(trirast_canvas_store(&all.whole, 4, (trirast_format)5, bytes, 0, 1) == TRIRAST_STATUS_BAD_FORMAT, "a format to store");
     expect(trirast_canvas_store(&all.whole, 4, TRIRAST_FORMAT_RGB8, bytes, 0, 1) == TRIRAST_STATUS_BAD_SAMPLE, "a sample to store");
     expect(trirast_canvas_store(&all.whole, 3, TRIRAST_FORMAT_RGB8, bytes, size, 3 * WIDE - 1) == TRIRAST_STATUS_BUFFER_TOO_SMALL, "a stride");
     compare_all(&all, "calls that were refused");

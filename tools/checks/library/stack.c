@@ -41,7 +41,7 @@ static void use_canvas(task *own) {
 }
 
 static void write_message(task *own) {
-    const trirast_error error = {TRIRAST_STATUS_BAD_BATCH, TRIRAST_BATCH_BAD_INDEX, SIZE_MAX - 1, SIZE_MAX - 1};
+    const trirast_error error = {TRIRAST_STATUS_BAD_BATCH, TRIRAST_BATCH_BAD_INDEX, SIZE_MAX - 1, SIZE_MAX - 1, UINT32_MAX};
     trirast_error_message(&error, (char *)own->buffer.bytes, own->buffer.size);
 }
 

@@ -15,8 +15,8 @@ from tests.acceptance.program import TILE_SIZES, check_written, colour_file
 from tools import places
 from tools.checks.library.c_types import address, library, number, struct
 
-# An error's status, its cause, the draw in which it is and the element, of which each may be none.
-Error = Tuple[int, int, Union[int, None], Union[int, None]]
+# An error's status, its cause, the draw in which it is, the element and its value, of which each may be none.
+Error = Tuple[int, int, Union[int, None], Union[int, None], Union[int, None]]
 Numbers = Tuple[int, ...]
 
 FILE = colour_file(3, 3, CORNER)
@@ -30,17 +30,17 @@ LAST_ROW = (
 
 def alone(status: int) -> Error:
     """The error that this status describes completely; no error with status 0."""
-    return (status, 0, None, None)
+    return (status, 0, None, None, None)
 
 
 def in_list(cause: int, draw: int | None = None) -> Error:
     """An error of a list with this cause, in this draw or outside of its draws."""
-    return (1, cause, draw, None)
+    return (1, cause, draw, None, None)
 
 
-def in_batch(cause: int, draw: int | None = None) -> Error:
-    """An error of a batch with this cause, in this draw."""
-    return (15, cause, draw, None)
+def in_batch(cause: int, draw: int | None = None, element: int | None = None, value: int | None = None) -> Error:
+    """An error of a batch with this cause, in this draw, at this one of its indices, vertices or quads, and the index if it is one."""
+    return (15, cause, draw, element, value)
 
 
 DONE = alone(0)
@@ -50,15 +50,14 @@ NONE = 2**64 - 1
 def error_of(error: Any) -> Error:
     if error.status == 0:
         return DONE
-    assert error.element == NONE or error.status == 15
-    # The library need not say which element it is.
-    return (error.status, error.cause, None if error.draw == NONE else error.draw, None)
+    draw, element, value = (None if place == NONE else place for place in (error.draw, error.element, error.value))
+    return (error.status, error.cause, draw, element, value)
 
 
 def ended(name: str, *arguments: Any) -> Error:
     """The error that a call writes behind these arguments. Its status is the one that is returned; a call that is refused is refused
     too if nobody wants the error."""
-    error = struct("trirast_error")(77, 77, 77, 77)
+    error = struct("trirast_error")(77, 77, 77, 77, 77)
     given = [address(argument) for argument in arguments]
     status = getattr(library(), name)(*given, ctypes.addressof(error))
     assert status == error.status, name
@@ -205,6 +204,8 @@ def test_numbers_the_errors_of_calls_as_the_header() -> None:
 
 WHITE: Numbers = (0, 255, 255, 255, 255)
 VERTICES: Sequence[Numbers] = ((128, 128, *WHITE), (640, 128, *WHITE), (128, 640, *WHITE))
+SQUARE: Sequence[Numbers] = (*VERTICES[:2], (640, 640, *WHITE), VERTICES[2])
+FAR: Numbers = (8_388_608, 0, *WHITE)
 OVER: Numbers = (5, 6, 1, 2, 6, 1)
 # The picture of the triangle: its first two pixels, and the first one of the second row.
 WHITE_CORNER = FILE[11:]
@@ -214,6 +215,15 @@ def array_of(kind: Any, elements: Sequence[Any]) -> Any:
     """The address of an array, and the array, which has to stay. One of no elements is NULL."""
     array = (kind * len(elements))(*elements)
     return (ctypes.addressof(array) if elements else None, array)
+
+
+def vertices_of(rows: Sequence[Numbers], stride: int) -> Any:
+    """The address of vertices that lie one every so many bytes, and their memory. Behind the last one there is nothing."""
+    if not rows:
+        return None, None
+    data = (b"\xff" * (stride - 16)).join(bytes(struct("trirast_vertex")(*row)) for row in rows) if stride >= 16 else bytes(16 * len(rows))
+    memory = (ctypes.c_uint32 * (len(data) // 4)).from_buffer_copy(data)
+    return ctypes.addressof(memory), memory
 
 
 def draw_of(vertex_count: int = 3, index_count: int = 3, blend: Numbers = (), constant: Numbers = (), **members: int) -> Any:
@@ -236,13 +246,14 @@ def canvas_of(width: int = 3, height: int = 3, **members: int) -> Any:
 
 def drawn_batch(
     draws: Sequence[Any], vertices: Sequence[Numbers] = VERTICES, indices: Sequence[int] = (0, 1, 2), canvas: Any = None, first_id: int | None = None,
-    clear: Numbers = (0, 0, 0, 0, 65_535), **members: int,
+    clear: Numbers = (0, 0, 0, 0, 65_535), is_null: bool = True, **members: int,
 ) -> Tuple[Error, bytes]:
-    """How a batch is drawn on a canvas that is cleared, and the colours of its pixels."""
+    """How a batch is drawn on a canvas that is cleared, and the colours of its pixels. Without indices their address is NULL, if so wanted."""
     whole, memory = canvas or canvas_of()
+    stride = members.get("vertex_stride") or 16
     index = ctypes.c_uint16 if members.get("index_size") == 2 else ctypes.c_uint32
-    kept = [array_of(struct("trirast_draw"), draws), array_of(struct("trirast_vertex"), [struct("trirast_vertex")(*row) for row in vertices])]
-    kept.append(array_of(index, indices))
+    kept = [array_of(struct("trirast_draw"), draws), vertices_of(vertices, stride if stride % 4 == 0 and stride < 4_096 else 16)]
+    kept.append(array_of(index, indices) if is_null or indices else (ctypes.addressof(whole), None))
     batch = struct("trirast_batch")(**members)
     batch.draws, batch.vertices, batch.indices = (found for found, _ in kept)
     batch.draw_count, batch.vertex_count, batch.index_count = len(draws), len(vertices), len(indices)
@@ -270,24 +281,94 @@ def test_takes_a_batch_of_nothing() -> None:
     assert drawn_batch([draw_of(0, 0), draw_of(0, 0)], (), ()) == (DONE, bytes(27))
 
 
+def test_draws_vertices_in_their_order() -> None:
+    assert drawn_batch([draw_of(3, 0)], indices=()) == (DONE, WHITE_CORNER)
+    assert drawn_batch([], indices=()) == drawn_batch([], indices=(), index_size=2) == (DONE, WHITE_CORNER)
+    assert drawn_batch([draw_of(0, 0), draw_of(3, 0)], indices=()) == (DONE, WHITE_CORNER)
+    for topology, vertices in ((0, (*VERTICES, *VERTICES[1:], SQUARE[2])), (1, (*VERTICES[:2], VERTICES[2], SQUARE[2])), (2, SQUARE)):
+        assert drawn_batch([draw_of(len(vertices), 0, topology=topology)], vertices, ()) == drawn_batch([draw_of(4, 4, topology=2)], SQUARE, (0, 1, 2, 3))
+    found, pixels = drawn_batch([draw_of(6, 0)], (*VERTICES, *VERTICES), (), first_id=6)
+    assert (found, pixels[:3]) == (DONE, b"\7\0\0")
+
+
+def test_draws_nothing_of_an_empty_array_of_indices() -> None:
+    assert drawn_batch([draw_of(3, 0)], indices=(), is_null=False) == (DONE, bytes(27))
+    assert drawn_batch([], indices=(), is_null=False) == (DONE, bytes(27))
+    # Nor does a draw of none in a batch of some.
+    assert drawn_batch([draw_of(3, 0), draw_of(3, 3)], (*SQUARE[1:], *VERTICES), (0, 1, 2)) == (DONE, WHITE_CORNER)
+
+
+def test_draws_indices_of_16_bits() -> None:
+    assert drawn_batch([draw_of()], index_size=2) == (DONE, WHITE_CORNER)
+    many = (*VERTICES[:2], *[FAR] * 65_533, VERTICES[2])
+    assert drawn_batch([draw_of(65_536)], many, (0, 1, 65_535), index_size=2) == (DONE, WHITE_CORNER)
+    assert drawn_batch([draw_of(), draw_of()], (*VERTICES, *VERTICES), (0, 1, 2, 2, 0, 1), index_size=2, first_id=1)[1][:3] == b"\2\0\0"
+
+
+@pytest.mark.parametrize(
+    ("draws", "vertices", "indices", "members", "error"),
+    [
+        ([draw_of(3, 1)], VERTICES, (), {}, in_batch(2, 0)),
+        ([draw_of(4, 0)], VERTICES, (), {}, in_batch(1, 0)),
+        ([draw_of(2, 0)], VERTICES[:2], (), {}, in_batch(4, 0)),
+        ([draw_of(3, 0, topology=2)], VERTICES, (), {}, in_batch(4, 0)),
+        ([draw_of(3, 0)], (*VERTICES, FAR), (), {}, in_batch(9)),
+        ([draw_of(3, 0), draw_of(3, 0)], (*VERTICES, *VERTICES[:2], FAR), (), {}, in_batch(7, 1, 2)),
+        ([draw_of(8, 0, topology=2)], (*SQUARE, *VERTICES, VERTICES[0]), (), {}, in_batch(8, 0, 1)),
+        ([draw_of(3, 0)], VERTICES, (), {"index_size": 3}, alone(18)),
+        ([draw_of()], VERTICES, (0, 1, 65_535), {"index_size": 2}, in_batch(6, 0, 2, 65_535)),
+        ([draw_of(3, 4)], VERTICES, (0, 1, 2), {"index_size": 2}, in_batch(2, 0)),
+        ([draw_of()], VERTICES, (0, 1, 2, 0), {"index_size": 2}, in_batch(9)),
+        ([draw_of(4, 8, topology=2)], SQUARE, (0, 1, 2, 3, 0, 2, 1, 3), {"index_size": 2}, in_batch(8, 0, 1)),
+    ],
+)
+def test_refuses_draws_without_indices_and_of_16_bits(draws: Any, vertices: Any, indices: Any, members: Any, error: Error) -> None:
+    assert drawn_batch(draws, vertices, indices, **members) == (error, bytes(27))
+
+
 def test_refuses_structs_of_other_releases_and_strides() -> None:
     sizes: dict[str, Any] = {"struct_size": ctypes.sizeof(struct("trirast_batch"))}
     assert drawn_batch([draw_of()], **sizes, vertex_stride=16, index_size=4) == (DONE, WHITE_CORNER)
     for size in (1, 8, sizes["struct_size"] - 8, sizes["struct_size"] + 8, 2**32 - 1):
         assert drawn_batch([draw_of()], struct_size=size, vertex_stride=15) == (alone(7), bytes(27))
-    for stride in (1, 4, 8, 12, 15, 17, 18, 2**32 - 1):
+    for stride in (1, 4, 8, 12, 15, 17, 18, 2_047, 2_052, 2**31, 2**32 - 4, 2**32 - 1):
         assert drawn_batch([draw_of()], vertex_stride=stride) == (alone(16), bytes(27))
     for size in (1, 3, 5, 8, 2**32 - 1):
-        assert drawn_batch([draw_of()], index_size=size) == (alone(16), bytes(27))
+        assert drawn_batch([draw_of()], index_size=size) == (alone(18), bytes(27))
+        # The stride is looked at first.
+        assert drawn_batch([draw_of()], index_size=size, vertex_stride=18) == (alone(16), bytes(27))
 
 
-@pytest.mark.parametrize("members", [
-    {"topology": 3}, {"cull": 3}, {"depth_test": 8}, {"depth_write": 2}, {"keep": 16}, {"scissor_enable": 2}, {"topology": 255}, {"keep": 255},
-    {"blend": (12,)}, {"blend": (13,)}, {"blend": (16,)}, {"blend": (0, 12)}, {"blend": (0, 0, 6)}, {"blend": (0, 0, 0, 13)},
-    {"blend": (0, 0, 0, 0, 255)}, {"blend": (0, 0, 0, 0, 0, 6)},
+@pytest.mark.parametrize(("members", "cause"), [
+    ({"topology": 3}, 15), ({"topology": 255}, 15), ({"cull": 3}, 16), ({"depth_test": 8}, 17), ({"depth_write": 2}, 18), ({"keep": 16}, 19),
+    ({"keep": 255}, 19), ({"scissor_enable": 2}, 20), ({"blend": (12,)}, 21), ({"blend": (13,)}, 21), ({"blend": (16,)}, 21),
+    ({"blend": (0, 12)}, 21), ({"blend": (0, 0, 0, 13)}, 21), ({"blend": (0, 0, 0, 0, 255)}, 21), ({"blend": (0, 0, 6)}, 22),
+    ({"blend": (0, 0, 0, 0, 0, 6)}, 22),
+    # Of several the first is named.
+    ({"topology": 3, "cull": 3}, 15), ({"cull": 3, "keep": 255, "blend": (12,)}, 16), ({"depth_test": 8, "depth_write": 2}, 17),
+    ({"scissor_enable": 2, "blend": (12,)}, 20), ({"blend": (0, 0, 6, 0, 12)}, 21),
 ])
-def test_refuses_draws_with_bad_numbers(members: Any) -> None:
-    assert drawn_batch([draw_of(0, 0), draw_of(**members)]) == (in_batch(3, 1), bytes(27))
+def test_names_the_number_of_a_draw_that_is_out_of_range(members: Any, cause: int) -> None:
+    assert drawn_batch([draw_of(0, 0), draw_of(**members)]) == (in_batch(cause, 1), bytes(27))
+
+
+# 16, 20, 24 .. bytes, with 255 in each that is not a vertex's, and nothing behind the last vertex.
+@pytest.mark.parametrize("stride", [16, 20, 28, 64, 2_044, 2_048])
+@pytest.mark.parametrize("index_size", [2, 4])
+def test_draws_vertices_with_a_stride(stride: int, index_size: int) -> None:
+    for draws, vertices, indices in (
+        ([draw_of()], VERTICES, (0, 1, 2)),
+        ([draw_of(3, 0)], VERTICES, ()),
+        ([draw_of(4, 4, topology=2), draw_of(3, 3, topology=1)], (*SQUARE, *VERTICES), (3, 2, 1, 0, 0, 1, 2)),
+        ([draw_of()], VERTICES[:2], (0, 1, 1)),
+        ([draw_of(2)], VERTICES[:2], (0, 1, 2)),
+        ([draw_of(1, 0), draw_of(3)], (VERTICES[0], *VERTICES[:2], FAR), (0, 1, 2)),
+        ([draw_of()], (*VERTICES, FAR), (0, 1, 2)),
+    ):
+        packed = drawn_batch(draws, vertices, indices, index_size=index_size)
+        assert drawn_batch(draws, vertices, indices, index_size=index_size, vertex_stride=stride) == packed
+        by_ids = drawn_batch(draws, vertices, indices, index_size=index_size, first_id=258)
+        assert drawn_batch(draws, vertices, indices, index_size=index_size, vertex_stride=stride, first_id=258) == by_ids
 
 
 @pytest.mark.parametrize(
@@ -298,14 +379,21 @@ def test_refuses_draws_with_bad_numbers(members: Any) -> None:
         ([draw_of(), draw_of(0, 1)], VERTICES, (0, 1, 2), in_batch(2, 1)),
         ([draw_of(3, 2)], VERTICES, (0, 1, 2), in_batch(4, 0)),
         ([draw_of(3, 3, topology=2)], VERTICES, (0, 1, 2), in_batch(4, 0)),
-        ([draw_of(0, 0), draw_of(2)], VERTICES[:2], (0, 1, 2), in_batch(6, 1)),
-        ([draw_of()], VERTICES, (0, 1, 2**32 - 1), in_batch(6, 0)),
-        ([draw_of()], (*VERTICES[:2], (8_388_608, 0, *WHITE)), (0, 1, 2), in_batch(7, 0)),
-        ([draw_of()], ((0, -8_388_609, *WHITE), *VERTICES[1:]), (2, 1, 0), in_batch(7, 0)),
-        ([draw_of(3, 4, topology=2)], VERTICES, (0, 1, 2, 0), in_batch(8, 0)),
+        ([draw_of(0, 0), draw_of(2)], VERTICES[:2], (0, 1, 2), in_batch(6, 1, 2, 2)),
+        ([draw_of()], VERTICES, (0, 1, 2**32 - 1), in_batch(6, 0, 2, 2**32 - 1)),
+        ([draw_of()], (*VERTICES[:2], (8_388_608, 0, *WHITE)), (0, 1, 2), in_batch(7, 0, 2)),
+        ([draw_of()], ((0, -8_388_609, *WHITE), *VERTICES[1:]), (2, 1, 0), in_batch(7, 0, 0)),
+        ([draw_of(3, 4, topology=2)], VERTICES, (0, 1, 2, 0), in_batch(8, 0, 0)),
         ([draw_of()], (*VERTICES, VERTICES[0]), (0, 1, 2), in_batch(9)),
         ([draw_of()], VERTICES, (0, 1, 2, 0), in_batch(9)),
         ([], VERTICES, (0, 1, 2, 0), in_batch(4, 0)),
+        # Of several elements the first is named: an index before a vertex, and a vertex before a quad.
+        ([draw_of()], VERTICES, (0, 9, 8), in_batch(6, 0, 1, 9)),
+        ([draw_of()], (FAR, *VERTICES[1:]), (0, 1, 3), in_batch(6, 0, 2, 3)),
+        ([draw_of()], (FAR, FAR, VERTICES[2]), (2, 1, 0), in_batch(7, 0, 1)),
+        ([draw_of(4, 8, topology=2)], (*SQUARE[:3], FAR), (0, 2, 1, 1, 0, 1, 2, 3), in_batch(7, 0, 3)),
+        ([draw_of(4, 12, topology=2)], SQUARE, (0, 1, 2, 3, 0, 2, 1, 3, 0, 1, 2, 0), in_batch(8, 0, 1)),
+        ([draw_of(), draw_of(4, 4, topology=2)], (*VERTICES, *SQUARE), (0, 1, 2, 0, 1, 2, 4), in_batch(6, 1, 3, 4)),
     ],
 )
 def test_reports_the_errors_of_batches(draws: Any, vertices: Any, indices: Any, error: Error) -> None:
@@ -385,19 +473,30 @@ def test_tests_depths(test: int, passes: str) -> None:
         (in_list(6, 1), "list fault 6 BadIndex in draw 1"),
         (in_list(7, 0), "list fault 7 TooMany in draw 0"),
         (in_list(10, 1023), "list fault 10 NotConvex in draw 1023"),
-        ((15, 6, 3, 17), "draw 3: index 17 is not less than the number of vertices"),
-        ((15, 4, 0, None), "draw 0: the indices make no whole triangles or quads"),
-        ((15, 9, None, None), "a vertex or an index is in no draw, or a corner or a ring in no polygon"),
+        (in_batch(6, 3, 17), "draw 3: index 17 is not less than the number of vertices"),
+        (in_batch(6, 3, 17, 9), "draw 3: index 17 is 9, which is not less than the number of vertices"),
+        (in_batch(4, 0), "draw 0: the indices make no whole triangles or quads"),
+        (in_batch(15, 2), "draw 2: no such topology"),
+        (in_batch(16, 0), "draw 0: no such culling"),
+        (in_batch(17, 0), "draw 0: no such depth test"),
+        (in_batch(18, 0), "draw 0: depth_write is neither 0 nor 1"),
+        (in_batch(19, 0), "draw 0: keep has a bit of no channel"),
+        (in_batch(20, 0), "draw 0: scissor_enable is neither 0 nor 1"),
+        (in_batch(21, 0), "draw 0: no such blend factor"),
+        (in_batch(22, 0), "draw 0: no such blend operation"),
+        (in_batch(23), "no such fill rule"),
+        (in_batch(9), "a vertex or an index is in no draw, or a corner or a ring in no polygon"),
         (alone(2), "input too long"),
         (alone(3), "out of memory"),
         (alone(4), "buffer too small"),
         (alone(7), "wrong struct size"),
         (alone(16), "wrong stride"),
+        (alone(18), "no such index size"),
     ],
 )
 def test_has_the_message_of_each_error(error: Error, message: str) -> None:
     made = struct("trirast_error")(*(NONE if member is None else member for member in error))
-    for size in (0, 1, 9, len(message), len(message) + 1, 96):
+    for size in (0, 1, 9, len(message), len(message) + 1, 128):
         buffer = buffer_of(size)
         assert library().trirast_error_message(ctypes.addressof(made), ctypes.addressof(buffer), size) == len(message)
         written = message.encode()[: size - 1] + b"\0" if size else b""

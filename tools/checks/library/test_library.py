@@ -32,6 +32,7 @@ def example_cases() -> Iterator[Case]:
         yield case(f"examples/c: frames by {threads} threads", examples.check_frames, threads)
     yield case("examples/c: canvas", examples.check_c_canvas)
     yield case("memcheck finds nothing in examples/c/canvas", examples.check_c_canvas, "memcheck")
+    yield case("examples/c: threads", examples.check_c_threads)
     yield case("examples/cpp: draw", examples.check_cpp)
     yield case("examples/cpp: canvas", examples.check_cpp_canvas)
     yield from canvas_examples.cases()
@@ -41,7 +42,10 @@ def example_cases() -> Iterator[Case]:
     yield case("examples/python: viewer", examples.check_viewer)
     yield case("examples/python: what the viewer refuses", examples.check_viewer_refuses)
     yield case("examples/python: gouraud", examples.check_gouraud)
+    yield case("examples/python: plots", examples.check_plots)
     yield case("examples/python: textured", examples.check_textured)
+    yield case("examples/python: seams", examples.check_seams)
+    yield case("examples/python: choropleth", examples.check_choropleth)
 
 
 CASES = [

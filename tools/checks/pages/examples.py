@@ -1,5 +1,4 @@
-"""The examples in C, C++ and Rust of README.md, docs/canvas.md and docs/posters.md, each built into a program, and what it writes
-against the program."""
+"""The examples in C, C++ and Rust of README.md and pages of docs/, each built into a program, and what it writes against the program."""
 
 from __future__ import annotations
 
@@ -17,8 +16,8 @@ from tools.checks.pages.page import blocks_of
 from tools.places import INCLUDE, STATIC_LIBRARY
 
 OUT = os.path.join(places.OUT, "pages", "programs")
-CANVAS, POSTERS, README = "docs/canvas.md", "docs/posters.md", "README.md"
-# A triangle on the canvas of 640 by 480 pixels of docs/canvas.md, and the same without a depth for its four samples.
+CANVAS, CPP_AND_RUST, POSTERS, README = "docs/canvas.md", "docs/cpp_and_rust.md", "docs/posters.md", "README.md"
+# A triangle on the canvas of 640 by 480 pixels of docs/canvas.md and docs/cpp_and_rust.md, and the same without a depth for its four samples.
 VERTICES = [[81920, 2560, 100, 255, 0, 0, 255], [158720, 115200, 200, 0, 255, 0, 255], [5120, 97280, 300, 0, 0, 255, 255]]
 SCENE: DrawList = {
     "width": 640, "height": 480, "samples": 4, "clear": [24, 24, 32], "draws": [{"vertices": VERTICES, "triangles": [[0, 1, 2]]}],
@@ -79,8 +78,8 @@ class Around(NamedTuple):
 
 AROUND = {
     (CANVAS, "c"): Around(SCENE, "#include <stdio.h>\n#include <stdlib.h>\n#include <trirast.h>\n", PIECES),
-    (CANVAS, "cpp"): Around(SCENE, CPP_HEAD.format(array(VERTICES)), CPP_END),
-    (CANVAS, "rust"): Around(
+    (CPP_AND_RUST, "cpp"): Around(SCENE, CPP_HEAD.format(array(VERTICES)), CPP_END),
+    (CPP_AND_RUST, "rust"): Around(
         SCENE,
         "use std::io::Write;\nuse trirast::Vertex;\nfn main() -> Result<(), Box<dyn std::error::Error>> {\n"
         f"let vertices = [{', '.join(map(vertex_in_rust, VERTICES))}];\n",

@@ -9,8 +9,8 @@ from tools import places
 
 PAGES = ("README.md", *(
     f"docs/{name}.md" for name in (
-        "canvas", "canvas_proved", "conformance", "draw-list", "gallery", "library", "matplotlib", "performance", "polygons", "posters", "proofs",
-        "python", "rules", "shading", "tested", "web",
+        "canvas", "canvas_proved", "conformance", "cpp_and_rust", "draw-list", "gallery", "library", "matplotlib", "performance", "polygons",
+        "posters", "proofs", "python", "rules", "shading", "tested", "web",
     )
 ))
 FENCE = re.compile(r"^```(\w*)\n(.*?)^```$", re.MULTILINE | re.DOTALL)

@@ -28,6 +28,7 @@ ELSEWHERE = {
     ("docs/library.md", "rust"): "bindings/rust/trirast, whose documentation has them",
     ("docs/library.md", "cmake"): "tools/packaging",
     ("docs/shading.md", "cpp"): "tools/checks/shade, which compares its picture",
+    ("docs/shading.md", "c"): "a part of examples/c/cube.c, as tools/checks/shade sees",
     ("README.md", "json"): "run as a list", ("docs/draw-list.md", "json"): "run as a list",
 }
 RUN = {"sh", "inline", "console", "python", "text"}

@@ -236,6 +236,19 @@ def check_killed_as_they_start(runs: Runs) -> str:
     return f"{killed} killed, {time.monotonic() - begun:.0f} s"
 
 
+def check_left_behind(runs: Runs) -> None:
+    """An error that nobody asks for, of a future that is left behind to the end of the process: the run says nothing of it."""
+    dask()
+    out = runs.path("left_behind.ppm")
+    program = ("import asyncio, sys, trirast.poster._command as command\n"
+               "left_behind = asyncio.new_event_loop().create_future()\n"
+               "left_behind.set_exception(TimeoutError('Timeout'))\n"
+               f"sys.exit(command.main([{runs.small_scene!r}, '-o', {out!r}, '--scheduler', 'local', '--workers', '1']))")
+    done = subprocess.run([sys.executable, "-c", program], capture_output=True, timeout=SECONDS)
+    must(done.returncode == 0 and done.stderr == b"", f"status {done.returncode}: {done.stderr[-500:]!r}")
+    must(os.path.exists(out), "no file")
+
+
 def check_none_starts(runs: Runs) -> str:
     """No worker lives: one line and status 1, within a bounded time, and no file."""
     dask()
@@ -365,6 +378,7 @@ def cases(options: Options) -> Iterator[Case]:
     for number in range(options.kills):
         yield case(f"a worker killed every three seconds, run {number + 1}", check_killed_workers, runs, number)
     yield case("all workers killed as they start", check_killed_as_they_start, runs)
+    yield case("an error that Dask leaves behind", check_left_behind, runs)
     yield case("workers of which none starts", check_none_starts, runs)
     # After these Dask takes minutes on a busy machine.
     yield case("the scheduler killed", check_killed_scheduler, runs, is_long=True)

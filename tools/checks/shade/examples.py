@@ -1,5 +1,5 @@
-"""The programs over the headers for shading: examples/cpp/textured.cpp and obj.cpp, also in a window, and that of
-docs/shading.md."""
+"""The programs over the headers for shading: examples/cpp/textured.cpp and obj.cpp, also in a window, examples/c/cube.c
+and those of docs/shading.md."""
 
 from __future__ import annotations
 
@@ -13,8 +13,9 @@ from tools.checks.cases import MissingError, must
 from tools.checks.library.commands import PACKAGE_ENVIRONMENT, need, python_with, run
 from tools.checks.library.screen import Screen
 from tools.checks.shade import picture
-from tools.checks.shade.programs import OUT, PROGRAMS, STRICT, library, program_of, stand_in
-from tools.places import INCLUDE
+from tools.checks.library.sanitized import SANITIZERS
+from tools.checks.shade.programs import OUT, PROGRAMS, STRICT, STRICT_C, library, program_of, stand_in
+from tools.places import EXAMPLES, INCLUDE
 
 PAGE = os.path.join("docs", "shading.md")
 FLAGS = ("-O2", "-march=x86-64-v2", "-ffp-contract=off")
@@ -55,27 +56,57 @@ def check_picture() -> None:
 
 
 def check_walk(frames: int) -> str:
-    """In a walk through a closed hall no frame is refused, and each sample shows a triangle. Returns the line."""
+    """In a walk through a closed hall no frame is refused, each sample shows a triangle, and no layer of it is missing
+    or drawn twice. Of a hall that is left open in one place samples are counted. Returns the line."""
     hall = os.path.join(OUT, "hall")
     run([sys.executable, os.path.join(PROGRAMS, "make_hall.py"), hall])
     program = program_of("obj", *FLAGS)
     model = os.path.join(hall, "hall.obj")
     line = run([program, "--path", str(frames), "--size", "320", "180", model]).decode().strip()
-    found = re.fullmatch(rf"{frames} frames, (\d+) cuts, 0 samples without a triangle", line)
+    found = re.fullmatch(rf"{frames} frames, (\d+) cuts, 0 samples without a triangle, 0 with a crack", line)
     must(found is not None and int(found[1]) > 10 * frames, line)
+    # The last face is the end of a pillar, which nobody sees.
+    lines = places.text_of(model).splitlines()
+    opened = os.path.join(hall, "open.obj")
+    with open(opened, "w", encoding="ascii") as file:
+        file.write("\n".join(lines[:-1]) + "\n")
+    missing = run([program, "--path", "3", "--size", "320", "180", opened]).decode().strip()
+    must(re.search(r" 0 samples without a triangle, [1-9]\d* with a crack", missing) is not None, missing)
     shown = picture_file.decode(run([program, "--size", *SIZE, "--output", "-", model])).pixel_data
     must(len({shown[k : k + 3] for k in range(0, len(shown), 3)}) > 500, "few colours")
     return line
 
 
-def check_page() -> str:
-    """The program of the page draws the cube: other pictures from other sides, each with the checks of its faces.
-    Returns how many pixels."""
-    (text,) = re.findall(r"```cpp\n(.*?)```", places.text_of(PAGE), re.DOTALL)
-    program, source = os.path.join(OUT, "page"), os.path.join(OUT, "page.cpp")
+# Looks up texel 581 of those whose numbers are their indices, one texture further.
+TEXEL = """
+#include <vector>
+#include <trirast_shade.hpp>
+int main() {{
+    std::vector<std::uint32_t> texels(64 * 64);
+    for (std::uint32_t k = 0; k < 64 * 64; k++) texels[k] = k;
+    const trirast::Floats u = 1 + 5.5f / 64, v = 9.5f / 64 - 3;
+    trirast::Colors out;
+    {}
+    return out.red[0] == 69 && out.green[7] == 2 && out.blue[3] == 0 ? 0 : 1;
+}}
+"""
+
+
+def built(name: str, text: str) -> str:
+    """Builds a program in C++ over the library. Returns its path."""
+    program, source = os.path.join(OUT, name), os.path.join(OUT, f"{name}.cpp")
     with open(source, "w", encoding="ascii") as file:
         file.write(text)
     run([need("g++"), *STRICT, "-O1", "-I", INCLUDE, source, library(), "-o", program, "-lm"])
+    return program
+
+
+def check_page() -> str:
+    """The program of the page draws the cube: other pictures from other sides, each with the checks of its faces.
+    Returns how many pixels."""
+    text, texel = re.findall(r"```cpp\n(.*?)```", places.text_of(PAGE), re.DOTALL)
+    run([built("texel", TEXEL.format(texel))])
+    program = built("page", text)
     shown = []
     for turn in ("0.6", "1.4"):
         pixels = picture_file.decode(run([program, turn])).pixel_data
@@ -85,6 +116,24 @@ def check_page() -> str:
         must(len(frequent) >= 5, f"{len(frequent)} colours of faces and background")
     must(20000 < shown[0] < 60000 and shown[0] != shown[1], f"{shown} pixels of a cube")
     return f"{shown[0]} and {shown[1]} pixels of the cube"
+
+
+def check_in_c() -> str:
+    """examples/c/cube.c has the shader that the page shows. It draws the cube from all sides and, where the near plane
+    cuts it, from near, and sanitizers find nothing. Returns how much of each frame the cube takes."""
+    path = os.path.join(EXAMPLES, "c", "cube.c")
+    (shader,) = re.findall(r"```c\n(.*?)```", places.text_of(PAGE), re.DOTALL)
+    must(shader in places.text_of(path), "another shader than that of the page")
+    program = os.path.join(OUT, "cube")
+    run([need("gcc"), *STRICT_C, "-O1", "-g", *SANITIZERS, "-I", INCLUDE, path, library(), "-o", program, "-lm"])
+    shares = []
+    for turn in ("0", "0.08", "0.1667", "0.45", "0.6"):
+        pixels = picture_file.decode(run([program, turn])).pixel_data
+        colors = [pixels[k : k + 3] for k in range(0, len(pixels), 3)]
+        shares.append(100 * (len(colors) - colors.count(bytes((24, 24, 32)))) // len(colors))
+        must(len([color for color in set(colors) if colors.count(color) > 300]) >= 4, f"few colours at {turn}")
+    must(len(set(shares)) == 5 and max(shares) > 80 and 10 < min(shares) < 40, f"{shares}")
+    return ", ".join(f"{share} %" for share in shares)
 
 
 def check_python() -> str:

@@ -8,6 +8,7 @@
 
 #include "frame.hpp"
 #include "reference.hpp"
+#include "ways.hpp"
 
 namespace {
 
@@ -91,7 +92,7 @@ int main() {
             options.width = WIDTH, options.height = HEIGHT, options.samples = samples;
             trirast::Canvas canvas(options);
             draw(seen.mesh, samples);
-            trirast::shade(canvas, seen.triangles, rate, {9, 8, 7}, seen.shader(model));
+            way::shade(canvas, seen.triangles, rate, {9, 8, 7}, seen.shader(model));
             write(samples);
         }
     return 0;

@@ -1,8 +1,11 @@
-// Tests of trirast_shade.hpp against exact edge functions, and against the picture by its definition (reference.hpp).
+// Tests of trirast_shade.hpp, or trirast_shade.h, against exact edge functions, and against the picture by its
+// definition (reference.hpp).
 //
 //     main [--seeds 2]
+//     main --points 200
 //
-// Every line says what was counted. Exit status 1 if a count is another than it has to be.
+// Every line says what was counted. Exit status 1 if a count is another than it has to be. --points prints weights of
+// eight times as many points, with what they are made of.
 #include <cmath>
 #include <cstdio>
 #include <cstdlib>
@@ -138,6 +141,26 @@ Eight points_in(const Triangles &given, scene::Numbers &numbers) {
     return at;
 }
 
+// A point with corners, w, weights and differences, for references in other languages.
+void print_point(const Triangles &given, const Eight &at, std::size_t lane) {
+    for (std::size_t k = 3 * lane; k < 3 * lane + 3; k++)
+        std::printf("%d %d %a ", given.vertices[k].x, given.vertices[k].y, double{given.w[k]});
+    std::printf("%d %d", at.x[lane], at.y[lane]);
+    for (const auto *each : {&at.weight, &at.right, &at.down})
+        for (const auto &of_corner : *each) std::printf(" %a", double{of_corner[lane]});
+    std::printf("\n");
+}
+
+void print_points(int rounds) {
+    scene::Numbers numbers(11);
+    for (int round = 0; round < rounds; round++) {
+        const Triangles given = triangles_of(numbers);
+        Eight at = points_in(given, numbers);
+        weigh_eight(given.vertices, given.w, given.indices, at);
+        for (std::size_t lane = 0; lane < 8; lane++) print_point(given, at, lane);
+    }
+}
+
 void weights(int rounds) {
     scene::Numbers numbers(5);
     Worst worst;
@@ -152,9 +175,9 @@ void weights(int rounds) {
             trirast_edges wanted;
             expect(trirast_edges_at_point(&corners, at.x[lane], at.y[lane], &wanted) == TRIRAST_STATUS_OK, "a position",
                    "weights");
-            worst.edges_equal += edges.a[lane] == static_cast<float>(wanted.a) &&
-                                 edges.b[lane] == static_cast<float>(wanted.b) &&
-                                 edges.c[lane] == static_cast<float>(wanted.c);
+            worst.edges_equal += edges.of_corner[0][lane] == static_cast<float>(wanted.a) &&
+                                 edges.of_corner[1][lane] == static_cast<float>(wanted.b) &&
+                                 edges.of_corner[2][lane] == static_cast<float>(wanted.c);
             const reference::Edges e = reference::edges(a, b, c, at.x[lane], at.y[lane]);
             if (e.area > 0 && e.a >= 0 && e.b >= 0 && e.c >= 0) add_point(given, at, lane, worst);
         }
@@ -214,10 +237,10 @@ void patterns() {
 
 // A shader that records what it is asked: each pixel and triangle once, as the ids say, in the place that the rate
 // says.
-void pairs(At rate, std::uint32_t samples) {
+void pairs(const char *name, At rate, std::uint32_t samples) {
     constexpr std::uint32_t side = 100;
-    const std::string where = std::string(name_of(rate)) + " of " + std::to_string(samples);
-    const scene::Scene given = scene::made("ring", 9, 1);
+    const std::string where = std::string(name) + " " + name_of(rate) + " of " + std::to_string(samples);
+    const scene::Scene given = scene::made(name, 9, 1);
     const Frame frame(given, side, side);
     trirast::Canvas canvas = canvas_of(side, side, samples);
     frame.draw_ids(canvas);
@@ -250,7 +273,9 @@ void pairs(At rate, std::uint32_t samples) {
             colors[0][lane] = colors[1][lane] = colors[2][lane] = 77;
             unused += !at.used[lane];
             foreign += static_cast<std::size_t>(at.id[lane]) >= known;
-            if (!at.used[lane]) continue;
+            // Blocks that reach beyond the canvas are shaded as a whole.
+            constexpr std::int32_t end = 256 * side;
+            if (!at.used[lane] || at.x[lane] >= end || at.y[lane] >= end) continue;
             asked.insert({at.x[lane], at.y[lane], static_cast<std::uint32_t>(at.id[lane])});
             for (const auto &weight : at.weight) outside += weight[lane] < 0;
         }
@@ -264,7 +289,7 @@ void pairs(At rate, std::uint32_t samples) {
             background += ids[s][p] >= known && c[0] == 1 && c[1] == 2 && c[2] == 3;
         }
     }
-    std::printf("pairs, %-12s %6zu wanted, %6zu asked in %5zu calls with %5zu lanes to spare, %zu weights below 0; %zu "
+    std::printf("pairs, %-18s %6zu wanted, %6zu asked in %5zu calls with %5zu lanes to spare, %zu weights below 0; %zu "
                 "samples shaded, %zu of "
                 "the background\n",
                 where.c_str(), wanted.size(), asked.size(), calls, unused, outside, kept, background);
@@ -302,6 +327,61 @@ void bytes() {
     }
 }
 
+std::vector<std::array<scene::Vertex, 3>> corners_of(const scene::Scene &given, const trirast::Clipped &mesh) {
+    const auto vertex = [&](std::uint32_t index) {
+        if (index < mesh.first_cut) return given.mesh.vertices[index];
+        const trirast::Cut &cut = mesh.cuts[index - mesh.first_cut];
+        const std::uint32_t *at = &given.mesh.indices[3 * std::size_t{cut.triangle}];
+        const scene::Vertex &a = given.mesh.vertices[at[0]], &b = given.mesh.vertices[at[1]],
+                            &c = given.mesh.vertices[at[2]];
+        const auto sum = [&](float scene::Vertex::*member) {
+            return static_cast<float>(cut.weights[0] * a.*member + cut.weights[1] * b.*member +
+                                      cut.weights[2] * c.*member);
+        };
+        using V = scene::Vertex;
+        return V{sum(&V::x), sum(&V::y), sum(&V::z), sum(&V::u), sum(&V::v), sum(&V::nx), sum(&V::ny), sum(&V::nz)};
+    };
+    std::vector<std::array<scene::Vertex, 3>> found;
+    for (std::size_t k = 0; k < mesh.indices.size(); k += 3)
+        found.push_back({vertex(mesh.indices[k]), vertex(mesh.indices[k + 1]), vertex(mesh.indices[k + 2])});
+    return found;
+}
+
+// Numbers of corners, also of those that a cut made: by weights and by their differences.
+void normals() {
+    constexpr std::size_t width = 250, height = 200;
+    const scene::Scene given = scene::made("front", 6, 1.25);
+    const Frame frame(given, width, height);
+    const std::vector<std::array<scene::Vertex, 3>> corners = corners_of(given, frame.mesh());
+    for (const int by : {0, 1, 2}) {
+        const float size = by ? 4000 : 127;
+        trirast::Canvas canvas = canvas_of(width, height, 1);
+        frame.draw_ids(canvas);
+        const std::vector<std::uint32_t> ids = canvas.ids(0);
+        frame.shade_normals(canvas, by, size);
+        const std::vector<std::uint8_t> got = canvas.colors(0, TRIRAST_FORMAT_RGB8);
+        std::size_t wrong = 0, between = 0;
+        for (std::size_t p = 0; p < ids.size(); p++) {
+            const std::int64_t x = static_cast<std::int64_t>(256 * (p % width) + 128),
+                               y = static_cast<std::int64_t>(256 * (p / width) + 128);
+            const reference::Steps steps = reference::steps(frame.mesh(), ids[p], x, y, by);
+            if (steps.tie) continue;
+            const auto value = [&](float scene::Vertex::*member) {
+                double sum = 127.5;
+                for (std::size_t c = 0; c < 3; c++) sum += double{size} * steps.k[c] * corners[ids[p]][c].*member;
+                return sum;
+            };
+            const double wanted[3] = {value(&scene::Vertex::nx), value(&scene::Vertex::ny), value(&scene::Vertex::nz)};
+            for (std::size_t c = 0; c < 3; c++) {
+                wrong += std::abs(int{got[3 * p + c]} - int{reference::byte_of(wanted[c])}) > 1;
+                between += wanted[c] > 0 && wanted[c] < 255 && std::fabs(wanted[c] - 127.5) > 4;
+            }
+        }
+        std::printf("normals, %d: %zu of %zu wrong, %zu neither cut off nor 0\n", by, wrong, 3 * ids.size(), between);
+        expect(wrong == 0 && between * 4 > ids.size(), "a number of the corners", "normals");
+    }
+}
+
 // ---- Pictures
 
 struct Picture {
@@ -320,26 +400,6 @@ Picture drawn(const Frame &frame, trirast::Canvas canvas, std::uint32_t samples,
     frame.draw_glass(canvas);
     for (std::uint32_t s = 0; s < samples; s++) found.samples.push_back(canvas.colors(s, TRIRAST_FORMAT_RGB8));
     found.resolved = canvas.pixels(TRIRAST_FORMAT_RGB8);
-    return found;
-}
-
-std::vector<std::array<scene::Vertex, 3>> corners_of(const scene::Scene &given, const trirast::Clipped &mesh) {
-    const auto vertex = [&](std::uint32_t index) {
-        if (index < mesh.first_cut) return given.mesh.vertices[index];
-        const trirast::Cut &cut = mesh.cuts[index - mesh.first_cut];
-        const std::uint32_t *at = &given.mesh.indices[3 * std::size_t{cut.triangle}];
-        const scene::Vertex &a = given.mesh.vertices[at[0]], &b = given.mesh.vertices[at[1]],
-                            &c = given.mesh.vertices[at[2]];
-        const auto sum = [&](float scene::Vertex::*member) {
-            return static_cast<float>(cut.weights[0] * a.*member + cut.weights[1] * b.*member +
-                                      cut.weights[2] * c.*member);
-        };
-        using V = scene::Vertex;
-        return V{sum(&V::x), sum(&V::y), sum(&V::z), sum(&V::u), sum(&V::v), sum(&V::nx), sum(&V::ny), sum(&V::nz)};
-    };
-    std::vector<std::array<scene::Vertex, 3>> found;
-    for (std::size_t k = 0; k < mesh.indices.size(); k += 3)
-        found.push_back({vertex(mesh.indices[k]), vertex(mesh.indices[k + 1]), vertex(mesh.indices[k + 2])});
     return found;
 }
 
@@ -456,8 +516,9 @@ void run(int seeds) {
     weights(seeds == 1 ? 10000 : 100000);
     patterns();
     for (const std::uint32_t samples : {4u, 1u, 2u, 8u, 16u})
-        for (const At rate : {At::pixel, At::centre, At::sample}) pairs(rate, samples);
-    bytes(), windows(), cleared();
+        for (const At rate : {At::pixel, At::centre, At::sample}) pairs("ring", rate, samples);
+    pairs("front", At::pixel, 16); // where a triangle is all that many pixels show
+    bytes(), normals(), windows(), cleared();
     for (const At rate : {At::pixel, At::sample}) {
         for (const char *name : {"ring", "front", "dust"}) scene_by_reference(name, seeds, 4, rate);
         for (const std::uint32_t samples : {1u, 2u, 8u, 16u}) scene_by_reference("ring", 1, samples, rate);
@@ -469,7 +530,9 @@ void run(int seeds) {
 int main(int count, char **arguments) {
     std::setvbuf(stdout, nullptr, _IOLBF, 0);
     try {
-        run(count == 3 && !std::strcmp(arguments[1], "--seeds") ? std::atoi(arguments[2]) : 2);
+        const int number = count == 3 ? std::atoi(arguments[2]) : 2;
+        if (count == 3 && !std::strcmp(arguments[1], "--points")) return print_points(number), 0;
+        run(number);
     } catch (const std::exception &error) {
         expect(false, error.what(), "an exception");
     }

@@ -110,6 +110,24 @@ inline Weights weights(const trirast::Clipped &mesh, std::uint32_t id, std::int6
     return {{n[0] / sum, n[1] / sum, n[2] / sum}, sum};
 }
 
+// The weights (by = 0), or how they differ at the pixel to the right (1) or below (2), and whether it is nearly a tie
+// which neighbour is taken.
+struct Steps {
+    double k[3];
+    bool tie;
+};
+
+inline Steps steps(const trirast::Clipped &mesh, std::uint32_t id, std::int64_t x, std::int64_t y, int by) {
+    const Weights here = weights(mesh, id, x, y);
+    if (by == 0) return {{here.k[0], here.k[1], here.k[2]}, false};
+    const std::int64_t dx = by == 1 ? 256 : 0, dy = by == 2 ? 256 : 0;
+    Weights next = weights(mesh, id, x + dx, y + dy);
+    const double share = next.sum / here.sum, sign = share < 0.5 ? -1 : 1;
+    if (share < 0.5) next = weights(mesh, id, x - dx, y - dy);
+    return {{sign * (next.k[0] - here.k[0]), sign * (next.k[1] - here.k[1]), sign * (next.k[2] - here.k[2])},
+            std::fabs(share - 0.5) < 1e-4};
+}
+
 using Color = std::array<double, 3>;
 
 struct Shaded {
@@ -148,14 +166,11 @@ inline Shaded shaded(const scene::Scene &given, const trirast::Clipped &mesh,
     };
     Shaded found{};
     double longest = 0;
-    for (int down = 0; down < 2; down++) {
-        Weights next = weights(mesh, id, x + (down ? 0 : 256), y + (down ? 256 : 0));
-        const double share = next.sum / here.sum;
-        found.tie = found.tie || std::fabs(share - 0.5) < 1e-4;
-        double sign = 1;
-        if (share < 0.5) next = weights(mesh, id, x - (down ? 0 : 256), y - (down ? 256 : 0)), sign = -1;
-        const double du = sign * (sum(next, &scene::Vertex::u) - sum(here, &scene::Vertex::u)),
-                     dv = sign * (sum(next, &scene::Vertex::v) - sum(here, &scene::Vertex::v));
+    for (const int by : {1, 2}) {
+        const Steps step = steps(mesh, id, x, y, by);
+        found.tie = found.tie || step.tie;
+        const double du = step.k[0] * at[0].u + step.k[1] * at[1].u + step.k[2] * at[2].u,
+                     dv = step.k[0] * at[0].v + step.k[1] * at[1].v + step.k[2] * at[2].v;
         longest = std::max(longest, std::hypot(du, dv) * given.texture.side);
     }
     const double top = static_cast<double>(given.texture.levels.size()) - 1;

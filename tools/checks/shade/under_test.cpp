@@ -1,7 +1,7 @@
 #include "under_test.hpp"
 
 #include "frame.hpp"
-#include "trirast_shade.hpp"
+#include "ways.hpp"
 
 namespace {
 
@@ -27,19 +27,14 @@ EdgesOfEight weigh_eight(const std::vector<trirast_vertex> &vertices, const std:
     trirast::Fragments fragments;
     fragments.id = trirast::Integers::load(at.id), fragments.x = trirast::Integers::load(at.x),
     fragments.y = trirast::Integers::load(at.y);
-    fragments.used = -1;
-    const trirast::detail::TriangleLanes lanes = trirast::detail::triangles_of(triangles.data(), fragments.id);
-    const trirast::detail::EdgeLanes edges =
-        trirast::detail::edges_at(lanes, fragments.x - lanes.ax, fragments.y - lanes.ay);
-    trirast::detail::weigh(triangles.data(), fragments);
-    at = numbers_of(fragments);
     EdgesOfEight found;
-    edges.a.store(found.a), edges.b.store(found.b), edges.c.store(found.c);
+    way::weigh(triangles, fragments, found.of_corner);
+    at = numbers_of(fragments);
     return found;
 }
 
 void place_of(std::uint32_t samples, std::uint32_t s, std::int32_t &x, std::int32_t &y) {
-    const trirast::SamplePlace place = trirast::sample_place(samples, s);
+    const trirast_shade_place place = trirast_shade_sample_place(samples, s);
     x = place.x, y = place.y;
 }
 
@@ -63,7 +58,7 @@ void Frame::draw_ids(trirast::TileRows &rows) const { scene::draw_ids(rows, part
 void Frame::draw_glass(trirast::TileRows &rows) const { scene::draw_glass(rows, parts_->seen); }
 
 void Frame::shade(trirast::TileRows &rows, At rate) const {
-    trirast::shade(rows, parts_->seen.triangles, rate_of(rate), scene::background(parts_->model.scene),
+    way::shade(rows, parts_->seen.triangles, rate_of(rate), scene::background(parts_->model.scene),
                    parts_->seen.shader(parts_->model));
 }
 
@@ -72,15 +67,19 @@ void Frame::shade_tiles(trirast::TileRows &rows, At rate, std::uint32_t part, st
     const scene::Textured shader = parts_->seen.shader(parts_->model);
     trirast::TileEntries entries;
     for (std::uint32_t k = part; k < tiles; k += parts)
-        trirast::shade_tile(rows, k % columns, k / columns, parts_->seen.triangles, rate_of(rate),
+        way::shade_tile(rows, k % columns, k / columns, parts_->seen.triangles, rate_of(rate),
                             scene::background(parts_->model.scene), shader, entries);
+}
+
+void Frame::shade_normals(trirast::TileRows &rows, int by, float size) const {
+    way::shade_normals(rows, parts_->model, parts_->seen, by, size);
 }
 
 void Frame::shade_by(trirast::TileRows &rows, At rate, const std::uint8_t (&background)[3], std::size_t triangles,
                      const Shader &shader) const {
     const trirast::Clipped &seen = parts_->seen.mesh;
     const trirast::ShadeTriangles shaded(seen.vertices, seen.w, {seen.indices.data(), 3 * triangles});
-    trirast::shade(rows, shaded, rate_of(rate), {background[0], background[1], background[2]},
+    way::shade(rows, shaded, rate_of(rate), {background[0], background[1], background[2]},
                    [&](const trirast::Fragments &at, trirast::Colors &out) {
                        float colors[3][8];
                        shader(numbers_of(at), colors);

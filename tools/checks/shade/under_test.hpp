@@ -1,5 +1,5 @@
-// What is tested of trirast_shade.hpp and of examples/cpp, as functions of one source: a wrong edit compiles
-// under_test.cpp alone. Nothing else includes these headers.
+// What is tested of trirast_shade.hpp, trirast_shade.h and examples/cpp, as functions of one source: a wrong edit
+// compiles under_test.cpp alone, and in_c.c. Nothing else includes these headers.
 #ifndef UNDER_TEST_HPP
 #define UNDER_TEST_HPP
 
@@ -24,7 +24,7 @@ struct Eight {
 
 // The edge functions of eight triangles, each at a point; and all of `at` that follows from ids and points.
 struct EdgesOfEight {
-    float a[8], b[8], c[8];
+    float of_corner[3][8];
 };
 EdgesOfEight weigh_eight(const std::vector<trirast_vertex> &vertices, const std::vector<float> &w,
                          const std::vector<std::uint32_t> &indices, Eight &at);
@@ -53,6 +53,10 @@ public:
     // By any shader, of the first triangles alone.
     void shade_by(trirast::TileRows &rows, At rate, const std::uint8_t (&background)[3], std::size_t triangles,
                   const Shader &shader) const;
+
+    // 127.5 and `size` times the normals as colours: by weights, or by their difference to the right (by = 1) or below
+    // (by = 2).
+    void shade_normals(trirast::TileRows &rows, int by, float size) const;
 
 private:
     struct Parts;

@@ -17,7 +17,7 @@ pub const TRIRAST_STACK_TEXT: usize = 196_608;
 /// No index: what an error names is in no draw, or is no element.
 pub const TRIRAST_NONE: usize = usize::MAX;
 /// Bytes that are enough for each message of [`trirast_error_message`] with its zero byte.
-pub const TRIRAST_ERROR_MESSAGE_SIZE: usize = 96;
+pub const TRIRAST_ERROR_MESSAGE_SIZE: usize = 128;
 
 // What a call returns.
 pub const TRIRAST_STATUS_OK: u32 = 0;
@@ -38,6 +38,7 @@ pub const TRIRAST_STATUS_BAD_TRIANGLE: u32 = 14;
 pub const TRIRAST_STATUS_BAD_BATCH: u32 = 15;
 pub const TRIRAST_STATUS_BAD_STRIDE: u32 = 16;
 pub const TRIRAST_STATUS_BAD_TILE: u32 = 17;
+pub const TRIRAST_STATUS_BAD_INDEX_SIZE: u32 = 18;
 
 // Why a text is no draw list: the numbers and names of docs/draw-list.md.
 pub const TRIRAST_LIST_NOT_JSON: u32 = 1;
@@ -65,6 +66,15 @@ pub const TRIRAST_BATCH_BAD_RING: u32 = 11;
 pub const TRIRAST_BATCH_BAD_POLYGON: u32 = 12;
 pub const TRIRAST_BATCH_TOO_FEW_COLORS: u32 = 13;
 pub const TRIRAST_BATCH_TOO_FEW_DEPTHS: u32 = 14;
+pub const TRIRAST_BATCH_BAD_TOPOLOGY: u32 = 15;
+pub const TRIRAST_BATCH_BAD_CULL: u32 = 16;
+pub const TRIRAST_BATCH_BAD_DEPTH_TEST: u32 = 17;
+pub const TRIRAST_BATCH_BAD_DEPTH_WRITE: u32 = 18;
+pub const TRIRAST_BATCH_BAD_KEEP: u32 = 19;
+pub const TRIRAST_BATCH_BAD_SCISSOR_ENABLE: u32 = 20;
+pub const TRIRAST_BATCH_BAD_FACTOR: u32 = 21;
+pub const TRIRAST_BATCH_BAD_OPERATION: u32 = 22;
+pub const TRIRAST_BATCH_BAD_FILL_RULE: u32 = 23;
 
 // Which points are inside of a polygon, by the edges of its rings that a ray to the left crosses.
 pub const TRIRAST_FILL_EVEN_ODD: u32 = 0;
@@ -120,10 +130,12 @@ pub const TRIRAST_OPERATION_REVERSE_SUBTRACT: u32 = 3;
 pub const TRIRAST_OPERATION_MIN: u32 = 4;
 pub const TRIRAST_OPERATION_MAX: u32 = 5;
 
+/// The greatest vertex_stride of a batch, in bytes.
+pub const TRIRAST_MAX_STRIDE: usize = 2048;
 /// The width and height of a tile of a canvas, in pixels.
 pub const TRIRAST_TILE_SIZE: u32 = 64;
 /// Bytes of the samples of one index of a block of 8 by 8 pixels: the unit of a canvas's memory.
-pub const TRIRAST_PLANE_BYTES: usize = 320;
+pub const TRIRAST_PLANE_BYTES: usize = 384;
 /// Scratch memory of a column of 8 pixels of a canvas: its flags, and by the nonzero rule its counters.
 pub const TRIRAST_FLAGS_BYTES: usize = 256;
 pub const TRIRAST_COUNTERS_BYTES: usize = 8192;
@@ -132,6 +144,8 @@ pub const TRIRAST_COUNTERS_BYTES: usize = 8192;
 pub const TRIRAST_FORMAT_RGB8: u32 = 0;
 pub const TRIRAST_FORMAT_RGBA8: u32 = 1;
 pub const TRIRAST_FORMAT_BGRA8: u32 = 2;
+pub const TRIRAST_FORMAT_RGBA8_STRAIGHT: u32 = 3;
+pub const TRIRAST_FORMAT_BGRA8_STRAIGHT: u32 = 4;
 
 // What a picture shows.
 pub const TRIRAST_OUTPUT_COLOR: u32 = 0;
@@ -169,6 +183,7 @@ pub struct trirast_error {
     pub cause: u32,
     pub draw: usize,
     pub element: usize,
+    pub value: usize,
 }
 
 /// What the new colour does to the stored one.

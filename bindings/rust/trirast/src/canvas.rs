@@ -9,16 +9,23 @@ use crate::batch::Batch;
 use crate::error::{checked, done};
 use crate::memory::Memory;
 use crate::parts::{by_threads, pixel_row, Rows};
-use crate::{Draw, Error, Indices, State, Vertex};
+use crate::{Draw, Error, Indices, State, Vertices};
 
 /// How the colour of a pixel lies in bytes, in the order of the name.
 #[derive(Clone, Copy, Debug, PartialEq, Eq, Hash)]
 #[non_exhaustive]
 pub enum Format {
+    /// Red, green and blue.
     Rgb8 = sys::TRIRAST_FORMAT_RGB8 as isize,
-    /// Alpha is written as 255, and is not read.
+    /// Red, green, blue and alpha, as they are stored. Without stored alpha 255 is written, and none is read.
     Rgba8 = sys::TRIRAST_FORMAT_RGBA8 as isize,
+    /// The same in the order blue, green, red and alpha.
     Bgra8 = sys::TRIRAST_FORMAT_BGRA8 as isize,
+    /// Red, green, blue and alpha as image files have them: colours are divided by alpha when they are written, and multiplied
+    /// by it when they are loaded.
+    Rgba8Straight = sys::TRIRAST_FORMAT_RGBA8_STRAIGHT as isize,
+    /// The same in the order blue, green, red and alpha.
+    Bgra8Straight = sys::TRIRAST_FORMAT_BGRA8_STRAIGHT as isize,
 }
 
 impl Format {
@@ -35,7 +42,9 @@ impl Format {
 /// The pixel of the screen at which the upper left one of a canvas lies.
 #[derive(Clone, Copy, Debug, Default, PartialEq, Eq, Hash)]
 pub struct Origin {
+    /// To the right, in pixels.
     pub x: i32,
+    /// Downwards, in pixels.
     pub y: i32,
 }
 
@@ -44,6 +53,7 @@ pub struct Origin {
 pub struct Clear {
     /// Red, green, blue and alpha, of which a canvas without alpha does not look at the last.
     pub color: [u8; 4],
+    /// 65535 is farthest.
     pub depth: u16,
 }
 
@@ -61,6 +71,7 @@ impl From<[u8; 3]> for Clear {
 }
 
 impl From<[u8; 4]> for Clear {
+    /// Red, green, blue and alpha.
     fn from(color: [u8; 4]) -> Clear {
         Clear { color, ..Clear::default() }
     }
@@ -72,6 +83,7 @@ impl From<[u8; 4]> for Clear {
 pub struct Sample {
     /// Red, green, blue.
     pub color: [u8; 3],
+    /// 65535 is farthest.
     pub depth: u16,
 }
 
@@ -93,7 +105,7 @@ impl CanvasBuilder {
         CanvasBuilder { samples, ..self }
     }
 
-    /// Whether alpha is stored. The library does not have such canvases yet: `build` returns `BadCanvas`.
+    /// Whether alpha is stored. Without this it is not.
     pub fn alpha(self, alpha: bool) -> CanvasBuilder {
         CanvasBuilder { alpha, ..self }
     }
@@ -189,7 +201,7 @@ unsafe impl Send for TileRows<'_> {}
 
 impl TileRows<'static> {
     /// Begins a canvas of a width and a height of 1 to 4096 pixels each, with one sample a pixel, without alpha, at the upper left
-    /// of the screen, whose calls run on one thread. It takes 5.2 bytes a sample, 6.2 with alpha, in whole tiles of 64 by 64
+    /// of the screen, whose calls run on one thread. It takes 6.2 bytes a sample, in whole tiles of 64 by 64
     /// pixels.
     pub fn builder(width: u32, height: u32) -> CanvasBuilder {
         CanvasBuilder { width, height, samples: 1, alpha: false, origin: Origin::default(), threads: 1 }
@@ -272,7 +284,7 @@ impl TileRows<'_> {
 
     /// Makes a picture the colour of all samples of its pixels. Depths are unchanged. `pixels` begins with the first pixel of
     /// these tile rows, and rows begin `stride` bytes behind each other, or one at the end of another if it is 0. The last row
-    /// needs no padding. Without alpha in the format it is 255.
+    /// needs no padding. Alpha is 255 if the format has none.
     ///
     /// # Errors
     ///
@@ -300,14 +312,19 @@ impl TileRows<'_> {
     }
 
     /// Draws over what is stored, by the indices of vertices: slices or arrays of `u16` or `u32`, or [`Indices::InOrder`]. A
-    /// picture does not depend on the calls among which its triangles are split. Vertices and indices of `u32` are not copied.
+    /// picture does not depend on the calls among which its triangles are split. Vertices and indices are not copied.
     ///
     /// # Errors
     ///
     /// `OutOfMemory`, or `BadBatch` with the first error of the first draw that has one: `NotWhole` if the indices make no whole
     /// triangles or quads; `BadIndex` if an index is not less than the number of its draw's vertices; `BadPosition` if a vertex
     /// that an index names is too far away, also as seen from the origin; or `NotConvex`.
-    pub fn draw<'a>(&mut self, vertices: &'a [Vertex], indices: impl Into<Indices<'a>>, state: State) -> Result<(), Error> {
+    pub fn draw<'a>(
+        &mut self,
+        vertices: impl Into<Vertices<'a>>,
+        indices: impl Into<Indices<'a>>,
+        state: State,
+    ) -> Result<(), Error> {
         self.draw_batch(&[Draw::new(vertices, indices).state(state)])
     }
 

@@ -5,6 +5,8 @@ use std::os::raw::c_char;
 
 use trirast_sys as sys;
 
+use crate::{BatchCause, ListCause};
+
 /// Why a call failed, and where. Its text is one line, as "draw 3: the indices make no whole triangles or quads".
 #[derive(Clone, Copy, Debug, PartialEq, Eq)]
 pub struct Error {
@@ -15,7 +17,7 @@ pub struct Error {
 #[derive(Clone, Copy, Debug, PartialEq, Eq, Hash)]
 #[non_exhaustive]
 pub enum ErrorKind {
-    /// The text is no draw list, and why.
+    /// The text is no draw list, and why it is none.
     BadList(ListCause),
     /// A batch cannot be drawn, and why.
     BadBatch(BatchCause),
@@ -45,95 +47,25 @@ pub enum ErrorKind {
     BadPixel,
     /// The list has no such draw, or the draw no such triangle.
     BadTriangle,
-    /// A stride is no multiple of an element's bytes.
+    /// A stride is no multiple of an element's bytes, or too long.
     BadStride,
-    /// The canvas has no such tile. No function of this crate asks for one.
+    /// The tile rows have no such tile.
     BadTile,
+    /// There are no indices of this size. No function of this crate passes another.
+    BadIndexSize,
     /// A status that this crate does not know: the library is a later one.
     Other(u32),
-}
-
-/// Why a text is no draw list: the numbers and names of `docs/draw-list.md`.
-#[derive(Clone, Copy, Debug, PartialEq, Eq, Hash)]
-#[non_exhaustive]
-pub enum ListCause {
-    NotJson,
-    UnknownKey,
-    MissingKey,
-    WrongKind,
-    OutOfRange,
-    BadIndex,
-    TooMany,
-    TwoLists,
-    NotConvex,
-    /// A number that this crate does not know: the library is a later one.
-    Other(u32),
-}
-
-impl ListCause {
-    fn of_number(number: u32) -> ListCause {
-        match number {
-            sys::TRIRAST_LIST_NOT_JSON => ListCause::NotJson,
-            sys::TRIRAST_LIST_UNKNOWN_KEY => ListCause::UnknownKey,
-            sys::TRIRAST_LIST_MISSING_KEY => ListCause::MissingKey,
-            sys::TRIRAST_LIST_WRONG_KIND => ListCause::WrongKind,
-            sys::TRIRAST_LIST_OUT_OF_RANGE => ListCause::OutOfRange,
-            sys::TRIRAST_LIST_BAD_INDEX => ListCause::BadIndex,
-            sys::TRIRAST_LIST_TOO_MANY => ListCause::TooMany,
-            sys::TRIRAST_LIST_TWO_LISTS => ListCause::TwoLists,
-            sys::TRIRAST_LIST_NOT_CONVEX => ListCause::NotConvex,
-            other => ListCause::Other(other),
-        }
-    }
-}
-
-/// Why a batch cannot be drawn.
-#[derive(Clone, Copy, Debug, PartialEq, Eq, Hash)]
-#[non_exhaustive]
-pub enum BatchCause {
-    /// Fewer vertices are left than the draw has. No function of this crate passes such a batch.
-    TooFewVertices,
-    /// Fewer indices are left than the draw has. No function of this crate passes such a batch.
-    TooFewIndices,
-    /// A number of the state is outside of its range. No function of this crate passes such a state.
-    BadState,
-    /// The indices make no whole triangles or quads.
-    NotWhole,
-    /// The id of a triangle would be greater than 16,777,215.
-    TooManyIds,
-    /// An index is not less than the number of the draw's vertices.
-    BadIndex,
-    /// A vertex that an index names is too far away, also as seen from the origin of the canvas.
-    BadPosition,
-    /// A quad is not strictly convex.
-    NotConvex,
-    /// A vertex or an index is in no draw. No function of this crate passes such a batch.
-    LeftOver,
-    /// A number that this crate does not know: the library is a later one.
-    Other(u32),
-}
-
-impl BatchCause {
-    fn of_number(number: u32) -> BatchCause {
-        match number {
-            sys::TRIRAST_BATCH_TOO_FEW_VERTICES => BatchCause::TooFewVertices,
-            sys::TRIRAST_BATCH_TOO_FEW_INDICES => BatchCause::TooFewIndices,
-            sys::TRIRAST_BATCH_BAD_STATE => BatchCause::BadState,
-            sys::TRIRAST_BATCH_NOT_WHOLE => BatchCause::NotWhole,
-            sys::TRIRAST_BATCH_TOO_MANY_IDS => BatchCause::TooManyIds,
-            sys::TRIRAST_BATCH_BAD_INDEX => BatchCause::BadIndex,
-            sys::TRIRAST_BATCH_BAD_POSITION => BatchCause::BadPosition,
-            sys::TRIRAST_BATCH_NOT_CONVEX => BatchCause::NotConvex,
-            sys::TRIRAST_BATCH_LEFT_OVER => BatchCause::LeftOver,
-            other => BatchCause::Other(other),
-        }
-    }
 }
 
 impl Error {
     /// The error of a status that is in no draw.
     pub(crate) fn of_status(status: u32) -> Error {
-        Error { raw: sys::trirast_error { status, cause: 0, draw: sys::TRIRAST_NONE, element: sys::TRIRAST_NONE } }
+        Error::of_cause(status, 0)
+    }
+
+    pub(crate) fn of_cause(status: u32, cause: u32) -> Error {
+        let none = sys::TRIRAST_NONE;
+        Error { raw: sys::trirast_error { status, cause, draw: none, element: none, value: none } }
     }
 
     /// The error of memory that this crate could not allocate.
@@ -161,6 +93,7 @@ impl Error {
             sys::TRIRAST_STATUS_BAD_TRIANGLE => ErrorKind::BadTriangle,
             sys::TRIRAST_STATUS_BAD_STRIDE => ErrorKind::BadStride,
             sys::TRIRAST_STATUS_BAD_TILE => ErrorKind::BadTile,
+            sys::TRIRAST_STATUS_BAD_INDEX_SIZE => ErrorKind::BadIndexSize,
             other => ErrorKind::Other(other),
         }
     }
@@ -170,9 +103,15 @@ impl Error {
         index(self.raw.draw)
     }
 
-    /// Returns which one of the draw's own vertices, indices or quads is wrong, from 0. Returns `None` if it is none, or if the library does not say which.
+    /// Returns which one of the draw's own vertices, indices or quads is wrong, from 0, or which ring, polygon or corner: each
+    /// [`BatchCause`] says what it names. Returns `None` if it is none of these.
     pub fn element(&self) -> Option<usize> {
         index(self.raw.element)
+    }
+
+    /// Returns the index itself, if an index is wrong.
+    pub fn value(&self) -> Option<usize> {
+        index(self.raw.value)
     }
 }
 

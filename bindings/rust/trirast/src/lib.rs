@@ -25,23 +25,36 @@
 //! # Ok::<(), trirast::Error>(())
 //! ```
 
+#![deny(missing_docs)]
+
 mod batch;
 mod blend;
 mod canvas;
+mod cause;
+mod clip;
+mod cut_triangle;
 mod edges;
 mod error;
+mod history;
 mod list;
 mod memory;
 mod parts;
 mod picture;
+mod polygons;
 mod read;
 mod state;
+mod tiles;
 
-pub use batch::{Draw, Indices, Vertex};
+pub use batch::{Draw, Indices, Vertex, Vertices};
 pub use blend::{Blend, Equation, Factor, Operation};
 pub use canvas::{Canvas, CanvasBuilder, Clear, Format, Origin, Sample, TileRows};
+pub use cause::{BatchCause, ListCause};
+pub use clip::{Clip, ClipError, ClipPosition, Clipped, Cut, NearPlane, Sides};
 pub use edges::{edges, edges_at, Edges, Position};
-pub use error::{BatchCause, Error, ErrorKind, ListCause};
+pub use error::{Error, ErrorKind};
+pub use history::{triangle_samples, why, Event, Fragment, History, Listed, Outcome, Reason, SampleCounts};
 pub use list::{draw, draw_by_threads, draw_into, draw_rows_into, image_info};
 pub use picture::{ImageInfo, Picture, TileSize};
+pub use polygons::{FillRule, Polygons};
 pub use state::{Channels, Cull, DepthTest, State, Topology};
+pub use tiles::CANVAS_TILE_SIZE;

@@ -92,6 +92,6 @@ pub fn draw_by_threads(list: impl AsRef<[u8]>, tile_size: TileSize, threads: u32
     Ok(Picture::new(info, file))
 }
 
-fn text(list: &[u8]) -> *const c_char {
+pub(crate) fn text(list: &[u8]) -> *const c_char {
     list.as_ptr().cast()
 }

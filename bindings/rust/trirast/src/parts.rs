@@ -96,9 +96,9 @@ impl TileRows<'_> {
     pub(crate) fn with_parts_of<B: Cut>(&self, buffer: B, rows: Rows) -> Vec<(TileRows<'_>, B)> {
         let stride = rows.stride_in(buffer.length(), self.height());
         let parts = if stride.is_some() { self.shared() } else { self.pieces(1) };
-        let (last, mut shares, mut rest) = (parts.len() - 1, Vec::with_capacity(parts.len()), buffer);
+        let (count, mut shares, mut rest) = (parts.len(), Vec::with_capacity(parts.len()), buffer);
         for (number, part) in parts.into_iter().enumerate() {
-            let length = if number == last { rest.length() } else { part.height() as usize * stride.unwrap_or(0) };
+            let length = if number + 1 == count { rest.length() } else { part.height() as usize * stride.unwrap_or(0) };
             let (share, behind) = rest.cut(length);
             shares.push((part, share));
             rest = behind;

@@ -5,10 +5,14 @@ use crate::Error;
 /// The width and height of a tile in pixels. It changes no byte of a picture.
 #[derive(Clone, Copy, Debug, Default, PartialEq, Eq)]
 pub enum TileSize {
+    /// 8 by 8 pixels.
     Eight = 8,
+    /// 16 by 16 pixels.
     Sixteen = 16,
+    /// 32 by 32 pixels.
     #[default]
     ThirtyTwo = 32,
+    /// 64 by 64 pixels.
     SixtyFour = 64,
 }
 

@@ -23,9 +23,12 @@ pub enum Topology {
 #[derive(Clone, Copy, Debug, Default, PartialEq, Eq, Hash)]
 #[non_exhaustive]
 pub enum Cull {
+    /// None.
     #[default]
     None = 0,
+    /// Front-facing ones.
     Front = 1,
+    /// Those that run anticlockwise.
     Back = 2,
 }
 
@@ -33,14 +36,22 @@ pub enum Cull {
 #[derive(Clone, Copy, Debug, Default, PartialEq, Eq, Hash)]
 #[non_exhaustive]
 pub enum DepthTest {
+    /// Always.
     #[default]
     Always = sys::TRIRAST_DEPTH_ALWAYS as isize,
+    /// Never.
     Never = sys::TRIRAST_DEPTH_NEVER as isize,
+    /// The new depth is less.
     Less = sys::TRIRAST_DEPTH_LESS as isize,
+    /// Both are equal.
     Equal = sys::TRIRAST_DEPTH_EQUAL as isize,
+    /// The new depth is less or equal.
     LessEqual = sys::TRIRAST_DEPTH_LESS_EQUAL as isize,
+    /// The new depth is greater.
     Greater = sys::TRIRAST_DEPTH_GREATER as isize,
+    /// Both differ.
     NotEqual = sys::TRIRAST_DEPTH_NOT_EQUAL as isize,
+    /// The new depth is greater or equal.
     GreaterEqual = sys::TRIRAST_DEPTH_GREATER_EQUAL as isize,
 }
 
@@ -49,10 +60,15 @@ pub enum DepthTest {
 pub struct Channels(u8);
 
 impl Channels {
+    /// No channel.
     pub const NONE: Channels = Channels(0);
+    /// Red alone.
     pub const RED: Channels = Channels(sys::TRIRAST_KEEP_RED as u8);
+    /// Green alone.
     pub const GREEN: Channels = Channels(sys::TRIRAST_KEEP_GREEN as u8);
+    /// Blue alone.
     pub const BLUE: Channels = Channels(sys::TRIRAST_KEEP_BLUE as u8);
+    /// Alpha alone.
     pub const ALPHA: Channels = Channels(sys::TRIRAST_KEEP_ALPHA as u8);
     /// Red, green, blue and alpha.
     pub const ALL: Channels = Channels(Channels::RED.0 | Channels::GREEN.0 | Channels::BLUE.0 | Channels::ALPHA.0);
@@ -87,11 +103,15 @@ impl BitOrAssign for Channels {
 #[derive(Clone, Copy, Debug, Default, PartialEq, Eq, Hash)]
 #[non_exhaustive]
 pub struct State {
+    /// What the indices are.
     pub topology: Topology,
+    /// Which triangles are dropped.
     pub cull: Cull,
+    /// When the new depth passes.
     pub depth_test: DepthTest,
     /// Whether the new depth is stored if it passes the test.
     pub depth_write: bool,
+    /// What the new colour makes of the stored one.
     pub blend: Blend,
     /// The channels that are not written.
     pub keep: Channels,
@@ -107,42 +127,49 @@ impl State {
         State::default()
     }
 
+    /// The same with indices of this kind.
     #[must_use]
     pub fn topology(self, topology: Topology) -> State {
         State { topology, ..self }
     }
 
+    /// The same with these triangles dropped.
     #[must_use]
     pub fn cull(self, cull: Cull) -> State {
         State { cull, ..self }
     }
 
+    /// The same with this test.
     #[must_use]
     pub fn depth_test(self, depth_test: DepthTest) -> State {
         State { depth_test, ..self }
     }
 
+    /// The same with the new depth stored, or not.
     #[must_use]
     pub fn depth_write(self, depth_write: bool) -> State {
         State { depth_write, ..self }
     }
 
+    /// The same with this blending.
     #[must_use]
     pub fn blend(self, blend: Blend) -> State {
         State { blend, ..self }
     }
 
+    /// The same with these channels not written.
     #[must_use]
     pub fn keep(self, keep: Channels) -> State {
         State { keep, ..self }
     }
 
+    /// The same with these samples not drawn.
     #[must_use]
     pub fn skip_samples(self, skip_samples: u16) -> State {
         State { skip_samples, ..self }
     }
 
-    /// Left, top, right, bottom, the last two outside.
+    /// The same in this scissor: left, top, right, bottom, the last two outside.
     #[must_use]
     pub fn scissor(self, scissor: [i32; 4]) -> State {
         State { scissor: Some(scissor), ..self }

@@ -9,7 +9,7 @@ use std::thread;
 use scenes::{Pick, Scene};
 use trirast::{
     edges, edges_at, BatchCause, Blend, Canvas, Channels, Clear, DepthTest, Draw, Equation, Error, ErrorKind, Factor, Format,
-    Indices, Operation, Origin, State, Topology, Vertex,
+    Indices, Operation, Origin, State, Topology, Vertex, Vertices,
 };
 
 const FORMATS: [Format; 3] = [Format::Rgb8, Format::Rgba8, Format::Bgra8];
@@ -131,6 +131,22 @@ fn takes_indices_of_each_size_and_none() {
     canvas.draw_batch(&[]).unwrap();
     canvas.draw_batch(&[Draw::new(&vertices, &[0u16; 0]), Draw::new(&vertices, &[0u32; 0])]).unwrap();
     assert!(canvas.ids(0).unwrap().iter().all(|&id| id == 0));
+    // Vertices that are members of other structs are read where they lie, also in one batch with others.
+    let marked: Vec<(u8, Vertex, [f32; 3])> = vertices.iter().map(|&vertex| (7, vertex, [0.5; 3])).collect();
+    let members = Vertices::of_members(&marked, |one| &one.1).unwrap();
+    assert_eq!((members.len(), members.is_empty(), members == Vertices::from(&vertices)), (3, false, true));
+    assert_eq!(members.iter().copied().collect::<Vec<_>>(), vertices);
+    for indices in [Indices::from(&short), Indices::from(&long), Indices::InOrder] {
+        let mut canvas = Canvas::builder(50, 50).build().unwrap();
+        canvas.draw(members, indices, State::new()).unwrap();
+        assert_eq!(canvas.ids(0).unwrap()[0], 5);
+        canvas.draw_batch(&[Draw::new(&[], Indices::InOrder), Draw::new(members, indices)]).unwrap();
+        assert_eq!(canvas.ids(0).unwrap()[0], 5);
+    }
+    assert!(Vertices::of_members(&marked[..0], |one| &one.1).unwrap().is_empty());
+    assert!(Vertices::of_members(&marked, |_| &marked[0].1).is_none());
+    assert!(Vertices::of_members(&marked, |_| &vertices[0]).is_none());
+    assert!(Vertices::of_members(&[(vertices[0], [0u8; 2048])], |one| &one.0).is_none());
     // Draws of both sizes are one batch.
     let other = triangle(9, 0, 10);
     canvas
@@ -180,6 +196,18 @@ fn blends_by_an_equation() {
         let blend = Blend::new(color, alpha).with_constant([0, 255, 0, 9]);
         assert_eq!(blended(State::new().blend(blend)), wanted, "{color:?}");
     }
+}
+
+#[test]
+fn stores_alpha() {
+    let vertices = triangle(0, 0, 64).map(|vertex| Vertex { red: 200, green: 100, blue: 0, alpha: 128, ..vertex });
+    let mut canvas = Canvas::builder(4, 4).alpha(true).build().unwrap();
+    assert!(canvas.has_alpha());
+    canvas.draw(&vertices, Indices::InOrder, State::new().blend(Blend::OVER)).unwrap();
+    assert_eq!(canvas.pixels(Format::Rgba8).unwrap()[..4], [100, 50, 0, 128]);
+    assert_eq!(canvas.pixels(Format::Bgra8Straight).unwrap()[..4], [0, 100, 199, 128]);
+    canvas.clear([9, 8, 7]).unwrap();
+    assert_eq!(canvas.pixels(Format::Rgba8).unwrap()[..4], [9, 8, 7, 255]);
 }
 
 #[test]

@@ -4,7 +4,10 @@ mod common;
 
 use std::fs;
 
-use trirast::{draw, draw_by_threads, draw_into, draw_rows_into, image_info, ErrorKind, ListCause, TileSize};
+use trirast::{
+    draw, draw_by_threads, draw_into, draw_rows_into, image_info, triangle_samples, why, ErrorKind, ListCause, Listed, Outcome,
+    Reason, TileSize,
+};
 
 const SIZES: [TileSize; 4] = [TileSize::Eight, TileSize::Sixteen, TileSize::ThirtyTwo, TileSize::SixtyFour];
 /// A white triangle over the upper left half of nine pixels. By the top-left rule it covers the first and second pixel of the
@@ -66,6 +69,26 @@ fn says_what_is_wrong_with_a_list() {
     assert_eq!(error.to_string(), "list fault 6 BadIndex in draw 0");
     let long = vec![b' '; 67_108_865];
     assert_eq!(draw(long, TileSize::default()).unwrap_err().kind(), ErrorKind::InputTooLong);
+}
+
+#[test]
+fn says_why_a_sample_is_what_it_is() {
+    let missed = why(TRIANGLE, 1, 1, 0, Listed::All).unwrap();
+    assert_eq!((missed.position, missed.begin.depth, missed.end.color), ([384, 384], 65_535, [0; 3]));
+    let event = missed.events[0];
+    assert_eq!((event.draw, event.triangle, event.outcome, event.fragment), (0, 0, Outcome::Missed, None));
+    assert!(event.reasons().eq([Reason::NotCovered]));
+    assert_eq!((event.edges[1], event.doubled_area), (0, 262_144));
+    assert!(why(TRIANGLE, 1, 1, 0, Listed::Covering).unwrap().events.is_empty());
+    let drawn = why(TRIANGLE, 0, 0, 0, Listed::Covering).unwrap();
+    assert_eq!((drawn.events.len(), drawn.events[0].outcome, drawn.events[0].reasons().count()), (1, Outcome::Drawn, 0));
+    assert_eq!((drawn.events[0].fragment.unwrap().color, drawn.events[0].after), ([255; 4], drawn.end));
+    assert_eq!(why(TRIANGLE, 3, 0, 0, Listed::All).unwrap_err().kind(), ErrorKind::BadPixel);
+    assert_eq!(why(TRIANGLE, 0, 0, 1, Listed::All).unwrap_err().kind(), ErrorKind::BadSample);
+    assert_eq!(why("{", 0, 0, 0, Listed::All).unwrap_err().kind(), ErrorKind::BadList(ListCause::NotJson));
+    let counts = triangle_samples(TRIANGLE, 0, 0).unwrap();
+    assert_eq!((counts.covered, counts.changed, counts.shown), (3, 3, 3));
+    assert_eq!(triangle_samples(TRIANGLE, 0, 1).unwrap_err().kind(), ErrorKind::BadTriangle);
 }
 
 #[test]

@@ -1,7 +1,7 @@
 //! The calls of a counter.
 ghost use Rattle.std.specs.Prelude.{◌≡◌, ◌+◌, ◌^◌, ◌<◌, ◌≤◌, length, All, IfOk, IfSome, IfNone, ℕ};
 ghost use Rattle.pool.specs.Counters.{times, once_below, first_handle, with_number, with_mark, without_one, one_seat, both};
-ghost use Rattle.pool.specs.Handles.{count_of, seats_of, known_of, IsIn};
+ghost use Rattle.pool.specs.Handles.{count_of, seats_of, knowledge_of, IsIn};
 
 use super::{Counter, CounterHandle};
 use crate::known::Limits;
@@ -17,7 +17,7 @@ impl Counter {
         seats: u64,
     ) -> Result<(Counter, CounterHandle), AllocError>
         requires { count + seats < 2 ^ 64 }
-        ensures { IfOk result (λ r. (count_of r.0 ≡ count) × (seats_of r.0 ≡ seats) × IsIn r.0 r.1 × (known_of r.1 ≡ first_handle (record { count = count; seats = seats }))) }
+        ensures { IfOk result (λ r. (count_of r.0 ≡ count) × (seats_of r.0 ≡ seats) × IsIn r.0 r.1 × (knowledge_of r.1 ≡ first_handle (record { count = count; seats = seats }))) }
     {
         let limits = Limits { count, seats };
         let (table, seat) = Table::of_words(alloc, &[0], &limits)?;
@@ -27,11 +27,11 @@ impl Counter {
     /// Cuts one seat off.
     pub fn cut(&self, handle: &mut CounterHandle) -> CounterHandle
         requires handle { IsIn self.now handle.old }
-        requires seats { 1 < (known_of handle.old).seats }
-        requires unmarked { (known_of handle.old).marks < (known_of handle.old).seats }
+        requires seats { 1 < (knowledge_of handle.old).seats }
+        requires unmarked { (knowledge_of handle.old).marks < (knowledge_of handle.old).seats }
         ensures handles { IsIn self.now handle.new × IsIn self.now result }
-        ensures left { known_of handle.new ≡ without_one (known_of handle.old) }
-        ensures right { known_of result ≡ one_seat (known_of handle.old) }
+        ensures left { knowledge_of handle.new ≡ without_one (knowledge_of handle.old) }
+        ensures right { knowledge_of result ≡ one_seat (knowledge_of handle.old) }
     {
         let seat = self.table.shared.split_seat::<Cut>(&mut handle.seat);
         CounterHandle { seat }
@@ -40,11 +40,11 @@ impl Counter {
     /// Draws the next number. Returns `None` if none is left.
     pub fn draw(&self, handle: &mut CounterHandle) -> Option<u64>
         requires handle { IsIn self.now handle.old }
-        requires unmarked { (known_of handle.old).marks < (known_of handle.old).seats }
+        requires unmarked { (knowledge_of handle.old).marks < (knowledge_of handle.old).seats }
         ensures handle { IsIn self.now handle.new }
-        ensures number { IfSome result (λ k. (k < count_of self.now) × (known_of handle.new ≡ with_number (known_of handle.old) k)) }
-        ensures rises { IfSome result (λ k. All (λ x. x < k) (known_of handle.old).numbers × (length (known_of handle.old).numbers ≤ k)) }
-        ensures mark { IfNone result (known_of handle.new ≡ with_mark (known_of handle.old)) }
+        ensures number { IfSome result (λ k. (k < count_of self.now) × (knowledge_of handle.new ≡ with_number (knowledge_of handle.old) k)) }
+        ensures rises { IfSome result (λ k. All (λ x. x < k) (knowledge_of handle.old).numbers × (length (knowledge_of handle.old).numbers ≤ k)) }
+        ensures mark { IfNone result (knowledge_of handle.new ≡ with_mark (knowledge_of handle.old)) }
     {
         let number = self.table.shared.fetch_add::<Draw>(&mut handle.seat, 0, 1);
         (number < self.count).then_some(number)
@@ -55,7 +55,7 @@ impl Counter {
         requires handle { IsIn self.now handle.old }
         requires other { IsIn self.now other }
         ensures handle { IsIn self.now handle.new }
-        ensures both { known_of handle.new ≡ both (known_of handle.old) (known_of other) }
+        ensures both { knowledge_of handle.new ≡ both (knowledge_of handle.old) (knowledge_of other) }
     {
         let CounterHandle { seat } = other;
         self.table
@@ -67,9 +67,9 @@ impl Counter {
     /// found none left.
     pub fn close(self, handle: CounterHandle)
         requires handle { IsIn self handle }
-        requires all_seats { (known_of handle).seats ≡ seats_of self }
-        ensures once { (x : ℕ) → times x (known_of handle).numbers ≤ once_below x (count_of self) }
-        ensures all { 0 < (known_of handle).marks → (x : ℕ) → times x (known_of handle).numbers ≡ once_below x (count_of self) }
+        requires all_seats { (knowledge_of handle).seats ≡ seats_of self }
+        ensures once { (x : ℕ) → times x (knowledge_of handle).numbers ≤ once_below x (count_of self) }
+        ensures all { 0 < (knowledge_of handle).marks → (x : ℕ) → times x (knowledge_of handle).numbers ≡ once_below x (count_of self) }
     {
         let Counter { table, count: _ } = self;
         let CounterHandle { seat } = handle;

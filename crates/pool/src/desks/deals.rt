@@ -2,7 +2,7 @@
 ghost use Rattle.std.specs.Prelude.{◌≡◌, ◌+◌, ◌≤◌, ◌<◌, ℕ, [], length, slice_index_or, IfOk};
 ghost use Rattle.std.specs.Vec.{vec_capacity};
 ghost use Rattle.pool.specs.Counters.{without_one, one_seat};
-ghost use Rattle.pool.specs.Handles.{known_of};
+ghost use Rattle.pool.specs.Handles.{knowledge_of};
 ghost use Rattle.pool.specs.Rows.{AreDesks, IsRow, AreUncut};
 
 use super::DeskSeat;
@@ -38,10 +38,10 @@ pub(super) fn cut_row(
     rest: &mut Vec<CounterHandle>,
 ) -> Result<Vec<CounterHandle>, OutOfMemory>
     requires row { IsRow counters.now.items rest.old.items }
-    requires uncut { (d : ℕ) (p : _) → d < length counters.now.items → (1 < (known_of (slice_index_or rest.old.items d p)).seats) × ((known_of (slice_index_or rest.old.items d p)).marks ≡ 0) }
+    requires uncut { (d : ℕ) (p : _) → d < length counters.now.items → (1 < (knowledge_of (slice_index_or rest.old.items d p)).seats) × ((knowledge_of (slice_index_or rest.old.items d p)).marks ≡ 0) }
     ensures rows { IfOk result (λ r. IsRow counters.now.items rest.new.items × IsRow counters.now.items r.items) }
-    ensures rest { IfOk result (λ _. (d : ℕ) (p q : _) → d < length counters.now.items → known_of (slice_index_or rest.new.items d p) ≡ without_one (known_of (slice_index_or rest.old.items d q))) }
-    ensures row { IfOk result (λ r. (d : ℕ) (p q : _) → d < length counters.now.items → known_of (slice_index_or r.items d p) ≡ one_seat (known_of (slice_index_or rest.old.items d q))) }
+    ensures rest { IfOk result (λ _. (d : ℕ) (p q : _) → d < length counters.now.items → knowledge_of (slice_index_or rest.new.items d p) ≡ without_one (knowledge_of (slice_index_or rest.old.items d q))) }
+    ensures row { IfOk result (λ r. (d : ℕ) (p q : _) → d < length counters.now.items → knowledge_of (slice_index_or r.items d p) ≡ one_seat (knowledge_of (slice_index_or rest.old.items d q))) }
 {
     let mut row = Vec::with_capacity(alloc, counters.len())?;
     for desk in 0..counters.len() {

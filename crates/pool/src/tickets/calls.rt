@@ -3,7 +3,7 @@ ghost use Rattle.std.specs.Prelude.{◌≡◌, ◌+◌, ◌≤◌, ◌<◌, [], 
 ghost use Rattle.std.specs.List.{range_with_len};
 ghost use Rattle.std.specs.Vec.{vec_len, vec_capacity};
 ghost use Rattle.pool.specs.Counters.{both};
-ghost use Rattle.pool.specs.Handles.{count_of, seats_of, known_of, IsIn};
+ghost use Rattle.pool.specs.Handles.{count_of, seats_of, knowledge_of, IsIn};
 ghost use Rattle.pool.specs.Dealing.{list_of, lists_of, NoneTwice, DealtOnce, SomeEnded, Ascends};
 ghost use Rattle.pool.specs.Tickets.{tickets_count, tickets_seats, IsSeatOf, seat_list, seat_number, seat_given, seat_ended};
 
@@ -22,7 +22,7 @@ impl TicketSeat {
         n: u32,
         handle: CounterHandle,
     ) -> Result<TicketSeat, OutOfMemory>
-        requires { ((known_of handle).seats ≡ 1) × ((known_of handle).numbers ≡ []) × ((known_of handle).marks ≡ 0) × ((known_of handle).count ≡ n) }
+        requires { ((knowledge_of handle).seats ≡ 1) × ((knowledge_of handle).numbers ≡ []) × ((knowledge_of handle).marks ≡ 0) × ((knowledge_of handle).count ≡ n) }
         ensures { IfOk result (λ s. (s.number ≡ number) × (s.handle ≡ handle) × (s.numbers.items ≡ []) × (s.ended ≡ false)) }
     {
         let numbers = Vec::with_capacity(alloc, n as usize)?;
@@ -45,7 +45,7 @@ fn gather(
     requires whole { IsIn counter.now whole.old }
     requires seat { IsIn counter.now seat.handle }
     requires room { vec_len lists.old < vec_capacity lists.old }
-    ensures whole { IsIn counter.now whole.new × (known_of whole.new ≡ both (known_of whole.old) (known_of seat.handle)) }
+    ensures whole { IsIn counter.now whole.new × (knowledge_of whole.new ≡ both (knowledge_of whole.old) (knowledge_of seat.handle)) }
     ensures lists { map list_of lists.new.items ≡ map list_of lists.old.items ++ (seat.numbers.items, seat.ended) ∷ [] }
     ensures room { (vec_len lists.new ≡ vec_len lists.old + 1) × (vec_capacity lists.new ≡ vec_capacity lists.old) }
 {

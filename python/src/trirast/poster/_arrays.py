@@ -1,7 +1,9 @@
 """Scenes in files of numpy, .npz: arrays without the limits of a draw list.
 
 A file has `vertices`, records of trirast.VERTEX or (n, 7) integers; `triangles`, (m, 3) integers; and `draws`, a text:
-a draw list as JSON, in whose draws `triangles` is a number, and `vertices` is absent. Records and integers that are
+a draw list as JSON, in whose draws `triangles` is a number, and `vertices` is absent. It may have polygons in addition to
+these or in their place: `corners`, (n, 2) integers, `ring_ends`, `polygon_ends` and `colors`, and draws of them in which
+`polygons` is a number. Records and integers that are
 stored and not deflated, as numpy.savez leaves them, are copied to files without a name, which are mapped, so that
 scenes larger than memory can be drawn. The file itself is not mapped: to read what somebody cuts off from it would end
 the process.
@@ -11,6 +13,7 @@ from __future__ import annotations
 
 import json
 import os
+import re
 import secrets
 import struct
 import tempfile
@@ -21,11 +24,14 @@ import numpy as np
 from numpy.lib import format as numpy_format
 from numpy.typing import NDArray
 
+from .._errors import DrawListError, LimitError
 from .._vertices import VERTEX
 from ._draw_list import MAX_LIST, check_states, scene_of_list, sheet_of
-from ._errors import ArraysError
+from ._errors import ArraysError, MapError
+from ._geojson import GEOJSON, scene_of_geojson
 from ._places import Path, check_file
-from ._scene import PosterDraw, Scene, own_vertices, owned
+from ._polygons import NONE, Polygons, own_polygons
+from ._scene import NO_TRIANGLES, PosterDraw, Scene, own_vertices, owned
 
 # Members begin at multiples of this in files that `save_arrays` writes, so that others can map them as integers.
 ALIGNMENT = 64
@@ -36,46 +42,77 @@ LARGE = "/var/tmp"
 BLOCK = 1 << 20
 # How a name ends that is of arrays, in small or capital letters.
 NPZ = ".npz"
+# What a text of GeoJSON has, and no draw list.
+GEOJSON_TYPE = re.compile(rb'"type"\s*:\s*"(?:Feature|FeatureCollection|Polygon|MultiPolygon|GeometryCollection)"')
 # Its functions have no types.
 npy: Any = numpy_format
+# The members of a file: of triangles, and of polygons.
+OF_TRIANGLES, OF_POLYGONS = ("vertices", "triangles"), ("corners", "ring_ends", "polygon_ends", "colors")
 
 
-def scene_of_arrays(vertices: NDArray[Any], triangles: NDArray[Any], value: Any, *, copy: bool = True) -> Scene:
-    """A scene of arrays. `value` is a draw list in whose draws `triangles` is a number, and `vertices` is absent.
+def scene_of_arrays(
+    vertices: NDArray[Any], triangles: NDArray[Any], value: Any, *, polygons: Polygons = NONE, copy: bool = True
+) -> Scene:
+    """A scene of arrays. `value` is a draw list in whose draws `triangles` or `polygons` is a number, and `vertices` is absent.
 
     The scene has copies of the arrays, unless `copy` is false: then each window that is drawn has copies of what it reads, and who changes
     the arrays meanwhile may find another picture or an error. Raises ArraysError if an array does not fit, and trirast.Error if `value` is
     wrong.
     """
-    return of_members(vertices, triangles, value, None, copy)
+    return of_members(vertices, triangles, polygons, value, None, copy)
 
 
-def of_members(vertices: NDArray[Any], triangles: NDArray[Any], value: Any, source: Optional[str], copy: bool) -> Scene:
+def scene_of_polygons(polygons: Polygons, value: Any) -> Scene:
+    """A scene of polygons alone. `value` is a draw list in whose draws `polygons` is a number, or
+    which has no draws: then all polygons are one.
+
+    Raises ArraysError if an array does not fit, and trirast.Error if `value` is wrong.
+    """
+    own = own_polygons(polygons)
+    vertices, triangles = NO_TRIANGLES
+    return of_members(vertices, triangles, own, with_draws(value, own.count), None, copy=True)
+
+
+def with_draws(value: Any, polygons: int) -> Any:
+    """A list with a draw of all polygons, if it has no draws."""
+    return {"draws": [{"polygons": polygons}], **value} if isinstance(value, dict) else value
+
+
+def of_members(
+    vertices: NDArray[Any], triangles: NDArray[Any], polygons: Polygons, value: Any, source: Optional[str], copy: bool
+) -> Scene:
     check_states(value)
     draws = [draw_of(draw) for draw in value["draws"]]
-    return Scene(sheet_of(value), vertices, triangles, draws, source, copy)
+    return Scene(sheet_of(value), vertices, triangles, draws, source, copy, polygons)
 
 
 def draw_of(draw: Mapping[str, Any]) -> PosterDraw:
-    count = draw.get("triangles")
-    if type(count) is not int or not set(draw).isdisjoint(("vertices", "strip", "quads")):
-        raise ArraysError("a draw of arrays has the number of its triangles, and no vertices, strip or quads")
-    return PosterDraw(count, {key: value for key, value in draw.items() if key != "triangles"})
+    counts = {key: draw[key] for key in ("triangles", "polygons") if key in draw}
+    if [type(count) for count in counts.values()] != [int] or not set(draw).isdisjoint(("vertices", "strip", "quads")):
+        raise ArraysError("a draw of arrays has the number of its triangles or of its polygons, and no vertices, strip or quads")
+    return PosterDraw(**counts, state={key: value for key, value in draw.items() if key not in counts})
 
 
 def scene_of_file(path: str) -> Scene:
     """The scene of a .npz file. Raises ArraysError if it is none."""
     with open(path, "rb") as file:
-        vertices, triangles, value = read_file(path, file)
-    return owned(of_members(vertices, triangles, value, path, copy=False))
+        found, value = read_file(path, file)
+    vertices, triangles = (found.get(name, empty) for name, empty in zip(OF_TRIANGLES, NO_TRIANGLES))
+    corners, ring_ends, polygon_ends, colors = (found.get(name, empty) for name, empty in zip(OF_POLYGONS, NONE.arrays))
+    polygons = own_polygons(Polygons(corners, ring_ends, polygon_ends, colors), copy=False)
+    return owned(of_members(vertices, triangles, polygons, value, path, copy=False))
 
 
-def read_file(path: str, file: IO[bytes]) -> tuple[NDArray[Any], NDArray[Any], Any]:
-    """The members of a .npz file. Raises ArraysError if it has not these members, in any of the ways in which zipfile and numpy say so."""
+def read_file(path: str, file: IO[bytes]) -> tuple[dict[str, NDArray[Any]], Any]:
+    """The arrays of a .npz file and its list. Raises ArraysError if it has not these members, in any of the ways in which zipfile and
+    numpy say so."""
     try:
         with zipfile.ZipFile(file) as archive:
-            vertices, triangles, draws = (member(file, archive, name) for name in ("vertices", "triangles", "draws"))
-        return vertices, triangles, json.loads(draws.item() if draws.ndim == 0 else draws.tobytes())
+            names = archive.namelist()
+            kinds = [kind for kind in (OF_TRIANGLES, OF_POLYGONS) if f"{kind[0]}.npy" in names] or [OF_TRIANGLES]
+            found = {name: member(file, archive, name) for kind in kinds for name in kind}
+            draws = member(file, archive, "draws")
+        return found, json.loads(draws.item() if draws.ndim == 0 else draws.tobytes())
     except (OSError, MemoryError):
         raise
     except Exception as error:
@@ -133,10 +170,24 @@ def data_offset(file: IO[bytes], info: zipfile.ZipInfo) -> int:
     return int(info.header_offset + LOCAL_HEADER + name + extra)
 
 
-def save_arrays(path: Path, vertices: NDArray[Any], triangles: NDArray[Any], value: Any) -> None:
+def save_arrays(
+    path: Path, vertices: NDArray[Any], triangles: NDArray[Any], value: Any, *, polygons: Polygons = NONE
+) -> None:
     """Writes a .npz file for `scene_of`: members stored, and aligned, vertices as records. It gets its name when it is
     whole, so the arrays may be those of a file of that name."""
     arrays = {"vertices": own_vertices(vertices, copy=False), "triangles": triangles, "draws": np.array(json.dumps(value))}
+    if polygons.count:
+        arrays.update(zip(OF_POLYGONS, own_polygons(polygons, copy=False).arrays))
+    save_members(path, arrays)
+
+
+def save_polygons(path: Path, polygons: Polygons, value: Any) -> None:
+    """Writes a .npz file of polygons alone in the same way. `value` is as for `scene_of_polygons`."""
+    arrays = dict(zip(OF_POLYGONS, own_polygons(polygons, copy=False).arrays))
+    save_members(path, {**arrays, "draws": np.array(json.dumps(with_draws(value, polygons.count)))})
+
+
+def save_members(path: Path, arrays: Mapping[str, NDArray[Any]]) -> None:
     name = os.fsdecode(path)
     check_file(name)
     new = f"{name}.{secrets.token_hex(8)}"
@@ -160,11 +211,22 @@ def write_members(file: IO[bytes], arrays: Mapping[str, NDArray[Any]]) -> None:
                 npy.write_array(member_file, np.ascontiguousarray(array), allow_pickle=False)
 
 
-def scene_of(path: Path) -> Scene:
-    """The scene of a file: arrays if its name ends in .npz, in small or capital letters, else a draw list."""
+def scene_of(path: Path, style: Optional[Path] = None) -> Scene:
+    """The scene of a file, by the end of its name in small or capital letters: arrays (.npz), polygons of GeoJSON in a style, which is a
+    file too (.geojson), else a draw list."""
     name = os.fsdecode(path)
+    if name.lower().endswith(GEOJSON):
+        return scene_of_geojson(name, None if style is None else os.fsdecode(style))
+    if style is not None:
+        raise ArraysError(f"a style is for GeoJSON, a file whose name ends in {GEOJSON}, and not for {name}")
     if name.lower().endswith(NPZ):
         return scene_of_file(name)
     with open(name, "rb") as file:
         # The library refuses a longer one, of which no more is read.
-        return scene_of_list(file.read(MAX_LIST + 1), name)
+        data = file.read(MAX_LIST + 1)
+    try:
+        return scene_of_list(data, name)
+    except (DrawListError, LimitError) as error:
+        if GEOJSON_TYPE.search(data):
+            raise MapError(f"{name}: it looks like GeoJSON, whose name has to end in {GEOJSON}, and is no draw list") from error
+        raise

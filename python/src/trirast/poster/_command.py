@@ -8,6 +8,7 @@ from typing import List, Optional
 
 from .._errors import Error
 from ._arrays import scene_of
+from ._dask import quiet_for_good
 from ._errors import PosterError
 from ._poster import SIDE, draw_poster
 from ._scene import SAMPLES
@@ -19,13 +20,14 @@ INTERRUPTED = 130
 def arguments(words: Optional[List[str]] = None) -> argparse.Namespace:
     parser = argparse.ArgumentParser(
         prog="python3 -m trirast.poster",
-        description="Draws a draw list of up to 32,768 pixels a side, by windows.",
+        description="Draws a draw list or a map of up to 32,768 pixels a side, by windows.",
     )
-    parser.add_argument("list", metavar="LIST", help="a draw list, or arrays of numpy (.npz)")
-    parser.add_argument("-o", dest="out", metavar="OUT", help="the picture: PNG if the name ends in .png, PPM (of depths PGM) if in .ppm, .pgm or nothing")
+    parser.add_argument("list", metavar="LIST", help="a draw list, arrays of numpy (.npz), or polygons (.geojson)")
+    parser.add_argument("-o", dest="out", metavar="OUT", help="the picture: PNG if the name ends in .png, TIFF if in .tif or .tiff, PPM (of depths PGM) if in .ppm, .pgm or nothing")
+    parser.add_argument("--style", metavar="STYLE.json", help="how a map of GeoJSON is drawn: window, projection, colours")
     parser.add_argument("--tiles", metavar="FOLDER", help="a new folder of PNG tiles z/x/y.png with a page that shows them")
     parser.add_argument("--samples", type=int, choices=sorted(SAMPLES), help="samples of a pixel, in place of the list's")
-    parser.add_argument("--dpi", type=float, help="pixels per inch, which a PNG file alone has")
+    parser.add_argument("--dpi", type=float, help="pixels per inch, which a PNG or a TIFF file has")
     parser.add_argument("--window", type=int, default=SIDE, metavar="SIDE", help=f"pixels of a window's side (default {SIDE})")
     parser.add_argument("--workers", type=int, metavar="N", help="how many draw at once (default one a core)")
     parser.add_argument("--scheduler", metavar="local|ADDRESS", help="draw by Dask: its processes here, or a cluster's scheduler")
@@ -43,7 +45,9 @@ def main(words: Optional[List[str]] = None) -> int:
     arguments are wrong."""
     options = arguments(words)
     try:
-        scene = scene_of(options.list)
+        scene = scene_of(options.list, options.style)
+        if options.scheduler is not None:
+            quiet_for_good()
         draw_poster(
             scene, options.out, tiles=options.tiles, samples=options.samples, dpi=options.dpi, window=options.window,
             workers=options.workers, scheduler=options.scheduler, resume=options.resume, show_progress=True,

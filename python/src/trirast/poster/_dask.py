@@ -90,6 +90,15 @@ def connected(distributed: Any, scheduler: str) -> Iterator[Any]:
         yield client
 
 
+def quiet_for_good() -> None:
+    """Keeps Dask's loggers quiet to the end of the process: what Dask leaves behind may write a trace as late as that. Raises
+    EngineMissingError without Dask."""
+    # Its import gives the loggers levels of their own.
+    dask()
+    for logger in map(logging.getLogger, LOGGERS):
+        logger.setLevel(logging.CRITICAL)
+
+
 @contextlib.contextmanager
 def quiet_loggers() -> Iterator[None]:
     """Keeps Dask's loggers quiet meanwhile."""

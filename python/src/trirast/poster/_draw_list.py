@@ -21,6 +21,8 @@ LIST_DRAWS = 1024
 LIST_MASK = 15
 MAX_LIST = 67_108_864
 PRIMITIVES = ("triangles", "strip", "quads")
+# Keys that draws of polygons have and lists do not.
+OF_POLYGONS = ("polygons", "rule")
 SHEET_KEYS = ("width", "height", "samples", "clear_depth", "output")
 # Of a text: a side's key and its digits, a scissor's key and its numbers, and the digits of a number that has nothing else.
 SIDES = re.compile(rb'("(?:width|height)"[ \t\r\n]*:[ \t\r\n]*)([1-9][0-9]*)(?![0-9.eE])')
@@ -106,7 +108,8 @@ def bare_draw(draw: Any) -> Any:
     """The state of a draw as the draw of a list, without triangles."""
     mask = draw.get("sample_mask")
     listed = {"sample_mask": LIST_MASK} if type(mask) is int and LIST_MASK < mask <= EVERY_SAMPLE else {}
-    return {**draw, **listed, "vertices": [], "triangles": []}
+    of_all = {key: value for key, value in draw.items() if key not in OF_POLYGONS}
+    return {**of_all, **listed, "vertices": [], "triangles": []}
 
 
 def listed_samples(value: Any) -> Any:

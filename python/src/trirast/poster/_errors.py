@@ -11,15 +11,20 @@ class ArraysError(PosterError, ValueError):
     """What was given is no scene: a shape, a type, a number, an index or a state is wrong. The text says which."""
 
 
+class MapError(PosterError, ValueError):
+    """What was given is no GeoJSON of polygons, or no style of a map. The text says where."""
+
+
 class GuardBandError(PosterError, ValueError):
-    """A vertex of a triangle lies too far from a window that the triangle meets.
+    """A vertex of a triangle lies too far from a window that the triangle meets, or a corner of a polygon.
 
     The library draws a window whose picture begins at most 32,768 pixels right of and below each vertex, and is at most 4096
-    pixels wide and high. `triangle` is the triangle's index in the scene.
+    pixels wide and high. On a poster of more than 28,672 pixels no corner of a polygon that is seen past that may lie as
+    many pixels left of the poster or above it. `triangle` is the index of the triangle, or of the polygon, in the scene.
     """
 
-    def __init__(self, triangle: int, axis: str) -> None:
-        super().__init__(f"triangle {triangle} cannot be moved into a window that it meets: its {axis} leaves the guard band")
+    def __init__(self, triangle: int, axis: str, kind: str = "triangle") -> None:
+        super().__init__(f"{kind} {triangle} cannot be moved into a window that it meets: its {axis} leaves the guard band")
         self.triangle = triangle
 
 

@@ -1,12 +1,12 @@
-"""Which triangles are drawn in which tile rows of which windows, by their bounds, in the order in which they are drawn.
+"""Which triangles and polygons are drawn in which tile rows of which windows, by their bounds, in the order in which they are drawn.
 
-Triangles whose bounds hold no sample are in no tile row: of a fine mesh these may be half. The places of a sheet are the tile rows of
-its windows, window after window.
+What has no sample within its bounds is in no tile row: of a fine mesh these may be half. The places of a sheet are the tile rows of
+its windows, window after window. Triangles and polygons are counted together, in the order in which they are drawn.
 """
 
 from __future__ import annotations
 
-from typing import Any, Iterable, NamedTuple
+from typing import Any, Iterable, Iterator, NamedTuple, Sequence
 
 import numpy as np
 from numpy.typing import NDArray
@@ -14,31 +14,31 @@ from numpy.typing import NDArray
 from ._draw_list import LIST_SIDE
 from ._errors import GuardBandError
 from ._pool import Pool
-from ._scene import AXES, LOW, SAMPLES, UNIT, Boxes, Indices, Scene, Triangles, Vertices
-from ._windows import TILE, Area, Span, Windows
+from ._scene import AXES, LOW, SAMPLES, UNIT, Boxes, Indices, Run, Scene, Triangles, Vertices
+from ._windows import FARTHEST, SHIFT, TILE, Area, Span, Windows
 
-# Triangles of a group. Of fewer Python's lock would be handed from thread to thread too often. There are at least as many for each place,
+# Triangles or polygons of a group. Of fewer Python's lock would be handed from thread to thread too often. There are at least as many for each place,
 # since a group has a table of them.
 CHUNK = 1 << 18
 FOR_A_PLACE = 4
 
 
 class Bounds(NamedTuple):
-    """Of each triangle the least and the greatest position of a corner on one axis, in 1/256 pixel."""
+    """Of each triangle or polygon the least and the greatest position of a corner on one axis, in 1/256 pixel."""
 
     low: Indices
     high: Indices
 
 
 class Group(NamedTuple):
-    """Some triangles by places: `triangles` has them place after place, and ascending in each; `places` the place of each.
+    """Some triangles or polygons by places: `members` has them place after place, and ascending in each; `places` the place of each.
 
-    `begins` has of each place where its triangles begin, and then where the last ones end. `boxes` has the pixels within their bounds:
+    `begins` has of each place where its members begin, and then where the last ones end. `boxes` has the pixels within their bounds:
     the left column, the upper row, and of the right column and the lower row the complements. No triangle, also of those that are left
     out, lies left of `low` or above it.
     """
 
-    triangles: Indices
+    members: Indices
     places: NDArray[Any]
     begins: NDArray[np.int64]
     boxes: Boxes
@@ -46,7 +46,7 @@ class Group(NamedTuple):
 
 
 class Index:
-    """For each tile row of each window of a poster the indices of the triangles that are drawn there."""
+    """For each tile row of each window of a poster the indices of what is drawn there."""
 
     def __init__(self, groups: Iterable[Group], windows: Windows, pool: Pool) -> None:
         self._columns, self._tile_rows = windows.columns, windows.tile_rows
@@ -58,35 +58,34 @@ class Index:
             np.minimum(boxes, group.boxes, out=boxes)
             self.low = min(self.low[0], group.low[0]), min(self.low[1], group.low[1])
             # Those of a place lie behind those that the groups before have there.
-            found.append((group.triangles, group.places, counts - group.begins[:-1]))
+            found.append((group.members, group.places, counts - group.begins[:-1]))
             counts = counts + np.diff(group.begins)
         self._areas = areas_of(boxes.astype(np.int32), windows)
         self._begins = np.concatenate((np.zeros(1, np.int64), np.cumsum(counts)))
-        self._triangles = np.empty(self._begins[-1], np.int32)
+        self._members = np.empty(self._begins[-1], np.int32)
 
-        def put(triangles: Indices, places: NDArray[Any], moved: NDArray[np.int64]) -> None:
-            """Puts the triangles of a group to their places."""
-            self._triangles[np.arange(len(places)) + (self._begins[:-1] + moved)[places]] = triangles
+        def put(members: Indices, places: NDArray[Any], moved: NDArray[np.int64]) -> None:
+            """Puts the members of a group to their places."""
+            self._members[np.arange(len(places)) + (self._begins[:-1] + moved)[places]] = members
 
         list(pool.map(put, *zip(*found)))
 
     @classmethod
     def of(cls, scene: Scene, windows: Windows, threads: int = 1) -> Index:
-        """The index of a scene. Raises GuardBandError if a triangle cannot be moved into a window that it meets."""
+        """The index of a scene. Raises GuardBandError if a triangle or a polygon cannot be moved into a window that it meets."""
         chunk = max(CHUNK, FOR_A_PLACE * len(windows.places))
         with Pool(threads) as pool:
-            groups = pool.map(lambda first: group_of(scene, first, first + chunk, windows), range(0, max(1, len(scene.triangles)), chunk))
-            return cls(groups, windows, pool)
+            return cls(pool.map(lambda run: group_of(scene, run, windows), pieces_of(scene.runs, chunk)), windows, pool)
 
     def of_span(self, span: Span) -> tuple[Indices, Indices, Indices]:
-        """The triangles of some windows, tile row after tile row and ascending in each; where those of each tile row end; and of each
-        tile row the pixels that are within their bounds, as an Area has them."""
+        """What is drawn in some windows, tile row after tile row and ascending in each; where that of each tile row ends; and of each
+        tile row the pixels that are within its bounds, as an Area has them."""
         first, end = (self._place(span.row, column) for column in (span.first, span.end))
         begin = self._begins[first]
-        return self._triangles[begin : self._begins[end]], self._begins[first + 1 : end + 1] - begin, self._areas[first:end]
+        return self._members[begin : self._begins[end]], self._begins[first + 1 : end + 1] - begin, self._areas[first:end]
 
-    def triangles_before(self, row: int) -> list[int]:
-        """How many triangles there are before each window of a row and behind the last one."""
+    def members_before(self, row: int) -> list[int]:
+        """How many triangles and polygons there are before each window of a row and behind the last one."""
         before: list[int] = self._begins[self._place(row, 0) : self._place(row + 1, 0) + 1 : self._tile_rows].tolist()
         return before
 
@@ -99,12 +98,26 @@ class Index:
         return (row * self._columns + column) * self._tile_rows
 
 
-def group_of(scene: Scene, first: int, end: int, windows: Windows) -> Group:
-    """The triangles from `first` to before `end` by places."""
-    across, down = bounds_of(np.asarray(scene.vertices), np.asarray(scene.triangles)[first:end])
+def pieces_of(runs: Sequence[Run], chunk: int) -> Iterator[Run]:
+    """Runs in pieces of at most `chunk` triangles or polygons."""
+    for first, end, number, is_polygons in runs:
+        for begin in range(first, end, chunk):
+            yield Run(begin, min(end, begin + chunk), number + begin - first, is_polygons)
+
+
+def group_of(scene: Scene, run: Run, windows: Windows) -> Group:
+    """The triangles or polygons of a run by places."""
+    first, end, number, is_polygons = run
+    last = number + end - first
+    if is_polygons:
+        boxes = scene.polygons.boxes[number:last].T
+        across, down = Bounds(boxes[0], boxes[2]), Bounds(boxes[1], boxes[3])
+    else:
+        across, down = bounds_of(np.asarray(scene.vertices), np.asarray(scene.triangles)[number:last])
     for axis, bounds in enumerate((across, down)):
-        check_guard_band(bounds, first, axis, windows)
-    low = int(across.low.min(initial=0)), int(down.low.min(initial=0))
+        (check_band if is_polygons else check_guard_band)(bounds, number, axis, windows)
+    # Polygons need not be moved with a window.
+    low = (0, 0) if is_polygons else (int(across.low.min(initial=0)), int(down.low.min(initial=0)))
     drawn = np.flatnonzero(hold_samples(across, down, scene.sheet.samples))
     across, down = (Bounds(bounds.low[drawn], bounds.high[drawn]) for bounds in (across, down))
     numbers, places = meetings(across, down, windows)
@@ -185,6 +198,13 @@ def meetings(across: Bounds, down: Bounds, windows: Windows) -> tuple[NDArray[np
     places = places[numbers]
     places[slots] += (row * windows.columns + column).astype(np.int32)
     return numbers, places
+
+
+def check_band(bounds: Bounds, first: int, axis: int, windows: Windows) -> None:
+    """Raises GuardBandError if one of some polygons cannot be moved by SHIFT pixels with a window that it meets and that needs it."""
+    far = np.flatnonzero((bounds.low < LOW + UNIT * SHIFT) & (bounds.high >= UNIT * (FARTHEST - LIST_SIDE)))
+    if len(far) and (windows.width, windows.height)[axis] > FARTHEST:
+        raise GuardBandError(first + int(far[0]), AXES[axis], "polygon")
 
 
 def check_guard_band(bounds: Bounds, first: int, axis: int, windows: Windows) -> None:

@@ -9,8 +9,9 @@ import numpy as np
 from numpy.typing import NDArray
 
 from ._index import Index
+from ._polygons import Polygons
 from ._scene import AXES, HIGH, LOW, UNIT, Indices, Scene, Sheet, Triangles, Vertices, check_range
-from ._windows import TILE, Area, Span
+from ._windows import FARTHEST, SHIFT, TILE, Area, Span
 
 # Vertices are looked up in blocks of 256: neighbours in a list are neighbours on the sheet, so a window names few blocks. If a table of
 # these blocks had more entries for an index than SPREAD, the indices are sorted.
@@ -20,53 +21,87 @@ SPREAD = 16
 
 
 class PartDraw(NamedTuple):
-    """A draw of a piece: its number of triangles there, and its state."""
+    """A draw of a piece: the triangles or polygons of the part from `first` to before `end`, and its state."""
 
-    triangles: int
+    first: int
+    end: int
     state: Mapping[str, Any]
+    is_polygons: bool
 
 
 class Piece(NamedTuple):
-    """Pixels of a window that are drawn together, and the draws that meet them. `first` is the first of their triangles in the part.
+    """Pixels of a window that are drawn together, and the draws that meet them.
 
-    They are those of a tile row, or of several tile rows with the same triangles.
+    They are those of a tile row, or of several tile rows with the same triangles and polygons.
     """
 
     area: Area
-    first: int
     draws: Sequence[PartDraw]
 
 
 class Part(NamedTuple):
-    """The triangles of windows by pieces, of each piece in the order in which they are drawn, with positions on the whole sheet.
+    """What is drawn in windows by pieces, of each piece in its order, with positions on the whole sheet.
 
-    `area` has the pixels of the windows. No triangle meets one of them that is in no piece; `is_whole` says that each one is in a piece.
-    No vertex that the triangles name lies left of `low` or above it, in 1/256 pixel.
+    `area` has the pixels of the windows. Nothing meets one of them that is in no piece; `is_whole` says that each one is in a piece.
+    No vertex that the triangles name lies left of `low` or above it, in 1/256 pixel. Polygons are moved left and up by `shift` pixels.
     """
 
     sheet: Sheet
     area: Area
     is_whole: bool
     low: tuple[int, int]
+    shift: tuple[int, int]
     vertices: Vertices
     triangles: Triangles
+    polygons: Polygons
     pieces: Sequence[Piece]
 
 
 def part_of(scene: Scene, index: Index, span: Span) -> Part:
-    """The part of some windows, over all vertices of the scene. These are several only if the index says that their pixels are near.
+    """The part of some windows, over all vertices of the scene and copies of their polygons. These are several only if the index says that their pixels are near.
 
     If somebody else may change the scene's arrays, it is over copies of those that it names. Raises ArraysError if an index was changed
     to one of no vertex.
     """
     chosen, ends, areas = index.of_span(span)
-    triangles = np.asarray(scene.triangles).take(chosen, 0)
+    members = members_of(scene, chosen)
+    triangles = np.asarray(scene.triangles).take(members.triangles, 0)
     if not scene.is_own:
         check_range("an index", triangles, 0, len(scene.vertices) - 1)
-    pieces = pieces_of(scene, chosen, ends, areas)
+    x, y = shift = shift_of(span.area)
+    polygons = scene.polygons.take(members.polygons)
+    if x or y:
+        polygons = polygons.moved(-UNIT * x, -UNIT * y)
+    pieces = pieces_of(scene, chosen, members.polygons_before, ends, areas)
     is_whole = pixels_of(areas) == span.area.pixels
-    part = Part(scene.sheet, span.area, is_whole, low_of(scene, index, span, triangles), scene.vertices, triangles, pieces)
+    low = low_of(scene, index, span, triangles)
+    part = Part(scene.sheet, span.area, is_whole, low, shift, scene.vertices, triangles, polygons, pieces)
     return part if scene.is_own else compact(part)
+
+
+class Members(NamedTuple):
+    """The triangles and the polygons among what is drawn, by their indices in the scene, and how many polygons there are before each
+    of both and behind the last one."""
+
+    triangles: NDArray[Any]
+    polygons: NDArray[Any]
+    polygons_before: NDArray[np.int64]
+
+
+def members_of(scene: Scene, chosen: Indices) -> Members:
+    """The triangles and the polygons among what is chosen."""
+    if not scene.polygons.count:
+        return Members(chosen, chosen[:0], np.zeros(len(chosen) + 1, np.int64))
+    run = np.array([each.end for each in scene.runs]).searchsorted(chosen, "right")
+    numbers = chosen + np.array([each.number - each.first for each in scene.runs])[run]
+    is_polygon = np.array([each.is_polygons for each in scene.runs])[run]
+    before = np.concatenate((np.zeros(1, np.int64), np.cumsum(is_polygon)))
+    return Members(numbers[~is_polygon], numbers[is_polygon], before)
+
+
+def shift_of(area: Area) -> tuple[int, int]:
+    """By how many pixels polygons are moved left and up where an area is drawn."""
+    return SHIFT * (area.right > FARTHEST), SHIFT * (area.bottom > FARTHEST)
 
 
 def pixels_of(areas: Indices) -> int:
@@ -74,11 +109,11 @@ def pixels_of(areas: Indices) -> int:
     return int(np.maximum(areas[:, 2:] - areas[:, :2], 0).prod(1).sum())
 
 
-def pieces_of(scene: Scene, chosen: Indices, ends: Indices, areas: Indices) -> list[Piece]:
-    """The pieces of some windows. The chosen triangles of their tile rows end at `ends`, and `areas` has of each the pixels within their
+def pieces_of(scene: Scene, chosen: Indices, polygons_before: NDArray[np.int64], ends: Indices, areas: Indices) -> list[Piece]:
+    """The pieces of some windows. What is chosen for their tile rows ends at `ends`, and `areas` has of each the pixels within its
     bounds."""
     begins = np.concatenate((np.zeros(1, ends.dtype), ends[:-1]))
-    # A triangle may lie behind the last pixel of a window that reaches past the sheet.
+    # It may lie behind the last pixel of a window that reaches past the sheet.
     met = np.flatnonzero((begins < ends) & (areas[:, 0] < areas[:, 2]) & (areas[:, 1] < areas[:, 3]))
     begins, ends, areas = begins[met], ends[met], areas[met]
     first, last = chosen[begins], chosen[ends - 1]
@@ -87,32 +122,37 @@ def pieces_of(scene: Scene, chosen: Indices, ends: Indices, areas: Indices) -> l
     bottoms = areas[np.append(heads, len(met))[1:] - 1, 3:]
     columns = (np.concatenate((areas[heads, :3], bottoms), 1), begins[heads], ends[heads], first[heads], last[heads])
     rows = zip(*(column.tolist() for column in columns))
-    return [Piece(Area._make(area), begin, draws_of(scene, chosen, begin, *more)) for area, begin, *more in rows]
+    return [Piece(Area._make(area), draws_of(scene, chosen, polygons_before, *more)) for area, *more in rows]
 
 
 def go_on(first: Indices, last: Indices, counts: Indices, areas: Indices) -> NDArray[np.bool_]:
-    """Of each tile row whether it goes on with what the one before it has: the same triangles in the same columns of one tile.
+    """Of each tile row whether it goes on with what the one before it has: the same triangles and polygons in the same columns of one tile.
 
     These are known by the first, the last and their number alone, so they have to be one after another in the list. A line down a window is
     drawn once by this, and not in each tile row.
     """
     same = np.zeros(len(first), np.bool_)
     same[1:] = (areas[1:, 1] == areas[:-1, 3]) & (areas[1:, 2] - areas[1:, 0] <= TILE) & (counts[1:] == last[1:] - first[1:] + 1)
-    for each in (first, counts, areas[:, 0], areas[:, 2]):
+    for each in (first, last, counts, areas[:, 0], areas[:, 2]):
         same[1:] &= each[1:] == each[:-1]
     return same
 
 
-def draws_of(scene: Scene, chosen: Indices, begin: int, end: int, first: int, last: int) -> list[PartDraw]:
-    """The draws that have the chosen triangles from `begin` to before `end`, which are ascending from `first` to `last`."""
+def draws_of(
+    scene: Scene, chosen: Indices, polygons_before: NDArray[np.int64], begin: int, end: int, first: int, last: int
+) -> list[PartDraw]:
+    """The draws that have what is chosen from `begin` to before `end`, which is ascending from `first` to `last`."""
     draws: list[PartDraw] = []
     while True:
         number = bisect_right(scene.ends, first)
-        behind, state = scene.ends[number], scene.draws[number].state
-        if last < behind:
-            return [*draws, PartDraw(end - begin, state)]
-        middle = begin + int(chosen[begin:end].searchsorted(np.int32(behind)))
-        draws.append(PartDraw(middle - begin, state))
+        behind, draw = scene.ends[number], scene.draws[number]
+        is_last = last < behind
+        middle = end if is_last else begin + int(chosen[begin:end].searchsorted(np.int32(behind)))
+        before = int(polygons_before[begin])
+        of_kind = before if draw.polygons else begin - before
+        draws.append(PartDraw(of_kind, of_kind + middle - begin, draw.state, draw.polygons > 0))
+        if is_last:
+            return draws
         begin, first = middle, int(chosen[middle])
 
 

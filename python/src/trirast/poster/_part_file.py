@@ -3,6 +3,7 @@
 from __future__ import annotations
 
 import os
+from typing import Optional
 
 from .._png import SIGNATURE
 from ._own_file import OwnFile
@@ -11,7 +12,7 @@ from ._places import PART, check_file
 # No longer than the shortest header of a PPM file. It stands in place of a picture's first bytes until the picture is whole.
 MARK = b"trirastpart"
 # How pictures begin that are whole.
-WHOLE = (b"P5\n", b"P6\n", SIGNATURE)
+WHOLE = (b"P5\n", b"P6\n", SIGNATURE, b"II+\0")
 
 
 class PartFile:
@@ -34,10 +35,10 @@ class PartFile:
         self._own.keep()
         self._write_start(MARK + self._header[len(MARK) :])
 
-    def finish(self, size: int) -> None:
-        """Gives the picture, which has this number of bytes, its header and its name."""
+    def finish(self, size: int, header: Optional[bytes] = None) -> None:
+        """Gives the picture, which has this number of bytes, its header and its name. A header may be known only now."""
         self.file.truncate(size)
-        self._write_start(self._header)
+        self._write_start(self._header if header is None else header)
         check_file(self._path)
         os.replace(self._path + PART, self._path)
         self.file.close()

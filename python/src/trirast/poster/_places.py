@@ -26,7 +26,7 @@ class Places(NamedTuple):
 
 
 # The ends of a picture's name, in small letters.
-ENDS = (".png", ".ppm", ".pgm", "")
+ENDS = (".png", ".tif", ".tiff", ".ppm", ".pgm", "")
 
 
 def places_of(out: Optional[Path], tiles: Optional[Path], source: Optional[str]) -> Places:
@@ -44,7 +44,7 @@ def places_of(out: Optional[Path], tiles: Optional[Path], source: Optional[str])
     for path in (places.journal, *([places.file + PART] if places.file else ())):
         check_file(path)
     if places.file is not None and os.path.splitext(places.file)[1].lower() not in ENDS:
-        raise OutputError(f"{places.file}: a name that ends in .png, in .ppm or of depths in .pgm, or without an end")
+        raise OutputError(f"{places.file}: a name that ends in .png, .tif, .tiff, .ppm or of depths in .pgm, or without an end")
     return places
 
 

@@ -24,7 +24,9 @@ from ._pool import Pool
 from ._ppm_writer import PpmWriter
 from ._progress import Step, progress
 from ._scene import Pixels, Scene, Sheet, with_samples
+from ._strips import cut_to_windows
 from ._threads import rows_by_threads
+from ._tiff_writer import TIFF, TiffWriter
 from ._tiles_writer import TilesWriter, are_whole
 from ._windows import Windows
 from ._writers import Writer
@@ -47,18 +49,18 @@ def draw_poster(
 ) -> None:
     """Draws a scene, up to 32,768 pixels wide and high, to a file or to a folder of tiles or to both.
 
-    `out` is a PNG file if its name ends in .png, in small or capital letters, and a PPM file (of depths a PGM file) if it ends in .ppm or
-    .pgm or has no end; `tiles` is a new folder. `samples` is the number of samples of a pixel in place of the scene's: 1, 2,
-    4, 8 or 16. `dpi` is the number of pixels per inch, which a PNG file alone has. `window` is the side in pixels of the
+    `out` is a PNG file if its name ends in .png, in small or capital letters, a TIFF file if in .tif or .tiff, which tifffile writes, and
+    a PPM file (of depths a PGM file) if it ends in .ppm or .pgm or has no end; `tiles` is a new folder. `samples` is the number of samples of a pixel in place of the scene's: 1, 2,
+    4, 8 or 16. `dpi` is the number of pixels per inch, which PNG and TIFF files alone have. `window` is the side in pixels of the
     squares that are drawn by themselves, 64 to 4096; `workers` how many draw at once (one a core). These two do not change a
     byte. Without `scheduler` threads of this process draw; with "local" Dask's processes, and with an address the workers of
     that cluster. `resume` goes on with what a stopped run left. Under the final names are whole files alone.
 
-    Raises PosterError and trirast.Error, ValueError at a number that is out of range and at `dpi` without a PNG file, and
+    Raises PosterError and trirast.Error, ValueError at a number that is out of range and at `dpi` without such a file, and
     OSError if a file cannot be written.
     """
     places = places_of(out, tiles, scene.source)
-    dots = checked_dpi(dpi, places.file)
+    dots = checked_dpi(dpi, places.file, (PNG, *TIFF))
     if samples is not None:
         scene = with_samples(scene, samples)
     count = os.cpu_count() or 1 if workers is None else operator.index(workers)
@@ -67,6 +69,7 @@ def draw_poster(
     windows = Windows(scene.sheet, operator.index(window))
     with contextlib.ExitStack() as stack, thread_errors():
         summing = stack.enter_context(Pool(1)).submit(scene.checksum, count)
+        scene = cut_to_windows(scene, windows, count)
         index = Index.of(scene, windows, count)
         checksum = summing.result()
         journal = Journal(places.journal)
@@ -112,6 +115,8 @@ def writers_of(
         makers.append(partial(TilesWriter, places.folder, sheet, checksum, resume, threads))
     if places.file is not None and places.file.lower().endswith(PNG):
         makers.append(partial(PngWriter, places.file, sheet, dpi, is_whole, threads))
+    elif places.file is not None and places.file.lower().endswith(TIFF):
+        makers.append(partial(TiffWriter, places.file, sheet, dpi, is_whole, threads))
     elif places.file is not None:
         makers.append(partial(PpmWriter, places.file, sheet, is_whole))
     for maker in makers:

@@ -8,15 +8,17 @@ import operator
 from dataclasses import InitVar, dataclass, field, replace
 from functools import cached_property
 from itertools import accumulate
-from typing import TYPE_CHECKING, Any, Mapping, Optional, Sequence
+from typing import TYPE_CHECKING, Any, Mapping, NamedTuple, Optional, Sequence
 
 import numpy as np
 from numpy.typing import NDArray
 
+from .._polygons import RULES
 from .._records import HIGH as HIGH
 from .._records import LOW as LOW
 from .._vertices import VERTEX, is_own_layout, records_of
 from ._errors import ArraysError
+from ._polygons import NONE, Polygons, own_polygons
 from ._pool import Pool
 
 if TYPE_CHECKING:
@@ -37,14 +39,19 @@ SAMPLES: dict[int, Sequence[tuple[int, int]]] = {
 }
 # Sides of a poster, in pixels: what the guard band reaches.
 MAX_SIDE = 32768
-# Indices of triangles have 32 bits.
+# Indices of triangles, and of polygons, have 32 bits.
 MAX_TRIANGLES = (1 << 31) - 1
 AXES = ("x", "y")
 OUTPUTS = ("color", "depth")
+# What a draw of polygons has beside what all have, and what it has not.
+RULE, CULL = "rule", "cull"
 # Keys of a draw that say what is drawn, and not how.
 CONTENTS = ("vertices", "triangles", "strip", "quads")
 # How many rows of an array are looked at together, so that a mapped array is never whole in memory.
 CHUNK = 1 << 20
+
+# Arrays of no vertices and no triangles.
+NO_TRIANGLES = np.zeros(0, VERTEX), np.zeros((0, 3), np.int32)
 
 Vertices: TypeAlias = "NDArray[Any]"
 Triangles: TypeAlias = "NDArray[np.int32]"
@@ -108,33 +115,45 @@ class Sheet:
 
 @dataclass(frozen=True)
 class PosterDraw:
-    """A draw of a scene: its number of triangles, and the keys of docs/draw-list.md with their values (`cull`, `blend`, ..).
+    """A draw of a scene: its number of triangles or of polygons, and the keys of docs/draw-list.md with their values
+    (`cull`, `blend`, ..). Polygons have no `cull`, and a `rule`, "even-odd" or "nonzero".
 
     Raises ArraysError if these are none. A scene looks at the values.
     """
 
-    triangles: int
+    triangles: int = 0
     state: Mapping[str, Any] = field(default_factory=dict)
+    polygons: int = 0
 
     def __post_init__(self) -> None:
-        object.__setattr__(self, "triangles", integer("triangles", self.triangles, 0, MAX_TRIANGLES))
+        for name in ("triangles", "polygons"):
+            object.__setattr__(self, name, integer(name, getattr(self, name), 0, MAX_TRIANGLES))
+        if self.triangles and self.polygons:
+            raise ArraysError(f"a draw has triangles or polygons, and not {self.triangles} and {self.polygons}")
         if not isinstance(self.state, Mapping) or not set(self.state).isdisjoint(CONTENTS):
             raise ArraysError(f"state: keys of a draw and their values, without {', '.join(CONTENTS)}, and not {self.state!r}")
+        if CULL in self.state and self.polygons or self.state.get(RULE, RULES[0]) not in RULES or RULE in self.state and self.triangles:
+            raise ArraysError(f"state: of polygons a rule, {' or '.join(RULES)}, and no cull; of triangles no rule; and not {self.state!r}")
         try:
             # A copy of its own, which nobody else changes.
             object.__setattr__(self, "state", json.loads(json.dumps(dict(self.state))))
         except (TypeError, ValueError, RecursionError) as error:
             raise ArraysError(f"state: values of a draw list, and not {self.state!r}: {error}") from error
 
+    @property
+    def count(self) -> int:
+        """How many triangles or polygons it has."""
+        return self.triangles or self.polygons
+
 
 @dataclass(frozen=True)
 class Scene:
-    """Triangles over vertices, draw after draw.
+    """Triangles over vertices, and polygons, draw after draw.
 
     `vertices` are records of trirast.VERTEX, or rows of x, y, depth, red, green, blue and alpha, of which the scene
-    makes records; `triangles` are rows of three indices of vertices. The first draw has the first triangles, and so on.
-    The scene keeps copies of both, which cannot be written to, unless `copy` is false. Then it may keep the arrays
-    themselves. If somebody changes them as long as the scene is used, another picture is drawn, or an error is raised:
+    makes records; `triangles` are rows of three indices of vertices. The first draw of triangles has the first ones,
+    and so on, and so it is with draws of `polygons`. The scene keeps copies of all, which cannot be written to, unless
+    `copy` is false. Then it may keep vertices and triangles themselves. If somebody changes them as long as the scene is used, another picture is drawn, or an error is raised:
     each window draws copies of what it reads. `source` is the file that it was read from, which no poster replaces.
     Raises ArraysError if something does not fit, and trirast.Error if a state is wrong.
     """
@@ -145,6 +164,7 @@ class Scene:
     draws: Sequence[PosterDraw]
     source: Optional[str] = field(default=None, compare=False)
     copy: InitVar[bool] = True
+    polygons: Polygons = NONE
     # Whether nobody else can change the arrays.
     is_own: bool = field(init=False, repr=False, compare=False, default=True)
 
@@ -155,23 +175,49 @@ class Scene:
         object.__setattr__(self, "draws", tuple(self.draws))
         object.__setattr__(self, "vertices", own_vertices(self.vertices, copy))
         object.__setattr__(self, "triangles", own_triangles(self.triangles, copy))
+        object.__setattr__(self, "polygons", own_polygons(self.polygons))
         check_arrays(self.vertices, self.triangles, self.draws)
+        check_count("polygons", sum(draw.polygons for draw in self.draws), self.polygons.count)
         check_states(self.draws)
 
     @cached_property
     def ends(self) -> list[int]:
-        """Of each draw the index at which its triangles end."""
-        return list(accumulate(draw.triangles for draw in self.draws))
+        """Of each draw the index at which what it draws ends, triangles and polygons counted together."""
+        return list(accumulate(draw.count for draw in self.draws))
+
+    @cached_property
+    def runs(self) -> list[Run]:
+        """Triangles or polygons that are drawn one after another, by draws or by several."""
+        found: list[Run] = []
+        counts = {False: 0, True: 0}
+        for draw, end in zip(self.draws, self.ends):
+            is_polygons = draw.polygons > 0
+            if draw.count and found and found[-1].is_polygons == is_polygons:
+                found[-1] = found[-1]._replace(end=end)
+            elif draw.count:
+                found.append(Run(end - draw.count, end, counts[is_polygons], is_polygons))
+            counts[is_polygons] += draw.count
+        return found
 
     def checksum(self, threads: int = 1) -> str:
         """A checksum (BLAKE2b) of all that is drawn: of the state and the checksums of parts of the arrays."""
-        head = [self.sheet.__dict__, [[draw.triangles, dict(draw.state)] for draw in self.draws]]
+        head = [self.sheet.__dict__, [[draw.triangles, draw.polygons, dict(draw.state)] for draw in self.draws]]
         found = hashlib.blake2b(json.dumps(head, sort_keys=True, default=list).encode(), digest_size=16)
-        parts = [array[first : first + CHUNK] for array in (self.vertices, self.triangles) for first in range(0, len(array), CHUNK)]
+        arrays = self.vertices, self.triangles, *self.polygons.arrays
+        parts = [array[first : first + CHUNK] for array in arrays for first in range(0, len(array), CHUNK)]
         with Pool(threads) as pool:
             for each in pool.map(digest_of, parts):
                 found.update(each)
         return found.hexdigest()
+
+
+class Run(NamedTuple):
+    """What is drawn from the index `first` to before `end`: triangles or polygons, of which `number` is the first."""
+
+    first: int
+    end: int
+    number: int
+    is_polygons: bool
 
 
 def owned(scene: Scene) -> Scene:
@@ -189,7 +235,7 @@ def with_samples(scene: Scene, samples: int) -> Scene:
         return scene
     every = (1 << scene.sheet.samples) - 1
     draws = [without_mask(draw) if ~draw.state.get("sample_mask", every) & every == 0 else draw for draw in scene.draws]
-    other = Scene(replace(scene.sheet, samples=samples), scene.vertices, scene.triangles, draws, scene.source, copy=False)
+    other = replace(scene, sheet=replace(scene.sheet, samples=samples), draws=draws, copy=False)
     return owned(other) if scene.is_own else other
 
 
@@ -242,14 +288,17 @@ def own_triangles(array: Any, copy: bool) -> Triangles:
 
 def check_arrays(vertices: Vertices, triangles: Triangles, draws: Sequence[PosterDraw]) -> None:
     """Raises ArraysError unless the draws have all triangles, each number is in its range and each index names a vertex."""
-    counted = sum(draw.triangles for draw in draws)
-    if counted != len(triangles):
-        raise ArraysError(f"the draws have {counted} triangles, and the array has {len(triangles)}")
+    check_count("triangles", sum(draw.triangles for draw in draws), len(triangles))
     for first in range(0, len(vertices), CHUNK):
         for axis in AXES:
             check_range(axis, vertices[axis][first : first + CHUNK], LOW, HIGH)
     for first in range(0, len(triangles), CHUNK):
         check_range("an index", triangles[first : first + CHUNK], 0, len(vertices) - 1)
+
+
+def check_count(name: str, counted: int, count: int) -> None:
+    if counted != count:
+        raise ArraysError(f"the draws have {counted} {name}, and the arrays have {count}")
 
 
 def check_states(draws: Sequence[PosterDraw]) -> None:

@@ -14,7 +14,9 @@ import numpy as np
 
 from .._canvas import FORMATS, aligned
 from .._draw import INDEX_BYTES, Draw
-from .._ffi import CBatch, CCanvas, CClear, CDraw, CError, library
+from .._ffi import CBatch, CCanvas, CClear, CDraw, CError, CPolygons, library
+from .._polygons import RULES, scratch_of
+from ._polygons import Polygons
 from ._scene import Pixels, Sheet, Triangles, Vertices
 from ._windows import Area
 
@@ -62,6 +64,7 @@ class ThreadCanvas:
     def __init__(self) -> None:
         self._memory, self._bytes, self._address, self._is_small = aligned(0)[0], 0, 0, True
         self._canvas, self._batch, self._error = CCanvas(), CBatch(draw_count=1), CError()
+        self._scratch = scratch_of(0)
         self._quick, self._calls = library(QUICK), library()
         self._states: Dict[int, Tuple[Mapping[str, Any], CDraw, int]] = {}
 
@@ -108,13 +111,29 @@ class ThreadCanvas:
         calls = self._quick if self._is_small and triangles <= FEW else self._calls
         calls.trirast_canvas_draw(self._canvas, batch, self._error)
 
+    def draw_polygons(self, polygons: Polygons, state: Mapping[str, Any], shift: Tuple[int, int]) -> None:
+        """Draws polygons that are moved left and up by a number of pixels. Raises BatchError, and then nothing was drawn."""
+        _, draw, _ = self._states.get(id(state)) or self._keep(state)
+        rule = RULES.index(state.get("rule", RULES[0]))
+        arrays = [np.ascontiguousarray(array) for array in polygons.arrays]
+        corners, rings, ends, colors = [(array.ctypes.data, len(array)) for array in arrays]
+        in_c, canvas, (x, y) = CPolygons(0, rule, *corners, *rings, *ends, *colors, None, 0, draw), self._canvas, shift
+        in_c.state.scissor_left, in_c.state.scissor_right = draw.scissor_left - x, draw.scissor_right - x
+        in_c.state.scissor_top, in_c.state.scissor_bottom = draw.scissor_top - y, draw.scissor_bottom - y
+        size = self._quick.trirast_polygons_scratch(canvas, rule)
+        if size > ctypes.sizeof(self._scratch):
+            self._scratch = scratch_of(size)
+        canvas.origin_x, canvas.origin_y = canvas.origin_x - x, canvas.origin_y - y
+        self._calls.trirast_canvas_draw_polygons(canvas, in_c, self._scratch, size, self._error)
+        canvas.origin_x, canvas.origin_y = canvas.origin_x + x, canvas.origin_y + y
+
     def _keep(self, state: Mapping[str, Any]) -> Tuple[Mapping[str, Any], CDraw, int]:
         """A draw's state, and as the library takes it, with its address. The state is kept, so that no other has its identity."""
         if len(self._states) == STATES:
             self._states.clear()
-        keywords = {key: value for key, value in state.items() if key != "write"}
+        keywords = {key: value for key, value in state.items() if key not in ("write", "rule")}
         keep = "".join(letter for letter, is_written in zip("rgb", state.get("write", ())) if not is_written)
-        draw = Draw(b"", b"", keep=keep, **keywords)._in_c()
+        draw = Draw(b"", b"", keep=keep, **keywords)._in_c(b"")
         self._states[id(state)] = kept = state, draw, ctypes.addressof(draw)
         return kept
 

@@ -20,8 +20,8 @@ from ._windows import Span, Windows
 
 # How many rows of windows are drawn at once, so that the last windows of one keep no thread waiting.
 AHEAD = 2
-# A thread takes as many windows together as weigh this, at least one: it draws for some milliseconds. A triangle weighs 1, and so do
-# 256 pixels.
+# A thread takes as many windows together as weigh this, at least one: it draws for some milliseconds. A triangle or a polygon weighs 1,
+# and so do 256 pixels.
 WEIGHT = 1 << 14
 PIXELS = 256
 # Into how many spans for each thread a row is cut at least.
@@ -51,7 +51,7 @@ def rows_by_threads(scene: Scene, index: Index, windows: Windows, first: int, wo
 
 def spans_of(index: Index, windows: Windows, row: int, workers: int) -> Iterator[Span]:
     """The windows of a row in pieces of work, from the left."""
-    before = index.triangles_before(row)
+    before = index.members_before(row)
     for column in range(windows.columns + 1):
         before[column] += column * windows.side * windows.row_height(row) // PIXELS
     most = min(WEIGHT, (before[-1] - before[0]) // (SPANS * workers))

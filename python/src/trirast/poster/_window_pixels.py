@@ -1,4 +1,4 @@
-"""The pixels of windows: their triangles, drawn by a canvas that stands at one piece after another.
+"""The pixels of windows: their triangles and polygons, drawn by a canvas that stands at one piece after another.
 
 A triangle that is moved by whole pixels meets the moved samples and makes the same of them (the law `canvas::moves_by_pixels`), so
 these are the pixels of the whole sheet.
@@ -24,10 +24,12 @@ def put_pixels(part: Part, pixels: Pixels) -> None:
         part.sheet.fill(pixels)
     canvas, target = own_canvas(), Target(pixels, part.area)
     canvas.begin(part.sheet, begin_of(part), Arrays(part.vertices, part.triangles))
-    for area, first, draws in part.pieces:
+    for area, draws in part.pieces:
         canvas.place(area)
         canvas.clear()
-        for triangles, state in draws:
-            canvas.draw(first, triangles, state)
-            first += triangles
+        for first, end, state, is_polygons in draws:
+            if is_polygons:
+                canvas.draw_polygons(part.polygons.part(first, end), state, part.shift)
+            else:
+                canvas.draw(first, end - first, state)
         canvas.show(target)

@@ -12,6 +12,9 @@ from ._scene import UNIT, Indices, Sheet
 # The pixels of a tile's side (docs/canvas.md). A window's tile rows are drawn one after another, since the samples of one fit into a
 # processor's second cache, where they are cleared, drawn and resolved.
 TILE = 64
+# The last pixel at which a canvas may begin on which polygons are drawn, and by how many pixels these are moved left or up, and the
+# canvas with them, where it begins behind that: what is inside moves with the corners by whole pixels (docs/polygons.md).
+FARTHEST, SHIFT = 28672, 4096
 
 
 class Area(NamedTuple):
@@ -113,6 +116,15 @@ class Windows:
         """All windows from a row on."""
         for row in range(first, self.rows):
             yield from self.in_row(row)
+
+    def column_edges(self) -> list[int]:
+        """The x at which the columns of windows begin, in 1/256 pixel, and at which the last one ends."""
+        return [UNIT * min(column * self.side, self.width) for column in range(self.columns + 1)]
+
+    def tile_row_edges(self) -> list[int]:
+        """The y at which the tile rows begin, and at which the last one ends."""
+        tops = [row * self.side + top for row in range(self.rows) for top in range(0, self.row_height(row), TILE)]
+        return [UNIT * top for top in (*tops, self.height)]
 
     def columns_at(self, x: Indices) -> Indices:
         """The column of windows in which each x lies, in 1/256 pixel. It is negative to the left of the sheet."""

@@ -1,20 +1,20 @@
 use Rattle.std.proofs.Common.{◌<◌, length}
-use Rattle.model.specs.Checking.{Pass}
+use Rattle.batch.specs.OwnIndices.{indices_given}
 use Rattle.batch.proofs.Draws.{fails_here, fails_later, passes_here}
 use Rattle.batch.proofs.checking.check_draws.Goals as goal
 
 pub returns-in-Err : goal.returns-in-Err
-returns-in-Err c =
+returns-in-Err g c =
     let within : c.loop-number.number < length c.args.draws.now = c.loop-number-test.true in
-    c.loop-number.invariant.faults _ (fails_here c.args.origin.now.x c.args.origin.now.y c.args.draws.now c.loop-number.number _ within c.loop-number.next_ids c.loop-number.vertices_left.now c.loop-number.indices_left.now c.in-Err.cause c.in-Err.ensures)
+    rw c.in_draw.ensures (c.loop-number.invariant.faults _ (fails_here c.args.origin.now.x c.args.origin.now.y c.args.draws.now c.loop-number.number _ within c.loop-number.next_ids (g.V.Vertices.listed c.loop-number.vertices_left) (indices_given c.loop-number.indices_left) c.in-Err.fault c.in-Err.ensures))
 
 pub loop-number-preserved : goal.loop-number-preserved
-loop-number-preserved c =
+loop-number-preserved g c =
     let within : c.loop-number.number < length c.args.draws.now = c.loop-number-test.true in
     let pass = c.in_default.ensures.0 in
     record {
-      passed = λ rest. c.loop-number.invariant.passed (passes_here c.args.origin.now.x c.args.origin.now.y c.args.draws.now c.loop-number.number _ within c.loop-number.next_ids c.loop-number.vertices_left.now c.loop-number.indices_left.now pass
-          (rw (c.after-next_ids.ensures, c.triangle_count.ensures.value, c.split_at.ensures.front, c.split_at.ensures.back, c.split_at-in-loop-number.ensures.back) at rest));
-      faults = λ fault first. c.loop-number.invariant.faults fault (fails_later c.args.origin.now.x c.args.origin.now.y c.args.draws.now c.loop-number.number _ within c.loop-number.next_ids c.loop-number.vertices_left.now c.loop-number.indices_left.now fault pass
-          (rw (c.after-next_ids.ensures, c.triangle_count.ensures.value, c.split_at.ensures.front, c.split_at.ensures.back, c.split_at-in-loop-number.ensures.back) at first));
+      passed = λ rest. c.loop-number.invariant.passed (passes_here c.args.origin.now.x c.args.origin.now.y c.args.draws.now c.loop-number.number _ within c.loop-number.next_ids (g.V.Vertices.listed c.loop-number.vertices_left) (indices_given c.loop-number.indices_left) pass
+          (rw (c.after-next_ids.ensures, c.triangles_of_draw.ensures, c.behind-indices_left.ensures, c.behind-vertices_left.ensures) at rest));
+      faults = λ fault first. c.loop-number.invariant.faults fault (fails_later c.args.origin.now.x c.args.origin.now.y c.args.draws.now c.loop-number.number _ within c.loop-number.next_ids (g.V.Vertices.listed c.loop-number.vertices_left) (indices_given c.loop-number.indices_left) fault pass
+          (rw (c.after-next_ids.ensures, c.triangles_of_draw.ensures, c.behind-indices_left.ensures, c.behind-vertices_left.ensures) at first));
     }

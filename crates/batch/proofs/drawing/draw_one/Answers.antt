@@ -1,34 +1,42 @@
-use Rattle.std.proofs.Common.{◌+◌, ◌≤◌, subst, take}
-use Rattle.std.proofs.lemmas.List.{length-map}
-use Rattle.model.specs.Primitives.{triangles_of, count_of_triangles}
-use Rattle.model.proofs.Triangulated.{length-triangles_of}
-use Rattle.batch.specs.Listed.{primitives_listed}
+use Rattle.std.proofs.Common.{subst, take, List, ℕ, Option, Some, None, arith}
+use Rattle.std.specs.List.{range_with_len}
+use Rattle.std.proofs.lemmas.List.FromFn.{length-range_with_len}
+use Rattle.model.specs.Primitives.{triangles_of}
 use Rattle.canvas.specs.Drawing.{HaveEnds}
-use Rattle.canvas.specs.Ids.{with_ids}
+use Rattle.batch.specs.Ids.{drawn_as}
+use Rattle.batch.specs.Listed.{primitives_listed}
 use Rattle.batch.proofs.Corners.{seen_all}
 use Rattle.batch.proofs.drawing.draw_one.Goals as goal
 
-pub unwrap-requires : goal.unwrap-requires
-unwrap-requires c =
-    let draw = c.args.draw.now in
-    let few : c.in-Some.first + count_of_triangles (primitives_listed draw.topology (take draw.indices c.args.indices.now)) ≤ 16777216 = rw c.in-Some.is at c.requires.1.1.1.1.0 in
-    c.new.ensures.some.1 (rw (length-map, length-triangles_of) few)
+pub draw_primitives-requires-in-InOrder-clause-fits : goal.draw_primitives-requires-in-InOrder-clause-fits
+draw_primitives-requires-in-InOrder-clause-fits g c = omega (arith, length-range_with_len 0 c.args.draw.now.vertices, c.first-own.ensures.few)
 
-pub returns-in-None-clause-drawn : goal.returns-in-None-clause-drawn
-returns-in-None-clause-drawn c =
+pub returns-in-Words-clause-drawn : goal.returns-in-Words-clause-drawn
+returns-in-Words-clause-drawn g c =
     let rows = c.args.piece.now.rows in
     let draw = c.args.draw.now in
-    let triangles = triangles_of (primitives_listed draw.topology (take draw.indices c.args.indices.now)) in
-    rw c.in-None.is
-    (subst (λ ts. HaveEnds ts rows.canvas rows.first rows.end c.args.piece.now.planes.now c.draw.new.self.planes.now)
-    (seen_all c.args.origin.now.x c.args.origin.now.y draw c.args.vertices.now c.args.indices.now triangles) (rw (c.seen_state.ensures, c.state.ensures) at c.draw.ensures.drawn))
+    let origin = c.args.origin.now in
+    let given : Option (List ℕ) = Some c.in-Words.all.now in
+    rw c.in-Words.is
+    (subst (λ ts. HaveEnds (drawn_as c.args.ids ts) rows.canvas rows.first rows.end c.args.piece.now.planes.now c.draw_primitives.new.piece.planes.now)
+    (seen_all c.args.has_alpha origin.x origin.y draw (g.V.Vertices.listed c.args.vertices.now) given (triangles_of (primitives_listed draw.topology (take draw.indices c.in-Words.all.now)))) (rw c.first-own.ensures.value at c.draw_primitives.ensures.drawn))
 
-pub returns-in-Some-clause-drawn : goal.returns-in-Some-clause-drawn
-returns-in-Some-clause-drawn c =
+pub returns-in-Halves-clause-drawn : goal.returns-in-Halves-clause-drawn
+returns-in-Halves-clause-drawn g c =
     let rows = c.args.piece.now.rows in
     let draw = c.args.draw.now in
-    let triangles = triangles_of (primitives_listed draw.topology (take draw.indices c.args.indices.now)) in
-    let numbered = subst (λ ts. HaveEnds ts rows.canvas rows.first rows.end c.args.piece.now.planes.now c.draw-in-Some.new.self.planes.now) (rw c.unwrap.ensures at c.new.ensures.listed) c.draw-in-Some.ensures.drawn in
-    rw c.in-Some.is
-    (subst (λ ts. HaveEnds (with_ids ts c.in-Some.first) rows.canvas rows.first rows.end c.args.piece.now.planes.now c.draw-in-Some.new.self.planes.now)
-    (seen_all c.args.origin.now.x c.args.origin.now.y draw c.args.vertices.now c.args.indices.now triangles) (rw (c.seen_state.ensures, c.state.ensures) at numbered))
+    let origin = c.args.origin.now in
+    let given : Option (List ℕ) = Some c.in-Halves.all.now in
+    rw c.in-Halves.is
+    (subst (λ ts. HaveEnds (drawn_as c.args.ids ts) rows.canvas rows.first rows.end c.args.piece.now.planes.now c.draw_primitives-in-Halves.new.piece.planes.now)
+    (seen_all c.args.has_alpha origin.x origin.y draw (g.V.Vertices.listed c.args.vertices.now) given (triangles_of (primitives_listed draw.topology (take draw.indices c.in-Halves.all.now)))) (rw c.first-own.ensures.value at c.draw_primitives-in-Halves.ensures.drawn))
+
+pub returns-in-InOrder-clause-drawn : goal.returns-in-InOrder-clause-drawn
+returns-in-InOrder-clause-drawn g c =
+    let rows = c.args.piece.now.rows in
+    let draw = c.args.draw.now in
+    let origin = c.args.origin.now in
+    let given : Option (List ℕ) = None in
+    rw c.in-InOrder.is
+    (subst (λ ts. HaveEnds (drawn_as c.args.ids ts) rows.canvas rows.first rows.end c.args.piece.now.planes.now c.draw_primitives-in-InOrder.new.piece.planes.now)
+    (seen_all c.args.has_alpha origin.x origin.y draw (g.V.Vertices.listed c.args.vertices.now) given (triangles_of (primitives_listed draw.topology (range_with_len 0 draw.vertices)))) (rw c.first-own.ensures.value at c.draw_primitives-in-InOrder.ensures.drawn))

@@ -1,27 +1,30 @@
-use Rattle.std.proofs.Common.{◌≡◌, ◌∙◌, ◌<◌, ◌*◌, ◌/◌, [], sym, ap, length, get_or, arith}
-use Rattle.std.specs.List.{flat_map}
-use Rattle.std.specs.Simd.{first_chunks}
-use Rattle.model.specs.Primitives.{quad_triangles}
-use Rattle.model.proofs.Triangulated.{strip_triangle_at}
-use Rattle.batch.proofs.Chunks.{count_of_chunks}
-use Rattle.batch.proofs.Chunks.{named_in_chunk, named_in_quad}
+use Rattle.std.proofs.Common.{sym, arith}
+use Rattle.batch.proofs.Chunks.{triangle_at, are_inside, fewer_triangles, named_three}
 use Rattle.batch.proofs.primitives.triangle.Goals as goal
 
-pub returns-in-0-clause-named : goal.returns-in-0-clause-named
-returns-in-0-clause-named c = λ x y vertices seen.
-    let xs = c.args.indices.now in
-    named_in_chunk x y vertices 3 (length xs / 3) xs c.args.number _ (ap (λ chunks. get_or chunks c.args.number []) c.as_chunks.ensures.front) seen
+pub places-place-requires-clause-number : goal.places-place-requires-clause-number
+places-place-requires-clause-number g c =
+    let listed = g.I.Indices.listed c.args.indices.now in
+    omega (arith, fewer_triangles c.args.topology listed c.args.number c.requires.topology c.requires.number, c.requires.fits)
 
-pub returns-in-1-clause-value : goal.returns-in-1-clause-value
-returns-in-1-clause-value c =
-    rw c.in-1.is (c.strip_triangle.ensures.value ∙ sym (strip_triangle_at c.args.indices.now c.args.number [] (rw c.in-1.is at c.requires.number)))
+pub at-first-requires : goal.at-first-requires
+at-first-requires g c = rw c.places-place.ensures (are_inside c.args.topology (g.I.Indices.listed c.args.indices.now) c.args.number c.requires.topology c.requires.number).first
 
-pub returns-in_default-clause-named : goal.returns-in_default-clause-named
-returns-in_default-clause-named c = λ x y vertices seen.
-    let xs = c.args.indices.now in
-    let are_quads : c.args.topology ≡ 2 = omega arith in
-    let below = rw are_quads at c.requires.number in
-    let inside : c.args.number < 2 * (length xs / 4) = omega (arith, below, count_of_chunks 4 (length xs / 4) xs) in
-    let is : c.quad_triangle.result ≡ get_or (flat_map quad_triangles (first_chunks 4 (length xs / 4) xs)) c.args.number [] =
-    c.quad_triangle.ensures.value ∙ ap (λ quads. get_or (flat_map quad_triangles quads) c.args.number []) c.as_chunks-in_default.ensures.front in
-    named_in_quad x y vertices xs c.args.number inside _ is seen
+pub at-second-requires : goal.at-second-requires
+at-second-requires g c = rw c.places-place.ensures (are_inside c.args.topology (g.I.Indices.listed c.args.indices.now) c.args.number c.requires.topology c.requires.number).second
+
+pub at-requires : goal.at-requires
+at-requires g c = rw c.places-place.ensures (are_inside c.args.topology (g.I.Indices.listed c.args.indices.now) c.args.number c.requires.topology c.requires.number).third
+
+pub returns-clause-value : goal.returns-clause-value
+returns-clause-value g c =
+    let listed = g.I.Indices.listed c.args.indices.now in
+    rw (c.at-first.ensures, c.at-second.ensures, c.at.ensures, c.places-place.ensures)
+    (sym (triangle_at c.args.topology listed c.args.number c.requires.topology c.requires.number))
+
+pub returns-clause-named : goal.returns-clause-named
+returns-clause-named g c = λ x y vertices seen.
+    let listed = g.I.Indices.listed c.args.indices.now in
+    let inside = are_inside c.args.topology listed c.args.number c.requires.topology c.requires.number in
+    rw (c.at-first.ensures, c.at-second.ensures, c.at.ensures, c.places-place.ensures)
+    (named_three x y vertices listed _ _ _ inside.first inside.second inside.third seen)

@@ -1,9 +1,9 @@
-use Rattle.std.proofs.Common.{◌≡◌, ◌∙◌, inl, inr, refl, sym, ap, subst, ◌+◌, ◌/◌, ◌<◌, ℕ, [], ◌∷◌, slice_index, arith}
-use Rattle.shade.specs.declared.sample.Sample.{Sample}
+use Rattle.std.proofs.Common.{◌≡◌, Bool, if◌then◌else◌, ◌∙◌, inl, inr, refl, sym, ap, subst, ◌+◌, ◌/◌, ◌<◌, ℕ, [], ◌∷◌, slice_index, arith}
+use Rattle.shade.specs.declared.sample.CanvasSample.{CanvasSample}
 use Rattle.canvas.specs.declared.format.Format.{Format}
-use Rattle.canvas.specs.declared.format.Format.TheVariants.{Rgb8, Rgba8, Bgra8}
-use Rattle.canvas.specs.Layout.{columns_of}
-use Rattle.canvas.specs.Pixels.{pixel_bytes, pixel_of, entry_of}
+use Rattle.canvas.specs.declared.format.Format.TheVariants.{Rgb8, Rgba8, Bgra8, Rgba8Straight, Bgra8Straight}
+use Rattle.canvas.specs.Layout.{columns_of, stored}
+use Rattle.canvas.specs.Pixels.{IsAsStored, pixel_bytes, pixel_of, entry_of}
 use Rattle.canvas.specs.Colours.{IsSampleColour}
 use Rattle.canvas.specs.Loaded.{coloured}
 use Rattle.canvas.proofs.Changes.{cases_eq}
@@ -23,21 +23,25 @@ within : (format : Format) (k : ℕ) → k < 3 → k < pixel_bytes format
 within Rgb8 k small = small
 within Rgba8 k small = omega (arith, small)
 within Bgra8 k small = omega (arith, small)
+within Rgba8Straight k small = omega (arith, small)
+within Bgra8Straight k small = omega (arith, small)
 
 -- the bytes of a sample that has the colour of bytes
-own_bytes : (format : Format) (bytes : ℕ → ℕ) (old : Sample) (k : ℕ) → k < 3
-    → slice_index (pixel_of format (coloured format bytes old).r (coloured format bytes old).g (coloured format bytes old).b) k ≡ bytes k
-own_bytes Rgb8 bytes old k small = three (λ k. slice_index (bytes 0 ∷ bytes 1 ∷ bytes 2 ∷ []) k) bytes refl refl refl k small
-own_bytes Rgba8 bytes old k small = three (λ k. slice_index (bytes 0 ∷ bytes 1 ∷ bytes 2 ∷ 255 ∷ []) k) bytes refl refl refl k small
-own_bytes Bgra8 bytes old k small = three (λ k. slice_index (bytes 0 ∷ bytes 1 ∷ bytes 2 ∷ 255 ∷ []) k) bytes refl refl refl k small
+own_bytes : (format : Format) → IsAsStored format → (too : Bool) (bytes : ℕ → ℕ) (old : CanvasSample) (k : ℕ) → k < 3
+    → slice_index (pixel_of format (coloured format too bytes old).r (coloured format too bytes old).g (coloured format too bytes old).b (coloured format too bytes old).alpha) k ≡ bytes k
+own_bytes Rgb8 plain too bytes old k small = three (λ k. slice_index (bytes 0 ∷ bytes 1 ∷ bytes 2 ∷ []) k) bytes refl refl refl k small
+own_bytes Rgba8 plain too bytes old k small = three (λ k. slice_index (bytes 0 ∷ bytes 1 ∷ bytes 2 ∷ (if too then bytes 3 else old.alpha) ∷ []) k) bytes refl refl refl k small
+own_bytes Bgra8 plain too bytes old k small = three (λ k. slice_index (bytes 0 ∷ bytes 1 ∷ bytes 2 ∷ (if too then bytes 3 else old.alpha) ∷ []) k) bytes refl refl refl k small
+own_bytes Rgba8Straight never too bytes old k small = absurd never
+own_bytes Bgra8Straight never too bytes old k small = absurd never
 
-same_bytes : (format : Format) (bytes back : ℕ → ℕ) (old new : Sample) → new ≡ coloured format bytes old → IsSampleColour format new back → (k : ℕ) → k < 3 → back k ≡ bytes k
-same_bytes format bytes back old new is h k small =
-    h k (within format k small) ∙ ap (λ (x : Sample). slice_index (pixel_of format x.r x.g x.b) k) is ∙ own_bytes format bytes old k small
+same_bytes : (format : Format) → IsAsStored format → (too : Bool) (bytes back : ℕ → ℕ) (old new : CanvasSample) → new ≡ coloured format too bytes old → IsSampleColour format new back → (k : ℕ) → k < 3 → back k ≡ bytes k
+same_bytes format plain too bytes back old new is h k small =
+    h k (within format k small) ∙ ap (λ (x : CanvasSample). slice_index (pixel_of format x.r x.g x.b (x.alpha)) k) is ∙ own_bytes format plain too bytes old k small
 
 pub returns : goal.returns
-returns c canvas first end s stride format bytes before after old new few set are i j k h small =
+returns c canvas first end s stride format bytes before after too old new plain few set are i j k h small =
     let column = h.column in
     let wide : i / 64 < columns_of canvas = omega (arith, column) in
-    same_bytes format (λ n. slice_index bytes (entry_of first (pixel_bytes format) stride i j + n)) (λ n. slice_index after (entry_of first (pixel_bytes format) stride i j + n)) _ _
+    same_bytes format plain too (λ n. slice_index bytes (entry_of first (pixel_bytes format) stride i j + n)) (λ n. slice_index after (entry_of first (pixel_bytes format) stride i j + n)) (stored canvas first old i j s) (stored canvas first new i j s)
     (set.changed i j s (record { column = wide; from = h.from; below = h.below; is_sample = few }) (h, refl)) (are.pixels i j h) k small

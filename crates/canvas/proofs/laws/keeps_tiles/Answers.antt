@@ -1,5 +1,5 @@
 use Rattle.std.proofs.Common.{◌≡◌, ◌∙◌, refl, inl, inr, sym, ap, ◌/◌, ◌<◌, ◌^◌, ℕ, arith}
-use Rattle.shade.specs.declared.sample.Sample.{Sample}
+use Rattle.shade.specs.declared.sample.CanvasSample.{CanvasSample}
 use Rattle.canvas.specs.Layout.{stored}
 use Rattle.canvas.specs.Colours.{id_of}
 use Rattle.canvas.specs.Tiles.{said_of, with_colour, HasBytes}
@@ -8,7 +8,7 @@ use Rattle.canvas.proofs.TileEntries.{in_channels}
 use Rattle.canvas.proofs.laws.keeps_tiles.Goals as goal
 
 -- a sample in the colour of its id
-in_own_colour : (x : Sample) → HasBytes x → with_colour (id_of x) x ≡ x
+in_own_colour : (x : CanvasSample) → HasBytes x → with_colour (id_of x) x ≡ x
 in_own_colour x h =
     let red = h.red in
     let green = h.green in
@@ -16,7 +16,7 @@ in_own_colour x h =
     sym (in_channels x.r x.g x.b (id_of x) x x (omega (arith, red, green, blue)) (omega (arith, red, green, blue)) (omega (arith, red, green, blue)) refl)
 
 -- the id of a sample in the colour of a number
-of_colour : (n : ℕ) (x : Sample) → n < 2 ^ 24 → id_of (with_colour n x) ≡ n
+of_colour : (n : ℕ) (x : CanvasSample) → n < 2 ^ 24 → id_of (with_colour n x) ≡ n
 of_colour n x h = omega (arith, h)
 
 pub returns-clause-ids : goal.returns-clause-ids

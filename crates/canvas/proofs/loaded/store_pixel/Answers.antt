@@ -1,12 +1,13 @@
-use Rattle.std.proofs.Common.{◌<◌, ◌≤◌, ℕ, slice_index, arith}
+use Rattle.std.proofs.Common.{◌∙◌, ap, ◌+◌, ◌<◌, ◌≤◌, ℕ, slice_index, slice_index_or, arith}
 use Rattle.grid.specs.Samples.{count_of}
 use Rattle.canvas.specs.Loaded.{coloured}
-use Rattle.canvas.proofs.Changes.{no_sample_changed, one_sample_more}
+use Rattle.canvas.proofs.Changes.{no_sample_changed, one_sample_more, same_place}
+use Rattle.canvas.proofs.Places.{none, within_tile}
 use Rattle.canvas.proofs.loaded.store_pixel.Goals as goal
 
 pub loop-s-init : goal.loop-s-init
 loop-s-init c =
-    no_sample_changed c.args.count c.args.i c.args.j c.args.indices.first (λ sample. coloured c.args.format (λ k. slice_index c.args.pixel.now k) sample) c.args.samples.now c.fill_tile.new.samples c.fill_tile.ensures.filled c.fill_tile.ensures.kept
+    no_sample_changed c.args.count c.args.i c.args.j c.args.indices.first (λ sample. coloured c.args.format c.args.indices.alpha (λ k. slice_index c.args.pixel.now k) sample) c.args.samples.now c.fill_tile.new.samples c.fill_tile.ensures.filled c.fill_tile.ensures.kept
 
 pub loop-s-preserved : goal.loop-s-preserved
 loop-s-preserved c =
@@ -14,8 +15,9 @@ loop-s-preserved c =
     let j : ℕ = c.args.j in
     let s : ℕ = c.loop-s.s in
     let h : s < count_of c.args.count = omega (arith, c.loop-s-test.true, c.requires.indices.1) in
-    one_sample_more c.args.count i j c.args.indices.first s c.loop-s.auto.s h (λ sample. coloured c.args.format (λ k. slice_index c.args.pixel.now k) sample) c.args.samples.now c.loop-s.samples c.recolour.new.plane c.place_in_tile-place.result c.place_in_tile-place.ensures.value
-    (omega (arith, c.place_in_tile-place.ensures.within, c.requires.samples, c.loop-s.auto.samples)) c.recolour.ensures.kept c.recolour.ensures.stored c.loop-s.invariant
+    let at = ap (λ first. first + s) c.place_in_tile-place.ensures.value ∙ same_place c.args.count (slice_index_or c.fill_tile.new.samples 0 none) (slice_index_or c.loop-s.samples 0 none) i j s c.fill_tile.ensures.filled c.loop-s.invariant.filled in
+    one_sample_more c.args.count i j c.args.indices.first s c.loop-s.auto.s h (λ sample. coloured c.args.format c.args.indices.alpha (λ k. slice_index c.args.pixel.now k) sample) c.args.samples.now c.loop-s.samples c.recolour.new.plane (c.place_in_tile-place.result + s) at
+    (omega (arith, at, within_tile c.args.count (slice_index_or c.loop-s.samples 0 none) i j s h, c.requires.samples, c.loop-s.auto.samples)) c.recolour.ensures.kept c.recolour.ensures.stored c.loop-s.invariant
 
 pub returns-clause-pixel : goal.returns-clause-pixel
 returns-clause-pixel c s index =

@@ -8,11 +8,11 @@ use Rattle.batch.specs.Ids.{drawn_as}
 use Rattle.batch.specs.Seen.{triangles_seen}
 use Rattle.batch.proofs.Faults.{none_allocate}
 use Rattle.c_abi.specs.declared.status.Status.{Status}
-use Rattle.c_abi.specs.declared.status.Status.TheVariants.{BadBatch, BadStride, BadStructSize}
+use Rattle.c_abi.specs.declared.status.Status.TheVariants.{BadBatch, BadIndexSize, BadStride, BadStructSize}
 use Rattle.c_abi.specs.Sizes.{IsOwnSize}
-use Rattle.canvas_c.specs.Arrays.{HasStrides}
-use Rattle.canvas_c.specs.Pieces.{piece_checks}
-use Rattle.canvas_c.specs.Batches.{arrays_checks, draw_checks}
+use Rattle.canvas_c.specs.Arrays.{HasIndexSize, HasVertexStride, indices_of, vertices_of}
+use Rattle.canvas_c.specs.Pieces.{has_alpha, piece_checks}
+use Rattle.canvas_c.specs.Batches.{arrays_checks}
 use Rattle.canvas_c.specs.declared.arrays.Batch.{Batch}
 use Rattle.canvas_c.specs.declared.piece.CanvasHead.{CanvasHead}
 use Rattle.canvas_c.proofs.Ended.{at_origin, piece_fault}
@@ -20,7 +20,11 @@ use Rattle.canvas_c.proofs.batches.draw_into.Goals as goal
 
 abbrev later_checks : CanvasHead → Option ℕ → Batch → Checks Status
 later_checks head ids batch =
-    check (IsOwnSize batch.struct_size 64) BadStructSize (check (HasStrides batch) BadStride (check (Pass (arrays_checks head ids batch)) BadBatch done))
+    check (IsOwnSize batch.struct_size 64) BadStructSize (
+    check (HasVertexStride batch) BadStride (
+    check (HasIndexSize batch) BadIndexSize (
+    check (Pass (arrays_checks head ids batch)) BadBatch
+    done)))
 
 pub returns-in_err-rows-clause-judged : goal.returns-in_err-rows-clause-judged
 returns-in_err-rows-clause-judged c =
@@ -33,14 +37,36 @@ returns-in_err-rows-clause-judged c =
       fault = piece_fault head planes failed c.in_err-rows.ensures.judged;
     })
 
-pub returns-then-not-has_strides-clause-judged : goal.returns-then-not-has_strides-clause-judged
-returns-then-not-has_strides-clause-judged c =
+pub returns-then-not-has_size-clause-judged : goal.returns-then-not-has_size-clause-judged
+returns-then-not-has_size-clause-judged c =
+    let head = c.args.head.now in
+    let batch = c.args.batch.now in
+    let lacks : ¬ IsOwnSize batch.struct_size 64 = search rules in
+    rw c.from.ensures (record {
+      first = fails_later (piece_checks head (length c.args.planes.now)) (later_checks head c.args.ids batch) BadStructSize c.in_ok-rows.ensures.judged.0 (inl (lacks, refl));
+      fault = ((λ h. cc), (λ h. cc));
+    })
+
+pub returns-in_default-clause-judged : goal.returns-in_default-clause-judged
+returns-in_default-clause-judged c =
     let head = c.args.head.now in
     let batch = c.args.batch.now in
     let size : IsOwnSize batch.struct_size 64 = search rules in
-    let lacks : ¬ HasStrides batch = search rules in
-    rw c.from-then-not-has_strides.ensures (record {
+    let lacks : ¬ HasVertexStride batch = search rules in
+    rw c.from-in_default.ensures (record {
       first = fails_later (piece_checks head (length c.args.planes.now)) (later_checks head c.args.ids batch) BadStride c.in_ok-rows.ensures.judged.0 (inr (size, inl (lacks, refl)));
+      fault = ((λ h. cc), (λ h. cc));
+    })
+
+pub returns-then-not-has_index_size-clause-judged : goal.returns-then-not-has_index_size-clause-judged
+returns-then-not-has_index_size-clause-judged c =
+    let head = c.args.head.now in
+    let batch = c.args.batch.now in
+    let size : IsOwnSize batch.struct_size 64 = search rules in
+    let stride : HasVertexStride batch = search rules in
+    let lacks : ¬ HasIndexSize batch = search rules in
+    rw c.from-then-not-has_index_size.ensures (record {
+      first = fails_later (piece_checks head (length c.args.planes.now)) (later_checks head c.args.ids batch) BadIndexSize c.in_ok-rows.ensures.judged.0 (inr (size, inr (stride, inl (lacks, refl))));
       fault = ((λ h. cc), (λ h. cc));
     })
 
@@ -51,9 +77,10 @@ returns-in-Ok-clause-judged c =
     let x : FitsSigned w32 head.origin_x = search rules in
     let y : FitsSigned w32 head.origin_y = search rules in
     let size : IsOwnSize batch.struct_size 64 = search rules in
-    let strides : HasStrides batch = c.has_strides.ensures.0 (search rules) in
-    let passed : Pass (arrays_checks head c.args.ids batch) = rw (to_z-of_z w32 head.origin_x x, to_z-of_z w32 head.origin_y y) at c.in-Ok.ensures.judged.0 in
-    (pass_both (piece_checks head (length c.args.planes.now)) (later_checks head c.args.ids batch) c.in_ok-rows.ensures.judged.0 (size, (strides, (passed, record {}))), record {})
+    let stride : HasVertexStride batch = search rules in
+    let index_size : HasIndexSize batch = c.has_index_size.ensures.0 (search rules) in
+    let passed : Pass (arrays_checks head c.args.ids batch) = rw (to_z-of_z w32 head.origin_x x, to_z-of_z w32 head.origin_y y, c.given_indices-indices.ensures, c.in-Some.ensures.value) at c.in-Ok.ensures.judged.0 in
+    (pass_both (piece_checks head (length c.args.planes.now)) (later_checks head c.args.ids batch) c.in_ok-rows.ensures.judged.0 (size, (stride, (index_size, (passed, record {})))), record {})
 
 pub returns-in-Ok-clause-drawn : goal.returns-in-Ok-clause-drawn
 returns-in-Ok-clause-drawn c =
@@ -62,8 +89,8 @@ returns-in-Ok-clause-drawn c =
     let y : FitsSigned w32 head.origin_y = search rules in
     let batch = c.args.batch.now in
     let rows = c.in_ok-rows.rows in
-    let drawn = rw (to_z-of_z w32 head.origin_x x, to_z-of_z w32 head.origin_y y, c.over-piece.ensures.rows, c.over-piece.ensures.planes) at c.in-Ok.ensures.drawn in
-    let triangles = drawn_as c.args.ids (triangles_seen head.origin_x head.origin_y batch.draws.now batch.vertices.now batch.indices.now) in
+    let drawn = rw (to_z-of_z w32 head.origin_x x, to_z-of_z w32 head.origin_y y, c.over-piece.ensures.rows, c.over-piece.ensures.planes, c.given_indices-indices.ensures, c.has_alpha-alpha.ensures, c.in-Some.ensures.value) at c.in-Ok.ensures.drawn in
+    let triangles = drawn_as c.args.ids (triangles_seen (has_alpha head) head.origin_x head.origin_y batch.draws.now (vertices_of batch) (indices_of batch)) in
     record { rows = rows; are = c.in_ok-rows.ensures.judged.1; holds = subst (HaveEnds triangles rows.canvas rows.first rows.end c.args.planes.now) (search rules) drawn }
 
 pub returns-in-Err-clause-judged : goal.returns-in-Err-clause-judged
@@ -73,7 +100,8 @@ returns-in-Err-clause-judged c =
     let x : FitsSigned w32 head.origin_x = search rules in
     let y : FitsSigned w32 head.origin_y = search rules in
     let size : IsOwnSize batch.struct_size 64 = search rules in
-    let strides : HasStrides batch = c.has_strides.ensures.0 (search rules) in
-    let first = at_origin head.origin_x _ head.origin_y _ (to_z-of_z w32 head.origin_x x) (to_z-of_z w32 head.origin_y y) c.args.ids batch.draws.now batch.vertices.now batch.indices.now c.in-Err.fault c.in-Err.ensures.judged in
-    let refused : Pass (arrays_checks head c.args.ids batch) → ⊥ = λ pass. only_allocation (λ fault. ⊥) (arrays_checks head c.args.ids batch) c.in-Err.fault (none_allocate head.origin_x head.origin_y c.args.ids batch.draws.now batch.vertices.now batch.indices.now) first pass in
-    rw (c.of_batch.ensures, c.fault_of.ensures) (record { first = fails_later (piece_checks head (length c.args.planes.now)) (later_checks head c.args.ids batch) BadBatch c.in_ok-rows.ensures.judged.0 (inr (size, inr (strides, inl (refused, refl)))); fault = (inr refl, (c.in-Err.fault, first, refl)) })
+    let stride : HasVertexStride batch = search rules in
+    let index_size : HasIndexSize batch = c.has_index_size.ensures.0 (search rules) in
+    let first = at_origin head.origin_x _ head.origin_y _ (to_z-of_z w32 head.origin_x x) (to_z-of_z w32 head.origin_y y) c.args.ids batch.draws.now (vertices_of batch) (indices_of batch) c.in-Err.fault (rw (c.given_indices-indices.ensures, c.in-Some.ensures.value) at c.in-Err.ensures.judged) in
+    let refused : Pass (arrays_checks head c.args.ids batch) → ⊥ = λ pass. only_allocation (λ fault. ⊥) (arrays_checks head c.args.ids batch) c.in-Err.fault (none_allocate head.origin_x head.origin_y c.args.ids batch.draws.now (vertices_of batch) (indices_of batch)) first pass in
+    rw (c.of_batch.ensures, c.fault_of.ensures) (record { first = fails_later (piece_checks head (length c.args.planes.now)) (later_checks head c.args.ids batch) BadBatch c.in_ok-rows.ensures.judged.0 (inr (size, inr (stride, inr (index_size, inl (refused, refl))))); fault = (inr refl, (c.in-Err.fault, first, refl)) })

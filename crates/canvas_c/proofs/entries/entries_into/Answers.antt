@@ -1,9 +1,9 @@
-use Rattle.std.proofs.Common.{rules, ◌≡◌, ◌∙◌, ◌↔◌, ap, subst, ℕ, ◌%◌, ◌<◌, max, IsOk, length}
+use Rattle.std.proofs.Common.{rules, inl, inr, refl, ◌≡◌, ◌∙◌, ◌↔◌, ap, subst, ℕ, ◌%◌, ◌<◌, max, IsOk, length}
 use Rattle.std.proofs.lemmas.Result.{err_from_is_err_and}
 use Rattle.grid.specs.Samples.{count_of}
 use Rattle.canvas.specs.Entries.{FitEntries}
 use Rattle.model.specs.Checking.{Checks, done, check, followed_by}
-use Rattle.model.proofs.Checking.{pass_both, fails_before}
+use Rattle.model.proofs.Checking.{pass_both, fails_before, fails_later}
 use Rattle.c_abi.specs.declared.status.Status.{Status}
 use Rattle.c_abi.specs.declared.status.Status.TheVariants.{BadSample, BadStride, BufferTooSmall}
 use Rattle.canvas_c.specs.Pieces.{HasRoom, entries_of, piece_checks}
@@ -39,3 +39,20 @@ returns-clause-judged g c =
     fitted_is (followed_by pieces own) (HasRoom head 1 stride size) c.entries.result c.fitted.result
     (pass_both pieces own passed (few, (aligned, record {}))) c.fitted.ensures.done c.fitted.ensures.small
     ((λ ok. room_of head rows 1 stride size are (fits.0 ok).1), (λ room. fits.1 (rw counted few, large_of head rows 1 stride size are room)))
+
+pub returns-then-sample-max-clause-judged : goal.returns-then-sample-max-clause-judged
+returns-then-sample-max-clause-judged g c =
+    let head = c.args.head.now in
+    let later : Checks Status = check (c.args.sample < max 1 head.samples) BadSample (check (c.args.stride % c.args.entry_bytes ≡ 0) BadStride
+    (check (HasRoom head 1 (entries_of head.width c.args.entry_bytes c.args.stride) (length c.args.entries.now)) BufferTooSmall done)) in
+    let lacks : ¬ (c.args.sample < max 1 head.samples) = search rules in
+    fails_later (piece_checks head (length c.args.planes.now)) later BadSample c.in_ok-rows.ensures.judged.0 (inl (lacks, refl))
+
+pub returns-then-stride-entry_bytes-ne0-clause-judged : goal.returns-then-stride-entry_bytes-ne0-clause-judged
+returns-then-stride-entry_bytes-ne0-clause-judged g c =
+    let head = c.args.head.now in
+    let later : Checks Status = check (c.args.sample < max 1 head.samples) BadSample (check (c.args.stride % c.args.entry_bytes ≡ 0) BadStride
+    (check (HasRoom head 1 (entries_of head.width c.args.entry_bytes c.args.stride) (length c.args.entries.now)) BufferTooSmall done)) in
+    let few : c.args.sample < max 1 head.samples = search rules in
+    let lacks : ¬ (c.args.stride % c.args.entry_bytes ≡ 0) = search rules in
+    fails_later (piece_checks head (length c.args.planes.now)) later BadStride c.in_ok-rows.ensures.judged.0 (inr (few, inl (lacks, refl)))

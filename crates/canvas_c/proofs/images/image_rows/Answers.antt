@@ -9,9 +9,9 @@ use Rattle.canvas_c.proofs.images.image_rows.Goals as goal
 pub returns-in_err-rows-clause-judged : goal.returns-in_err-rows-clause-judged
 returns-in_err-rows-clause-judged c =
     let p = err_from_is_err_and c.from_residual.result c.from_residual.ensures.1 in
-    rw (p.1, p.2) (fails_before (piece_checks c.args.head.now (length c.args.planes.now)) (check (c.args.format ≤ 2) BadFormat done) _ c.in_err-rows.ensures.judged)
+    rw (p.1, p.2) (fails_before (piece_checks c.args.head.now (length c.args.planes.now)) (check (c.args.format ≤ 4) BadFormat done) _ c.in_err-rows.ensures.judged)
 
 pub returns-in-None-clause-judged : goal.returns-in-None-clause-judged
 returns-in-None-clause-judged c =
-    let none : ¬ (c.args.format ≤ 2) = search rules in
-    fails_later (piece_checks c.args.head.now (length c.args.planes.now)) (check (c.args.format ≤ 2) BadFormat done) BadFormat c.in_ok-rows.ensures.judged.0 (inl (none, refl))
+    let none : ¬ (c.args.format ≤ 4) = search rules in
+    fails_later (piece_checks c.args.head.now (length c.args.planes.now)) (check (c.args.format ≤ 4) BadFormat done) BadFormat c.in_ok-rows.ensures.judged.0 (inl (none, refl))

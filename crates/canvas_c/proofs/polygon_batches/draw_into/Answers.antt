@@ -11,7 +11,7 @@ use Rattle.painting.specs.Painting.{ArePainted, IsOriginInBand}
 use Rattle.c_abi.specs.declared.status.Status.{Status}
 use Rattle.c_abi.specs.declared.status.Status.TheVariants.{BadBatch, BadPosition, BadStructSize, BufferTooSmall}
 use Rattle.c_abi.specs.Sizes.{IsOwnSize}
-use Rattle.canvas_c.specs.Pieces.{piece_checks}
+use Rattle.canvas_c.specs.Pieces.{has_alpha, piece_checks}
 use Rattle.canvas_c.specs.PolygonChecks.{origin_of, rule_of, columns_of_blocks, shapes_listed, AreGood, HasScratch}
 use Rattle.canvas_c.specs.declared.polygon_arrays.PolygonArrays.{PolygonArrays}
 use Rattle.canvas_c.specs.declared.piece.CanvasHead.{CanvasHead}
@@ -49,6 +49,16 @@ returns-in_err-rows-clause-judged c =
     rw (p.1, p.2) (record {
       first = fails_before (piece_checks head planes) (later_checks head c.args.ids c.args.arrays.now (length c.args.flags.now) (length c.args.counters.now)) failed c.in_err-rows.ensures.judged;
       fault = piece_fault head planes failed c.in_err-rows.ensures.judged;
+    })
+
+pub returns-then-not-has_size-clause-judged : goal.returns-then-not-has_size-clause-judged
+returns-then-not-has_size-clause-judged c =
+    let head = c.args.head.now in
+    let a = c.args.arrays.now in
+    let lacks : ¬ IsOwnSize a.struct_size 144 = search rules in
+    rw c.from.ensures (record {
+      first = fails_later (piece_checks head (length c.args.planes.now)) (later_checks head c.args.ids a (length c.args.flags.now) (length c.args.counters.now)) BadStructSize c.in_ok-rows.ensures.judged.0 (inl (lacks, refl));
+      fault = ((λ h. cc), (λ h. cc));
     })
 
 pub returns-then-not-is_in_band-clause-judged : goal.returns-then-not-is_in_band-clause-judged
@@ -144,10 +154,10 @@ returns-clause-drawn c =
     let rows = c.in_ok-rows.rows in
     let good = c.in-Ok.ensures.good in
     let drawn =
-    rw (to_z-of_z w32 head.origin_x x, to_z-of_z w32 head.origin_y y, c.over-piece.ensures.rows, c.over-piece.ensures.planes, good.1, good.2, good.3, c.rule_of.ensures, c.state.ensures)
+    rw (to_z-of_z w32 head.origin_x x, to_z-of_z w32 head.origin_y y, c.over-piece.ensures.rows, c.over-piece.ensures.planes, good.1, good.2, good.3, c.rule_of.ensures, c.state.ensures, c.has_alpha.ensures)
     at c.draw_polygons.ensures.painted in
     record {
       rows = rows;
       are = c.in_ok-rows.ensures.judged.1;
-      holds = subst (ArePainted (shapes_listed c.args.ids a) (origin_of head) rows.canvas rows.first rows.end c.args.planes.now) (search rules) drawn;
+      holds = subst (ArePainted (shapes_listed (has_alpha head) c.args.ids a) (origin_of head) rows.canvas rows.first rows.end c.args.planes.now) (search rules) drawn;
     }

@@ -6,18 +6,18 @@ use Rattle.serde_json.specs.View.{view, items_view}
 use Rattle.model.specs.declared.fault.ReadFault.{ReadFault}
 use Rattle.model.specs.FirstFault.{first_fault}
 use Rattle.model.specs.declared.fault.ReadKind.TheVariants.{OutOfMemory}
-use Rattle.model.specs.Checks.{draws_checks, in_draw, triangles_counted}
+use Rattle.model.specs.Checks.{numbered_draw_checks, fault_in_draw, triangles_counted}
 use Rattle.model.specs.Denotes.{IsDraw}
 use Rattle.model.specs.Primitives.{count_of_triangles}
 use Rattle.model.specs.Listing.{draw_listing, DrawListing}
 use Rattle.model.proofs.Counts.{given_is}
 use Rattle.checking_reader.proofs.Draws.{draw_fails, draw_passes}
-use Rattle.checking_reader.proofs.Elements.{one_more, all_read}
+use Rattle.checking_reader.proofs.ArrayElements.{one_more, all_read}
 use Rattle.checking_reader.proofs.Memory.{passed_to_vertices}
 use Rattle.checking_reader.proofs.Reached.{one_more_passed, reached_draw}
 use Rattle.checking_reader.proofs.reader.draws_of.Goals as goal
 
-of_draw : (fault : ReadFault) (n : ℕ) → fault.draw ≡ Some n → in_draw n fault.kind ≡ fault
+of_draw : (fault : ReadFault) (n : ℕ) → fault.draw ≡ Some n → fault_in_draw n fault.kind ≡ fault
 of_draw fault n named = ap (λ (draw : Option ℕ). record { kind = fault.kind; draw = draw }) (sym named)
 
 pub returns-in_err-next-clause-reported : goal.returns-in_err-next-clause-reported
@@ -68,7 +68,7 @@ pub returns-clause-reported : goal.returns-clause-reported
 returns-clause-reported c =
     let vs = c.args.list.now in
     let past : length vs ≤ c.loop-number.number = omega arith in (
-      sym c.loop-number.invariant.passed ∙ ap (λ xs. first_fault (draws_checks c.loop-number.number c.loop-number.earlier (items_view xs))) (drop_all _ vs past),
+      sym c.loop-number.invariant.passed ∙ ap (λ xs. first_fault (numbered_draw_checks c.loop-number.number c.loop-number.earlier (items_view xs))) (drop_all _ vs past),
       (
         all_read (IsDraw c.args.picture) vs _ _ past c.loop-number.invariant.read,
         omega (arith, c.loop-number.invariant.counted, c.loop-number.invariant.room),

@@ -3,7 +3,7 @@ use Rattle.model.specs.Denotes.{IsDraw}
 use Rattle.model.specs.Primitives.{count_of_triangles}
 use Rattle.model.specs.Listing.{draw_listing}
 use Rattle.checking_reader.proofs.Draws.{DrawsPassed}
-use Rattle.checking_reader.proofs.Elements.{Continues}
+use Rattle.checking_reader.proofs.ArrayElements.{Continues}
 use Rattle.checking_reader.proofs.Reached.{AllPassedTo}
 use Rattle.checking_reader.proofs.reader.draws_of.Given as goal
 

@@ -1,11 +1,7 @@
-use Rattle.std.proofs.Common.{◌≡◌, ℕ, ◌<◌, ◌⊎◌, inl, inr, Bool, true, false, SFits, w64, to_z-of_z, sym, ◌∙◌, true≢false, arith}
+use Rattle.std.proofs.Common.{SFits, w64, to_z-of_z, arith}
 use Rattle.std.proofs.lemmas.Int.{ints}
-use Rattle.cursor.proofs.Lexing.{integer_is}
+use Rattle.cursor.proofs.Lexing.{some_size, integer_is}
 use Rattle.cursor.proofs.integer.integer_at.Goals as goal
-
-some_size : (minus : Bool) (n : ℕ) → ((minus ≡ true) × (n ≡ 0 → ⊥)) ⊎ (minus ≡ false) → minus ≡ true → 0 < n
-some_size minus n (inl h) e = omega (arith, h.1)
-some_size minus n (inr f) e = absurd (true≢false (sym e ∙ f))
 
 pub returns : goal.returns
 returns c =

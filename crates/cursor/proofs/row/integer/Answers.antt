@@ -1,14 +1,11 @@
-use Rattle.std.proofs.Common.{◌≡◌, ℕ, ◌<◌, ◌⊎◌, inl, inr, Bool, true, false, SFits, w64, to_z-of_z, drop, sym, subst, ◌∙◌, true≢false, arith}
+use Rattle.std.proofs.Common.{SFits, w64, to_z-of_z, drop, sym, subst, arith}
 use Rattle.std.proofs.lemmas.Int.{ints}
 use Rattle.fast_float.specs.Text.{with_sign}
 use Rattle.cursor.specs.Lexed.{TookInteger}
 use Rattle.cursor.specs.Tokens.{tokens_from}
+use Rattle.cursor.proofs.Lexing.{some_size}
 use Rattle.cursor.proofs.Rows.{integer_taken}
 use Rattle.cursor.proofs.row.integer.Goals as goal
-
-some_size : (minus : Bool) (n : ℕ) → ((minus ≡ true) × (n ≡ 0 → ⊥)) ⊎ (minus ≡ false) → minus ≡ true → 0 < n
-some_size minus n (inl h) e = omega (arith, h.1)
-some_size minus n (inr f) e = absurd (true≢false (sym e ∙ f))
 
 pub returns : goal.returns
 returns c =

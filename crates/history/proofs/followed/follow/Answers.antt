@@ -4,7 +4,7 @@ use Rattle.std.proofs.lemmas.Option.{slice_get_read}
 use Rattle.history.proofs.followed.follow.Goals as goal
 
 pub loop-k-init : goal.loop-k-init
-loop-k-init c = c.new-followed.ensures c.args.number c.args.count c.args.px c.args.py c.args.s
+loop-k-init c = c.new-followed.ensures c.args.number c.args.place.count c.args.place.px c.args.place.py c.args.place.s
 
 pub loop-k-preserved : goal.loop-k-preserved
 loop-k-preserved c =

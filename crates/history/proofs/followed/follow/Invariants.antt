@@ -3,4 +3,4 @@ use Rattle.history.specs.Changed.{IsFollowed}
 use Rattle.history.proofs.followed.follow.Given as goal
 
 abbrev pub invariant-loop-k : goal.invariant-loop-k
-invariant-loop-k l = IsFollowed (take l.k l.triangles) l.number l.count l.px l.py l.s l.fn.start l.followed
+invariant-loop-k l = IsFollowed (take l.k l.triangles) l.number l.place.count l.place.px l.place.py l.place.s l.fn.start l.followed

@@ -1,4 +1,4 @@
-use Rattle.std.proofs.Common.{◌-◌, get_or}
+use Rattle.std.proofs.Common.{get_or}
 use Rattle.shade.proofs.Blended.{sum_small}
 use Rattle.lanes.proofs.blend.over_lanes.Goals as goal
 

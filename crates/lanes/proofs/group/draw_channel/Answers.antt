@@ -10,9 +10,9 @@ pub returns-then-merge-number-clause-set : goal.returns-then-merge-number-clause
 returns-then-merge-number-clause-set c i l e =
     let m = c.args.merge.now in
     let drawn = c.drawn_lanes.ensures.set i l e in
-    let at_old = subst (λ d. IsBlended m.blend.colour Colour (operands_of m c.args.number (get_or c.args.s i 0) (get_or c.args.a i 0) d) (get_or c.drawn_lanes.result i 0)) (get_or-chunk c.args.at 16 c.args.stored.now i 0 l) drawn in
+    let at_old = subst (λ d. IsBlended m.blend.colour Colour (operands_of m c.args.number (get_or c.args.s i 0) (get_or c.args.a i 0) (get_or c.args.e i 0) d) (get_or c.drawn_lanes.result i 0)) (get_or-chunk c.args.at 16 c.args.stored.now i 0 l) drawn in
     rw c.if-merge-number.true
-    (subst (λ n. IsBlended m.blend.colour Colour (operands_of m c.args.number (get_or c.args.s i 0) (get_or c.args.a i 0) (get_or c.args.stored.now (c.args.at + i) 0)) n)
+    (subst (λ n. IsBlended m.blend.colour Colour (operands_of m c.args.number (get_or c.args.s i 0) (get_or c.args.a i 0) (get_or c.args.e i 0) (get_or c.args.stored.now (c.args.at + i) 0)) n)
     (sym (stored_here c.args.at c.args.stored.now c.drawn_lanes.result i c.drawn_lanes.ensures.whole c.requires.room l)) at_old)
 
 pub returns-then-merge-number-clause-clear : goal.returns-then-merge-number-clause-clear

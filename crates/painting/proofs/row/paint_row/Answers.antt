@@ -1,18 +1,19 @@
-use Rattle.std.proofs.Common.{◌≡◌, ◌∙◌, sym, subst, arith, ℕ, ◌+◌, ◌*◌, ◌<◌, ◌≤◌, List, length}
+use Rattle.std.proofs.Common.{◌≡◌, sym, subst, arith, ℕ, ◌+◌, ◌*◌, ◌≤◌, length}
 use Rattle.grid.specs.Samples.{count_of, parts_of}
 use Rattle.grid.specs.declared.sample_count.SampleCount.{SampleCount}
 use Rattle.grid.specs.declared.sample_count.SampleCount.TheVariants.{One, Two, Four, Eight, Sixteen}
-use Rattle.lanes.specs.declared.block_samples.BlockSamples.{BlockSamples}
 use Rattle.shade.specs.declared.placed.Placed.{Placed}
-use Rattle.canvas.specs.Layout.{columns_of}
-use Rattle.painting.specs.Parts.{over_screen, CoversScreen, MeetsHere, RowsPaint}
+use Rattle.painting.specs.Parts.{CoversScreen, IsAlikeOverScreen, MeetsHere, RowsPaint}
 use Rattle.painting.proofs.Joined.{rows_same}
-use Rattle.painting.proofs.Screen.{covers_screen}
+use Rattle.painting.proofs.Screen.{covers_screen, alike_over_screen}
 use Rattle.painting.proofs.Strips.{PartsMet, one_part_more}
 use Rattle.painting.proofs.row.paint_row.Goals as goal
 
 pub paint_strip-requires-clause-covers : goal.paint_strip-requires-clause-covers
 paint_strip-requires-clause-covers c = subst (λ (t : Placed). CoversScreen t) (sym c.requires.triangle) (covers_screen c.args.polygon.now c.args.origin.now)
+
+pub paint_strip-requires-clause-alike : goal.paint_strip-requires-clause-alike
+paint_strip-requires-clause-alike c = subst (λ (t : Placed). IsAlikeOverScreen t) (sym c.requires.triangle) (alike_over_screen c.args.polygon.now c.args.origin.now)
 
 all_parts : (count : SampleCount) → count_of count ≤ 4 * parts_of count
 all_parts One = omega arith

@@ -1,12 +1,9 @@
-use Rattle.std.proofs.Common.{◌≡◌, ℕ, cond, ltb, min, get_or, ap, ◌∙◌, arith, w32}
+use Rattle.std.proofs.Common.{ltb, get_or, ap, ◌∙◌, w32}
 use Rattle.std.specs.Simd.Lanes.{sel_l}
 use Rattle.std.proofs.lemmas.Simd.{tops_compared}
-use Rattle.std.proofs.lemmas.Bool.Decides.{nat_tests}
 use Rattle.planes.proofs.Lanes.{chosen}
+use Rattle.planes.proofs.CandidateLanes.{lesser}
 use Rattle.planes.proofs.candidates.least.Goals as goal
-
-lesser : (x y : ℕ) → cond (ltb x y) x y ≡ min x y
-lesser x y = grind (arith, nat_tests)
 
 pub returns-clause-length : goal.returns-clause-length
 returns-clause-length c = rw (tops_compared w32 ltb c.args.a c.args.b) ((chosen ltb c.args.a c.args.b c.args.a c.args.b c.fits-a.0 c.fits-b.0 c.fits-a.0 c.fits-b.0).long)

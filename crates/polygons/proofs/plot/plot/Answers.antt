@@ -1,22 +1,23 @@
-use Rattle.std.proofs.Common.{refl, sym, ap, ℕ, ◌-◌, List, drop, slice_index}
-use Rattle.std.proofs.lemmas.List.Elements.{All-take, All-drop}
-use Rattle.grid.specs.Position.{IsInGuardBand}
+use Rattle.std.proofs.Common.{refl, sym, ap, arith, ℕ, List}
 use Rattle.polygons.specs.Crossing.{winding}
 use Rattle.polygons.specs.Polygon.{polygon_edges}
-use Rattle.polygons.specs.Rings.{position_of, rings_from}
+use Rattle.polygons.specs.Rings.{rings_from}
 use Rattle.polygons.proofs.Plotted.{has_counters, plotted_none, plotted_both, plotted_as, none_left, nothing_yet, one_more, nothing_left}
-use Rattle.polygons.proofs.RingParts.{ring_step, next_start}
+use Rattle.polygons.proofs.RingParts.{ring_step, next_start, begins_within, ends_within}
 use Rattle.polygons.proofs.plot.plot.Goals as goal
 
 pub plot_ring-requires : goal.plot_ring-requires
 plot_ring-requires c =
     let v = c.loop-ring_end.invariant.plotted in
-    let corners = c.args.rings.now.corners.now in
-    let start = c.loop-ring_end.start in
-    let end = slice_index c.args.rings.now.ends.now c.loop-ring_end.ring_end-index in
+    let rings = c.args.rings.now in
+    let i = c.loop-ring_end.ring_end-index in
+    let first = begins_within rings.start rings.ends.now _ i rings.rising c.loop-ring_end-test.true in
     record {
-      counters = has_counters c.args.rule c.args.flags.now c.args.counters.now c.loop-ring_end.flags c.loop-ring_end.counters v.flags_len v.counters_len c.requires;
-      corners = All-take (λ k. IsInGuardBand (position_of k)) (end - start) (drop start corners) (All-drop (λ k. IsInGuardBand (position_of k)) start corners c.args.rings.now.seen);
+      counters = has_counters c.args.rule c.args.flags.now c.args.counters.now c.loop-ring_end.flags c.loop-ring_end.counters v.flags_len v.counters_len c.requires.counters;
+      runs = c.requires.runs;
+      first = omega (arith, first, c.loop-ring_end.invariant.place);
+      last = ends_within rings.start rings.ends.now _ i rings.rising c.loop-ring_end-test.true;
+      within = rings.rising.within i c.loop-ring_end-test.true;
     }
 
 pub loop-ring_end-init : goal.loop-ring_end-init
@@ -34,7 +35,7 @@ loop-ring_end-preserved c =
     let v = c.loop-ring_end.invariant in
     record {
       plotted = plotted_both c.args.rule c.args.strip.now _ _ _ _ _ _ _ _ _
-          (λ p. one_more (winding (polygon_edges (rings_from rings.corners.now rings.start rings.ends.now)) p) _ _ _ (ring_step rings.corners.now c.loop-ring_end.start rings.ends.now i p c.loop-ring_end-test.true))
+          (λ p. one_more (winding (polygon_edges (rings_from rings.corners.now rings.start rings.ends.now)) p) _ _ _ (ring_step rings.corners.now c.loop-ring_end.begin rings.ends.now i p c.loop-ring_end-test.true))
           v.plotted c.plot_ring.ensures;
       place = sym (next_start rings.start rings.ends.now i);
     }
@@ -44,5 +45,5 @@ returns c =
     let rings = c.args.rings.now in
     let none = none_left rings.ends.now c.loop-ring_end.ring_end-index c.loop-ring_end-test.false in
     plotted_as c.args.rule c.args.strip.now _ _ _ _ _ _
-    (λ p. nothing_left (winding (polygon_edges (rings_from rings.corners.now rings.start rings.ends.now)) p) _ (ap (λ (es : List ℕ). winding (polygon_edges (rings_from rings.corners.now c.loop-ring_end.start es)) p) none))
+    (λ p. nothing_left (winding (polygon_edges (rings_from rings.corners.now rings.start rings.ends.now)) p) _ (ap (λ (es : List ℕ). winding (polygon_edges (rings_from rings.corners.now c.loop-ring_end.begin es)) p) none))
     c.loop-ring_end.invariant.plotted

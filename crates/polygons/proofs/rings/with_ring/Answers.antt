@@ -1,4 +1,4 @@
-use Rattle.std.proofs.Common.{arith, ℕ, ◌+◌, ◌<◌, List, map, take, get_or, length, pos}
+use Rattle.std.proofs.Common.{arith, ℕ, ◌+◌, ◌<◌, ◌≤◌, List, map, take, get_or, length, pos}
 use Rattle.std.specs.List.{All}
 use Rattle.std.proofs.lemmas.List.{get_or-map, length-map, take_all}
 use Rattle.std.proofs.lemmas.List.Elements.{All-more, All-weaker}
@@ -25,9 +25,13 @@ loop-corner-preserved c = record {
   grows = λ p h. c.with-extent.ensures.inside p (c.loop-corner.invariant.grows p h);
 }
 
+all_within : (e : Extent) (ring : List Corner) (i : ℕ) → length ring ≤ i → All (IsWithin e) (take i (map position_of ring)) → All (IsWithin e) (map position_of ring)
+all_within e ring i h all = let long = length-map ring position_of in rw (take_all i (map position_of ring) (omega (arith, long, h))) at all
+
+pub returns-clause-within : goal.returns-clause-within
+returns-clause-within c = all_within c.loop-corner.extent c.args.ring.now c.loop-corner.corner-index (omega (arith, c.loop-corner-test.false)) c.loop-corner.invariant.corners
+
 pub returns-clause-ring : goal.returns-clause-ring
 returns-clause-ring c p out =
-    let ring = map position_of c.args.ring.now in
-    let long = length-map c.args.ring.now position_of in
-    let all : All (IsWithin c.loop-corner.extent) ring = rw (take_all c.loop-corner.corner-index ring (omega (arith, long, c.loop-corner-test.false))) at c.loop-corner.invariant.corners in
-    ring_outside c.loop-corner.extent ring p all out
+    ring_outside c.loop-corner.extent (map position_of c.args.ring.now) p
+    (all_within c.loop-corner.extent c.args.ring.now c.loop-corner.corner-index (omega (arith, c.loop-corner-test.false)) c.loop-corner.invariant.corners) out

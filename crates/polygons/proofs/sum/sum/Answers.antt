@@ -1,5 +1,6 @@
 use Rattle.std.proofs.Common.{◌≡◌, inl, inr, refl, sym, subst, ap, ◌∙◌, arith, ℕ, zero, suc, ◌+◌, ◌*◌, ◌/◌, ◌%◌, ◌^◌, ◌<◌, ◌≤◌, List, [], ◌∷◌, length, set, length-set, slice_index, pos}
 use Rattle.std.proofs.lemmas.Bool.{cases_eq, cases_lt}
+use Rattle.std.proofs.lemmas.Nat.Bits.{bit_at-zero}
 use Rattle.std.specs.Int.{bit_at}
 use Rattle.polygons.specs.declared.rule.Rule.TheVariants.{NonZero}
 use Rattle.polygons.specs.Rows.{sum_to}
@@ -13,8 +14,11 @@ use Rattle.polygons.proofs.Plotted.{before_of}
 use Rattle.polygons.proofs.RunningSums.{marks_of_column, column_sum, run_small, nonzero_iff}
 use Rattle.polygons.proofs.sum.sum.Goals as goal
 
-pub sum_column-requires : goal.sum_column-requires
-sum_column-requires c i r j li lr lj z =
+pub sum_column-requires-clause-levels : goal.sum_column-requires-clause-levels
+sum_column-requires-clause-levels c = c.loop-column.invariant.levels
+
+pub sum_column-requires-clause-marked : goal.sum_column-requires-clause-marked
+sum_column-requires-clause-marked c i r j li lr lj z =
     let v = c.loop-column.invariant in
     let n = c.loop-column.column in
     let f = v.flags_rest n (omega arith) in
@@ -30,6 +34,7 @@ loop-column-init c = record {
   zeros = λ column i h. absurd (omega arith);
   flags_rest = λ column h. refl;
   counters_rest = λ column h. refl;
+  levels = λ i h r j lr lj. ap (λ w. bit_at w (8 * r + j)) (c.no_carry-levels.ensures i) ∙ bit_at-zero (8 * r + j) ∙ sym (ap nonzero_bit (c.no_sums-sums.ensures (8 * i + r)));
   sums = λ s row h l. alike_same (2 ^ 32) _ _ (ap pos (c.no_sums-sums.ensures (8 * word_of s row + row % 8)));
 }
 
@@ -78,6 +83,7 @@ loop-column-preserved c =
       ];
       flags_rest = λ column h. row-other c.loop-column.flags n column words (λ e. omega arith) ∙ v.flags_rest column (omega arith);
       counters_rest = λ column h. row-other c.loop-column.counters n column counts (λ e. omega arith) ∙ v.counters_rest column (omega arith);
+      levels = p.levels;
       sums = λ s row h l.
           let i = word_of s row in
           let r = row % 8 in

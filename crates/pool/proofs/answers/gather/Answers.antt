@@ -4,7 +4,7 @@ use Rattle.std.proofs.lemmas.List.{map-append, length-map}
 use Rattle.std.proofs.lemmas.List.Elements.{All-push}
 use Rattle.pool.specs.Counters.{times}
 use Rattle.pool.specs.Dealing.{times_in, DealtOnce, SomeEnded}
-use Rattle.pool.specs.Work.{IsWorkerResult, IsRight}
+use Rattle.pool.specs.Work.{IsWorkerResult, IsRightAnswer}
 use Rattle.pool.proofs.Gathering.{numbered_more}
 use Rattle.pool.proofs.Placing.{EachFrom-next, all_filled, some_ended, so_far_or_new, RightInOrder-filled}
 use Rattle.pool.proofs.answers.gather.Goals as goal
@@ -14,7 +14,7 @@ put-requires-clause-pairs g c κs within =
     let at = c.loop-worker in
     let results = EachFrom-next (IsWorkerResult g.D.Dealer g.J.Job c.args.dealer c.args.job.now) (vec_len at.seats) (into_iter_items at.worker-iterator) (into_iter_items c.next.new.self) c.in-Some.worker c.in-Some.ensures.steps.0 at.invariant.0 in
     let is = subst (IsWorkerResult g.D.Dealer g.J.Job c.args.dealer c.args.job.now (vec_len at.seats)) c.in_ok-seat.was results.0 in
-    subst (λ (k : ℕ). All (IsRight (g.J.Job.right c.args.job.now) k) c.in_ok-seat.field-0.pairs.items) (c.requires.count ∙ sym at.invariant.6) is.right
+    subst (λ (k : ℕ). All (IsRightAnswer (g.J.Job.right c.args.job.now) k) c.in_ok-seat.field-0.pairs.items) (c.requires.count ∙ sym at.invariant.6) is.right
 
 pub loop-worker-preserved : goal.loop-worker-preserved
 loop-worker-preserved g c =

@@ -16,7 +16,7 @@ returns-clause-colours c = elim c.if-eq.branch [
       (λ i h.
       let bytes = w.interleaved.ensures.bytes i h in
       let from : ℕ = 8 * (c.args.row % 8) in
-      let first : BlockSamples = slice_index_or c.args.samples.now w.place_by_count.result (record { z = []; r = []; g = []; b = [] }) in
+      let first : BlockSamples = slice_index_or c.args.samples.now w.place_by_count.result (record { z = []; r = []; g = []; b = []; alpha = [] }) in
       one_resolved c.args.tile.now c.args.samples.now c.args.row c.args.column i h one
       (slice_index w.interleaved.result (3 * i)) (slice_index w.interleaved.result (3 * i + 1)) (slice_index w.interleaved.result (3 * i + 2))
       (rw w.place_by_count.ensures.value at (bytes.0 ∙ get_or-take 8 (take (64 - from) (drop from first.r)) i 0 h ∙ get_or-take (64 - from) (drop from first.r) i 0 (omega arith) ∙ get_or-drop from first.r i 0))

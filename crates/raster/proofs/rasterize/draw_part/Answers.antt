@@ -1,4 +1,4 @@
-use Rattle.std.proofs.Common.{◌≡◌, subst, rules}
+use Rattle.std.proofs.Common.{subst}
 use Rattle.grid.specs.declared.pixels.TileSide.TheVariants.{T8}
 use Rattle.grid.specs.declared.sample_count.SampleCount.{SampleCount}
 use Rattle.cover.specs.Square.{TestedSquare}
@@ -8,8 +8,7 @@ use Rattle.raster.proofs.rasterize.draw_part.Goals as goal
 
 pub draw_block-requires-clause-whole : goal.draw_block-requires-clause-whole
 draw_block-requires-clause-whole g c =
-    let made : c.get_or_insert_with-interpolants.result.now ≡ c.args.triangle.now = search rules in
-    rw made c.requires.whole
+    rw c.make_once.ensures c.requires.whole
 
 pub returns-in_default-clause-drawn : goal.returns-in_default-clause-drawn
 returns-in_default-clause-drawn g c =

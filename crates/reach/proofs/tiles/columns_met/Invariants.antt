@@ -12,12 +12,12 @@ invariant-loop-first l = record {
 abbrev pub decreases-loop-first : goal.decreases-loop-first
 decreases-loop-first l = l.end - l.first
 
-abbrev pub invariant-loop-end : goal.invariant-loop-end
-invariant-loop-end l = record {
+abbrev pub invariant-loop-count : goal.invariant-loop-count
+invariant-loop-count l = record {
   first : l.first ≤ max l.fn.columns.first l.fn.columns.end;
   end : l.end ≤ l.fn.columns.end;
   all : HaveReached l.setup l.count l.side l.row l.fn.columns (record { first = l.first; end = l.end });
 }
 
-abbrev pub decreases-loop-end : goal.decreases-loop-end
-decreases-loop-end l = l.end - l.first
+abbrev pub decreases-loop-count : goal.decreases-loop-count
+decreases-loop-count l = l.end - l.first

@@ -23,8 +23,8 @@ blends true e o n is source alpha stored = rw is (turned (over_is o n source alp
 
 pub returns-clause-none : goal.returns-clause-none
 returns-clause-none c m k s a d n is byte =
-    replaces (slice_index_or m.write k false) m.blend.colour (operands_of m k s a d) n (ap (λ (b : Blend). b.colour) is) byte
+    replaces (slice_index_or m.write k false) m.blend.colour (operands_of m k s a 255 d) n (ap (λ (b : Blend). b.colour) is) byte
 
 pub returns-clause-over : goal.returns-clause-over
 returns-clause-over c m k s a d n is source alpha stored =
-    blends (slice_index_or m.write k false) m.blend.colour (operands_of m k s a d) n (ap (λ (b : Blend). b.colour) is) source alpha stored
+    blends (slice_index_or m.write k false) m.blend.colour (operands_of m k s a 255 d) n (ap (λ (b : Blend). b.colour) is) source alpha stored

@@ -17,8 +17,8 @@ loop-place-preserved c =
     let place = c.loop-place.place in
     let inside : place < length numbers = omega (arith, c.loop-place-test.true) in
     let number = slice_index numbers place in
-    let known = sym c.go_on.ensures.has.triangle ∙ c.triangle.ensures in (
-      have_drawn_more list c.args.tile.now numbers c.requires.bin place _ c.loop-place.invariant.0 number _ c.draw_triangle.new.samples c.requires.count inside refl known c.draw_triangle.ensures,
+    let known = sym c.go_on.ensures.has.triangle ∙ c.triangle-in-loop-place.ensures in (
+      have_drawn_more list c.args.tile.now numbers c.requires.bin place _ c.loop-place.invariant.0 number _ c.draw_next.new.samples c.requires.count inside refl known (rw c.keeping_alpha-triangle.ensures at c.draw_next.ensures),
       c.go_on.ensures.before,
     )
 

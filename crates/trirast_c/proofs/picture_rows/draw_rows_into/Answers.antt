@@ -3,7 +3,7 @@ use Rattle.grid.specs.Pixels.{side_of}
 use Rattle.grid.specs.declared.pixels.TileSide.{TileSide}
 use Rattle.model.specs.Denotes.{Denotes}
 use Rattle.model.specs.Scene.{Scene}
-use Rattle.trirast_c.specs.Library.{HasRows, rows_length}
+use Rattle.trirast_c.specs.Library.{HasTileRows, rows_length}
 use Rattle.trirast_c.proofs.picture_rows.draw_rows_into.Goals as goal
 use Rattle.trirast_c.proofs.picture_rows.draw_rows_into.Goals.{then-first-end-via-then-first-end, then-first-end-via-else-first-end+then-end-rows}
 
@@ -11,7 +11,7 @@ pub returns-then-first-end-clause-judged : goal.returns-then-first-end-clause-ju
 returns-then-first-end-clause-judged c =
     let side = c.in_ok-side.ensures in
     let read = c.in_ok-list.ensures in
-    let lacks : ¬ HasRows c.in_ok-list.list c.in_ok-side.side c.args.first c.args.end = elim c.then-first-end.branch [
+    let lacks : ¬ HasTileRows c.in_ok-list.list c.in_ok-side.side c.args.first c.args.end = elim c.then-first-end.branch [
       | then-first-end-via-then-first-end w ↦ λ has. omega (arith, has.0, w.if-first-end.true)
       | then-first-end-via-else-first-end+then-end-rows w ↦ λ has. omega (arith, has.1, w.if-end-rows.true, rw (w.new.ensures, w.height.ensures.value) at w.rows.ensures.value)
     ] in
@@ -25,8 +25,8 @@ returns-then-bytes_of_rows-buffer-clause-judged c =
     let side = c.in_ok-side.ensures in
     let read = c.in_ok-list.ensures in
     let list = c.in_ok-list.list in
-    let has : HasRows list c.in_ok-side.side c.args.first c.args.end = search rules in
-    let each : (l : Scene) (s : TileSide) → Denotes c.args.json.now l → side_of s ≡ c.args.tile_size → HasRows l s c.args.first c.args.end =
+    let has : HasTileRows list c.in_ok-side.side c.args.first c.args.end = search rules in
+    let each : (l : Scene) (s : TileSide) → Denotes c.args.json.now l → side_of s ≡ c.args.tile_size → HasTileRows l s c.args.first c.args.end =
     λ l s means is. (has.0, subst (λ n. c.args.end ≤ (l.height + n - 1) / n) (side.1 ∙ sym is) (subst (λ (m : Scene). c.args.end ≤ (m.height + side_of c.in_ok-side.side - 1) / side_of c.in_ok-side.side) (read.only l means) has.1)) in
     let longer : ¬ (rows_length list c.in_ok-side.side c.args.first c.args.end ≤ length c.args.buffer.now) = λ fits.
     let small : c.bytes_of_rows.result ≤ length c.args.buffer.now = rw c.bytes_of_rows.ensures.length fits in

@@ -1,6 +1,6 @@
-use Rattle.std.proofs.Common.{◌≡◌, ◌∙◌, inl, inr, refl, sym, subst, ap, ◌+◌, ◌-◌, ◌*◌, ◌/◌, ◌<◌, ◌≤◌, ℕ, List, length, take, drop, slice_index, rules, arith}
+use Rattle.std.proofs.Common.{Bool, ◌≡◌, ◌∙◌, inl, inr, refl, sym, subst, ap, ◌+◌, ◌-◌, ◌*◌, ◌/◌, ◌<◌, ◌≤◌, ℕ, List, length, take, drop, slice_index, rules, arith}
 use Rattle.std.proofs.lemmas.Bool.{cases_lt}
-use Rattle.shade.specs.declared.sample.Sample.{Sample}
+use Rattle.shade.specs.declared.sample.CanvasSample.{CanvasSample}
 use Rattle.canvas.specs.declared.format.Format.{Format}
 use Rattle.canvas.specs.Layout.{columns_of, planes_of_tile, stored_in_tile}
 use Rattle.canvas.specs.Pixels.{pixel_bytes}
@@ -19,13 +19,13 @@ abbrev At : ℕ → ℕ → ℕ → ℕ → ℕ → ℕ → ℕ → Type 0
 At first end j n column row s = (column ≡ n) × (row ≡ j) × IsIndexIn first end s
 
 -- a sample in the colour of the pixel of this column
-abbrev in_colour : Format → List ℕ → ℕ → ℕ → ℕ → Sample → Sample
-in_colour format bytes column row s sample = coloured format (λ k. slice_index bytes (column * pixel_bytes format + k)) sample
+abbrev in_colour : Format → Bool → List ℕ → ℕ → ℕ → ℕ → CanvasSample → CanvasSample
+in_colour format too bytes column row s sample = coloured format too (λ k. slice_index bytes (column * pixel_bytes format + k)) sample
 
 pub loop-i-init : goal.loop-i-init
 loop-i-init c =
     let j : ℕ = c.args.j in
-    no_change c.args.self.now (j / 64) (j / 64 + 1) (Before c.args.indices.first c.args.indices.end j 0) (in_colour c.args.format c.args.bytes.now) c.args.samples.now (λ i j s v. omega (arith, v.0))
+    no_change c.args.self.now (j / 64) (j / 64 + 1) (Before c.args.indices.first c.args.indices.end j 0) (in_colour c.args.format c.args.indices.alpha c.args.bytes.now) c.args.samples.now (λ i j s v. omega (arith, v.0))
 
 pub slice_bounds-store_pixel-end : goal.slice_bounds-store_pixel-end
 slice_bounds-store_pixel-end c =
@@ -59,7 +59,7 @@ loop-i-preserved c =
     let room = part_within (i / 64) (columns_of self) (planes_of_tile self.count) wide in
     let first : ℕ = c.args.indices.first in
     let end : ℕ = c.args.indices.end in
-    let pixel : ℕ → ℕ → ℕ → Sample → Sample = λ column row s sample. coloured format (λ k. slice_index (take n (drop at bytes)) k) sample in
+    let pixel : ℕ → ℕ → ℕ → CanvasSample → CanvasSample = λ column row s sample. coloured format c.args.indices.alpha (λ k. slice_index (take n (drop at bytes)) k) sample in
     let one : AreChanged self (j / 64) (j / 64 + 1) (At first end j i) pixel c.loop-i.samples (put c.loop-i.samples c.store_pixel.new.samples from part) =
     one_tile_changed self c.loop-i.samples c.store_pixel.new.samples part from (omega (arith, room, many, start, c.requires.samples, c.loop-i.auto.samples)) (omega (arith, c.store_pixel.auto.samples, room, many, start, c.requires.samples, c.loop-i.auto.samples))
     (i / 64) (j / 64) (At first end j i) pixel many start
@@ -69,14 +69,14 @@ loop-i-preserved c =
     (subst (λ row. stored_in_tile self.count c.store_pixel.new.samples i row s ≡ pixel i row s (stored_in_tile self.count (take part (drop from c.loop-i.samples)) i row s)) (sym v.1) (c.store_pixel.ensures.pixel s v.2)))
     (λ column row s h e d other. c.store_pixel.ensures.others column row s h (λ a b index. other (omega (arith, a, e), omega (arith, b, d), index))) in
     joined_changes self (j / 64) (j / 64 + 1) (Before first end j i) (At first end j i) (Before first end j (i + 1))
-    (in_colour format bytes) pixel (in_colour format bytes)
+    (in_colour format c.args.indices.alpha bytes) pixel (in_colour format c.args.indices.alpha bytes)
     c.args.samples.now c.loop-i.samples (put c.loop-i.samples c.store_pixel.new.samples from part) c.loop-i.invariant one
     (λ column row s v w. omega (arith, v.0, w.0))
     (λ column row s r. elim (cases_lt column i) [ inl less ↦ inl (less, r.1, r.2) | inr more ↦ inr ((let same : column ≡ i = omega (arith, more, r.0) in same), r.1, r.2) ])
     (λ column row s v. ((let below : column < i + 1 = omega (arith, v.0) in below), v.1, v.2)) (λ column row s v. ((let below : column < i + 1 = omega (arith, v.0) in below), v.1, v.2))
     (λ column row s x v. refl)
     (λ column row s x v.
-    coloured_same format _ _ x
+    coloured_same format c.args.indices.alpha _ _ x
     (λ k small.
     let place : at + k ≡ column * w + k = ap (λ m. m + k) (ap (λ u. i * u) is_unit ∙ ap (λ m. m * w) (let same : i ≡ column = omega (arith, v.0) in same)) in
     part_of bytes at n 0 k (omega (arith, small, size)) ∙ ap (λ m. slice_index bytes m) place))
@@ -87,5 +87,5 @@ returns c =
     let j : ℕ = c.args.j in
     let first : ℕ = c.args.indices.first in
     let end : ℕ = c.args.indices.end in
-    changes_where self (j / 64) (j / 64 + 1) (Before first end j c.loop-i.i) (Before first end j self.width) (in_colour c.args.format c.args.bytes.now) c.args.samples.now c.loop-i.samples
+    changes_where self (j / 64) (j / 64 + 1) (Before first end j c.loop-i.i) (Before first end j self.width) (in_colour c.args.format c.args.indices.alpha c.args.bytes.now) c.args.samples.now c.loop-i.samples
     (λ column row s h w. ((let below : column < c.loop-i.i = omega (arith, w.0, c.loop-i-test.false) in below), w.1, w.2)) (λ column row s h v. ((let below : column < self.width = omega (arith, v.0, c.loop-i.auto.i-end) in below), v.1, v.2)) c.loop-i.invariant

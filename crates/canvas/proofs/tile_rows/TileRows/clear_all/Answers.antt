@@ -1,4 +1,5 @@
 use Rattle.std.proofs.Common.{◌≡◌, ◌+◌, ◌-◌, ◌*◌, ◌≤◌, ℕ, length, rules, arith}
+use Rattle.shade.specs.Canvas.{with_alpha}
 use Rattle.canvas.specs.Layout.{columns_of, planes_of_tile}
 use Rattle.canvas.proofs.Places.{part_within}
 use Rattle.canvas.proofs.ClearedTiles.{all_tiles, one_cleared, all_cleared}
@@ -28,11 +29,11 @@ loop-number-preserved c =
     let all = all_tiles (self.end - self.first) (columns_of self.canvas) pt in
     let size : a + each - a ≡ pt = omega (arith, c.planes_of_tile-each.ensures.value) in
     let at : a ≡ number * pt = rw c.planes_of_tile-each.ensures.value (omega arith) in
-    one_cleared self.canvas self.first self.end c.args.sample number c.loop-number.samples c.clear_tile.new.samples (a + each - a) a
+    one_cleared self.canvas self.first self.end (with_alpha c.args.sample c.args.alpha) number c.loop-number.samples c.clear_tile.new.samples (a + each - a) a
     (omega (arith, room, all, size, at, c.requires, c.loop-number.auto.samples))
     (omega (arith, c.clear_tile.auto.samples, room, all, size, at, c.requires, c.loop-number.auto.samples)) size at c.clear_tile.ensures c.loop-number.invariant
 
 pub returns : goal.returns
 returns c =
     let self = c.args.self.now in
-    all_cleared self.canvas self.first self.end c.args.sample c.loop-number.number c.loop-number.samples (omega (arith, c.loop-number-test.false, c.tiles-number-end.ensures.value)) c.loop-number.invariant
+    all_cleared self.canvas self.first self.end (with_alpha c.args.sample c.args.alpha) c.loop-number.number c.loop-number.samples (omega (arith, c.loop-number-test.false, c.tiles-number-end.ensures.value)) c.loop-number.invariant

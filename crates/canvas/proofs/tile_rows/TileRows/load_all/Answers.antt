@@ -9,7 +9,7 @@ pub returns-clause-loaded : goal.returns-clause-loaded
 returns-clause-loaded c =
     let self = c.args.self.now in
     let all = c.count.result in
-    subst (λ stride. AreLoaded self.canvas self.first self.end c.args.bytes.now c.args.format stride c.args.samples.now c.store_rows.new.samples) c.in_ok-rows.ensures.rows.2
+    subst (λ stride. AreLoaded self.canvas self.first self.end c.args.bytes.now c.args.format stride c.args.alpha c.args.samples.now c.store_rows.new.samples) c.in_ok-rows.ensures.rows.2
     (changes_where self.canvas self.first self.end (λ i j s. HasPixel self.canvas self.first self.end i j × IsIndexIn 0 all s) (λ i j s. HasPixel self.canvas self.first self.end i j)
-    (λ i j s sample. coloured c.args.format (λ k. slice_index c.args.bytes.now (entry_of self.first (pixel_bytes c.args.format) c.in_ok-rows.rows.stride i j + k)) sample) c.args.samples.now c.store_rows.new.samples
+    (λ i j s sample. coloured c.args.format c.args.alpha (λ k. slice_index c.args.bytes.now (entry_of self.first (pixel_bytes c.args.format) c.in_ok-rows.rows.stride i j + k)) sample) c.args.samples.now c.store_rows.new.samples
     (λ i j s h p. (p, (let index = h.is_sample in record { from = omega arith; below = omega (arith, index, c.count.ensures) }))) (λ i j s h v. v.0) c.store_rows.ensures)

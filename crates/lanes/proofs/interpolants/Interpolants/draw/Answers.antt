@@ -1,30 +1,27 @@
-use Rattle.std.proofs.Common.{◌≡◌, subst, sym, ap}
+use Rattle.std.proofs.Common.{◌≡◌, subst}
 use Rattle.shade.specs.declared.placed.Placed.{Placed}
-use Rattle.lanes.specs.declared.sources.DepthSource.{DepthSource}
-use Rattle.lanes.specs.declared.sources.ColourSource.{ColourSource}
-use Rattle.planes.specs.declared.depth_plane.DepthPlane.{DepthPlane}
-use Rattle.planes.specs.declared.colour_planes.ColourPlanes.{ColourPlanes}
-use Rattle.lanes.specs.declared.mode.DepthMode.{DepthMode}
-use Rattle.lanes.specs.declared.mode.ColourMode.{ColourMode}
-use Rattle.lanes.specs.declared.mode.DrawMode.{DrawMode}
-use Rattle.lanes.specs.declared.mode.DrawMode.TheVariants.{Groups}
-use Rattle.lanes.specs.Sources.{IsDepthOf, IsColourOf}
-use Rattle.lanes.specs.Mode.{IsDepthBy, IsColourBy, IsDrawModeOf, AreSourcesOf}
+use Rattle.lanes.specs.declared.block_samples.BlockSamples.{BlockSamples}
+use Rattle.std.specs.Prelude.{List}
+use Rattle.lanes.specs.BlockMask.{CoversBlock, IsBlockDrawn}
+use Rattle.lanes.specs.declared.block_mask.BlockMask.{BlockMask}
 use Rattle.lanes.proofs.interpolants.Interpolants.draw.Goals as goal
 
--- the sources of a triangle that is drawn by them
-sources : (t placed : Placed) (mode : DrawMode) (p : DepthPlane) (q : ColourPlanes) (d : DepthMode) (k : ColourMode) (depth : DepthSource) (colour : ColourSource) → placed ≡ t → IsDrawModeOf placed mode p q → mode ≡ Groups d k
-    → (IsDepthBy placed d p → IsDepthOf placed depth) → (IsColourBy placed k q → IsColourOf placed colour) → AreSourcesOf t placed.state.merge depth colour
-sources t placed mode p q d k depth colour same is e depth_of colour_of =
-    let both = subst (λ (w : DrawMode). IsDrawModeOf placed w p q) e is in
-    record {
-      merge_of = ap (λ (s : Placed). s.state.merge) (sym same);
-      depth_of = subst (λ (s : Placed). IsDepthOf s depth) same (depth_of both.0);
-      colour_of = subst (λ (s : Placed). IsColourOf s colour) same (colour_of both.1);
-    }
+-- what is drawn of a triangle is drawn of the same triangle
+drawn : (t placed : Placed) (mask : BlockMask) (old new : List BlockSamples) → placed ≡ t
+    → (CoversBlock placed mask → IsBlockDrawn placed mask old new) → CoversBlock t mask → IsBlockDrawn t mask old new
+drawn t placed mask old new same = subst (λ (p : Placed). CoversBlock p mask → IsBlockDrawn p mask old new) same
 
-pub returns-in-Groups-clause-drawn : goal.returns-in-Groups-clause-drawn
-returns-in-Groups-clause-drawn c =
-    let t = c.args.self.now in
-    let i = c.self.inside in
-    c.draw_by_merge.ensures.drawn t (sources t i.placed i.mode i.depth i.colour c.in-Groups.depth c.in-Groups.colour c.source-depth.result c.source-colour.result c.self.view_is c.self.invariant.0 c.in-Groups.is c.source-depth.ensures c.source-colour.ensures) c.requires.covered
+pub returns-in-Replace-clause-drawn : goal.returns-in-Replace-clause-drawn
+returns-in-Replace-clause-drawn c = drawn _ _ c.args.mask.now _ _ c.self.view_is c.draw_by_sources.ensures.drawn c.requires.covered
+
+pub returns-in-Over-clause-drawn : goal.returns-in-Over-clause-drawn
+returns-in-Over-clause-drawn c = drawn _ _ c.args.mask.now _ _ c.self.view_is c.draw_by_sources-in-Over.ensures.drawn c.requires.covered
+
+pub returns-in-Otherwise-clause-drawn : goal.returns-in-Otherwise-clause-drawn
+returns-in-Otherwise-clause-drawn c = drawn _ _ c.args.mask.now _ _ c.self.view_is c.draw_otherwise.ensures.drawn c.requires.covered
+
+pub returns-in-ReplaceWithAlpha-clause-drawn : goal.returns-in-ReplaceWithAlpha-clause-drawn
+returns-in-ReplaceWithAlpha-clause-drawn c = drawn _ _ c.args.mask.now _ _ c.self.view_is c.draw_by_sources-in-ReplaceWithAlpha.ensures.drawn c.requires.covered
+
+pub returns-in-OverWithAlpha-clause-drawn : goal.returns-in-OverWithAlpha-clause-drawn
+returns-in-OverWithAlpha-clause-drawn c = drawn _ _ c.args.mask.now _ _ c.self.view_is c.draw_by_sources-in-OverWithAlpha.ensures.drawn c.requires.covered

@@ -2,7 +2,7 @@ use Rattle.std.proofs.Common.{◌≡◌, ◌<◌, ◌-◌, ℕ, List, length, ge
 use Rattle.model.specs.declared.draw_list.DrawList.TheInside.{Inside}
 use Rattle.model.specs.Listing.{scene_of}
 use Rattle.model.specs.Place.{IsPlace}
-use Rattle.model.specs.Starts.{IsOwner}
+use Rattle.model.specs.Starts.{IsDrawOfTriangle}
 use Rattle.model.specs.View.{listing, IsKept}
 use Rattle.model.proofs.Numbering.{length-triangles}
 use Rattle.model.proofs.Starting.{ascending, place_at}
@@ -20,7 +20,7 @@ owner-draw-requires-clause-ascending c = rw c.deref.ensures.value (ascending _ _
 pub index-requires : goal.index-requires
 index-requires c = omega (arith, c.owner-draw.ensures.within, ap length c.deref.ensures.value, c.self.inside.starts.ok.0)
 
-there : (l : Inside) (number i start : ℕ) (starts : List ℕ) → IsKept l → number < length (scene_of (listing l)).triangles → starts ≡ l.starts.items → IsOwner starts number i → start ≡ get_or l.starts.items i start
+there : (l : Inside) (number i start : ℕ) (starts : List ℕ) → IsKept l → number < length (scene_of (listing l)).triangles → starts ≡ l.starts.items → IsDrawOfTriangle starts number i → start ≡ get_or l.starts.items i start
     → IsPlace (scene_of (listing l)) number (record { draw = i; triangle = number - start })
 there l number i start starts kept within same owner start_at =
     let size = kept.starts.size in

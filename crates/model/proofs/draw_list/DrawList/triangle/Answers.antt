@@ -2,7 +2,7 @@ use Rattle.std.proofs.Common.{◌≡◌, ℕ, ◌<◌, List, length, get_or, ap,
 use Rattle.model.specs.declared.draw.Draw.{Draw}
 use Rattle.model.specs.declared.draw_list.DrawList.TheInside.{Inside}
 use Rattle.model.specs.Listing.{scene_of}
-use Rattle.model.specs.Starts.{IsOwner}
+use Rattle.model.specs.Starts.{IsDrawOfTriangle}
 use Rattle.model.specs.View.{listing, IsKept}
 use Rattle.model.proofs.Numbering.{length-triangles, draw_within}
 use Rattle.model.proofs.Starting.{StandsIn, ascending, stands}
@@ -17,7 +17,7 @@ owner-draw-requires-clause-owners c =
 pub owner-draw-requires-clause-ascending : goal.owner-draw-requires-clause-ascending
 owner-draw-requires-clause-ascending c = rw c.deref.ensures.value (ascending _ _ c.self.invariant.starts)
 
-there : (l : Inside) (number i start : ℕ) (d : Draw) (starts : List ℕ) → IsKept l → number < length (scene_of (listing l)).triangles → starts ≡ l.starts.items → IsOwner starts number i → d ≡ get_or l.draws.items i d → start ≡ get_or l.starts.items i start → StandsIn l.draws.items number start d
+there : (l : Inside) (number i start : ℕ) (d : Draw) (starts : List ℕ) → IsKept l → number < length (scene_of (listing l)).triangles → starts ≡ l.starts.items → IsDrawOfTriangle starts number i → d ≡ get_or l.draws.items i d → start ≡ get_or l.starts.items i start → StandsIn l.draws.items number start d
 there l number i start d starts kept within same owner draw_at start_at =
     let size = kept.starts.size in
     let below = owner.within in

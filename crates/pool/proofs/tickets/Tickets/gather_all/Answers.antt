@@ -2,7 +2,7 @@ use Rattle.std.proofs.Common.{◌≡◌, ◌∷◌, [], ◌++◌, map, sym, ap, 
 use Rattle.std.proofs.lemmas.List.Elements.{All-rest}
 use Rattle.std.specs.Vec.Iter.{into_iter_items}
 use Rattle.pool.specs.Dealing.{list_of}
-use Rattle.pool.specs.Handles.{known_of, IsIn}
+use Rattle.pool.specs.Handles.{knowledge_of, IsIn}
 use Rattle.pool.specs.Tickets.{seat_list}
 use Rattle.pool.specs.declared.tickets.TicketSeat.{TicketSeat}
 use Rattle.pool.proofs.Gathering.{gathered_more, ended_marked}
@@ -19,7 +19,7 @@ loop-seat-preserved c =
       (let gone = c.in-Some.ensures.steps.1 in let was = at.invariant.2 in let short = ap length steps in omega arith),
       (let gone = c.in-Some.ensures.steps.1 in let was = at.invariant.3 in let room = c.gather.ensures.room in omega arith),
       c.gather.ensures.whole.0,
-      rw (c.gather.ensures.whole.1, c.gather.ensures.lists) (gathered_more (known_of at.whole) (known_of seat.handle) (map list_of at.lists.items) seat.numbers.items seat.ended at.invariant.5 seat.one seat.same seat.marked),
+      rw (c.gather.ensures.whole.1, c.gather.ensures.lists) (gathered_more (knowledge_of at.whole) (knowledge_of seat.handle) (map list_of at.lists.items) seat.numbers.items seat.ended at.invariant.5 seat.one seat.same seat.marked),
     )
 
 pub returns-clause-once : goal.returns-clause-once

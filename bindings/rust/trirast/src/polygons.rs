@@ -1,0 +1,152 @@
+//! Polygons: rings of corners, each polygon in one colour and at one depth.
+
+use std::mem::{size_of, size_of_val};
+
+use trirast_sys as sys;
+
+use crate::error::checked;
+use crate::parts::by_threads;
+use crate::picture::zeros;
+use crate::{Error, Position, State, TileRows};
+
+const _: () = assert!(size_of::<Position>() == size_of::<sys::trirast_corner>());
+
+/// Which samples are inside of a polygon, by the edges of its rings that a ray from the sample to the left crosses.
+#[derive(Clone, Copy, Debug, Default, PartialEq, Eq, Hash)]
+#[non_exhaustive]
+pub enum FillRule {
+    /// An odd number of edges is crossed.
+    #[default]
+    EvenOdd = sys::TRIRAST_FILL_EVEN_ODD as isize,
+    /// More edges are crossed that run downwards than edges that run upwards, or fewer.
+    Nonzero = sys::TRIRAST_FILL_NONZERO as isize,
+}
+
+/// Polygons in flat arrays: those of `shapely.to_ragged_array` and of GeoArrow, without the 0 with which their ends begin.
+///
+/// A polygon is any number of rings, and a ring any number of corners. Rings may be holes, touch and cross each other and
+/// themselves. A ring is closed from its last corner to its first, and one of fewer than three corners covers nothing. Which
+/// samples a polygon covers is exact: `docs/polygons.md`.
+///
+/// ```
+/// use trirast::{Canvas, Format, Polygons, State};
+///
+/// // A square of 4 by 4 pixels with a hole of one pixel, and a triangle in the hole. Positions are in 1/256 pixel.
+/// let square = [[0, 0], [1024, 0], [1024, 1024], [0, 1024]];
+/// let hole = [[256, 256], [512, 256], [512, 512], [256, 512]];
+/// let triangle = [[256, 256], [512, 512], [256, 512]];
+/// let corners = [&square[..], &hole, &triangle].concat();
+/// let polygons = Polygons::new(&corners, &[4, 8, 11], &[2, 3]).colors(&[[255, 0, 0, 255], [0, 0, 255, 255]]);
+/// let mut canvas = Canvas::builder(4, 4).samples(16).build()?;
+/// canvas.draw_polygons(&polygons, State::new())?;
+/// let pixels = canvas.pixels(Format::Rgb8)?;
+/// assert_eq!(pixels[..3], [255, 0, 0]);
+/// // The triangle covers 7 of the 16 samples of its pixel.
+/// assert_eq!(pixels[3 * 5..3 * 6], [0, 0, 112]);
+/// # Ok::<(), trirast::Error>(())
+/// ```
+#[derive(Clone, Copy, Debug, Default, PartialEq, Eq, Hash)]
+#[non_exhaustive]
+pub struct Polygons<'a> {
+    /// Those of all rings, one ring's after another's.
+    pub corners: &'a [Position],
+    /// Of each ring the index behind its last corner, where the next ring begins.
+    pub ring_ends: &'a [u32],
+    /// Of each polygon the index behind its last ring, where the next polygon begins.
+    pub polygon_ends: &'a [u32],
+    /// Of each polygon red, green, blue and alpha. Not looked at if ids are drawn.
+    pub colors: &'a [[u8; 4]],
+    /// Of each polygon its depth. Without any all are 0.
+    pub depths: &'a [u16],
+    /// Which samples are inside.
+    pub fill_rule: FillRule,
+}
+
+impl<'a> Polygons<'a> {
+    /// Returns polygons by the even-odd rule, at depth 0, and without colours.
+    pub const fn new(corners: &'a [Position], ring_ends: &'a [u32], polygon_ends: &'a [u32]) -> Polygons<'a> {
+        Polygons { corners, ring_ends, polygon_ends, colors: &[], depths: &[], fill_rule: FillRule::EvenOdd }
+    }
+
+    /// The same in these colours: red, green, blue and alpha of each polygon.
+    #[must_use]
+    pub const fn colors(self, colors: &'a [[u8; 4]]) -> Polygons<'a> {
+        Polygons { colors, ..self }
+    }
+
+    /// The same at these depths, one of each polygon.
+    #[must_use]
+    pub const fn depths(self, depths: &'a [u16]) -> Polygons<'a> {
+        Polygons { depths, ..self }
+    }
+
+    /// The same by this rule.
+    #[must_use]
+    pub const fn fill_rule(self, fill_rule: FillRule) -> Polygons<'a> {
+        Polygons { fill_rule, ..self }
+    }
+
+    /// The polygons as C takes them, which must not outlive the arrays.
+    fn raw(&self, state: State) -> sys::trirast_polygons {
+        sys::trirast_polygons {
+            struct_size: size_of::<sys::trirast_polygons>() as u32,
+            fill_rule: self.fill_rule as u32,
+            corners: self.corners.as_ptr().cast(),
+            corner_count: self.corners.len(),
+            ring_ends: self.ring_ends.as_ptr(),
+            ring_count: self.ring_ends.len(),
+            polygon_ends: self.polygon_ends.as_ptr(),
+            polygon_count: self.polygon_ends.len(),
+            colors: self.colors.as_ptr(),
+            color_count: self.colors.len(),
+            depths: self.depths.as_ptr(),
+            depth_count: self.depths.len(),
+            state: state.raw(0, 0),
+        }
+    }
+}
+
+impl TileRows<'_> {
+    /// Draws polygons over what is stored, one after another. Each makes of a sample that it covers what a triangle of one colour
+    /// and one depth does in this state, of which the topology and what is culled are not used. Scratch memory is allocated for
+    /// each thread: 32 bytes for each pixel of the width, and 1,056 by the nonzero rule.
+    ///
+    /// # Errors
+    ///
+    /// `OutOfMemory`; `BadPosition` if the canvas's origin is not -32,768 to 28,672; or `BadBatch` with the first error of the
+    /// polygons: `TooManyCorners`, `BadRing`, `BadPolygon` or `BadPosition`, which name the ring, the polygon or the corner;
+    /// `LeftOver` if the last ring ends before the last corner, or the last polygon before the last ring; `TooFewColors` or
+    /// `TooFewDepths`.
+    pub fn draw_polygons(&mut self, polygons: &Polygons<'_>, state: State) -> Result<(), Error> {
+        by_threads(self.with_scratch(polygons.fill_rule)?, |(mut part, mut scratch)| {
+            let (raw, size) = (polygons.raw(state), size_of_val(&scratch[..]));
+            let start = scratch.as_mut_ptr().cast();
+            // SAFETY: the struct has the memory of its tile rows, each array its count, and the library keeps none of them.
+            checked(|error| unsafe { sys::trirast_canvas_draw_polygons(&mut part.raw, &raw, start, size, error) })
+        })
+    }
+
+    /// Draws polygons in the same way, and stores in place of a colour the id of each: `first_id` and its index. Channels that are
+    /// kept and blending are not used.
+    ///
+    /// # Errors
+    ///
+    /// Those of [`draw_polygons`](TileRows::draw_polygons) but `TooFewColors`, and `BadBatch` with `TooManyIds` if the id of a
+    /// polygon would be greater than 16,777,215.
+    pub fn draw_polygon_ids(&mut self, polygons: &Polygons<'_>, first_id: u32, state: State) -> Result<(), Error> {
+        by_threads(self.with_scratch(polygons.fill_rule)?, |(mut part, mut scratch)| {
+            let (raw, size) = (polygons.raw(state), size_of_val(&scratch[..]));
+            let start = scratch.as_mut_ptr().cast();
+            // SAFETY: as for draw_polygons.
+            checked(|error| unsafe { sys::trirast_canvas_draw_polygon_ids(&mut part.raw, &raw, first_id, start, size, error) })
+        })
+    }
+
+    /// The parts among which a call shares these tile rows, each with scratch memory of its own. All of it is there before one
+    /// part is drawn, so that nothing is changed if it is not.
+    fn with_scratch(&self, fill_rule: FillRule) -> Result<Vec<(TileRows<'_>, Vec<u64>)>, Error> {
+        // SAFETY: the struct is valid.
+        let size = unsafe { sys::trirast_polygons_scratch(&self.raw, fill_rule as u32) };
+        self.shared().into_iter().map(|part| Ok((part, zeros(size / size_of::<u64>())?))).collect()
+    }
+}

@@ -1,0 +1,80 @@
+/* Errors as exceptions: a part of trirast.hpp. */
+#ifndef TRIRAST_ERROR_HPP
+#define TRIRAST_ERROR_HPP
+
+#include <cstddef>
+#include <cstdint>
+#include <optional>
+#include <stdexcept>
+#include <string>
+
+#include "../trirast.h"
+
+namespace trirast {
+
+/* A call that failed. Its text is the message of trirast.h, as "draw 3: the indices make no whole triangles or quads". */
+class Error : public std::runtime_error {
+public:
+    explicit Error(const trirast_error &error) : std::runtime_error(message_of(error)), error_(error) {}
+    explicit Error(trirast_status status) : Error(of_status(status)) {}
+
+    trirast_status status() const noexcept { return static_cast<trirast_status>(error_.status); }
+
+    /* Why a batch cannot be drawn. 0 if the status is not that of a batch. */
+    trirast_batch_cause batch_cause() const noexcept {
+        return static_cast<trirast_batch_cause>(status() == TRIRAST_STATUS_BAD_BATCH ? error_.cause : 0);
+    }
+
+    /* Why a text is no draw list. 0 if the status is not that of a list. */
+    trirast_list_cause list_cause() const noexcept {
+        return static_cast<trirast_list_cause>(status() == TRIRAST_STATUS_BAD_LIST ? error_.cause : 0);
+    }
+
+    /* The index of the draw in which the error is, if it is in one. */
+    std::optional<std::size_t> draw() const noexcept { return index_of(error_.draw); }
+
+    /* Which one of the draw's own indices, vertices or quads is wrong, or which ring, polygon or corner, if it is one. trirast_batch_cause
+     * has what each cause names. */
+    std::optional<std::size_t> element() const noexcept { return index_of(error_.element); }
+
+    /* The index itself, if an index is wrong. */
+    std::optional<std::size_t> value() const noexcept { return index_of(error_.value); }
+
+private:
+    static trirast_error of_status(trirast_status status) noexcept {
+        trirast_error error{};
+        error.status = static_cast<std::uint32_t>(status), error.draw = error.element = error.value = TRIRAST_NONE;
+        return error;
+    }
+
+    static std::optional<std::size_t> index_of(std::size_t index) noexcept {
+        if (index == TRIRAST_NONE) return std::nullopt;
+        return index;
+    }
+
+    static std::string message_of(const trirast_error &error) {
+        char message[TRIRAST_ERROR_MESSAGE_SIZE];
+        return std::string(message, trirast_error_message(&error, message, sizeof message));
+    }
+
+    trirast_error error_;
+};
+
+namespace detail {
+
+inline void check(trirast_status status) {
+    if (status != TRIRAST_STATUS_OK) throw Error(status);
+}
+
+/* Makes a call that writes an error. */
+template <class Call>
+void check_call(Call call) {
+    trirast_error error{};
+    if (call(&error) != TRIRAST_STATUS_OK) throw Error(error);
+}
+
+}  // namespace detail
+
+}  // namespace trirast
+
+#endif

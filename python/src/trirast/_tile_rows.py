@@ -1,0 +1,59 @@
+"""Some tile rows of a canvas, loaded and resolved by themselves, from and to arrays of numpy that have a word for each pixel."""
+
+from typing import Any, Callable, List, Tuple
+
+from ._canvas import FORMATS, TILE_SIZE, Canvas
+from ._ffi import CCanvas, library
+from ._threads import share
+
+RGBA = FORMATS["rgba"][0]
+
+
+class TileRows:
+    """The tile rows `first` to before `end` of a canvas. Pictures have as many rows as the whole canvas, and 32 bits a
+    pixel: red, green, blue and alpha in bytes. Rows of pixels may have a gap between them."""
+
+    def __init__(self, canvas: Canvas, first: int, end: int, threads: int = 1) -> None:
+        self._canvas, self._first, self._end, self._threads = canvas, first, end, threads
+
+    @property
+    def pixels(self) -> slice:
+        """The rows of pixels."""
+        return slice(self._first * TILE_SIZE, min(self._end * TILE_SIZE, self._canvas.height))
+
+    def load(self, picture: Any) -> None:
+        """Makes a picture the colour of all samples of its pixels. Alpha is not read."""
+        self._each(library().trirast_canvas_load, (RGBA,), picture)
+
+    def resolve(self, picture: Any) -> None:
+        """Writes the colours, with alpha 255."""
+        self._each(library().trirast_canvas_resolve, (RGBA,), picture)
+
+    def colors(self, sample: int, picture: Any) -> None:
+        """Writes the colours of one sample, with alpha 255."""
+        self._each(library().trirast_canvas_colors, (sample, RGBA), picture)
+
+    def store(self, sample: int, picture: Any) -> None:
+        """Makes a picture the colour of one sample of its pixels."""
+        self._each(library().trirast_canvas_store, (sample, RGBA), picture)
+
+    def _each(self, call: Callable[..., Any], chosen: Tuple[int, ...], picture: Any) -> None:
+        start, stride = picture.__array_interface__["data"][0], picture.strides[0]
+        row_bytes = picture.itemsize * self._canvas.width
+
+        def on_piece(piece: CCanvas, top: int) -> None:
+            rows = min(piece.end * TILE_SIZE, self._canvas.height) - top
+            call(piece, *chosen, start + top * stride, (rows - 1) * stride + row_bytes, stride)
+
+        with self._canvas._lock:
+            share(on_piece, self._pieces, max(min(self._threads, self._end - self._first), 1))
+
+    def _pieces(self, count: int) -> List[Tuple[CCanvas, int]]:
+        """These tile rows in this many pieces, each with its first row of pixels."""
+        ends = [self._first + k * (self._end - self._first) // count for k in range(count + 1)]
+        found = []
+        for first, end in zip(ends, ends[1:]):
+            piece = CCanvas()
+            library().trirast_canvas_split(self._canvas._whole, first, end, piece)
+            found.append((piece, first * TILE_SIZE))
+        return found

@@ -1,0 +1,40 @@
+"""Canvases of figures that draw by `RendererTrirast`: one without a window, and what those with one have of it."""
+
+from __future__ import annotations
+
+from contextlib import contextmanager
+from typing import Any, Iterator, Optional, Tuple
+
+from matplotlib.backends.backend_agg import FigureCanvasAgg
+
+from ._inside import rasterized_by
+from ._renderer import RendererTrirast
+
+
+class DrawsByTrirast:
+    """What a canvas has that draws by `RendererTrirast`. It stands before a class of Agg's."""
+
+    _drawn_for: Optional[Tuple[float, float, float]] = None
+    figure: Any
+
+    def get_renderer(self, cleared: bool = False) -> RendererTrirast:
+        """The renderer of a figure, anew if its size changed."""
+        width, height = self.figure.bbox.size
+        wanted = (width, height, self.figure.dpi)
+        if self._drawn_for != wanted:
+            self.renderer = RendererTrirast(*wanted)
+            self._drawn_for = wanted
+        elif cleared:
+            self.renderer.clear()
+        return self.renderer
+
+    @contextmanager
+    def _switch_canvas_and_return_print_method(self, *given: Any, **named: Any) -> Iterator[Any]:
+        """What PDF and SVG rasterize is drawn by this package too."""
+        switched: Any = super()
+        with rasterized_by(RendererTrirast), switched._switch_canvas_and_return_print_method(*given, **named) as method:
+            yield method
+
+
+class FigureCanvasTrirast(DrawsByTrirast, FigureCanvasAgg):
+    """A figure's canvas with that renderer."""

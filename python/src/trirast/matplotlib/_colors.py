@@ -1,0 +1,44 @@
+"""Colours in bytes, rounded as Agg does."""
+
+from __future__ import annotations
+
+from typing import Any, Tuple
+
+import numpy as np
+
+from ._inside import face_alpha
+from ._transforms import cycled
+
+
+def face_bytes(gc: Any, color: Any) -> Any:
+    """A face's colour in four bytes, which may be clear."""
+    return [int(min(max(value, 0), 1) * 255 + 0.5) for value in (*color[:3], face_alpha(gc, color))]
+
+
+def edge_alpha(gc: Any) -> float:
+    color = gc.get_rgb()
+    alpha: float = color[3] if len(color) > 3 else 1.0
+    return alpha
+
+
+def color_bytes(colors: Any) -> Any:
+    """Rows of red, green, blue and alpha of 0 to 1 in bytes."""
+    rows = rows_of_colors(colors)
+    if not np.isfinite(rows.sum()):
+        rows = np.nan_to_num(rows)
+    scaled = np.minimum(np.maximum(rows, 0), 1)
+    scaled *= 255
+    scaled += 0.5
+    return scaled.astype(np.uint8)
+
+
+def rows_of_colors(colors: Any) -> Any:
+    return np.asarray(colors, np.float64).reshape(-1, 4)
+
+
+def edges_of(edgecolors: Any, linewidths: Any, count: int) -> Tuple[Any, Any]:
+    """The width of each item's edge in points, and which items have an edge that is seen."""
+    if not len(edgecolors):
+        return np.zeros(count), np.zeros(count, bool)
+    widths = cycled(np.asarray(linewidths, np.float64) if len(linewidths) else np.ones(1), count)
+    return widths, (widths != 0) & (cycled(color_bytes(edgecolors)[:, 3], count) > 0)

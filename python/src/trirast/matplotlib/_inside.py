@@ -1,0 +1,110 @@
+"""What this backend relies on of matplotlib's inside, and nothing else does in this package. Tried with matplotlib 3.6.3
+and 3.10.1.
+
+Names that matplotlib does not document:
+
+- `RendererAgg._renderer`, Agg's own renderer, by which all of Agg's calls go and whose memory is the picture;
+  `RendererAgg._update_methods`, which puts Agg's calls into the instance, where they hide those of a subclass.
+- `GraphicsContextBase._forced_alpha`: whether the context's alpha takes the place of a face's own.
+- `Path._vertices` and `Path._codes`, the members behind the properties, which cost more than what is done with them.
+- `Path.cleaned` and its parameters: a path as Agg fills it, with y downwards if the transform has it so.
+- `FigureCanvasBase._switch_canvas_and_return_print_method`, within which a file of another backend is written, and the
+  name `RendererAgg` in `matplotlib.backends.backend_mixed`, by which PDF and SVG rasterize.
+
+What Agg does without saying so, and is done here in the same way:
+
+- A face of one path is snapped to whole pixels if it has at most MAX_SNAPPED vertices and no curve, and each line is
+  level or upright to within STRAIGHT pixels; the line that closes a ring is not looked at. It is snapped to the centres
+  of pixels if its edge is an odd number of pixels wide.
+- Transforms are multiplied in the order of `_transforms`, so that positions at half pixels are the same numbers.
+- A path with a face is neither clipped nor simplified, so that its dashes begin at its first corner: an edge alone is
+  drawn with the face HIDDEN.
+- A collection of one item comes as a marker at the origin, half a pixel lower and further right if it is not snapped.
+- An antialiased mesh without edges gets edges one point wide in the colours of its faces.
+- A clip rectangle is rounded to whole pixels, and colours to bytes by 255 v + 0.5.
+"""
+
+from __future__ import annotations
+
+from contextlib import contextmanager
+from itertools import repeat
+from operator import attrgetter, is_
+from typing import Any, Iterator, List, Optional, Sequence, Tuple
+
+import matplotlib.backends.backend_mixed as backend_mixed
+import numpy as np
+
+MAX_SNAPPED = 1024
+STRAIGHT = 1e-4
+# A mitre reaches at most this number of half widths of its edge.
+MITRE_LIMIT = 4
+# A face of this colour is not seen, and Agg treats the edge as that of a path with a face.
+HIDDEN = (0.0, 0.0, 0.0, 1e-9)
+# The calls that RendererAgg puts into its instances.
+BOUND = (
+    "draw_gouraud_triangle", "draw_gouraud_triangles", "draw_image", "draw_markers", "draw_path_collection", "draw_quad_mesh",
+    "copy_from_bbox",
+)
+
+
+def all_vertices(paths: Sequence[Any]) -> List[Any]:
+    """The vertices of each path."""
+    return list(map(attrgetter("_vertices"), paths))
+
+
+def all_codes(paths: Sequence[Any]) -> List[Any]:
+    """The codes of each path, or None."""
+    return list(map(attrgetter("_codes"), paths))
+
+
+def are_one(values: Sequence[Any]) -> bool:
+    """Whether all are the same object, as the codes of paths that were made at once."""
+    return all(map(is_, values, repeat(values[0])))
+
+
+def stacked(vertices: Sequence[Any]) -> Any:
+    """The vertices of paths behind each other, in an array that may be only read. There are often many short ones: joined as bytes they take
+    less than half of the time that numpy takes."""
+    try:
+        kinds = list(map(attrgetter("dtype"), vertices))
+        if kinds[0] == np.float64 and are_one(kinds):
+            return np.frombuffer(b"".join(vertices)).reshape(-1, 2)
+    except (AttributeError, TypeError):
+        pass  # One is no array, or has gaps.
+    return np.concatenate(vertices)
+
+
+def face_alpha(gc: Any, color: Any) -> float:
+    """The alpha of a face: the context's if that is forced, or if the colour has none."""
+    alpha: float = gc.get_alpha() if gc._forced_alpha or len(color) == 3 else color[3]
+    return alpha
+
+
+@contextmanager
+def faces_have_their_alpha(gc: Any) -> Iterator[None]:
+    """A context whose alpha is not forced on faces meanwhile, so that a hidden one stays hidden."""
+    forced, gc._forced_alpha = gc._forced_alpha, False
+    try:
+        yield
+    finally:
+        gc._forced_alpha = forced
+
+
+def cleaned(path: Any, matrix: Any, snap: Optional[bool], stroke: float, sketch: Any = None) -> Tuple[Any, Any]:
+    """The vertices and codes of a path as Agg fills it: without numbers that are none, snapped, flattened and sketched."""
+    found = path.cleaned(
+        transform=matrix, remove_nans=True, clip=None, simplify=False, curves=False, stroke_width=stroke, snap=snap, sketch=sketch
+    )
+    # The last code is STOP.
+    return found.vertices[:-1], found.codes[:-1]
+
+
+@contextmanager
+def rasterized_by(renderer_class: Any) -> Iterator[None]:
+    """PDF and SVG draw what they rasterize by this class meanwhile."""
+    kept = backend_mixed.RendererAgg
+    backend_mixed.RendererAgg = renderer_class
+    try:
+        yield
+    finally:
+        backend_mixed.RendererAgg = kept

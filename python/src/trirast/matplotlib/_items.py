@@ -1,0 +1,260 @@
+"""The items of a collection as polygons: transformed, snapped where Agg snaps them, and flattened as Agg flattens them."""
+
+from __future__ import annotations
+
+from typing import Any, List, NamedTuple, Optional, Sequence, Tuple
+
+import numpy as np
+from matplotlib.path import Path
+
+from ._inside import MAX_SNAPPED, STRAIGHT, all_codes, all_vertices, are_one, cleaned, stacked
+from ._paths import range_any, rectilinear
+from ._polygons import CLOSEPOLY, LINETO, MOVETO, NOTHING, REACH, Polygons, Rings, equal_rings, joined, polygons, ranges_of, rings
+from ._transforms import applied, matrix_of
+
+
+class Items(NamedTuple):
+    """What a collection draws: item n is path `path_of[n]` by a transform of its own, or all by one. `strokes` has the
+    widths of their edges in pixels."""
+
+    paths: Sequence[Any]
+    path_of: Any
+    transforms: Any  # (n or 1, 6), y downwards
+    strokes: Any  # (n,)
+
+    def of(self, some: Any) -> Items:
+        transforms = self.transforms if len(self.transforms) == 1 else self.transforms[some]
+        return Items(self.paths, self.path_of[some], transforms, self.strokes[some])
+
+
+class Faces(NamedTuple):
+    """Each item as one polygon, and which are made of whole pixels, as upright rectangles are that were snapped."""
+
+    polygons: Polygons
+    whole: Any
+
+
+def faces_of(items: Items, snap: Optional[bool], together: bool, size: Tuple[int, int], margin: float = 1) -> Faces:
+    """The faces of items, an empty one if it lies farther than the margin from a picture of this width and height.
+    `together`: all are snapped or none, where matplotlib leaves it open."""
+    alike = alike_vertices(items)
+    if alike is not None:
+        found = equal_faces(items, alike, snap, together)
+        if found is not None:
+            return found
+    return any_faces(items, snap, together, size, margin)
+
+
+# ---- Items of one ring each and of as many corners, as most collections have them
+
+
+def alike_vertices(items: Items) -> Any:
+    """The vertices of items, of the shape (n, corners, 2), if each is one ring of as many; else None."""
+    of_paths, arrays = all_codes(items.paths), all_vertices(items.paths)
+    codes, length = of_paths[0], len(arrays[0])
+    if not length or not are_one(of_paths) or len(set(map(len, arrays))) > 1:
+        return None
+    if codes is not None and not (codes[0] == MOVETO and (codes[1:-1] == LINETO).all() and codes[-1] in (LINETO, CLOSEPOLY)):
+        return None
+    found = stacked(arrays).reshape(-1, length, 2)
+    if codes is not None and codes[-1] == CLOSEPOLY:
+        found = found[:, :-1]
+    return found if len(found) == len(items.path_of) else found[items.path_of]
+
+
+def equal_faces(items: Items, vertices: Any, snap: Optional[bool], together: bool) -> Optional[Faces]:
+    """The faces of such items, or None if one is too far away, or has a number that is none."""
+    points = applied(items.transforms[:, None], np.asarray(vertices, np.float64))
+    with np.errstate(invalid="ignore"):
+        # False also where a number is none.
+        if not (-REACH <= points.min() and points.max() <= REACH):
+            return None
+    upright = straight(points, together) if snap is not False and points.shape[1] <= MAX_SNAPPED else np.zeros(len(points), bool)
+    snapped = upright if snap is None else np.full(len(points), snap)
+    added = half_of_odd(items.strokes)
+    if snapped.any():
+        moved = np.floor(points + 0.5) + added[:, None, None]
+        points = moved if snapped.all() else np.where(snapped[:, None, None], moved, points)
+    return Faces(equal_rings(points), snapped & upright & (added == 0))
+
+
+def straight(points: Any, together: bool) -> Any:
+    """Which items have level and upright lines alone; none if they are snapped together and one has another line."""
+    if together and not (np.abs(np.diff(points[0], axis=0)) < STRAIGHT).any(-1).all():
+        return np.zeros(len(points), bool)
+    found = np.ones(len(points), bool)
+    for n in range(1, points.shape[1]):
+        step = np.abs(points[:, n] - points[:, n - 1])
+        found &= (step[:, 0] < STRAIGHT) | (step[:, 1] < STRAIGHT)
+    return found if not together or found.all() else np.zeros(len(points), bool)
+
+
+# ---- Items of any paths
+
+
+def any_faces(items: Items, snap: Optional[bool], together: bool, size: Tuple[int, int], margin: float) -> Faces:
+    vertices, codes, counts = path_members(items)
+    points = applied(item_transforms(items, counts), vertices)
+    is_whole = is_seen_whole(points, size)
+    if not is_whole:
+        seen = meets(points, counts, size, margin) & np.isfinite(items.transforms).all(1)
+        if not seen.all():
+            some = any_faces(items.of(seen), snap, together, size, margin) if seen.any() else Faces(NOTHING, seen[:0])
+            return Faces(spread(some.polygons, seen), spread_flags(some.whole, seen))
+    curved = range_any((codes == Path.CURVE3) | (codes == Path.CURVE4), counts)
+    near = is_whole or is_near(points)
+    with np.errstate(invalid="ignore"):
+        odd = np.zeros(len(points), bool) if near else ~(np.abs(points) <= REACH).all(1)
+    # A line behind a CLOSEPOLY is rare.
+    odd[1:] |= (codes[1:] == LINETO) & (codes[:-1] == CLOSEPOLY)
+    slow = range_any(odd, counts)
+    if curved.any() and not snap and not slow.any():
+        # Agg snaps no path with a curve, unless it is asked to.
+        return any_faces(flattened(items, curved), False if together or curved.all() else snap, together, size, margin)
+    upright = rectilinear(points, codes, counts) if snap is not False else np.zeros(len(counts), bool)
+    lost = range_any(~np.isfinite(points).all(1), counts) if together and not near else np.zeros(len(counts), bool)
+    snapped = snapped_items(counts, upright, curved, lost, together) if snap is None else np.full(len(counts), snap)
+    snap = False if snap is None and together and not snapped.any() else snap
+    slow |= curved
+    snapped &= ~slow
+    added = half_of_odd(items.strokes)
+    if snapped.any():
+        which = np.repeat(snapped, counts)
+        points[which] = np.floor(points[which] + 0.5) + np.repeat(added, counts)[which, None]
+    if not slow.any():
+        return Faces(rings(points, codes, counts), snapped & (added == 0) & upright)
+    return Faces(joined(slow_paths(items, points, codes, counts, slow, snap)), snapped & (added == 0) & upright)
+
+
+def is_near(points: Any) -> bool:
+    """Whether all positions are numbers in the guard band."""
+    with np.errstate(invalid="ignore"):
+        return bool(len(points)) and bool(-REACH <= points.min() and points.max() <= REACH)
+
+
+def is_seen_whole(points: Any, size: Tuple[int, int]) -> bool:
+    """Whether all positions lie in a picture of this size."""
+    with np.errstate(invalid="ignore"):
+        return bool(len(points)) and bool(points.min() >= 0 and points[:, 0].max() <= size[0] and points[:, 1].max() <= size[1])
+
+
+def snapped_items(counts: Any, upright: Any, curved: Any, lost: Any, together: bool) -> Any:
+    """Which items Agg snaps, where matplotlib leaves it open. `lost` are those with a number that is none."""
+    found = ~curved & (counts <= MAX_SNAPPED) & upright
+    # Such an item is looked at alone.
+    if together and not (found | lost).all():
+        found[:] = False
+    return found
+
+
+def slow_paths(items: Items, points: Any, codes: Any, counts: Any, slow: Any, snap: Optional[bool]) -> List[Rings]:
+    """The items one by one: those that are slow as Path.cleaned has them."""
+    found: List[Rings] = []
+    for n, end in enumerate(np.cumsum(counts)):
+        if slow[n]:
+            transform = items.transforms[n if len(items.transforms) > 1 else 0]
+            found.append(cleaned(items.paths[items.path_of[n]], matrix_of(transform), snap, float(items.strokes[n])))
+        else:
+            found.append((points[end - counts[n] : end], codes[end - counts[n] : end]))
+    return found
+
+
+def path_members(items: Items) -> Tuple[Any, Any, Any]:
+    """The vertices and codes of all items behind each other, and how many each has."""
+    arrays = all_vertices(items.paths)
+    lengths = np.fromiter(map(len, arrays), np.int64, len(arrays))
+    vertices, codes = stacked(arrays), joined_codes(items.paths, lengths)
+    if len(items.paths) == len(items.path_of):
+        return np.asarray(vertices, np.float64), codes, lengths
+    members, ends = ranges_of(np.cumsum(lengths), items.path_of)
+    vertices, codes = vertices[members], codes[members]
+    return np.asarray(vertices, np.float64), codes, np.diff(ends, prepend=0)
+
+
+def joined_codes(paths: Sequence[Any], lengths: Any) -> Any:
+    """The codes of paths, one after another."""
+    given = all_codes(paths)
+    if not any(codes is None for codes in given):
+        return np.concatenate(given).astype(np.uint8, copy=False)
+    found = np.full(lengths.sum(), LINETO, np.uint8)
+    ends = np.cumsum(lengths)
+    found[(ends - lengths)[lengths > 0]] = MOVETO
+    for end, length, codes in zip(ends.tolist(), lengths.tolist(), given):
+        if codes is not None:
+            found[end - length : end] = codes
+    return found
+
+
+def item_transforms(items: Items, counts: Any) -> Any:
+    """Of each vertex the transform, or one for all."""
+    return items.transforms[0] if len(items.transforms) == 1 else np.repeat(items.transforms, counts, 0)
+
+
+def flattened(items: Items, curved: Any) -> Items:
+    """The items with lines for curves. Items that differ by their place alone are flattened once."""
+    transforms = np.broadcast_to(items.transforms, (len(items.path_of), 6)).copy()
+    keys = np.concatenate((items.path_of[curved, None], transforms[curved, :4]), 1)
+    _keys, firsts, index = np.unique(keys, axis=0, return_index=True, return_inverse=True)
+    still = transforms[curved][firsts]
+    still[:, 4:] = 0
+    paths = list(items.paths)
+    for path, transform in zip(items.path_of[curved][firsts], still):
+        vertices, codes = cleaned(items.paths[path], matrix_of(transform), False, 0.0)
+        paths.append(Path(vertices, codes) if len(vertices) else Path(np.zeros((1, 2)), [MOVETO]))
+    path_of = items.path_of.copy()
+    path_of[curved] = len(items.paths) + index.reshape(-1)
+    transforms[curved, :4] = (1, 0, 0, 1)
+    return Items(paths, path_of, transforms, items.strokes)
+
+
+def half_of_odd(strokes: Any) -> Any:
+    """What is added to snapped positions: half a pixel if the edge has an odd width, as Agg rounds it."""
+    if not strokes.any():
+        return np.zeros(strokes.shape)
+    return np.where(np.trunc(strokes + 0.5).astype(np.int64) % 2, 0.5, 0.0)
+
+
+def meets(points: Any, counts: Any, size: Tuple[int, int], margin: float) -> Any:
+    """Which ranges of points have bounds that meet a picture with a margin around it."""
+    found = counts > 0
+    starts = (np.cumsum(counts) - counts)[found]
+    if len(starts):
+        with np.errstate(invalid="ignore"):
+            least, greatest = np.fmin.reduceat(points, starts), np.fmax.reduceat(points, starts)
+            found[found] = ((greatest >= -margin) & (least <= np.add(size, margin))).all(1)
+    return found
+
+
+def spread(given: Polygons, places: Any) -> Polygons:
+    """The polygons in the places that are set, and empty ones in the others."""
+    counts = np.zeros(len(places), np.int64)
+    counts[places] = np.diff(given.polygon_ends, prepend=0)
+    return given._replace(polygon_ends=np.cumsum(counts))
+
+
+def spread_flags(flags: Any, places: Any) -> Any:
+    found = np.ones(len(places), bool)
+    found[places] = flags
+    return found
+
+
+# ---- Meshes
+
+
+def quad_faces(coordinates: Any, transform: Any, snap: Optional[bool], stroke: float = 0) -> Optional[Faces]:
+    """The quads of a grid of points, row after row, by one transform; None if one is too far or no number. All are
+    snapped or none."""
+    grid = applied(transform, np.asarray(coordinates, np.float64))
+    with np.errstate(invalid="ignore"):
+        if not (grid.size and -REACH <= grid.min() and grid.max() <= REACH):
+            return None
+    across, down = np.abs(grid[:, 1:] - grid[:, :-1]), np.abs(grid[1:] - grid[:-1])
+    upright = bool((across < STRAIGHT).any(-1).all() and (down < STRAIGHT).any(-1).all())
+    if snap or (snap is None and upright):
+        grid = np.floor(grid + 0.5) + half_of_odd(np.float64(stroke))
+    # Corners are rounded before they are put together, of which each is four times there.
+    whole = polygons(grid, (), ()).corners.reshape(grid.shape)
+    corners = np.stack((whole[:-1, :-1], whole[:-1, 1:], whole[1:, 1:], whole[1:, :-1]), 2).reshape(-1, 2)
+    count = len(corners) // 4
+    found = Polygons(corners, 4 * np.arange(1, count + 1), np.arange(1, count + 1))
+    return Faces(found, np.full(count, upright and snap is not False))

@@ -1,0 +1,163 @@
+"""Polygons as a canvas draws them, made of paths without curves: rings of corners in 1/256 pixel, cut to the guard band."""
+
+from __future__ import annotations
+
+from typing import Any, List, NamedTuple, Sequence, Tuple
+
+import numpy as np
+from matplotlib.path import Path
+
+UNIT = 256
+# Positions are at most this far from the picture's corner, in pixels: the guard band ends at 32,768.
+REACH = 32767.0
+MOVETO, LINETO, CLOSEPOLY = Path.MOVETO, Path.LINETO, Path.CLOSEPOLY
+# A single ring of at most this number of corners winds around no point twice, so both rules are the same for it.
+MOST_SIMPLE = 4
+
+Rings = Tuple[Any, Any]
+
+
+class Polygons(NamedTuple):
+    """Polygons in their order. Polygon n is of the rings polygon_ends[n - 1] to before polygon_ends[n], and ring m of the
+    corners ring_ends[m - 1] to before ring_ends[m]. A corner is a row of x and y, y downwards."""
+
+    corners: Any  # int32, (c, 2)
+    ring_ends: Any  # int64, (r,)
+    polygon_ends: Any  # int64, (p,)
+
+    def taken(self, indices: Any) -> Polygons:
+        """Some of the polygons, in the order of their indices."""
+        rings, polygon_ends = ranges_of(self.polygon_ends, indices)
+        corners, ring_ends = ranges_of(self.ring_ends, rings)
+        return Polygons(self.corners[corners], ring_ends, polygon_ends)
+
+    def between(self, first: int, end: int) -> Polygons:
+        """The polygons `first` to before `end`."""
+        ring, ring_end = (int(self.polygon_ends[n - 1]) if n else 0 for n in (first, end))
+        corner, corner_end = (int(self.ring_ends[n - 1]) if n else 0 for n in (ring, ring_end))
+        return Polygons(self.corners[corner:corner_end], self.ring_ends[ring:ring_end] - corner, self.polygon_ends[first:end] - ring)
+
+    @property
+    def are_simple(self) -> bool:
+        """Whether each polygon is one ring of so few corners that the even-odd rule is the nonzero rule."""
+        if len(self.ring_ends) != len(self.polygon_ends) or not len(self.ring_ends):
+            return False
+        return bool(self.ring_ends[0] <= MOST_SIMPLE and (self.ring_ends[1:] - self.ring_ends[:-1] <= MOST_SIMPLE).all())
+
+
+def ranges_of(ends: Any, indices: Any) -> Tuple[Any, Any]:
+    """The members of some ranges, range after range, and the ends of these ranges."""
+    starts = np.concatenate(([0], ends[:-1]))[indices] if len(ends) else np.zeros(0, np.int64)
+    counts = ends[indices] - starts
+    found = np.cumsum(counts)
+    return np.arange(found[-1] if len(found) else 0) + np.repeat(starts - (found - counts), counts), found
+
+
+def polygons(corners: Any, ring_ends: Any, polygon_ends: Any) -> Polygons:
+    """Polygons from positions in pixels."""
+    scaled = np.multiply(corners, UNIT).reshape(-1, 2)
+    return Polygons(
+        np.rint(scaled, out=scaled).astype(np.int32), np.asarray(ring_ends, np.int64), np.asarray(polygon_ends, np.int64)
+    )
+
+
+NOTHING = polygons(np.zeros((0, 2)), [], [])
+
+
+def together(parts: Sequence[Polygons]) -> Polygons:
+    """Polygons behind each other."""
+    if len(parts) == 1:
+        return parts[0]
+    corner_starts = np.cumsum([0] + [len(part.corners) for part in parts])
+    ring_starts = np.cumsum([0] + [len(part.ring_ends) for part in parts])
+    return Polygons(
+        np.concatenate([part.corners for part in parts]),
+        np.concatenate([part.ring_ends + start for part, start in zip(parts, corner_starts)]),
+        np.concatenate([part.polygon_ends + start for part, start in zip(parts, ring_starts)]),
+    )
+
+
+def equal_rings(points: Any) -> Polygons:
+    """Polygons of one ring each and as many corners, from positions of the shape (n, corners, 2)."""
+    count, length = points.shape[:2]
+    return polygons(points, length * np.arange(1, count + 1), np.arange(1, count + 1))
+
+
+def joined(paths: Sequence[Rings]) -> Polygons:
+    """Paths without curves, their vertices and codes, each as one polygon."""
+    if not any(len(vertices) for vertices, _codes in paths):
+        return Polygons(NOTHING.corners, NOTHING.ring_ends, np.zeros(len(paths), np.int64))
+    paths = [within_reach(*opened(*path)) for path in paths]
+    counts = np.array([len(vertices) for vertices, _codes in paths], np.int64)
+    vertices, codes = (np.concatenate(each) for each in zip(*paths))
+    return rings(vertices, codes, counts)
+
+
+def rings(vertices: Any, codes: Any, counts: Any) -> Polygons:
+    """Paths of MOVETO, LINETO and CLOSEPOLY behind each other, each of a number of the vertices and as one polygon."""
+    ends = np.cumsum(counts)
+    kept = codes != CLOSEPOLY
+    begins = codes == MOVETO
+    begins[(ends - counts)[counts > 0]] = True
+    begins &= kept
+    begun, dropped = np.flatnonzero(begins), np.flatnonzero(~kept)
+    starts = begun - np.searchsorted(dropped, begun)
+    ring_ends = np.append(starts[1:], len(codes) - len(dropped))[: len(starts)]
+    return polygons(rows_of(vertices, kept) if len(dropped) else vertices, ring_ends, np.searchsorted(begun, ends))
+
+
+def rows_of(points: Any, kept: Any) -> Any:
+    """The points that are kept. As single numbers numpy takes them much faster than as rows."""
+    found = np.ascontiguousarray(points, np.float64).view(np.complex128)[:, 0][kept]
+    return found.view(np.float64).reshape(-1, 2)
+
+
+def opened(vertices: Any, codes: Any) -> Rings:
+    """A path in which each line behind a CLOSEPOLY begins where the closed ring began, as Agg has it."""
+    again = np.flatnonzero((codes[1:] == LINETO) & (codes[:-1] == CLOSEPOLY)) + 1
+    if not len(again):
+        return vertices, codes
+    moves = np.flatnonzero(codes == MOVETO)
+    begun = moves[np.maximum(np.searchsorted(moves, again) - 1, 0)] if len(moves) else np.zeros(len(again), int)
+    return np.insert(vertices, again, vertices[begun], 0), np.insert(codes, again, MOVETO)
+
+
+# ---- The guard band
+
+
+def within_reach(vertices: Any, codes: Any) -> Rings:
+    """The part of a path at most REACH from the picture's corner."""
+    if (np.abs(vertices) <= REACH).all():
+        return vertices, codes
+    starts = np.flatnonzero(codes == MOVETO)
+    if not len(starts) or starts[0]:
+        starts = np.append(0, starts)
+    found: List[Any] = []
+    for start, end in zip(starts, [*starts[1:], len(codes)]):
+        ring = vertices[start:end][codes[start:end] != CLOSEPOLY]
+        for axis in (0, 1):
+            for sign in (1.0, -1.0):
+                ring = cut(ring, axis, sign)
+        if len(ring):
+            found.append(ring)
+    new = np.full(sum(map(len, found)), LINETO, np.uint8)
+    new[np.cumsum([0] + [len(ring) for ring in found])[:-1]] = MOVETO
+    return np.concatenate(found) if found else vertices[:0], new
+
+
+def cut(ring: Any, axis: int, sign: float) -> Any:
+    """The part of a ring in which the coordinate times the sign is at most REACH. An edge is cut at the same point in
+    both directions, so that neighbours still fit."""
+    inside = sign * ring[:, axis] <= REACH
+    if inside.all():
+        return ring
+    found: List[Any] = []
+    for n in range(len(ring)):
+        if inside[n] != inside[n - 1]:
+            near, far = (ring[n], ring[n - 1]) if inside[n] else (ring[n - 1], ring[n])
+            point = near + (sign * REACH - near[axis]) / (far[axis] - near[axis]) * (far - near)
+            point[axis] = sign * REACH
+            found.append(point)
+        if inside[n]:
+            found.append(ring[n])
+    return np.array(found).reshape(-1, 2)

@@ -1,0 +1,306 @@
+"""The renderer: Agg's, with faces and Gouraud triangles of its own."""
+
+from __future__ import annotations
+
+from typing import Any, List, Optional
+
+import numpy as np
+from matplotlib.backends.backend_agg import RendererAgg
+from matplotlib.path import Path
+
+from ._clips import Clips, clip_box
+from ._collection import Collection, rounds_in_order
+from ._colors import color_bytes, edge_alpha, edges_of, face_bytes
+from ._drawing import Pixels, draw_triangles
+from ._inside import HIDDEN, faces_have_their_alpha
+from ._items import Faces, Items, faces_of, quad_faces
+from ._paths import has_curve, is_odd, is_snapped, is_snapped_rectangle, path_polygon
+from ._polygons import Polygons
+from ._rounds import have_common_sides, reach_of, rounds_of
+from ._samples import Samples
+from ._transforms import cycled, placed, unmasked
+from ._triangles import Box, Points, Triangles, numbered
+from ._window import OPAQUE
+
+# Its functions have no types.
+ma: Any = np.ma
+
+
+class RendererTrirast(RendererAgg):
+    """Agg's renderer, which draws faces and Gouraud triangles with 1, 2, 4, 8 or 16 `samples` a pixel. `threads` share the
+    drawing, and change no pixel. With `smooth` the faces of collections and meshes are drawn so too if their
+    antialiasing is off, as it is in `contourf`, `pcolormesh`, `pcolor` and `tripcolor` by default; without it these are
+    Agg's, byte for byte."""
+
+    samples = 16
+    threads = 1
+    smooth = True
+
+    _samples: Optional[Samples] = None
+    _depth = 0
+
+    # ---- Agg, and when what waits is drawn
+
+    def __init__(self, width: float, height: float, dpi: float) -> None:
+        self._kept: List[Optional[Samples]] = []
+        super().__init__(width, height, dpi)
+        self._clips = Clips(int(height))
+
+    @property
+    def _renderer(self) -> Any:
+        """Agg's own renderer, whose picture has all that was drawn so far."""
+        if self._samples is not None:
+            self._samples.flush()
+        return self._agg
+
+    @_renderer.setter
+    def _renderer(self, agg: Any) -> None:
+        self._agg, self._samples = agg, None
+
+    def _update_methods(self) -> None:
+        """Agg puts its calls into the instance here. Those of this class go by the property."""
+
+    def open_group(self, s: str, gid: Optional[str] = None) -> None:
+        self._depth += 1
+
+    def close_group(self, s: str) -> None:
+        self._depth -= 1
+        self._flush_at_end()
+
+    def _flush_at_end(self) -> None:
+        """What waits is drawn at the end of the outermost artist: who has the picture's memory sees it then."""
+        if self._depth <= 0 and self._samples is not None:
+            self._samples.flush()
+
+    def clear(self) -> None:
+        self._depth = 0
+        if self._samples is not None:
+            self._samples.forget()
+        super().clear()
+
+    def start_filter(self) -> None:
+        kept = self._samples
+        super().start_filter()
+        self._kept.append(kept)
+
+    def stop_filter(self, post_processing: Any) -> None:
+        super().stop_filter(post_processing)
+        self._samples = self._kept.pop()
+
+    def restore_region(self, region: Any, bbox: Any = None, xy: Any = None) -> None:
+        super().restore_region(region, bbox, xy)
+        if self._samples is not None:
+            self._samples.doubt_opacity()
+
+    def copy_from_bbox(self, bbox: Any) -> Any:
+        return self._renderer.copy_from_bbox(bbox)
+
+    def draw_image(self, *given: Any, **named: Any) -> None:
+        self._renderer.draw_image(*given, **named)
+
+    # ---- One path
+
+    def draw_path(self, gc: Any, path: Any, transform: Any, rgbFace: Any = None) -> None:
+        color = face_bytes(gc, rgbFace) if rgbFace is not None and gc.get_antialiased() else (0, 0, 0, 0)
+        if not color[3] or self._is_whole(gc, path, transform, color) or not self._is_opaque(gc):
+            super().draw_path(gc, path, transform, rgbFace)
+            return
+        has_edge = edge_alpha(gc) != 0
+        stroke = self.points_to_pixels(gc.get_linewidth()) if has_edge else 0.0
+        matrix, snap = transform.get_matrix(), gc.get_snap()
+        self._draw(gc, path_polygon(path, matrix, int(self.height), snap, stroke, gc.get_sketch_params()), [color])
+        if (has_edge and stroke) or gc.get_hatch() is not None:
+            with faces_have_their_alpha(gc):
+                super().draw_path(gc, path, transform, HIDDEN)
+
+    def _is_whole(self, gc: Any, path: Any, transform: Any, color: Any) -> bool:
+        """Whether a path is a rectangle of which Agg makes what is made here: of whole pixels, or with an opaque edge that
+        hides those it shares."""
+        if not is_snapped_rectangle(path, transform.get_matrix(), gc.get_snap(), gc.get_sketch_params()):
+            return False
+        alpha = edge_alpha(gc)
+        stroke = self.points_to_pixels(gc.get_linewidth()) if alpha else 0.0
+        if is_odd(stroke) and (stroke < 1 or alpha < 1):
+            return False
+        return self._leaves_samples(gc, color[3] == OPAQUE)
+
+    def draw_markers(self, gc: Any, marker_path: Any, marker_trans: Any, path: Any, trans: Any, rgbFace: Any = None) -> None:
+        """Draws the face of a marker at the figure's origin: a collection of one item without an offset comes so. Other
+        markers stay Agg's: it puts them on whole pixels, so they have no side in common."""
+        smooth = rgbFace is not None and is_origin(path, trans) and len(marker_path.vertices) > 2 and self._is_smooth(gc.get_antialiased())
+        color = face_bytes(gc, rgbFace) if smooth else (0, 0, 0, 0)
+        if color[3] and self._is_opaque(gc):
+            matrix = np.array(marker_trans.get_matrix())
+            snapped = is_snapped(marker_path, matrix, gc.get_snap())
+            if not snapped:
+                # Agg puts the origin of such a path at the centre of a pixel.
+                matrix[:2, 2] += (0.5, -0.5)
+            stroke = self.points_to_pixels(gc.get_linewidth())
+            self._draw(gc, path_polygon(marker_path, matrix, int(self.height), snapped, stroke), [color])
+            if not stroke:
+                return
+            rgbFace = None
+        self._renderer.draw_markers(gc, marker_path, marker_trans, path, trans, rgbFace)
+
+    # ---- Collections
+
+    def draw_path_collection(
+        self, gc: Any, master_transform: Any, paths: Any, all_transforms: Any, offsets: Any, offset_trans: Any, facecolors: Any,
+        edgecolors: Any, linewidths: Any, linestyles: Any, antialiaseds: Any, urls: Any, offset_position: Any, **more: Any,
+    ) -> None:
+        whole = Collection(
+            master_transform, paths, all_transforms, offsets, offset_trans, facecolors, edgecolors, linewidths, linestyles, antialiaseds,
+            urls, offset_position, more,
+        )
+        if not self._draw_collection(gc, whole):
+            whole.by_agg(self._renderer, gc)
+
+    def _draw_collection(self, gc: Any, whole: Collection) -> bool:
+        """Draws a collection, or returns False if all of it is Agg's."""
+        has_faces = len(whole.paths) and len(whole.faces) and len(whole.antialiased)
+        if not has_faces or gc.get_sketch_params() is not None:
+            return False
+        count = whole.item_count
+        colors = cycled(color_bytes(whole.faces), count)
+        ours = (colors[:, 3] > 0) & cycled(self._is_smooth(np.asarray(whole.antialiased, bool)), count)
+        points, edged = edges_of(whole.edges, whole.widths, count)
+        if gc.get_hatch() is not None:
+            edged[:] = True
+        if not ours.any() or (edged.any() and all(map(has_curve, whole.paths))) or not self._is_opaque(gc):
+            return False
+        by_agg = edged | (~ours & (colors[:, 3] > 0))
+        faces = self._faces(gc, whole, self.points_to_pixels(points), not by_agg.any(), edged.any())
+        if not by_agg.any():
+            if faces.whole.all() and self._leaves_samples(gc, bool((colors[ours, 3] == OPAQUE).all())):
+                return False
+            self._draw(gc, faces.polygons, colors)
+            return True
+        return self._draw_with_edges(gc, whole, faces.polygons, colors, ours, by_agg, self.points_to_pixels(points))
+
+    def _faces(self, gc: Any, whole: Collection, widths: Any, alone: bool, has_edges: bool) -> Faces:
+        count, height = whole.item_count, int(self.height)
+        transforms = placed(whole.master_transform, whole.transforms, whole.offsets, whole.offset_transform, count, height)
+        items = Items(whole.paths, np.arange(count) % len(whole.paths), transforms, widths)
+        # What lies outside of the picture may have an edge that is seen.
+        margin = float(reach_of(widths).max()) if has_edges else 1.0
+        return faces_of(items, gc.get_snap(), alone, (int(self.width), height), margin)
+
+    def _draw_with_edges(
+        self, gc: Any, whole: Collection, polygons: Polygons, colors: Any, ours: Any, by_agg: Any, widths: Any
+    ) -> bool:
+        """Draws faces and what Agg draws over them, in rounds. With too many of them opaque faces are drawn below Agg's,
+        where they show between these."""
+        if not have_common_sides(polygons):
+            return False
+        rounds = rounds_of(polygons, ours, by_agg, widths, int(self.width), int(self.height))
+        if rounds is None:
+            if not (colors[ours, 3] == OPAQUE).all():
+                return False
+            some = np.flatnonzero(ours)
+            self._draw(gc, polygons if len(some) == len(ours) else polygons.taken(some), colors[some])
+            return False
+        for part in rounds_in_order(whole, polygons, colors, ours, by_agg, rounds):
+            self._draw(gc, part.polygons, part.colors)
+            if part.by_agg is not None:
+                part.by_agg.by_agg(self._renderer, gc)
+        return True
+
+    def draw_quad_mesh(
+        self, gc: Any, master_transform: Any, meshWidth: int, meshHeight: int, coordinates: Any, offsets: Any, offsetTrans: Any,
+        facecolors: Any, antialiased: Any, edgecolors: Any,
+    ) -> None:
+        given = [gc, master_transform, meshWidth, meshHeight, coordinates, offsets, offsetTrans, facecolors, antialiased, edgecolors]
+        smooth = self._is_smooth(bool(antialiased)) and len(facecolors) and len(offsets) <= 1 and gc.get_hatch() is None
+        if smooth and self._is_opaque(gc):
+            transform = placed(master_transform, (), offsets, offsetTrans, 1, int(self.height))[0]
+            stroke = self.points_to_pixels(gc.get_linewidth()) if len(edgecolors) else 0
+            faces = quad_faces(unmasked(coordinates), transform, gc.get_snap(), stroke)
+            colors = cycled(color_bytes(facecolors), int(meshWidth) * int(meshHeight))
+            opaque = bool((colors[:, 3] == OPAQUE).all())
+            if faces is not None and not len(edgecolors):
+                if not faces.whole.all() or not self._leaves_samples(gc, opaque):
+                    self._draw(gc, faces.polygons, colors)
+                    return
+                # To hide seams Agg draws edges of an antialiased mesh in the colours of its faces. Whole pixels need none.
+                given[8] = False
+            elif faces is not None and opaque:
+                # Below Agg's mesh, where they show between its faces.
+                self._draw(gc, faces.polygons, colors)
+        self._renderer.draw_quad_mesh(*given)
+
+    # ---- Gouraud triangles
+
+    def draw_gouraud_triangle(self, gc: Any, points: Any, colors: Any, transform: Any) -> None:
+        """Draws one triangle: a call of matplotlib before 3.9."""
+        self.draw_gouraud_triangles(gc, np.reshape(points, (1, 3, 2)), np.reshape(colors, (1, 3, 4)), transform)
+
+    def draw_gouraud_triangles(self, gc: Any, triangles_array: Any, colors_array: Any, transform: Any) -> None:
+        """Draws triangles in their order, over what the figure shows. One with a position or a colour that is no number is left out."""
+        count, box = len(triangles_array), self._clip_box(gc)
+        if not count or box.is_empty:
+            return
+        points = in_pixels(triangles_array, transform, int(self.height))
+        triangles = numbered(Triangles(points, np.broadcast_to(ma.filled(colors_array, np.nan), (count, 3, 4))))
+        if not len(triangles.points):
+            return
+        if self._is_opaque(gc):
+            self._all_samples().draw_triangles(triangles, box, self._clips.of(gc))
+            return
+        figure: Pixels = np.asarray(self.buffer_rgba())
+        draw_triangles(figure, triangles, box, self._clip_mask(gc), self.threads, self.samples)
+
+    def _clip_mask(self, gc: Any) -> Optional[Pixels]:
+        """The share of each pixel inside of the clip path, as Agg fills that path."""
+        path, transform = gc.get_clip_path()
+        if path is None:
+            return None
+        other = RendererAgg(self.width, self.height, self.dpi)
+        filled = self.new_gc()
+        filled.set_linewidth(0)
+        filled.set_snap(gc.get_snap())
+        other.draw_path(filled, path, transform, (0.0, 0.0, 0.0, 1.0))
+        mask: Pixels = np.asarray(other.buffer_rgba())[..., 3]
+        return mask
+
+    # ---- Samples
+
+    def _is_smooth(self, antialiased: Any) -> Any:
+        """Whether faces of collections and meshes are drawn smoothly."""
+        return antialiased | True if self.smooth else antialiased
+
+    def _draw(self, gc: Any, polygons: Polygons, colors: Any) -> None:
+        box = self._clip_box(gc)
+        if not box.is_empty and len(polygons.polygon_ends):
+            self._all_samples().add(polygons, np.asarray(colors, np.uint8), box, self._clips.of(gc))
+            self._flush_at_end()
+
+    def _all_samples(self) -> Samples:
+        if self._samples is None:
+            self._samples = Samples(np.asarray(self._agg), self.samples, self.threads)
+        return self._samples
+
+    def _clip_box(self, gc: Any) -> Box:
+        return clip_box(gc, int(self.width), int(self.height))
+
+    def _is_opaque(self, gc: Any) -> bool:
+        """Whether samples can take the pixels inside of the clip rectangle."""
+        return self._all_samples().is_opaque(self._clip_box(gc))
+
+    def _leaves_samples(self, gc: Any, opaque: bool) -> bool:
+        """Whether nothing is lost if Agg draws whole pixels here, with all of their samples."""
+        if gc.get_clip_path()[0] is not None:
+            return False
+        return opaque or self._samples is None or not self._samples.has_samples(self._clip_box(gc))
+
+
+def is_origin(path: Any, transform: Any) -> bool:
+    """Whether a path is one point, which is put to the figure's origin."""
+    return len(path.vertices) == 1 and not path.vertices.any() and not np.any(transform.get_matrix()[:2, 2])
+
+
+def in_pixels(triangles: Any, transform: Any, height: int) -> Points:
+    """Positions in pixels of a figure of this height, y downwards. What is masked is no number."""
+    given = ma.filled(ma.asarray(triangles, np.float64), np.nan)
+    points: Points = np.array(transform.transform(given.reshape(-1, 2)), np.float64)
+    points[:, 1] = height - points[:, 1]
+    return points.reshape(-1, 3, 2)

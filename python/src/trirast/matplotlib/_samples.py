@@ -1,0 +1,150 @@
+"""The samples of a picture's pixels, and what is still to be drawn into them."""
+
+from __future__ import annotations
+
+from typing import Any, Dict, List, NamedTuple, Optional, Tuple
+
+import numpy as np
+
+from ._polygons import UNIT, Polygons, together
+from ._triangles import Box, Triangles, bounds_of, box_around
+from ._window import OPAQUE, Clip, Window
+
+# A canvas of this side takes up to 340 MB with 16 samples, as far as it is drawn upon.
+MAX_SIDE = 2048
+# The farthest corner of a window.
+MAX_ORIGIN = 28672
+
+
+class Waiting(NamedTuple):
+    """Polygons that are still to be drawn."""
+
+    polygons: Polygons
+    colors: Any
+    box: Box
+    clip: Optional[Clip]
+
+    @property
+    def bounds(self) -> Box:
+        """The pixels that they can change."""
+        corners = self.polygons.corners
+        if not len(corners):
+            return Box(0, 0, 0, 0)
+        (left, right), (top, bottom) = ((int(axis.min()), int(axis.max())) for axis in corners.T)
+        return common(Box(left // UNIT, top // UNIT, -(-right // UNIT), -(-bottom // UNIT)), self.box)
+
+
+class Samples:
+    """The samples of a picture: an array of the shape (height, width, 4) of bytes. Polygons wait until `flush`, so that
+    neighbours that come one after another are drawn at once."""
+
+    def __init__(self, picture: Any, samples: int, threads: int) -> None:
+        self._picture = picture
+        self._height, self._width = picture.shape[:2]
+        self._samples, self._threads = samples, threads
+        self._windows: Dict[Tuple[int, int], Window] = {}
+        self._waiting: List[Waiting] = []
+        self._is_opaque = False
+
+    def forget(self) -> None:
+        """Drops what waits and all samples: the picture was cleared."""
+        self._waiting = []
+        self._is_opaque = False
+        for window in self._windows.values():
+            window.forget()
+
+    def doubt_opacity(self) -> None:
+        """Something may have made pixels transparent."""
+        self._is_opaque = False
+
+    def is_opaque(self, box: Box) -> bool:
+        """Whether the pixels of a box are opaque, so that samples can take them."""
+        if not self._is_opaque:
+            if max(self._width, self._height) > MAX_ORIGIN:
+                return False
+            self._is_opaque = bool((self._picture[..., 3] == OPAQUE).all())
+        return self._is_opaque or bool((self._picture[box.top : box.bottom, box.left : box.right, 3] == OPAQUE).all())
+
+    def has_samples(self, box: Box) -> bool:
+        """Whether samples may differ from the picture near a box."""
+        if self._waiting:
+            return True
+        return any(window.has_samples(common(window.box, box)) for window in self._windows.values() if meet(window.box, box))
+
+    def add(self, polygons: Polygons, colors: Any, box: Box, clip: Optional[Clip] = None) -> None:
+        """Draws polygons in their order inside of a box, each in its colour of four bytes."""
+        self._waiting.append(Waiting(polygons, colors, box, clip))
+
+    def flush(self) -> None:
+        """Draws what waits into the picture."""
+        if not self._waiting:
+            return
+        waiting, self._waiting = merged(self._waiting), []
+        bounds = [each.bounds for each in waiting]
+        for window in self._met(around([each for each in bounds if not each.is_empty])):
+            box = common(window.box, around([each for each in bounds if meet(each, window.box)]))
+            window.begin(box)
+            for each, its_bounds in zip(waiting, bounds):
+                if meet(its_bounds, box):
+                    window.draw(each.polygons, each.colors, each.box, each.clip)
+            window.end(box)
+
+    def draw_triangles(self, triangles: Triangles, box: Box, clip: Optional[Clip]) -> None:
+        """Draws triangles in their order inside of a box."""
+        self.flush()
+        least, greatest = bounds_of(triangles.points)
+        limits = np.array(box[:2])[:, None], np.array(box[2:])[:, None]
+        drawn = common(box_around(least.clip(*limits), greatest.clip(*limits)), box)
+        for window in self._met(drawn):
+            part = common(window.box, drawn)
+            window.begin(part)
+            window.draw_triangles(triangles, box, clip)
+            window.end(part)
+
+    @property
+    def memory(self) -> int:
+        """The bytes of the windows' memory, of which pages that nothing was drawn upon are not taken."""
+        return sum(window.memory for window in self._windows.values())
+
+    def _met(self, box: Box) -> List[Window]:
+        """The windows that a box meets, which are made if they are not there."""
+        found = []
+        for top in range(box.top // MAX_SIDE * MAX_SIDE, box.bottom, MAX_SIDE):
+            for left in range(box.left // MAX_SIDE * MAX_SIDE, box.right, MAX_SIDE):
+                if (left, top) not in self._windows:
+                    whole = Box(left, top, min(left + MAX_SIDE, self._width), min(top + MAX_SIDE, self._height))
+                    pixels = self._picture.view(np.uint32)[..., 0]
+                    self._windows[left, top] = Window(pixels, whole, self._samples, self._threads)
+                found.append(self._windows[left, top])
+        return found
+
+
+def merged(waiting: List[Waiting]) -> List[Waiting]:
+    """Polygons with those after them that are drawn inside of the same box and clip path."""
+    groups: List[List[Waiting]] = []
+    for each in waiting:
+        if groups and groups[-1][0].box == each.box and groups[-1][0].clip is each.clip:
+            groups[-1].append(each)
+        else:
+            groups.append([each])
+    return [
+        group[0] if len(group) == 1
+        else group[0]._replace(polygons=together([each.polygons for each in group]), colors=np.concatenate([each.colors for each in group]))
+        for group in groups
+    ]
+
+
+def common(a: Box, b: Box) -> Box:
+    return Box(max(a.left, b.left), max(a.top, b.top), min(a.right, b.right), min(a.bottom, b.bottom))
+
+
+def meet(a: Box, b: Box) -> bool:
+    return not common(a, b).is_empty
+
+
+def around(boxes: List[Box]) -> Box:
+    """The box around boxes, an empty one if there are none."""
+    if not boxes:
+        return Box(0, 0, 0, 0)
+    left, top, right, bottom = zip(*boxes)
+    return Box(min(left), min(top), max(right), max(bottom))

@@ -1,0 +1,209 @@
+"""A part of a picture with the samples of its pixels, which a canvas keeps from one drawing to the next."""
+
+from __future__ import annotations
+
+from typing import Any, Iterator, NamedTuple, Optional
+
+import numpy as np
+
+from .._canvas import TILE_SIZE, Canvas
+from .._records import LOW
+from .._tile_rows import TileRows
+from ._corners import triangles_of, vertices_of_corners
+from ._polygons import UNIT, Polygons
+from ._triangles import Box, Triangles, Vertices, vertices_of, within_reach
+
+# The changed runs of pixels of a tile row that are loaded one by one. More of them are loaded with all of their row.
+MAX_RUNS = 2048
+# The triangles of a batch: few enough to stay in the cache of a processor. It changes no pixel.
+BATCH = 16384
+MAX_DEPTH = 65535
+OPAQUE = 255
+ALPHA = np.array((0, 0, 0, OPAQUE), np.uint8).view(np.uint32)[0]
+
+
+class Clip(NamedTuple):
+    """A clip path as a polygon. Clips of one key are one."""
+
+    key: Any
+    polygon: Polygons
+
+
+class Window:
+    """Samples of a box of a picture. `shown` is what they resolve to. A pixel of which the picture has other bytes was
+    drawn by someone else: then its samples are dropped, and are all what the picture shows.
+
+    A clip path is a depth: its samples get a number as their depth, and what is clipped is drawn where depths are
+    equal to it.
+    """
+
+    def __init__(self, picture: Any, box: Box, samples: int, threads: int) -> None:
+        self.box, self._threads = box, threads
+        self._pixels = picture[box.top : box.bottom, box.left : box.right]
+        memory = np.empty(Canvas.size(box.width, box.height, samples), np.uint8)
+        self._canvas = Canvas(box.width, box.height, samples, origin=(box.left, box.top), memory=memory)
+        self._shown = np.empty((box.height, box.width), np.uint32)
+        self._is_new = True
+        self._has_samples = np.zeros(-(-box.height // TILE_SIZE), bool)
+        self._clip: Any = None
+        self._clips = 0
+
+    def forget(self) -> None:
+        """Drops all samples: the picture was cleared."""
+        self._is_new = True
+        self._has_samples[:] = False
+
+    def has_samples(self, box: Box) -> bool:
+        """Whether something was drawn here in the tile rows of a box."""
+        return bool(self._has_samples[self._tile_rows(box)].any())
+
+    @property
+    def memory(self) -> int:
+        """The bytes of the canvas's memory."""
+        return Canvas.size(self.box.width, self.box.height, self._canvas.samples)
+
+    # ---- Drawing
+
+    def begin(self, box: Box) -> None:
+        """Makes the samples of a box those of what the picture shows there, where that has changed."""
+        if self._is_new:
+            self._clear()
+        rows, columns = self._place(box)
+        now, was = self._pixels[rows, columns], self._shown[rows, columns]
+        changed = now != was
+        if changed.any():
+            self._load(now, changed, rows.start, columns.start)
+
+    def draw(self, polygons: Polygons, colors: Any, scissor: Box, clip: Optional[Clip]) -> None:
+        """Draws polygons over the samples, each in its colour of four bytes."""
+        self._draw(polygons, colors, "none" if (colors[:, 3] == OPAQUE).all() else "over", scissor, **self._inside(clip))
+
+    def draw_triangles(self, triangles: Triangles, scissor: Box, clip: Optional[Clip]) -> None:
+        inside = self._inside(clip)
+        depth = inside.pop("depth", 0)
+        for vertices in self._batches(triangles):
+            blend: Any = "none" if (vertices["alpha"] == OPAQUE).all() else "over"
+            vertices["depth"] = depth
+            self._canvas.draw(vertices, blend=blend, scissor=scissor, threads=self._threads, **inside)
+
+    def end(self, box: Box) -> None:
+        """Resolves a box into the picture."""
+        rows, columns = self._place(box)
+        tile_rows = self._tile_rows(box)
+        self._has_samples[tile_rows] = True
+        TileRows(self._canvas, tile_rows.start, tile_rows.stop, self._threads).resolve(self._shown)
+        self._pixels[rows, columns] = self._shown[rows, columns]
+
+    def _draw(self, polygons: Polygons, colors: Any, blend: Any, scissor: Optional[Box], depth: int = 0, **more: Any) -> None:
+        state: dict[str, Any] = {"blend": blend, "scissor": scissor, "threads": self._threads, **more}
+        triangles = triangles_of(polygons) if self._reaches(polygons.corners) else None
+        if triangles is not None:
+            self._canvas.draw(vertices_of_corners(polygons.corners, colors, depth), triangles, **state)
+            return
+        rule: Any = "even-odd" if polygons.are_simple else "nonzero"
+        self._canvas.draw_polygons(*polygons, colors, rule=rule, depth=depth, **state)
+
+    def _reaches(self, corners: Any) -> bool:
+        """Whether corners lie in the guard band as seen from the window, as those of triangles have to."""
+        farthest = UNIT * max(self.box.left, self.box.top)
+        return not farthest or bool(len(corners)) and int(corners.min()) - farthest >= LOW
+
+    def _batches(self, triangles: Triangles) -> Iterator[Vertices]:
+        """The vertices of triangles, some at a time, cut to the guard band of the screen and of the window."""
+        corner = np.array((self.box.left, self.box.top), np.float64)
+        for first in range(0, len(triangles.points), BATCH):
+            some = within_reach(triangles.of(slice(first, first + BATCH)))
+            if corner.any():
+                moved = within_reach(Triangles(some.points - corner, some.colors))
+                some = Triangles(moved.points + corner, moved.colors)
+            if len(some.points):
+                yield vertices_of(some)
+
+    # ---- Clip paths
+
+    def _inside(self, clip: Optional[Clip]) -> dict[str, Any]:
+        """How what is clipped is drawn."""
+        if clip is None:
+            return {}
+        if self._clip != clip.key:
+            if self._clips == MAX_DEPTH:
+                self._set_depth(whole_polygon(self.box), 0)
+                self._clips = 0
+            self._clips += 1
+            self._set_depth(clip.polygon, self._clips)
+            self._clip = clip.key
+        return {"depth_test": "equal", "depth": self._clips}
+
+    def _set_depth(self, polygon: Polygons, depth: int) -> None:
+        colors = np.full((len(polygon.polygon_ends), 4), OPAQUE, np.uint8)
+        self._draw(polygon, colors, "keep", None, depth=depth, depth_write=True)
+
+    # ---- What the picture shows
+
+    def _clear(self) -> None:
+        """Makes all samples one colour, the picture's in its middle, which takes no memory."""
+        color = self._pixels[self.box.height // 2, self.box.width // 2] | ALPHA
+        red, green, blue, _alpha = np.array([color], np.uint32).view(np.uint8).tolist()
+        self._canvas.clear((red, green, blue), 0, threads=self._threads)
+        self._shown.fill(color)
+        self._is_new, self._clip, self._clips = False, None, 0
+
+    def _load(self, now: Any, changed: Any, top: int, left: int) -> None:
+        """Loads the changed pixels of a box: as rectangles if they are few runs of one colour, else with all of their
+        tile rows."""
+        rows, columns, ends = runs_of(changed, now)
+        tile_rows = (rows + top) // TILE_SIZE
+        many = np.bincount(tile_rows, minlength=len(self._has_samples)) > MAX_RUNS
+        for row in np.flatnonzero(many).tolist():
+            self._load_row(row)
+        few = ~many[tile_rows]
+        if not few.any():
+            return
+        rows, columns, ends = rows[few], columns[few], ends[few]
+        colors = now[rows, columns] | ALPHA
+        y, x, right = rows + self.box.top + top, columns + self.box.left + left, ends + self.box.left + left
+        corners = np.stack((x, y, right, y, right, y + 1, x, y + 1), 1).astype(np.int32).reshape(-1, 2) * UNIT
+        each = np.arange(1, len(rows) + 1)
+        self._draw(Polygons(corners, 4 * each, each), colors.view(np.uint8).reshape(-1, 4), "none", None)
+        loaded = changed if few.all() else changed & ~many[(np.arange(len(changed)) + top) // TILE_SIZE, None]
+        np.copyto(self._shown[top : top + len(now), left : left + now.shape[1]], now | ALPHA, where=loaded)
+
+    def _load_row(self, row: int) -> None:
+        """Loads all pixels of a tile row that have changed."""
+        part = TileRows(self._canvas, row, row + 1)
+        now, shown = self._pixels[part.pixels], self._shown[part.pixels]
+        if not self._has_samples[row]:
+            part.load(self._pixels)
+        else:
+            changed = now != shown
+            colors = np.empty_like(self._shown)
+            for sample in range(self._canvas.samples):
+                part.colors(sample, colors)
+                np.copyto(colors[part.pixels], now, where=changed)
+                part.store(sample, colors)
+        np.bitwise_or(now, ALPHA, out=shown)
+
+    def _place(self, box: Box) -> tuple[slice, slice]:
+        """The rows and columns of a box of the picture in this window."""
+        left, top = self.box.left, self.box.top
+        return slice(box.top - top, box.bottom - top), slice(box.left - left, box.right - left)
+
+    def _tile_rows(self, box: Box) -> slice:
+        top = self.box.top
+        return slice((box.top - top) // TILE_SIZE, -(-(box.bottom - top) // TILE_SIZE))
+
+
+def runs_of(changed: Any, pixels: Any) -> tuple[Any, Any, Any]:
+    """The runs of changed pixels of one colour: the row of each, its first column and the one behind its last."""
+    begins, ends = changed.copy(), changed.copy()
+    goes_on = changed[:, 1:] & changed[:, :-1] & (pixels[:, 1:] == pixels[:, :-1])
+    begins[:, 1:] &= ~goes_on
+    ends[:, :-1] &= ~goes_on
+    rows, columns = np.nonzero(begins)
+    return rows, columns, np.nonzero(ends)[1] + 1
+
+
+def whole_polygon(box: Box) -> Polygons:
+    left, top, right, bottom = (UNIT * side for side in box)
+    corners = np.array(((left, top), (right, top), (right, bottom), (left, bottom)), np.int32)
+    return Polygons(corners, np.array((4,)), np.array((1,)))
