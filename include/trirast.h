@@ -67,7 +67,7 @@ const char *trirast_version_string(void);
 uint32_t trirast_interface(void);
 
 /* Bytes of stack that are enough for each call, and for a call that reads a draw list: docs/library.md. */
-#define TRIRAST_STACK 327680
+#define TRIRAST_STACK 262144
 #define TRIRAST_STACK_TEXT 196608
 
 /* No index: what the error names is not in a draw, or no element. */

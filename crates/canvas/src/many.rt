@@ -120,7 +120,9 @@ impl Canvas {
 }
 
 impl TileRows {
-    /// Draws up to `N` triangles at each sample of these tile rows, one after another.
+    /// Draws up to `N` triangles at each sample of these tile rows, one after another. It stays out of line, so that a call
+    /// has the memory of one such function on its stack and not that of all which it could call.
+    #[inline(never)]
     pub(crate) fn draw_many<T: Triangles, const N: usize>(
         &self,
         triangles: &T,
