@@ -32,7 +32,7 @@
  *
  * - If the status is TRIRAST_STATUS_OK, the call did what its text says. The bytes of the buffer behind those that the
  *   text names are unchanged.
- * - Otherwise `*error` says why, and nothing else was written.
+ * - Otherwise `*error` says why, if the call has one, and nothing else was written.
  * - Of several errors the first in this order is reported: TRIRAST_STATUS_BAD_STRUCT_SIZE,
  *   TRIRAST_STATUS_BAD_TILE_SIZE, TRIRAST_STATUS_INPUT_TOO_LONG, TRIRAST_STATUS_BAD_LIST, TRIRAST_STATUS_BAD_TILE_ROWS,
  *   TRIRAST_STATUS_BAD_PIXEL, TRIRAST_STATUS_BAD_SAMPLE, TRIRAST_STATUS_BAD_TRIANGLE, TRIRAST_STATUS_BUFFER_TOO_SMALL.
@@ -89,10 +89,10 @@ typedef enum trirast_status {
     TRIRAST_STATUS_BAD_TILE_ROWS = 6,    /* the picture or the canvas has no such tile rows: the call says which it takes */
     TRIRAST_STATUS_BAD_STRUCT_SIZE = 7,  /* a size member is neither 0 nor the library's own */
     TRIRAST_STATUS_BAD_CANVAS = 8,       /* no such canvas: trirast_canvas says which there are */
-    TRIRAST_STATUS_BAD_MEMORY = 9,       /* the memory of the samples is too small for the tile rows, NULL or misaligned */
+    TRIRAST_STATUS_BAD_MEMORY = 9,       /* the memory of the samples is not of the size that the tile rows need, NULL or misaligned */
     TRIRAST_STATUS_BAD_FORMAT = 10,      /* the number is none of trirast_format */
     TRIRAST_STATUS_BAD_SAMPLE = 11,      /* a pixel has no sample of this index */
-    TRIRAST_STATUS_BAD_POSITION = 12,    /* a position is outside of -8388608 to 8388607 */
+    TRIRAST_STATUS_BAD_POSITION = 12,    /* a position is outside of -8388608 to 8388607, or an origin of -32768 to 28672 */
     TRIRAST_STATUS_BAD_PIXEL = 13,       /* the picture has no such pixel */
     TRIRAST_STATUS_BAD_TRIANGLE = 14,    /* the list has no such draw, or the draw no such triangle */
     TRIRAST_STATUS_BAD_BATCH = 15,       /* the batch cannot be drawn: `cause`, `draw` and `element` of the error say why and where */
@@ -577,9 +577,9 @@ trirast_status trirast_proved_canvas_draw_ids(trirast_canvas *canvas, const trir
                                               trirast_error *error);
 
 /* Draws a batch in the same way, and stores in place of a colour the id of each triangle: first_id and its index in the
- * batch, counted over all draws. What a draw keeps and its blending are not used, but that alpha, if there is any, is 255
- * afterwards unless it is kept. So each sample has the id of the last
- * triangle that passed there, or the number of the colour to which it was cleared: white is 16,777,215.
+ * batch, counted over all draws. Ids are written unblended, whatever channels a draw keeps; the alpha of a canvas that
+ * has one becomes 255, unless the draw keeps it. So each sample has the id of the last triangle that passed there, or
+ * the number of the colour to which it was cleared: white is 16,777,215.
  *
  * @first_id: the id of the first triangle. */
 inline trirast_status trirast_canvas_draw_ids(trirast_canvas *canvas, const trirast_batch *batch, uint32_t first_id,

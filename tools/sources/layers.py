@@ -18,7 +18,7 @@ LIST, DIAGRAM = os.path.join("crates", "README.md"), os.path.join("docs", "archi
 HEAD = """\
 # The crates
 
-By layers, lowest first. A crate stands on crates above its own line alone, and on the toolchain's. A library has `src/lib.rt`, a program
+By layers, lowest first. A crate stands on crates of earlier lines alone, and on the toolchain's. A library has `src/lib.rt`, a program
 `src/main.rt`. `python3 -m tools.sources.layers` writes this page; the words are those of `crates.txt`.
 """
 

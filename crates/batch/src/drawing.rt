@@ -164,8 +164,8 @@ fn draw_all<V: Vertices>(
 /// batch without draws is one draw of all vertices and indices. Alpha is written only if the canvas has alpha.
 ///
 /// Returns the fault of the first check that fails; then the samples are unchanged. Each draw in turn: that many
-/// vertices (`TooFewVertices`) and indices (`TooFewIndices`) are left for it, the numbers of its state are in their
-/// ranges (`BadState`), its indices make whole primitives (`NotWhole`), the ids of its triangles have 24 bits
+/// vertices (`TooFewVertices`) and indices (`TooFewIndices`) are left for it, each number of its state is in its range
+/// (each has a cause of its own, as `BadTopology`), its indices make whole primitives (`NotWhole`), the ids of its triangles have 24 bits
 /// (`TooManyIds`), each index names a vertex of the draw (`BadIndex`), each vertex that an index names is in the guard
 /// band, also as it is seen from the corner of the pixel `origin` (`BadPosition`), and each quad is strictly convex
 /// (`NotConvex`). At the end no vertex and no index is left over: else `LeftOver`.
