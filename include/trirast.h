@@ -421,7 +421,7 @@ typedef struct trirast_canvas {
 #define TRIRAST_TILE_SIZE 64
 
 /* Bytes of one sample index over a block of 8 by 8 pixels, 64 samples of 6 bytes: the unit of a canvas's memory. A canvas
- * without alpha has room for it too, which is not touched after it was cleared. */
+ * without alpha has room for it too, which is 255 once it was cleared or loaded. */
 #define TRIRAST_PLANE_BYTES 384
 
 /* Returns the bytes of the samples of a whole canvas, by struct_size, width, height, samples and channels alone.
@@ -517,8 +517,8 @@ inline trirast_status trirast_canvas_clear(trirast_canvas *canvas, const trirast
  * 255 if that is less; and it is loaded as the q with 255 q <= c a + 127 < 255 (q + 1). What was written of colours that
  * are at most alpha, is loaded as it was stored.
  *
- * A canvas without alpha has 255 there since it was cleared, which is written, and alpha that is loaded is not stored. A
- * picture in RGB8 is loaded with alpha 255. */
+ * A canvas without alpha has 255 there since it was cleared or loaded, which is written, and alpha that is loaded is not
+ * stored. A picture in RGB8 is loaded with alpha 255. */
 typedef enum trirast_format {
     TRIRAST_FORMAT_RGB8 = 0,
     TRIRAST_FORMAT_RGBA8 = 1,

@@ -25,12 +25,12 @@ alpha_in Bgra8 bytes = bytes 3
 alpha_in Rgba8Straight bytes = bytes 3
 alpha_in Bgra8Straight bytes = bytes 3
 
--- The sample in the colour of these bytes of a pixel, and with their alpha if alpha is stored too. The depth is
--- unchanged.
+-- The sample in the colour of these bytes of a pixel, with their alpha if alpha is stored too, and else opaque. The
+-- depth is unchanged.
 abbrev pub coloured : Format → Bool → (ℕ → ℕ) → CanvasSample → CanvasSample
 coloured format too bytes old =
     let colour : ℕ × ℕ × ℕ = colour_in format bytes in
-    record { r = colour.0; g = colour.1; b = colour.2; alpha = if too then alpha_in format bytes else old.alpha; z = old.z }
+    record { r = colour.0; g = colour.1; b = colour.2; alpha = if too then alpha_in format bytes else 255; z = old.z }
 
 -- The sample index s is one of those from `first` to before `end`.
 pub record IsIndexIn (first end : ℕ) (s : ℕ) : Type 0 where
@@ -44,7 +44,7 @@ pub record AreChanged (c : Canvas) (first end : ℕ) (IsSome : ℕ → ℕ → �
   pub kept : (i j s : ℕ) → IsStoredIn c first end i j s → ¬ IsSome i j s → stored c first new i j s ≡ stored c first old i j s
 
 -- All samples of each pixel of the picture in these tile rows have the colour of the pixel's bytes. If alpha is stored too, they have
--- the alpha of the bytes. Their depths are unchanged, and so are the samples of pixels outside of the picture.
+-- the alpha of the bytes, and else they are opaque. Their depths are unchanged, and so are the samples of pixels outside of the picture.
 abbrev pub AreLoaded : Canvas → ℕ → ℕ → List ℕ → Format → ℕ → Bool → List BlockSamples → List BlockSamples → Type 0
 AreLoaded c first end bytes format stride too old new =
     AreChanged c first end (λ i j s. HasPixel c first end i j) (λ i j s sample. coloured format too (λ k. slice_index bytes (entry_of first (pixel_bytes format) stride i j + k)) sample) old new

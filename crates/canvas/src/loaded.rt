@@ -70,7 +70,7 @@ fn alpha_of(format: Format, pixel: &[u8]) -> u8
     }
 }
 
-/// Stores the colour of these bytes in place of that of pixel `k` of a block.
+/// Stores the colour of these bytes in place of that of pixel `k` of a block, with their alpha or opaque.
 #[inline]
 fn recolour(plane: &mut BlockSamples, k: usize, format: Format, alpha: bool, pixel: &[u8])
     requires index { k < 64 }
@@ -81,9 +81,7 @@ fn recolour(plane: &mut BlockSamples, k: usize, format: Format, alpha: bool, pix
 {
     let (r, g, b) = colour_of(format, pixel);
     set_colour(plane, k, r, g, b);
-    if alpha {
-        plane.alpha[k] = alpha_of(format, pixel);
-    }
+    plane.alpha[k] = if alpha { alpha_of(format, pixel) } else { 255 };
 }
 
 /// Stores the colour of these bytes in place of those of some samples of pixel (i, j), in the planes of its tile.
@@ -250,7 +248,7 @@ impl TileRows {
 impl Piece<'_> {
     /// Stores a picture in place of the colours: all samples of each pixel of the picture in these tile rows have the
     /// colour of the pixel's bytes, which are laid out as `View::resolve` writes them. Depths are unchanged. With
-    /// `alpha` they have the alpha of the bytes too, 255 if the format has none; else alpha is unchanged.
+    /// `alpha` they have the alpha of the bytes too, 255 if the format has none; else 255.
     pub fn load(
         &mut self,
         bytes: &[u8],

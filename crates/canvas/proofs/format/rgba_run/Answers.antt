@@ -1,4 +1,4 @@
-use Rattle.std.proofs.Common.{ap, sym, get_or-append-add, ◌<◌, ◌≡◌, ◌∙◌, ℕ, ◌+◌, ◌*◌, List, [], ◌∷◌, ◌++◌, length, slice_index, slice_index_or, arith}
+use Rattle.std.proofs.Common.{◌≡◌, ◌∙◌, ℕ, ◌+◌, ◌*◌, List, [], ◌++◌, length, slice_index, slice_index_or, arith}
 use Rattle.std.proofs.lemmas.List.{get_or_append_left}
 use Rattle.canvas.proofs.Arranged.{rgba_is, same_four, behind_colours}
 use Rattle.canvas.proofs.format.rgba_run.Goals as goal

@@ -30,8 +30,8 @@ within Bgra8Straight k small = omega (arith, small)
 own_bytes : (format : Format) → IsAsStored format → (too : Bool) (bytes : ℕ → ℕ) (old : CanvasSample) (k : ℕ) → k < 3
     → slice_index (pixel_of format (coloured format too bytes old).r (coloured format too bytes old).g (coloured format too bytes old).b (coloured format too bytes old).alpha) k ≡ bytes k
 own_bytes Rgb8 plain too bytes old k small = three (λ k. slice_index (bytes 0 ∷ bytes 1 ∷ bytes 2 ∷ []) k) bytes refl refl refl k small
-own_bytes Rgba8 plain too bytes old k small = three (λ k. slice_index (bytes 0 ∷ bytes 1 ∷ bytes 2 ∷ (if too then bytes 3 else old.alpha) ∷ []) k) bytes refl refl refl k small
-own_bytes Bgra8 plain too bytes old k small = three (λ k. slice_index (bytes 0 ∷ bytes 1 ∷ bytes 2 ∷ (if too then bytes 3 else old.alpha) ∷ []) k) bytes refl refl refl k small
+own_bytes Rgba8 plain too bytes old k small = three (λ k. slice_index (bytes 0 ∷ bytes 1 ∷ bytes 2 ∷ (if too then bytes 3 else 255) ∷ []) k) bytes refl refl refl k small
+own_bytes Bgra8 plain too bytes old k small = three (λ k. slice_index (bytes 0 ∷ bytes 1 ∷ bytes 2 ∷ (if too then bytes 3 else 255) ∷ []) k) bytes refl refl refl k small
 own_bytes Rgba8Straight never too bytes old k small = absurd never
 own_bytes Bgra8Straight never too bytes old k small = absurd never
 
