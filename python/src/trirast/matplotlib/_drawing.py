@@ -2,13 +2,13 @@
 
 from __future__ import annotations
 
-from typing import Iterator, List, Optional
+from typing import Iterator, Optional
 
 import numpy as np
 from numpy.typing import NDArray
 
 from .._canvas import Canvas
-from ._triangles import CHANNELS, Box, Triangles, Vertices, bounds_of, box_around, meets, numbered, vertices_of, within_reach
+from ._triangles import Box, Triangles, Vertices, bounds_of, box_around, meets, numbered, vertices_of, within_reach
 
 # A canvas of this side takes 86 MB with four samples a pixel. With more of them it has half of this side.
 MAX_SIDE = 2048
@@ -88,22 +88,15 @@ def drawn_over_opaque(below: Pixels, given: Iterator[Vertices], shares: Optional
 
 
 def drawn_over_clear(below: Pixels, given: Iterator[Vertices], shares: Optional[Shares], threads: int, samples: int) -> Pixels:
-    """A picture of which some is transparent, with triangles drawn over it.
-
-    A canvas has no alpha. Over black, colours are blended to the triangles' own, multiplied by their alpha; and white, blended by the
-    same alphas, is that alpha.
-    """
+    """A picture of which some is transparent, with triangles drawn over it. They are drawn on nothing, so that their colours are
+    multiplied by their alpha, and laid over the picture as one layer."""
     height, width, _channels = below.shape
-    canvases: List[Canvas] = [Canvas(width, height, samples=samples) for _ in range(2)]
-    for canvas in canvases:
-        canvas.clear(threads=threads)
+    canvas = Canvas(width, height, samples=samples, alpha=True)
+    canvas.clear(threads=threads)
     for vertices in given:
-        for canvas in canvases:
-            draw_batch(canvas, vertices, threads)
-            for channel in CHANNELS[:3]:
-                vertices[channel] = OPAQUE
-    color, alpha = (canvas.rgb(threads=threads).astype(np.float32) for canvas in canvases)
-    alpha = alpha[..., :1] / OPAQUE
+        draw_batch(canvas, vertices, threads)
+    layer = canvas.rgba(threads=threads).astype(np.float32)
+    color, alpha = layer[..., :3], layer[..., 3:] / OPAQUE
     return composed(below, color, alpha) if shares is None else composed(below, shares * color, shares * alpha)
 
 
