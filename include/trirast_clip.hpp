@@ -193,9 +193,10 @@ private:
         }
         cuts += made, triangles += count;
     }
-    /* The room for cuts, and for as many triangles: a plane makes two cuts, and one triangle more. */
+    /* The room for cuts, and for as many triangles, if one plane cuts each triangle: then it makes two cuts, and leaves
+     * at most two triangles. */
     static std::size_t more_of(const Clipped::Part &part) noexcept {
-        return part.cut ? 4 * part.cut + TRIRAST_CLIP_MAX_CORNERS : 0;
+        return part.cut ? 2 * part.cut + TRIRAST_CLIP_MAX_CORNERS : 0;
     }
 
     Span<const ClipPosition> positions_;
