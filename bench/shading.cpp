@@ -58,7 +58,8 @@ trirast::Canvas canvas_of(std::uint32_t width, std::uint32_t height) {
 class Ours {
 public:
     Ours(const scene::Model &model, std::uint32_t width, std::uint32_t height, unsigned threads)
-        : model_(model), canvas_(canvas_of(width, height)), pool_(threads), pixels_(4 * std::size_t{width} * height) {}
+        : model_(model), canvas_(canvas_of(width, height)), rows_(canvas_, threads), pool_(threads),
+          pixels_(4 * std::size_t{width} * height) {}
 
     Times frame(trirast::Rate rate, bool is_plain) {
         Times found;
@@ -71,11 +72,11 @@ public:
         };
         const std::int32_t width = static_cast<std::int32_t>(canvas_.width()),
                            height = static_cast<std::int32_t>(canvas_.height());
-        seen_.project(model_, model_.scene.matrix, scene::clip_of(width, height));
-        seen_.prepare(model_);
-        share_rows();
+        const ByPool by_pool{pool_};
+        seen_.project(model_, model_.scene.matrix, scene::clip_of(width, height), pool_.threads(), by_pool);
+        seen_.prepare(model_, pool_.threads(), by_pool);
         next(found.setup);
-        pool_.each(parts_.size(), [&](std::size_t k) { scene::draw_ids(parts_[k], seen_); });
+        rows_.draw_ids(seen_, by_pool);
         next(found.ids);
         if (is_plain)
             shade(rate,
@@ -83,9 +84,9 @@ public:
         else
             shade(rate, seen_.shader(model_));
         next(found.shading);
-        pool_.each(parts_.size(), [&](std::size_t k) { scene::draw_glass(parts_[k], seen_); });
+        rows_.each_part(by_pool, [&](trirast::TileRows &rows) { scene::draw_glass(rows, seen_); });
         next(found.glass);
-        pool_.each(parts_.size(), [&](std::size_t k) { resolve(parts_[k]); });
+        rows_.each_part(by_pool, [&](const trirast::TileRows &rows) { resolve(rows); });
         next(found.resolve);
         found.whole = milliseconds(begin), found.processor = processor() - spent;
         return found;
@@ -122,7 +123,8 @@ private:
     void shade(trirast::Rate rate, const Shader &shader) {
         const trirast::Color background = scene::background(model_.scene);
         each_tile([&](std::uint32_t column, std::uint32_t row, trirast::TileEntries &entries) {
-            trirast::shade_tile(canvas_, column, row, seen_.triangles, rate, background, shader, entries);
+            trirast::shade_tile(canvas_, column, row, seen_.triangles, rate, background, shader, entries,
+                                rows_.own(row));
         });
     }
 
@@ -131,30 +133,9 @@ private:
         rows.resolve(TRIRAST_FORMAT_RGBA8, {&pixels_[stride * rows.top()], stride * rows.height()}, stride);
     }
 
-    // A part of the tile rows for each thread, each with about as many vertices as the others. A call looks at all
-    // triangles of its batch, so more parts than threads cost time.
-    void share_rows() {
-        const std::uint32_t rows = canvas_.end();
-        std::vector<std::size_t> counts(rows, 1);
-        for (std::size_t k = 0; k < seen_.mesh.vertices.size(); k += 4) {
-            const std::int32_t row = seen_.mesh.vertices[k].y / (256 * 64);
-            if (row >= 0 && row < static_cast<std::int32_t>(rows)) counts[static_cast<std::size_t>(row)]++;
-        }
-        std::size_t whole = 0, sum = 0;
-        for (const std::size_t one : counts) whole += one;
-        parts_.clear();
-        std::uint32_t first = 0;
-        for (std::uint32_t row = 0; row < rows; row++) {
-            sum += counts[row];
-            if (sum * pool_.threads() < whole * (parts_.size() + 1) && row + 1 < rows) continue;
-            parts_.push_back(canvas_.rows(first, row + 1));
-            first = row + 1;
-        }
-    }
-
     const scene::Model &model_;
     trirast::Canvas canvas_;
-    std::vector<trirast::TileRows> parts_;
+    scene::SharedRows rows_;
     scene::Seen seen_;
     Pool pool_;
     std::vector<std::uint8_t> pixels_;

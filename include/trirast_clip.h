@@ -458,6 +458,30 @@ static inline void trirast_clipping_project(const trirast_clipping *view, const 
     }
 }
 
+/* Adds what is left of the triangles from `taken` to before `end`. Returns as trirast_clip_triangles does. */
+static inline trirast_clip_status trirast_clipping_add_triangles(const trirast_clipping *view,
+                                                                 const trirast_clip_position *positions,
+                                                                 size_t position_count, const uint32_t *indices,
+                                                                 size_t end, trirast_clipped *out) {
+    for (; out->taken < end; out->taken++) {
+        const uint32_t *corners = &indices[3 * out->taken], source = (uint32_t)out->taken;
+        unsigned a, b, c;
+        if (corners[0] >= position_count || corners[1] >= position_count || corners[2] >= position_count)
+            return TRIRAST_CLIP_BAD_INDEX;
+        a = out->marks[corners[0]], b = out->marks[corners[1]], c = out->marks[corners[2]];
+        if (a & b & c || (a | b | c) & TRIRAST_CLIPPING_NOT_FINITE) continue;
+        if ((a | b | c) & TRIRAST_CLIPPING_ALL_PLANES) {
+            const unsigned planes = (a | b | c) & TRIRAST_CLIPPING_ALL_PLANES;
+            if (!trirast_clipping_add_cut(view, positions, position_count, corners, planes, source, out))
+                return TRIRAST_CLIP_FULL;
+        } else {
+            if (out->triangle_count == out->triangle_capacity) return TRIRAST_CLIP_FULL;
+            trirast_clipping_add(out, corners[0], corners[1], corners[2], source);
+        }
+    }
+    return TRIRAST_CLIP_OK;
+}
+
 /* Makes the triangles on the screen of triangles in clip space.
  *
  * A triangle that a plane does not cut keeps its indices, so a mesh that nothing cuts comes out as it went in.
@@ -490,23 +514,7 @@ static inline trirast_clip_status trirast_clip_triangles(const trirast_clip *cli
         out->cut_count = out->triangle_count = out->folded = 0;
         trirast_clipping_project(&view, positions, position_count, out);
     }
-    for (; out->taken < triangles; out->taken++) {
-        const uint32_t *corners = &indices[3 * out->taken], source = (uint32_t)out->taken;
-        unsigned a, b, c;
-        if (corners[0] >= position_count || corners[1] >= position_count || corners[2] >= position_count)
-            return TRIRAST_CLIP_BAD_INDEX;
-        a = out->marks[corners[0]], b = out->marks[corners[1]], c = out->marks[corners[2]];
-        if (a & b & c || (a | b | c) & TRIRAST_CLIPPING_NOT_FINITE) continue;
-        if ((a | b | c) & TRIRAST_CLIPPING_ALL_PLANES) {
-            const unsigned planes = (a | b | c) & TRIRAST_CLIPPING_ALL_PLANES;
-            if (!trirast_clipping_add_cut(&view, positions, position_count, corners, planes, source, out))
-                return TRIRAST_CLIP_FULL;
-        } else {
-            if (out->triangle_count == out->triangle_capacity) return TRIRAST_CLIP_FULL;
-            trirast_clipping_add(out, corners[0], corners[1], corners[2], source);
-        }
-    }
-    return TRIRAST_CLIP_OK;
+    return trirast_clipping_add_triangles(&view, positions, position_count, indices, triangles, out);
 }
 
 #endif

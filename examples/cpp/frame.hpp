@@ -2,8 +2,10 @@
 #ifndef FRAME_HPP
 #define FRAME_HPP
 
+#include <algorithm>
 #include <array>
 #include <cstdint>
+#include <utility>
 #include <vector>
 
 #include "scene.hpp"
@@ -33,33 +35,54 @@ struct Model {
     std::vector<std::uint32_t> glass_indices;
 };
 
-// What is made of it for each frame.
+// Calls a job once for each number below a count, one after another: the way of one thread. A Pool's is that of many.
+struct OneByOne {
+    template <class Job>
+    void operator()(std::size_t count, const Job &job) const {
+        for (std::size_t k = 0; k < count; k++) job(k);
+    }
+};
+
+// What is made of it for each frame, by so many parts at once.
 struct Seen {
     std::vector<trirast::ClipPosition> positions, panes;
     trirast::Clipped mesh, glass;
     trirast::ShadeTriangles triangles;
-    Values parts; // if a triangle was cut or left out
+    trirast::TriangleRows rows; // if there are several parts
+    Values parts;               // if a triangle was cut or left out
     bool is_whole = true;
 
     // All that comes before the first call on a canvas.
-    void project(const Model &model, const Matrix &matrix, const trirast::Clip &clip) {
+    template <class Each = OneByOne>
+    void project(const Model &model, const Matrix &matrix, const trirast::Clip &clip, std::size_t count = 1,
+                 const Each &each = {}) {
         const Mesh &source = model.scene.mesh;
         positions.resize(source.vertices.size());
-        for (std::size_t k = 0; k < positions.size(); k++) {
-            const Vertex &v = source.vertices[k];
-            positions[k] = seen(matrix, v.x, v.y, v.z);
-        }
-        trirast::clip_triangles(clip, positions, source.indices, mesh);
+        each(count, [&](std::size_t part) {
+            const std::size_t end = positions.size() * (part + 1) / count;
+            for (std::size_t k = positions.size() * part / count; k < end; k++) {
+                const Vertex &v = source.vertices[k];
+                positions[k] = seen(matrix, v.x, v.y, v.z);
+            }
+        });
+        trirast::clip_triangles(clip, positions, source.indices, mesh, count, each);
         project_glass(model, matrix, clip);
     }
 
     // All that shading looks up by ids. If no triangle was cut or left out, the rows of the model are those of the ids.
-    void prepare(const Model &model) {
+    template <class Each = OneByOne>
+    void prepare(const Model &model, std::size_t count = 1, const Each &each = {}) {
         const Mesh &source = model.scene.mesh;
-        triangles.resize(mesh.sources.size());
-        triangles.set(mesh.vertices, mesh.w, mesh.indices, 0, mesh.sources.size());
-        is_whole = mesh.cuts.empty() && mesh.sources.size() == source.triangles();
-        if (!is_whole) parts = Values(mesh, source.indices, model.values);
+        const std::size_t all = mesh.sources.size();
+        is_whole = mesh.cuts.empty() && all == source.triangles();
+        triangles.resize(all), rows.resize(count > 1 ? all : 0);
+        if (!is_whole) parts.resize(all);
+        each(count, [&](std::size_t part) {
+            const std::size_t first = all * part / count, end = all * (part + 1) / count;
+            triangles.set(mesh.vertices, mesh.w, mesh.indices, first, end);
+            if (count > 1) rows.set(mesh.vertices, mesh.indices, first, end);
+            if (!is_whole) parts.set(mesh, source.indices, model.values, first, end);
+        });
     }
 
     const Values &values(const Model &model) const { return is_whole ? model.whole : parts; }
@@ -112,6 +135,52 @@ inline void draw_ids(trirast::TileRows &rows, const Seen &seen) {
 inline void draw_glass(trirast::TileRows &rows, const Seen &seen) {
     rows.draw(seen.glass.vertices, seen.glass.indices, over());
 }
+
+// The tile rows of a canvas, as they are shared by threads: each tile row by itself, with its own triangles. One thread
+// has all rows and all triangles at once.
+class SharedRows {
+public:
+    SharedRows(trirast::Canvas &canvas, unsigned threads) : is_shared_(threads > 1) {
+        if (!is_shared_) parts_.push_back({canvas.rows(0, canvas.end()), {}});
+        for (std::uint32_t row = 0; is_shared_ && row < canvas.end(); row++)
+            parts_.push_back({canvas.rows(row, row + 1), {}});
+        for (std::size_t k = 0; k < parts_.size(); k++) order_.push_back(k);
+    }
+
+    // The rows that had the most triangles in the frame before are begun first, so that no thread is left with them.
+    template <class Each>
+    void draw_ids(const Seen &seen, const Each &each) {
+        std::stable_sort(order_.begin(), order_.end(),
+                         [this](std::size_t a, std::size_t b) { return parts_[a].own.size() > parts_[b].own.size(); });
+        each(parts_.size(), [&](std::size_t k) { draw_ids_of(parts_[order_[k]], seen); });
+    }
+
+    // Calls job(rows) for each part.
+    template <class Each, class Job>
+    void each_part(const Each &each, const Job &job) {
+        each(parts_.size(), [&](std::size_t k) { job(parts_[order_[k]].rows); });
+    }
+
+    // The triangles of a tile row, for shade_tile; none if they are those of all rows.
+    const trirast::RowTriangles *own(std::uint32_t row) const { return is_shared_ ? &parts_[row].own : nullptr; }
+
+private:
+    struct Part {
+        trirast::TileRows rows;
+        trirast::RowTriangles own;
+    };
+
+    void draw_ids_of(Part &part, const Seen &seen) const {
+        if (!is_shared_) return scene::draw_ids(part.rows, seen);
+        part.own.select(part.rows, seen.rows, seen.mesh.indices);
+        part.rows.clear({255, 255, 255});
+        part.rows.draw_ids(seen.mesh.vertices, part.own.indices(), 0, solid());
+    }
+
+    bool is_shared_;
+    std::vector<Part> parts_;
+    std::vector<std::size_t> order_;
+};
 
 } // namespace scene
 

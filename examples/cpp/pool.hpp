@@ -72,4 +72,10 @@ private:
     std::uint64_t turn_ = 0;
 };
 
+// A pool as a function that calls a job for each number below a count: trirast::clip_triangles takes one.
+struct ByPool {
+    void operator()(std::size_t count, const std::function<void(std::size_t)> &job) const { pool.each(count, job); }
+    Pool &pool;
+};
+
 #endif

@@ -73,7 +73,10 @@ private:
         Floats x, y;
 
         TRIRAST_INLINE Floats channel(int shift) const {
-            const auto of = [shift](const Integers &texel) { return to_floats((texel >> shift) & 255); };
+            // Nothing stands above blue.
+            const auto of = [shift](const Integers &texel) {
+                return to_floats(shift == 16 ? texel >> 16 : (texel >> shift) & 255);
+            };
             const Floats left = between(of(upper_left), of(lower_left), y),
                          right = between(of(upper_right), of(lower_right), y);
             return between(left, right, x);

@@ -45,22 +45,23 @@ class Renderer {
 public:
     Renderer(const scene::Scene &scene, const Options &options)
         : model_(scene), rate_(options.rate), show_(options.show),
-          canvas_(canvas_of(options.width, options.height, options.samples)), pool_(options.threads) {}
+          canvas_(canvas_of(options.width, options.height, options.samples)), rows_(canvas_, options.threads),
+          pool_(options.threads) {}
 
     // What is seen when the eye has gone round by an angle.
     void look(double turn) {
         const trirast::Clip clip =
             scene::clip_of(static_cast<std::int32_t>(canvas_.width()), static_cast<std::int32_t>(canvas_.height()));
-        seen_.project(model_, scene::turned(model_.scene, turn), clip);
-        seen_.prepare(model_);
+        seen_.project(model_, scene::turned(model_.scene, turn), clip, pool_.threads(), ByPool{pool_});
+        seen_.prepare(model_, pool_.threads(), ByPool{pool_});
     }
 
-    // Each thread draws ids and glass on its part of the tile rows, and takes tiles to shade as it is done with others.
+    // Each thread draws ids and glass on tile rows, and takes tiles to shade as it is done with others.
     void draw() {
-        std::vector<trirast::TileRows> parts = canvas_.split(pool_.threads());
-        pool_.each(parts.size(), [&](std::size_t k) { scene::draw_ids(parts[k], seen_); });
+        rows_.draw_ids(seen_, ByPool{pool_});
         shade();
-        if (show_ == "shaded") pool_.each(parts.size(), [&](std::size_t k) { scene::draw_glass(parts[k], seen_); });
+        if (show_ == "shaded")
+            rows_.each_part(ByPool{pool_}, [&](trirast::TileRows &rows) { scene::draw_glass(rows, seen_); });
     }
 
     const trirast::Canvas &canvas() const { return canvas_; }
@@ -107,7 +108,7 @@ private:
             thread_local trirast::TileEntries entries;
             const std::uint32_t tile = static_cast<std::uint32_t>(k);
             trirast::shade_tile(canvas_, tile % columns, tile / columns, seen_.triangles, rate_, background, shader,
-                                entries);
+                                entries, rows_.own(tile / columns));
         });
     }
 
@@ -115,6 +116,7 @@ private:
     trirast::Rate rate_;
     std::string show_;
     trirast::Canvas canvas_;
+    scene::SharedRows rows_;
     scene::Seen seen_;
     Pool pool_;
 };

@@ -11,6 +11,8 @@ from typing import NamedTuple
 
 SEEDS = 300
 POSITIONS, TRIANGLES = 40, 30
+# Triangles that fill the viewport, and how often they are clipped, since filters clip by turns.
+FILLING, FILLING_TURNS = 90, 5
 ODD = (0.0, math.inf, -math.inf, math.nan, 1.0, 3e38, 1e-42)
 DEPTHS = ((0, 65535), (65535, 0), (1000, 2000))
 # The numbers of trirast_clip in their order, the number of positions and that of indices.
@@ -64,5 +66,14 @@ def task(seed: int) -> Task:
     return Task(positions, indices, (left, top, width, height), seed % 2, seed // 2 % 2, DEPTHS[seed % 3])
 
 
+def filling() -> Task:
+    """Triangles that fill the viewport, so that all of its sides cut each of them: more cuts than one plane makes."""
+    numbers = random.Random(SEEDS)
+    corners = ((-1, -1), (0, 2), (1, -1))
+    sizes = [numbers.uniform(5, 9) for _triangle in range(FILLING)]
+    positions = array("f", [each for size in sizes for x, y in corners for each in (size * x, size * y, 0.5, 1.0)])
+    return Task(positions, array("I", range(3 * FILLING)), (0, 0, 200, 100), 0, 1, DEPTHS[0])
+
+
 def all_tasks() -> list[Task]:
-    return [task(seed) for seed in range(SEEDS)]
+    return [*(task(seed) for seed in range(SEEDS)), *(FILLING_TURNS * [filling()])]

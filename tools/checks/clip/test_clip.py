@@ -37,7 +37,7 @@ FILTERS = (
     ("gcc", "c", "-O1", *SANITIZERS), ("g++", "cpp", "-O1", *SANITIZERS),
 )
 # An edit of these is found by the bytes that a filter writes, and of any other by the tests in C++.
-BY_BYTES = {"between.may_be_fused": "c", "hpp.leaves_arrays_as_they_are": "cpp", "hpp.forgets_folds": "cpp"}
+BY_BYTES = {"between.may_be_fused": "c"}
 
 
 # ---- No cracks
@@ -183,8 +183,8 @@ def check_example() -> str:
 def check_edit(name: str) -> str:
     """A wrong edit of a header is found. Returns by what."""
     folder = edited(name)
-    if name in BY_BYTES:
-        language = BY_BYTES[name]
+    language = "cpp" if name.startswith(("hpp.", "parts.")) else BY_BYTES.get(name)
+    if language:
         program = filter_by({"c": "gcc", "cpp": "g++"}[language], language, V3, FAST, "-O2", include=folder)
         must(run([program], input=question()) != wanted(), "the edit is not found")
         return "other bytes"

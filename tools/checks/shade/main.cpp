@@ -481,6 +481,14 @@ void windows() {
             for (std::thread &thread : all) thread.join();
             frame.draw_glass(canvas);
             expect(canvas.pixels(TRIRAST_FORMAT_RGB8) == whole.resolved, "a picture by several threads", name_of(rate));
+            frame.draw_parts(canvas, rate, threads);
+            expect(canvas.pixels(TRIRAST_FORMAT_RGB8) == whole.resolved, "a picture by parts", name_of(rate));
+        }
+        // Rows of the screen do not begin where tile rows of the canvas do.
+        for (unsigned threads : {1u, 3u}) {
+            trirast::Canvas canvas = canvas_of(90, 70, 4, {101, 67});
+            frame.draw_parts(canvas, rate, threads);
+            expect(canvas.pixels(TRIRAST_FORMAT_RGB8) == window.resolved, "a window by parts", name_of(rate));
         }
     }
 }

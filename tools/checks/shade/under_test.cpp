@@ -45,8 +45,8 @@ struct Frame::Parts {
 };
 
 Frame::Frame(const scene::Scene &given, std::int32_t width, std::int32_t height)
-    : parts_(std::make_unique<Parts>(given)) {
-    parts_->seen.project(parts_->model, given.matrix, scene::clip_of(width, height));
+    : parts_(std::make_unique<Parts>(given)), clip_(scene::clip_of(width, height)) {
+    parts_->seen.project(parts_->model, given.matrix, clip_);
     parts_->seen.prepare(parts_->model);
 }
 
@@ -69,6 +69,29 @@ void Frame::shade_tiles(trirast::TileRows &rows, At rate, std::uint32_t part, st
     for (std::uint32_t k = part; k < tiles; k += parts)
         way::shade_tile(rows, k % columns, k / columns, parts_->seen.triangles, rate_of(rate),
                             scene::background(parts_->model.scene), shader, entries);
+}
+
+void Frame::draw_parts(trirast::Canvas &canvas, At rate, unsigned threads) const {
+    scene::Seen seen;
+    scene::SharedRows rows(canvas, threads);
+    const auto last_first = [](std::size_t count, const auto &job) {
+        while (count > 0) job(--count);
+    };
+    // Twice: arrays of the frame before are used again.
+    for (const trirast::Origin by : {trirast::Origin{7, 9}, trirast::Origin{}}) {
+        scene::Matrix matrix = parts_->model.scene.matrix;
+        matrix.rows[3] += static_cast<float>(by.x), matrix.rows[7] += static_cast<float>(by.y);
+        seen.project(parts_->model, matrix, clip_, threads, last_first);
+        seen.prepare(parts_->model, threads, last_first);
+        rows.draw_ids(seen, last_first);
+    }
+    trirast::TileEntries entries;
+    for (std::uint32_t row = 0; row < canvas.end(); row++)
+        for (std::uint32_t column = 0; column < trirast::tile_columns(canvas); column++)
+            trirast::shade_tile(canvas, column, row, seen.triangles, rate_of(rate),
+                                scene::background(parts_->model.scene), seen.shader(parts_->model), entries,
+                                rows.own(row));
+    rows.each_part(last_first, [&](trirast::TileRows &part) { scene::draw_glass(part, seen); });
 }
 
 void Frame::shade_normals(trirast::TileRows &rows, int by, float size) const {

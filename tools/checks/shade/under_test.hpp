@@ -50,6 +50,9 @@ public:
     void shade(trirast::TileRows &rows, At rate) const;
     void shade_tiles(trirast::TileRows &rows, At rate, std::uint32_t part, std::uint32_t parts) const;
 
+    // A canvas drawn and shaded as by so many threads: in parts with triangles of their own. Ids are of the whole list.
+    void draw_parts(trirast::Canvas &canvas, At rate, unsigned threads) const;
+
     // By any shader, of the first triangles alone.
     void shade_by(trirast::TileRows &rows, At rate, const std::uint8_t (&background)[3], std::size_t triangles,
                   const Shader &shader) const;
@@ -61,6 +64,7 @@ public:
 private:
     struct Parts;
     std::unique_ptr<Parts> parts_;
+    trirast::Clip clip_;
 };
 
 #endif
