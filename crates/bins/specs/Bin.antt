@@ -49,3 +49,13 @@ pub record AreBins (l : Scene) (g : TileGrid) (first_row rows : ℕ) (b : TileBi
   pub first : b.first ≡ first_row * columns_of g
   pub number : length b.bins ≡ rows * columns_of g
   pub each : (k : ℕ) → HasBin b k → IsBinOf l g k (bin_of b k)
+
+-- Each of these bins is one of its tile.
+abbrev pub AreOfTiles : Scene → TileGrid → TileBins → Type 0
+AreOfTiles l g b = (k : ℕ) → HasBin b k → IsBinOf l g k (bin_of b k)
+
+-- The bins of some tile rows from this one on, at least one.
+pub record AreBinsFrom (l : Scene) (g : TileGrid) (first_row : ℕ) (b : TileBins) : Type 0 where
+  pub rows : ℕ
+  pub some : 1 ≤ rows
+  pub bins : AreBins l g first_row rows b

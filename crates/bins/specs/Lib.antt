@@ -8,6 +8,8 @@
 --   HasBin: Tile k is one of those whose bins these are.
 --   bin_of: The bin of tile k, and an empty one if the tile has none here.
 --   AreBins: The bins of these tile rows, each with the triangles that meet its tile.
+--   AreOfTiles: Each of these bins is one of its tile.
+--   AreBinsFrom: The bins of some tile rows from this one on, at least one.
 --
 -- Parts.antt
 --   part_of: Part k of a list, which goes from its start to the start of the next.

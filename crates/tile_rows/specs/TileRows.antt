@@ -1,7 +1,8 @@
 -- Tile rows that are drawn together.
-use Rattle.std.specs.Prelude.{ℕ, ◌-◌, ◌*◌, ◌<◌, List, IfOk, IfErr, IfSome}
-use Rattle.bins.specs.Bin.{TileBins, AreBins}
-use Rattle.tiling.specs.Grid.{columns_of}
+use Rattle.std.specs.Prelude.{ℕ, ◌+◌, ◌-◌, ◌*◌, ◌<◌, List, IfOk, IfErr, IfSome}
+use Rattle.bins.specs.Bin.{TileBins, HasBin, AreBins, AreOfTiles}
+use Rattle.model.specs.Scene.{Scene}
+use Rattle.tiling.specs.Grid.{TileGrid, columns_of}
 use Rattle.tiling.specs.declared.tile_pixels.TilePixels.{TilePixels}
 use Rattle.tiling.specs.TileRow.{AreTileRows}
 use Rattle.tiling.specs.Tiles.{AreTiles}
@@ -19,6 +20,15 @@ AreTilesOf rows tiles = AreTiles rows.list.now rows.tiling.now rows.first rows.e
 -- The bins of all tiles of these tile rows.
 abbrev pub AreBinsOf : TileRows → TileBins → Type 0
 AreBinsOf rows bins = AreBins rows.list.now rows.tiling.now rows.first (rows.end - rows.first) bins
+
+-- Bins that have those of all tiles of the tile rows from `first` to before `end`, and may have others.
+pub record HaveBins (l : Scene) (g : TileGrid) (first end : ℕ) (bins : TileBins) : Type 0 where
+  pub has : (n : ℕ) → n < (end - first) * columns_of g → HasBin bins (first * columns_of g + n)
+  pub each : AreOfTiles l g bins
+
+-- The same of these tile rows.
+abbrev pub HaveBinsOf : TileRows → TileBins → Type 0
+HaveBinsOf rows bins = HaveBins rows.list.now rows.tiling.now rows.first rows.end bins
 
 -- The bytes of the rows of pixels of these tile rows.
 abbrev pub AreBytesOf : TileRows → List ℕ → Type 0

@@ -1,5 +1,5 @@
 //! Tile rows that are drawn together, by several workers or on the calling thread, and put together.
-ghost use Rattle.std.specs.Prelude.{◌≡◌, ◌+◌, ◌-◌, ◌*◌, ◌<◌, ◌≤◌, min, IfOk, OnOk, IfErr, IfSome};
+ghost use Rattle.std.specs.Prelude.{◌≡◌, ◌+◌, ◌-◌, ◌*◌, ◌<◌, ◌≤◌, min, IfOk, OnOk, IfErr, IfSome, IsTrue};
 ghost use Rattle.tiling.specs.Grid.{rows_of};
 
 use bins::Bins;
@@ -15,6 +15,9 @@ use tiling::{TilePixels, TileRow, Tiling};
 /// The most pixels in a batch of more than one tile row: as many as one tile row of the widest picture has with the
 /// largest tiles.
 const MAX_PIXELS: u32 = 262_144;
+
+/// The most tile rows that one thread draws from bins that were made together.
+const MOST_ROWS: u32 = 4;
 
 /// The least number of batches of a picture that has as many tile rows, so that the whole of it never stands in memory.
 const MIN_BATCHES: u32 = 8;
@@ -65,14 +68,14 @@ impl<G: Gate> Job for TileJob<'_, G> {
 
     ghost use Rattle.std.specs.Prelude.{ℕ};
     ghost use Rattle.tiling.specs.Tiles.{IsTileIn};
-    ghost use Rattle.tile_rows.specs.TileRows.{AreBinsOf, tiles_in};
+    ghost use Rattle.tile_rows.specs.TileRows.{HaveBinsOf, tiles_in};
 
     ghost right = { λ job n pixels. IsTileIn job.rows.now.list.now job.rows.now.tiling.now job.rows.now.first n pixels };
 
     ghost fits = { λ job store. store ≡
         record { side = job.rows.now.tiling.now.side; count = job.rows.now.list.now.count } };
 
-    ghost can_work = { λ job n. (n < tiles_in job.rows.now) × AreBinsOf job.rows.now job.bins.now ×
+    ghost can_work = { λ job n. (n < tiles_in job.rows.now) × HaveBinsOf job.rows.now job.bins.now ×
         ((worker : ℕ) × G.entered job.gate.now worker n) };
 
     fn scratch(&self, alloc: Global) -> Result<Store, OutOfMemory> {
@@ -111,7 +114,8 @@ pub struct Beside {
 impl<'a> TileRows<'a> {
     ghost use Rattle.tiling.specs.TileRow.{AddsTileRows};
     ghost use Rattle.tiling.specs.Tiles.{AreTiles};
-    ghost use Rattle.tile_rows.specs.TileRows.{AreBinsOf, AreBytesOf, AreTilesOf, IsBeside, tiles_in};
+    ghost use Rattle.bins.specs.Bin.{AreBinsFrom, AreOfTiles};
+    ghost use Rattle.tile_rows.specs.TileRows.{AreBinsOf, AreBytesOf, AreTilesOf, HaveBins, HaveBinsOf, IsBeside, tiles_in};
 
     /// The tile rows of this list's picture from `first` to before `end`.
     pub fn new(list: &'a DrawList, tiling: &'a Tiling, first: u32, end: u32) -> TileRows<'a>
@@ -310,7 +314,7 @@ impl<'a> TileRows<'a> {
         bins: &Bins,
     ) -> Result<Vec<TilePixels>, OutOfMemory>
         requires store { store.old ≡ record { side = self.now.tiling.now.side; count = self.now.list.now.count } }
-        requires bins { AreBinsOf self.now bins.now }
+        requires bins { HaveBinsOf self.now bins.now }
         ensures tiles { IfOk result (λ tiles. AreTilesOf self.now tiles.items) }
         ensures store { store.new ≡ store.old }
     {
@@ -328,21 +332,71 @@ impl<'a> TileRows<'a> {
         Ok(tiles)
     }
 
-    /// Draws the tiles on the calling thread, in this store, and appends the bytes of their rows of pixels.
-    pub fn push_alone<G: Gate>(
+    /// Whether each tile of the first of them has a bin there.
+    fn has_first(&self, bins: &Bins) -> bool
+        requires some { self.now.first < self.now.end }
+        requires bins { AreOfTiles self.now.list.now self.now.tiling.now bins.now }
+        ensures { IsTrue result →
+            HaveBins self.now.list.now self.now.tiling.now self.now.first (self.now.first + 1) bins.now }
+    {
+        let columns = self.tiling.columns();
+        let first = self.first * columns;
+        bins.has(first) && bins.has(first + (columns - 1))
+    }
+
+    /// The bins of the first of them, and of some that follow if there is memory for these.
+    fn first_bins(&self, alloc: Global) -> Result<Bins, OutOfMemory>
+        requires { self.now.first < self.now.end }
+        ensures { IfOk result (AreBinsFrom self.now.list.now self.now.tiling.now self.now.first) }
+    {
+        let rows = self.rows().min(MOST_ROWS);
+        match Bins::build_some(alloc, self.list, self.tiling, self.first, rows) {
+            Ok(bins) => Ok(bins),
+            Err(OutOfMemory) => Bins::build_some(alloc, self.list, self.tiling, self.first, 1),
+        }
+    }
+
+    /// Sees to it that the first of them has its bins. Those that were made for the tile rows before are kept if they
+    /// have them; else they are freed, and others take their place.
+    fn make_ready(&self, alloc: Global, bins: &mut Bins) -> Result<(), OutOfMemory>
+        requires some { self.now.first < self.now.end }
+        requires bins { AreOfTiles self.now.list.now self.now.tiling.now bins.old }
+        ensures first { OnOk result
+            (HaveBins self.now.list.now self.now.tiling.now self.now.first (self.now.first + 1) bins.new) }
+        ensures bins { AreOfTiles self.now.list.now self.now.tiling.now bins.new }
+    {
+        if self.has_first(bins) {
+            return Ok(());
+        }
+        // Memory never holds both.
+        *bins = Bins::none(alloc);
+        *bins = self.first_bins(alloc)?;
+        Ok(())
+    }
+
+    /// Draws the tiles of the first of them on the calling thread, in this store, and appends the bytes of its rows of
+    /// pixels. The bins are none, or those with which the tile row before was drawn. If they are not those of this tile
+    /// row, others are made in their place, which may be those of some that follow too.
+    pub fn push_first<G: Gate>(
         &self,
         alloc: Global,
         store: &mut Store,
+        bins: &mut Bins,
         gate: &G,
         bytes: &mut Vec<u8>,
     ) -> Result<(), OutOfMemory>
-        requires { store.old ≡ record { side = self.now.tiling.now.side; count = self.now.list.now.count } }
-        ensures bytes { OnOk result (AddsTileRows self.now.list.now self.now.tiling.now.side self.now.first self.now.end
-            bytes.old.items bytes.new.items) }
+        requires some { self.now.first < self.now.end }
+        requires store { store.old ≡ record { side = self.now.tiling.now.side; count = self.now.list.now.count } }
+        requires bins { AreOfTiles self.now.list.now self.now.tiling.now bins.old }
+        ensures bytes { OnOk result (AddsTileRows self.now.list.now self.now.tiling.now.side self.now.first
+            (self.now.first + 1) bytes.old.items bytes.new.items) }
         ensures store { store.new ≡ store.old }
+        ensures bins { AreOfTiles self.now.list.now self.now.tiling.now bins.new }
     {
-        let bins = self.bins(alloc)?;
-        let tiles = self.draw_alone(alloc, store, gate, &bins)?;
-        self.join(&tiles, bytes)
+        self.make_ready(alloc, bins)?;
+        let row = self.others(self.first, self.first + 1);
+        let tiles = row.draw_alone(alloc, store, gate, bins)?;
+        row.join(&tiles, bytes)?;
+        Ok(())
     }
 }

@@ -5,6 +5,7 @@ ghost use Rattle.trirast.specs.Picture.{EndsRows, ExplainsPicture, fault_of};
 ghost use Rattle.trirast.specs.Runs.{WritesAll, WritesFile};
 ghost use Rattle.trirast.specs.declared.picture.PictureFault.TheVariants as picture;
 
+use bins::Bins;
 use model::DrawList;
 use picture_file::{Counted, WriteFault, ppm_rows, write_header};
 use pool::Gate;
@@ -67,12 +68,13 @@ fn write_alone<W: Write, G: Gate>(
     let Ok(mut store) = rows.store(alloc) else {
         return Err(PictureFault::OutOfMemory(rows.first()));
     };
+    let mut bins = Bins::none(alloc);
     let mut written = before;
     for row in rows.first()..rows.end() {
         bytes.clear();
         let Ok(()) = rows
-            .others(row, row + 1)
-            .push_alone(alloc, &mut store, gate, bytes)
+            .others(row, rows.end())
+            .push_first(alloc, &mut store, &mut bins, gate, bytes)
         else {
             return Err(PictureFault::OutOfMemory(row));
         };

@@ -4,6 +4,7 @@ ghost use Rattle.tiling.specs.Grid.{tiles_over};
 ghost use Rattle.tiling.specs.TileRow.{AreTileRows, AddsTileRows};
 ghost use Rattle.picture_file.specs.File.{IsPictureFile};
 
+use bins::Bins;
 use grid::{OutOfMemory, TileSide};
 use model::DrawList;
 use picture_file::{HEADER_BYTES, file_header};
@@ -36,8 +37,10 @@ fn push_tile_rows(
 {
     let tiling = Tiling::new(list.width(), list.height(), tile);
     let mut store = Store::new(alloc, tile, list.count())?;
+    let mut bins = Bins::none(alloc);
     for row in first..end {
-        TileRows::new(list, &tiling, row, row + 1).push_alone(alloc, &mut store, &Open, bytes)?;
+        let rows = TileRows::new(list, &tiling, row, end);
+        rows.push_first(alloc, &mut store, &mut bins, &Open, bytes)?;
     }
     Ok(())
 }

@@ -1,5 +1,6 @@
-use Rattle.std.proofs.Common.{rules, ◌≡◌, ◌∙◌, ◌+◌, ◌≤◌, refl, subst, arith}
+use Rattle.std.proofs.Common.{rules, ◌≡◌, ◌∙◌, ◌+◌, ◌≤◌, ap, refl, subst, arith}
 use Rattle.std.proofs.lemmas.Result.{err_from_is_err_and}
+use Rattle.bins.proofs.Binned.{none_of_tiles}
 use Rattle.trirast.specs.Picture.{WritesRows}
 use Rattle.trirast.proofs.Writing.{more_cut, more_written, none_written, tile_row_of}
 use Rattle.trirast.proofs.picture.write_alone.Goals as goal
@@ -13,13 +14,21 @@ returns-in_default g c = record {
 }
 
 pub loop-row-init : goal.loop-row-init
-loop-row-init g c = record { rows = rw c.first-row.ensures (none_written _ _ _ _ _); store = refl; same_failures = refl }
+loop-row-init g c = record {
+  rows = rw c.first-row.ensures (none_written _ _ _ _ _);
+  store = refl;
+  bins = none_of_tiles _ _ _ c.none-bins.ensures;
+  same_failures = refl;
+}
+
+pub push_first-requires-clause-bins : goal.push_first-requires-clause-bins
+push_first-requires-clause-bins g c κs within = rw (c.others.ensures.0, c.others.ensures.1) c.loop-row.invariant.bins
 
 pub returns-in_err-written : goal.returns-in_err-written
 returns-in_err-written g c =
     let p = err_from_is_err_and c.from_residual.result c.from_residual.ensures.1 in
     let from : c.args.rows.first ≤ c.loop-row.row = omega (arith, c.first-row.ensures, c.loop-row.auto.row) in
-    let row = tile_row_of c.args.rows.list.now c.others.result.list.now c.args.rows.tiling.now c.others.result.tiling.now c.loop-row.row _ _ _ _ c.others.ensures.0 c.others.ensures.1 c.others.ensures.2 c.others.ensures.3 c.clear.ensures.items c.in-Ok-push_alone.ensures.bytes in
+    let row = tile_row_of c.args.rows.list.now c.others.result.list.now c.args.rows.tiling.now c.others.result.tiling.now c.loop-row.row _ _ _ _ c.others.ensures.0 c.others.ensures.1 c.others.ensures.2 (ap (λ n. n + 1) c.others.ensures.2) c.clear.ensures.items c.in-Ok-push_first.ensures.bytes in
     rw (p.1, p.2)
     (record {
       rows = tt;
@@ -32,11 +41,12 @@ returns-in_err-written g c =
 pub loop-row-preserved : goal.loop-row-preserved
 loop-row-preserved g c =
     let from : c.args.rows.first ≤ c.loop-row.row = omega (arith, c.first-row.ensures, c.loop-row.auto.row) in
-    let row = tile_row_of c.args.rows.list.now c.others.result.list.now c.args.rows.tiling.now c.others.result.tiling.now c.loop-row.row _ _ _ _ c.others.ensures.0 c.others.ensures.1 c.others.ensures.2 c.others.ensures.3 c.clear.ensures.items c.in-Ok-push_alone.ensures.bytes in
+    let row = tile_row_of c.args.rows.list.now c.others.result.list.now c.args.rows.tiling.now c.others.result.tiling.now c.loop-row.row _ _ _ _ c.others.ensures.0 c.others.ensures.1 c.others.ensures.2 (ap (λ n. n + 1) c.others.ensures.2) c.clear.ensures.items c.in-Ok-push_first.ensures.bytes in
     record {
       rows = more_written c.args.rows.list.now c.args.rows.tiling.now.side c.args.rows.first c.loop-row.row c.args.before c.loop-row.written from _ _ c.loop-row.invariant.rows (c.loop-row.row + 1) c.in_ok-written.written _ _ (omega arith) row
           (rw c.deref.ensures.value at c.in_ok-written.ensures.count) (rw c.deref.ensures.value at c.in_ok-written.ensures.bytes.all);
-      store = c.push_alone.ensures.store ∙ c.loop-row.invariant.store;
+      store = c.push_first.ensures.store ∙ c.loop-row.invariant.store;
+      bins = rw (c.others.ensures.0, c.others.ensures.1) at c.push_first.ensures.bins;
       same_failures = c.in_ok-written.ensures.bytes.failures ∙ c.loop-row.invariant.same_failures;
     }
 

@@ -1,6 +1,5 @@
 use Rattle.std.proofs.Common.{◌≡◌, ◌+◌, ◌*◌, ap, arith}
 use Rattle.tiling.specs.Grid.{columns_of}
-use Rattle.bins.proofs.Binned.{has_tile_of_rows}
 use Rattle.tiling.proofs.Tiled.{tile_of_answer, tile_within}
 use Rattle.tile_rows.proofs.tile_rows.TileJobJob.work.Goals as goal
 
@@ -11,13 +10,11 @@ render-requires-clause-tile g c =
 
 pub render-requires-clause-has_tile : goal.render-requires-clause-has_tile
 render-requires-clause-has_tile g c =
-    let s = c.args.self.now.rows.now in
-    rw c.columns.ensures.value (has_tile_of_rows s.list.now s.tiling.now (s.first) _ c.args.n _ c.requires.number.0 c.requires.number.1)
+    rw c.columns.ensures.value (c.requires.number.1.has c.args.n c.requires.number.0)
 
 pub render-requires-clause-bin : goal.render-requires-clause-bin
 render-requires-clause-bin g c =
-    let s = c.args.self.now.rows.now in
-    rw c.columns.ensures.value (c.requires.number.1.each _ (has_tile_of_rows s.list.now s.tiling.now (s.first) _ c.args.n _ c.requires.number.0 c.requires.number.1))
+    rw c.columns.ensures.value (c.requires.number.1.each _ (c.requires.number.1.has c.args.n c.requires.number.0))
 
 pub returns-clause-right : goal.returns-clause-right
 returns-clause-right g c =
