@@ -1,6 +1,5 @@
 -- The integer that serde_json reads from a number's text, from what `fast_float` returns for it.
-use Rattle.std.proofs.Common.{◌≡◌, ℕ, zero, suc, ◌<◌, ◌≤◌, ◌^◌, ℤ, pos, List, [], ◌++◌, append-nil, get_or, drop, length, true, false, ◌==◌, Some, option_and_then, FitsSigned, SFits, w64, to_z, of_z, to_z-of_z, ◌-ℤ◌, refl, sym, ap, ◌∙◌, arith, lt-ltb, le-leb}
-use lib.Signed.{lt_z}
+use Rattle.std.proofs.Common.{◌≡◌, ℕ, zero, suc, ◌<◌, ◌≤◌, ◌^◌, ℤ, pos, List, [], ◌++◌, append-nil, get_or, drop, length, true, false, ◌==◌, Some, option_and_then, FitsSigned, SFits, w64, refl, sym, ap, ◌∙◌, arith, lt-ltb, le-leb}
 use Rattle.std.proofs.lemmas.Int.{ints}
 use Rattle.std.specs.Str.Parse.{digits_value, AllDigits}
 use Rattle.fast_float.specs.Text.{Parts, scan, digits_of, with_sign, IsInteger, IsWellFormed}
