@@ -3,7 +3,7 @@ use Rattle.std.proofs.Common.{◌≡◌, refl, Bool, ℕ, zero, suc, ℤ, pos, O
 use Rattle.std.specs.Prelude.{slice_index, slice_index_or}
 use Rattle.shade.specs.declared.placed.Placed.{Placed}
 use Rattle.model.specs.declared.draw.Vertex.{Vertex}
-use Rattle.model.specs.Primitives.{position_of}
+use Rattle.model.specs.Primitives.{vertex_position}
 use Rattle.model.specs.Listing.{placed, triangle_of}
 use Rattle.batch.specs.declared.draw.BatchDraw.{BatchDraw}
 use Rattle.batch.specs.declared.vertex.BatchVertex.{BatchVertex}
@@ -11,7 +11,7 @@ use Rattle.batch.specs.Listed.{vertex_listed, state_listed, draw_listed}
 use Rattle.canvas.specs.Window.{moved_state, moved}
 use Rattle.batch.specs.Seen.{vertex_at, vertex_seen}
 
-pub position_at : (vs : List BatchVertex) (k : ℕ) → position_of (map vertex_listed vs) k ≡ (vertex_listed (vertex_at vs k)).at
+pub position_at : (vs : List BatchVertex) (k : ℕ) → vertex_position (map vertex_listed vs) k ≡ (vertex_listed (vertex_at vs k)).at
 position_at [] k = refl
 position_at (v ∷ vs) zero = refl
 position_at (v ∷ vs) (suc k) = position_at vs k

@@ -2,7 +2,7 @@
 ghost use Rattle.std.specs.Prelude.{◌≡◌, ◌↔◌, ℕ, ℤ, pos, ◌<◌, ◌-ℤ◌, ◌*ℤ◌, length, map, IsSome, IfSome, IsTrue, slice_index};
 ghost use Rattle.grid.specs.Position.{IsInBand};
 ghost use Rattle.model.specs.Listing.{triangle_of};
-ghost use Rattle.model.specs.Primitives.{position_of, IsConvexOver};
+ghost use Rattle.model.specs.Primitives.{vertex_position, IsConvexOver};
 ghost use Rattle.model.specs.declared.draw.Vertex.{Vertex as VertexOf};
 ghost use Rattle.batch.specs.Listed.{vertex_listed};
 ghost use Rattle.batch.specs.Seen.{vertex_at, vertex_seen, CanBeSeen, AreSeen, NameSeenVertices};
@@ -67,7 +67,7 @@ fn are_seen<V: Vertices>(vertices: &V, indices: &[usize], origin: &Origin) -> bo
 #[tactic(auto, using(crate::proofs::Corners::position_at))]
 fn position<V: Vertices>(vertices: &V, index: usize, origin: &Origin) -> Point
     requires { CanBeSeen origin.now.x origin.now.y (vertex_at (V.listed vertices.now) index) }
-    ensures { result ≡ position_of (map vertex_listed (V.listed vertices.now)) index }
+    ensures { result ≡ vertex_position (map vertex_listed (V.listed vertices.now)) index }
 {
     vertex(vertices, index, origin).unwrap().at
 }

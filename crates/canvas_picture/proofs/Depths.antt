@@ -6,7 +6,7 @@ use Rattle.shade.specs.declared.placed.Placed.{Placed}
 use Rattle.shade.proofs.Resolved.{some_samples}
 use Rattle.model.specs.declared.output.Output.TheVariants.{Depth}
 use Rattle.model.specs.Scene.{Scene}
-use Rattle.model.specs.Picture.{IsDepthPixel, PixelOf, IsPixel, IsPicture, pixel_at, pixel_bytes}
+use Rattle.model.specs.Picture.{IsDepthPixel, PixelOf, IsPixel, IsPicture, pixel_at, output_pixel_bytes}
 use Rattle.shade.specs.Canvas.{colour_and_depth}
 use Rattle.canvas.specs.declared.canvas.Canvas.{Canvas}
 use Rattle.canvas.specs.Layout.{rows_of, stored}
@@ -63,6 +63,6 @@ module _ (l : Scene) (c : Canvas) (batches : List (List Placed)) (samples : List
 
   pub is_picture : IsPicture l bytes
   is_picture = record {
-    size = (let double : length bytes ≡ 2 * (l.height * l.width) = omega (arith, pairs.size, size) in double ∙ sym (ap (λ o. pixel_bytes o * (l.height * l.width)) shows));
+    size = (let double : length bytes ≡ 2 * (l.height * l.width) = omega (arith, pairs.size, size) in double ∙ sym (ap (λ o. output_pixel_bytes o * (l.height * l.width)) shows));
     pixels = λ i j wide high. in_part l i j _ (is_pixel i j wide high);
   }

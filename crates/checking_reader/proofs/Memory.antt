@@ -9,7 +9,7 @@ use Rattle.model.specs.declared.fault.ReadKind.TheVariants.{WrongKind, OutOfRang
 use Rattle.model.specs.Json.{elements, count}
 use Rattle.model.specs.Keys.{output_words, cull_words, depth_test_words, blend_words}
 use Rattle.model.specs.FirstFault.{first_fault}
-use Rattle.model.specs.Checks.{Checks, where_there, word_checks, truth_checks, write_mask_checks, sample_mask_checks, scissor_checks, sample_count_checks, colour_checks, depth_checks, clear_checks, top_checks, array_checks, each, vertex_checks, positions_written, merge_checks, state_checks, vertices_checks, primitive_checks, part_checks, draw_opening_checks, has_no_list, is_absent, draw_value_checks, checks_before_vertices}
+use Rattle.model.specs.Checks.{Checks, where_there, word_checks, truth_checks, write_mask_checks, sample_mask_checks, scissor_checks, sample_count_checks, colour_checks, depth_checks, clear_checks, top_checks, array_checks, each, vertex_checks, positions_written, merge_checks, state_value_checks, vertices_checks, primitive_checks, part_checks, draw_opening_checks, has_no_list, is_absent, draw_value_checks, checks_before_vertices}
 use Rattle.model.proofs.Faults.{all_pass, both_pass, both_passed}
 
 -- no check reports out of memory
@@ -53,8 +53,8 @@ merge_reports d =
     let mask = there_reports write_mask_checks (get (codes "write") d) (λ v. (wrong_kind, (wrong_kind, (wrong_kind, (wrong_kind, tt))))) in
     both_report tests (depths ++ (blends ++ masks)) test (both_report depths (blends ++ masks) depth (both_report blends masks blend mask))
 
-state_reports : (d : Data) → NoneReportsMemory (state_checks d)
-unfolding state_checks
+state_reports : (d : Data) → NoneReportsMemory (state_value_checks d)
+unfolding state_value_checks
 state_reports d =
     let culls : Checks = where_there (word_checks cull_words) (get (codes "cull") d) in
     let masks : Checks = where_there sample_mask_checks (get (codes "sample_mask") d) in
@@ -66,8 +66,8 @@ state_reports d =
     both_report culls (merge_checks d ++ (masks ++ scissors)) cull
     (both_report (merge_checks d) (masks ++ scissors) (merge_reports d) (both_report masks scissors mask scissor))
 
-pub state_never : (d : Data) → first_fault (state_checks d) ≡ Some OutOfMemory → ⊥
-state_never d = never (state_checks d) (state_reports d)
+pub state_never : (d : Data) → first_fault (state_value_checks d) ≡ Some OutOfMemory → ⊥
+state_never d = never (state_value_checks d) (state_reports d)
 
 -- ---- the top object
 

@@ -1,7 +1,7 @@
 ghost use Rattle.std.specs.Prelude.{◌≡◌, pos, option_map, true, false, [], ◌∷◌};
 ghost use Rattle.serde_json.specs.View.{view};
 ghost use Rattle.checking_reader.specs.Answer.{Answers};
-ghost use Rattle.model.specs.Checks.{where_there, truth_checks, write_mask_checks, sample_mask_checks, scissor_side_checks, scissor_checks, merge_checks, state_checks};
+ghost use Rattle.model.specs.Checks.{where_there, truth_checks, write_mask_checks, sample_mask_checks, scissor_side_checks, scissor_checks, merge_checks, state_value_checks};
 ghost use Rattle.model.specs.Denotes.{OrDefault, IsTruth, IsWriteMask, IsSampleMaskNumber, IsScissorSide, IsScissor, IsMerge, IsState};
 
 use crate::array::has_length;
@@ -111,9 +111,9 @@ fn merge(value: &Value) -> Result<Merge, ReadKind>
 }
 
 /// The state of a draw on a picture of these pixels.
-#[tactic(auto, using(model::proofs::Faults::first_fault_of_both), unfolding(model::specs::Checks::state_checks))]
+#[tactic(auto, using(model::proofs::Faults::first_fault_of_both), unfolding(model::specs::Checks::state_value_checks))]
 pub(crate) fn read_state(value: &Value, picture: PixelBox) -> Result<State, ReadKind>
-    ensures { Answers (state_checks (view value.now)) (IsState picture (view value.now)) result }
+    ensures { Answers (state_value_checks (view value.now)) (IsState picture (view value.now)) result }
 {
     let cull = cull(value.get("cull"))?;
     let merge = merge(value)?;

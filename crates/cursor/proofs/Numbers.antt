@@ -1,6 +1,5 @@
 -- The integer that serde_json reads from a number's text, from what `fast_float` returns for it.
-use Rattle.std.proofs.Common.{◌≡◌, ℕ, zero, suc, ◌<◌, ◌≤◌, ◌^◌, ℤ, pos, List, [], ◌++◌, append-nil, get_or, drop, length, true, false, ◌==◌, Some, option_and_then, FitsSigned, SFits, w64, to_z, of_z, to_z-of_z, ◌-ℤ◌, refl, sym, ap, ◌∙◌, arith, lt-ltb, le-leb}
-use lib.Signed.{lt_z}
+use Rattle.std.proofs.Common.{◌≡◌, ℕ, zero, suc, ◌<◌, ◌≤◌, ◌^◌, ℤ, pos, List, [], ◌++◌, append-nil, get_or, drop, length, true, false, ◌==◌, Some, option_and_then, FitsSigned, SFits, w64, refl, sym, ap, ◌∙◌, arith, lt-ltb, le-leb}
 use Rattle.std.proofs.lemmas.Int.{ints}
 use Rattle.std.specs.Str.Parse.{digits_value, AllDigits}
 use Rattle.fast_float.specs.Text.{Parts, scan, digits_of, with_sign, IsInteger, IsWellFormed}
@@ -53,16 +52,3 @@ minus_are s z minus e h some positive below =
 pub within : (n : ℕ) → 0 < n → n < 2 ^ 63 → SFits w64 (with_sign true n)
 within zero some below = absurd (omega arith)
 within (suc n) some below = grind (arith, ints)
-
--- a negation at 64 bits
-pub negated : (n : ℕ) (z : ℤ) → z ≡ pos n → n < 2 ^ 63 → SFits w64 z → lt_z (pos 0) (to_z w64 (of_z w64 z)) ≡ true
-    → (0 < n) × (to_z w64 (of_z w64 (pos 0 -ℤ to_z w64 (of_z w64 z))) ≡ with_sign true n)
-negated n z e below fits positive =
-    let same : to_z w64 (of_z w64 z) ≡ pos n = to_z-of_z fits ∙ e in
-    let above : lt_z (pos 0) (pos n) ≡ true = rw same at positive in
-    let some : 0 < n = grind (arith, ints) in
-    let less : pos 0 -ℤ pos n ≡ with_sign true n = omega (arith, ints) in
-    let inside : SFits w64 (with_sign true n) = within n some below in (
-      some,
-      ap (λ y. to_z w64 (of_z w64 (pos 0 -ℤ y))) same ∙ ap (λ y. to_z w64 (of_z w64 y)) less ∙ to_z-of_z inside,
-    )

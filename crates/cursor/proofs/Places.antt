@@ -1,5 +1,5 @@
 -- The tokens from a place on, by the lexeme that is next.
-use Rattle.std.proofs.Common.{◌≡◌, ℕ, ◌<◌, List, [], ◌∷◌, drop, get_or, length, Bool, true, false, ◌||◌, Some, inl, inr, refl, sym, ap, ◌∙◌, arith}
+use Rattle.std.proofs.Common.{◌≡◌, ℕ, ◌<◌, List, [], ◌∷◌, drop, get_or, length, Bool, true, false, ◌||◌, Option, Some, None, IfSome, inl, inr, refl, sym, ap, ◌∙◌, arith}
 use Rattle.std.proofs.lemmas.Bool.{false≢true}
 use Rattle.std.proofs.lemmas.List.{drop_all}
 use Rattle.json.specs.Token.{Token, begin_array, begin_object, end_array, end_object, key, string, number, boolean}
@@ -11,6 +11,10 @@ use Rattle.json.specs.Word.{is_operator, is_space}
 use Rattle.cursor.specs.Lexed.{GoesOn, MayEnd}
 use Rattle.cursor.proofs.Lexing.{operator_lexed}
 use Rattle.cursor.specs.Tokens.{tokens_from, begins_at, closes_at}
+
+pub if_some : {A : Type 0} {P Q : A → Type 0} (found : Option A) → ((x : A) → P x → Q x) → IfSome found P → IfSome found Q
+if_some None f h = tt
+if_some (Some x) f h = f x h
 
 abbrev tokens_of : Place → List Lexeme → List Token
 tokens_of Fresh ls = punctuate fresh ls

@@ -3,7 +3,7 @@ use Rattle.std.proofs.Common.{◌≡◌, refl, ℕ, ℤ, pos, List, [], ◌∷�
 use Rattle.std.specs.Prelude.{unwrap_or}
 use Rattle.serde_json.specs.Data.{Data, Items, no_items, item}
 use Rattle.model.specs.declared.draw.Vertex.{Vertex}
-use Rattle.model.specs.Primitives.{position_of}
+use Rattle.model.specs.Primitives.{vertex_position}
 use Rattle.model.specs.Checks.{position_written, positions_written, corner_written}
 use Rattle.model.specs.Denotes.{Each, IsVertex, IsIndex}
 use Rattle.model.proofs.OneDraw.{same_position}
@@ -21,5 +21,5 @@ same_places (item d ds) [] h = absurd h
 same_places (item d ds) (v ∷ vs) h = rw (same_place d v h.0, same_places ds vs h.1) refl
 
 -- the corner that an index is written to name is that of the index
-pub same_corner : (vs : List Vertex) (n : ℕ) (value : Option Data) (k : ℕ) → IsIndex n value k → corner_written (map (λ v. v.at) vs) value ≡ position_of vs k
+pub same_corner : (vs : List Vertex) (n : ℕ) (value : Option Data) (k : ℕ) → IsIndex n value k → corner_written (map (λ v. v.at) vs) value ≡ vertex_position vs k
 same_corner vs n value k is = rw is.0 refl

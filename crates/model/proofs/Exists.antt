@@ -10,7 +10,7 @@ use Rattle.model.specs.declared.output.Output.{Output}
 use Rattle.model.specs.declared.output.Output.TheVariants.{Color, Depth}
 use Rattle.model.specs.PixelPrefix.{IsPixelPrefix}
 use Rattle.model.specs.Scene.{Scene}
-use Rattle.model.specs.Picture.{IsEnd, IsColour, IsPixel, PixelOf, IsPart}
+use Rattle.model.specs.Picture.{IsEnd, IsColour, IsPixel, PixelOf, IsPicturePart}
 use Rattle.model.proofs.PixelPrefix.{empty_prefix, run_of_one, prefix_run, part_of_rows}
 use Rattle.shade.proofs.Endings.{ends}
 use Rattle.shade.proofs.Resolved.{by_mean_of}
@@ -53,7 +53,7 @@ prefix-exists l x y width (suc n) wide =
     (before.0 ++ pixel.0, rw add-one at all)
 
 -- a rectangle of it
-pub part-exists : (l : Scene) (x y width height : ℕ) → 0 < width → (bytes : List ℕ) × IsPart l x y width height bytes
+pub part-exists : (l : Scene) (x y width height : ℕ) → 0 < width → (bytes : List ℕ) × IsPicturePart l x y width height bytes
 part-exists l x y width height wide =
     let rows = prefix-exists l x y width (height * width) wide in
     (rows.0, part_of_rows l x y width height rows.0 rows.1)

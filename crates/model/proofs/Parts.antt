@@ -4,10 +4,10 @@ use Rattle.std.proofs.Math.Nat.{add-mul}
 use Rattle.std.proofs.lemmas.Bool.{cases_lt}
 use Rattle.std.proofs.lemmas.Nat.{mul-add-lt}
 use Rattle.model.specs.Scene.{Scene}
-use Rattle.model.specs.Picture.{IsPixel, IsPart, pixel_bytes, pixel_at}
+use Rattle.model.specs.Picture.{IsPixel, IsPicturePart, output_pixel_bytes, pixel_at}
 use Rattle.model.proofs.Pixels.{bytes_of_both, same_pixel, pixel_before, pixel_behind}
 
-module _ (l : Scene) (x y width upper lower : ℕ) (a b : List ℕ) (h : IsPart l x y width upper a) (k : IsPart l x (y + upper) width lower b) where
+module _ (l : Scene) (x y width upper lower : ℕ) (a b : List ℕ) (h : IsPicturePart l x y width upper a) (k : IsPicturePart l x (y + upper) width lower b) where
   pixel : (i j : ℕ) → i < width → j < upper + lower → (j < upper) ⊎ (upper ≤ j) → IsPixel l (x + i) (y + j) (pixel_at l.output (j * width + i) (a ++ b))
   pixel i j wide high (inl above) =
       let within : j * width + i < upper * width = omega (arith, mul-add-lt j width i upper above wide) in
@@ -20,8 +20,8 @@ module _ (l : Scene) (x y width upper lower : ℕ) (a b : List ℕ) (h : IsPart 
       let down : (y + upper) + row ≡ y + j = omega arith in
       same_pixel l (x + i) ((y + upper) + row) (x + i) (y + j) _ _ refl down (sym (pixel_behind l.output (upper * width) (row * width + i) (j * width + i) a b h.size place)) (k.pixels i row wide (omega arith))
 
-  pub part-append : IsPart l x y width (upper + lower) (a ++ b)
+  pub part-append : IsPicturePart l x y width (upper + lower) (a ++ b)
   part-append = record {
-    size = omega (arith, length-append a b, h.size, k.size, bytes_of_both l.output (upper * width) (lower * width), ap (λ n. pixel_bytes l.output * n) (add-mul upper lower width));
+    size = omega (arith, length-append a b, h.size, k.size, bytes_of_both l.output (upper * width) (lower * width), ap (λ n. output_pixel_bytes l.output * n) (add-mul upper lower width));
     pixels = λ i j wide high. pixel i j wide high (cases_lt j upper);
   }

@@ -19,17 +19,16 @@ use Rattle.shade.specs.declared.sample.Merge.{Merge}
 use Rattle.shade.specs.declared.state.State.{State}
 use Rattle.model.specs.declared.draw.Vertex.{Vertex}
 use Rattle.model.specs.declared.fault.ReadKind.{ReadKind}
-use Rattle.model.specs.declared.fault.ReadKind.TheVariants.{NotConvex}
 use Rattle.model.specs.Json.{whole, text, array_of, count, elements}
 use Rattle.model.specs.declared.output.Output.{Output}
 use Rattle.model.specs.declared.output.Output.TheVariants as output
 use Rattle.model.specs.Keys.{output_words, cull_words, depth_test_words, NamesBlend, blend_words}
-use Rattle.model.specs.Primitives.{PrimitiveListing, triangle_list, triangle_strip, quad_list, strip_count, quads_count, count_of_triangles, IsConvexOver}
+use Rattle.model.specs.Primitives.{PrimitiveListing, triangle_list, triangle_strip, quad_list, strip_count, quads_count, count_of_triangles}
 use Rattle.model.specs.Listing.{DrawListing, Listing}
 use Rattle.model.specs.FirstFault.{Check, first_fault, reported_as}
-use Rattle.model.specs.Checks.{Checks, each, is_from_to, number_checks, depth_checks, vertex_checks, triangle_checks, strip_index_checks, quad_checks_at, quad_checks_over, has_length, corner_written, positions_written, is_strictly_convex, is_none_there, are_two_there, array_checks, sum_check, where_there, word_checks, truth_checks, colour_checks, write_mask_checks, sample_mask_checks, scissor_checks, sample_count_checks, merge_checks, state_checks, vertices_checks, triangles_checks, strip_checks, quads_checks, primitive_checks, part_checks, triangles_counted, draw_value_checks, clear_checks, top_checks, fault_in_draw, outside, numbered_draw_checks, value_checks}
-use Rattle.model.specs.Denotes.{Each, OrDefault, IsIntegerWithin, IsDepthNumber, IsTruth, IsVertex, IsIndex, IsTriangle, IsStripIndex, IsQuad, IsPrimitives, IsArrayOf, IsCull, IsDepthTest, IsBlend, IsWriteMask, IsSampleMaskNumber, IsScissor, IsMerge, IsState, IsDraw, IsSampleCount, IsClearColour, IsOutput, IsListing}
-use Rattle.model.proofs.Convex.{convex_is_true, convex_is_false}
+use Rattle.model.specs.Checks.{Checks, each, is_from_to, number_checks, depth_checks, vertex_checks, triangle_checks, strip_index_checks, quad_checks_at, corner_written, positions_written, is_strictly_convex, is_none_there, are_two_there, array_checks, sum_check, where_there, word_checks, truth_checks, colour_checks, write_mask_checks, sample_mask_checks, scissor_checks, sample_count_checks, merge_checks, state_value_checks, vertices_checks, triangles_checks, strip_checks, quads_checks, primitive_checks, part_checks, triangles_counted, draw_value_checks, clear_checks, top_checks, fault_in_draw, outside, numbered_draw_checks, value_checks}
+use Rattle.model.specs.Denotes.{Each, OrDefault, IsIntegerWithin, IsDepthNumber, IsTruth, IsVertex, IsTriangle, IsStripIndex, IsQuad, IsPrimitives, IsArrayOf, IsCull, IsDepthTest, IsBlend, IsWriteMask, IsSampleMaskNumber, IsScissor, IsMerge, IsState, IsDraw, IsSampleCount, IsClearColour, IsOutput, IsListing}
+use Rattle.model.proofs.Convex.{convex_is_true}
 use Rattle.model.proofs.Corners.{same_places, same_corner}
 use Rattle.model.proofs.Counts.{items_len_each, given_is}
 use Rattle.model.proofs.Faults.{first_fault_reported_as, both_pass}
@@ -156,26 +155,6 @@ quad_passes vs d quad is =
       index_in_range (length vs) _ is.fourth.1,
     ) refl
 
--- four indices whose vertices are not the corners of a strictly convex quad
-pub quad_fails : (vs : List Vertex) (d : Data) (k0 k1 k2 k3 : ℕ) → has_length 4 (Some d) ≡ true
-    → IsIndex (length vs) (at 0 d) k0 → IsIndex (length vs) (at 1 d) k1 → IsIndex (length vs) (at 2 d) k2 → IsIndex (length vs) (at 3 d) k3
-    → (IsConvexOver vs (k0 ∷ k1 ∷ k2 ∷ k3 ∷ []) → ⊥) → first_fault (quad_checks_over vs d) ≡ Some NotConvex
-quad_fails vs d k0 k1 k2 k3 long first second third fourth bent =
-    let turned : is_strictly_convex (corner_written (map (λ v. v.at) vs) (at 0 d)) (corner_written (map (λ v. v.at) vs) (at 1 d)) (corner_written (map (λ v. v.at) vs) (at 2 d)) (corner_written (map (λ v. v.at) vs) (at 3 d)) ≡ false =
-    rw (same_corner vs _ _ _ first, same_corner vs _ _ _ second, same_corner vs _ _ _ third, same_corner vs _ _ _ fourth) (convex_is_false _ _ _ _ bent) in
-    rw (
-      long,
-      turned,
-      first.0,
-      index_in_range (length vs) _ first.1,
-      second.0,
-      index_in_range (length vs) _ second.1,
-      third.0,
-      index_in_range (length vs) _ third.1,
-      fourth.0,
-      index_in_range (length vs) _ fourth.1,
-    ) refl
-
 colour_passes : (v : Data) (colour : List ℕ) → IsClearColour (Some v) colour → first_fault (colour_checks (Some v)) ≡ None
 colour_passes v colour is = rw (is.array, is.red.0, in_range _ _ _ is.red.1 is.red.2, is.green.0, in_range _ _ _ is.green.1 is.green.2, is.blue.0, in_range _ _ _ is.blue.1 is.blue.2) refl
 
@@ -210,8 +189,8 @@ merge_passes d merge is =
     let depth_tests : Checks = where_there (word_checks depth_test_words) (get (codes "depth_test") d) in
     both_pass depth_tests (depth_writes ++ (blends ++ writes)) depth_test (both_pass depth_writes (blends ++ writes) depth_write (both_pass blends writes blend write))
 
-state_passes : (picture : PixelBox) (d : Data) (state : State) → IsState picture d state → first_fault (state_checks d) ≡ None
-unfolding state_checks
+state_passes : (picture : PixelBox) (d : Data) (state : State) → IsState picture d state → first_fault (state_value_checks d) ≡ None
+unfolding state_value_checks
 state_passes picture d state is =
     let scissor = key_passes _ IsScissor scissor_checks scissor_passes (get (codes "scissor") d) state.scissor is.scissor in
     let sample_mask = key_passes _ IsSampleMaskNumber sample_mask_checks sample_mask_passes (get (codes "sample_mask") d) state.sample_mask is.sample_mask in
@@ -341,7 +320,7 @@ draw_passes picture earlier d draw is room =
     let quads = get (codes "quads") d in
     let one = one_list draw.vertices triangles strip quads draw.primitives is.primitives in
     let parts = parts_pass earlier vertices triangles strip quads draw is.vertices is.primitives room in
-    let rest = both_pass (state_checks d) (part_checks earlier vertices triangles strip quads) (state_passes picture d draw.state is.state) parts in
+    let rest = both_pass (state_value_checks d) (part_checks earlier vertices triangles strip quads) (state_passes picture d draw.state is.state) parts in
     rw (there (as_object d) is.object, is.keys, array_there vertices is.vertices.array, one.0, one.1) rest
 
 pub draws_pass : (picture : PixelBox) (number earlier : ℕ) (ds : Items) (xs : List DrawListing) → Each (IsDraw picture) ds xs

@@ -5,7 +5,7 @@ use Rattle.std.proofs.lemmas.Bool.{cases_lt}
 use Rattle.std.proofs.lemmas.Nat.{mul-add-lt, same_from_place}
 use Rattle.model.specs.PixelPrefix.{AddsPixel, IsPixelPrefix, IsPixelRun}
 use Rattle.model.specs.Scene.{Scene}
-use Rattle.model.specs.Picture.{IsPixel, IsPart, pixel_bytes, pixel_at}
+use Rattle.model.specs.Picture.{IsPixel, IsPicturePart, output_pixel_bytes, pixel_at}
 use Rattle.model.proofs.Pixels.{bytes_of_both, bytes_of_none, bytes_of_one, bytes_of_rows, bytes_up_to, same_pixel, pixel_size, pixel_alone, pixel_before, pixel_behind, pixel_of_part}
 
 pub empty_prefix : (l : Scene) (x y width n : ℕ) → n ≡ 0 → IsPixelPrefix l x y width n []
@@ -47,18 +47,18 @@ prefix_pixel l x y width n m i j old new begun wide place more h =
     rw (more, h.behind) (prefix_run l x y width n i j 1 old h.pixel begun (omega arith) place (run_of_one l (x + i) (y + j) h.pixel h.is))
 
 -- all rows are the rectangle
-pub part_of_rows : (l : Scene) (x y width height : ℕ) (bytes : List ℕ) → IsPixelPrefix l x y width (height * width) bytes → IsPart l x y width height bytes
+pub part_of_rows : (l : Scene) (x y width height : ℕ) (bytes : List ℕ) → IsPixelPrefix l x y width (height * width) bytes → IsPicturePart l x y width height bytes
 part_of_rows l x y width height bytes begun = record {
   size = begun.size;
   pixels = λ i j wide high. begun.pixels i j wide (omega (arith, mul-add-lt j width i height high wide));
 }
 
 -- a row of it is a run
-module _ (l : Scene) (x y width height : ℕ) (bytes : List ℕ) (h : IsPart l x y width height bytes) (j : ℕ) (high : j < height) (start across : ℕ) (at : start ≡ j * across) (wide : across ≡ pixel_bytes l.output * width) where
+module _ (l : Scene) (x y width height : ℕ) (bytes : List ℕ) (h : IsPicturePart l x y width height bytes) (j : ℕ) (high : j < height) (start across : ℕ) (at : start ≡ j * across) (wide : across ≡ output_pixel_bytes l.output * width) where
   abbrev row : List ℕ
   row = take (start + across - start) (drop start bytes)
 
-  first : start ≡ pixel_bytes l.output * (j * width)
+  first : start ≡ output_pixel_bytes l.output * (j * width)
   first = at ∙ rw wide (bytes_of_rows l.output j width)
 
   pub row_within : start + across ≤ length bytes

@@ -8,30 +8,30 @@ use Rattle.shade.specs.declared.sample.Sample.{Sample}
 use Rattle.model.specs.declared.output.Output.{Output}
 use Rattle.model.specs.declared.output.Output.TheVariants.{Color, Depth}
 use Rattle.model.specs.Scene.{Scene}
-use Rattle.model.specs.Picture.{IsEnd, IsColour, IsPixel, PixelOf, pixel_bytes, pixel_at}
+use Rattle.model.specs.Picture.{IsEnd, IsColour, IsPixel, PixelOf, output_pixel_bytes, pixel_at}
 
 -- ---- how many bytes pixels have
 
-pub bytes_of_both : (o : Output) (n m : ℕ) → pixel_bytes o * (n + m) ≡ pixel_bytes o * n + pixel_bytes o * m
+pub bytes_of_both : (o : Output) (n m : ℕ) → output_pixel_bytes o * (n + m) ≡ output_pixel_bytes o * n + output_pixel_bytes o * m
 bytes_of_both Color n m = omega arith
 bytes_of_both Depth n m = omega arith
 
-pub bytes_within : (o : Output) (k n : ℕ) → k < n → pixel_bytes o * k + pixel_bytes o ≤ pixel_bytes o * n
+pub bytes_within : (o : Output) (k n : ℕ) → k < n → output_pixel_bytes o * k + output_pixel_bytes o ≤ output_pixel_bytes o * n
 bytes_within Color k n h = omega arith
 bytes_within Depth k n h = omega arith
 
-pub bytes_up_to : (o : Output) (n m : ℕ) → n ≤ m → pixel_bytes o * n ≤ pixel_bytes o * m
+pub bytes_up_to : (o : Output) (n m : ℕ) → n ≤ m → output_pixel_bytes o * n ≤ output_pixel_bytes o * m
 bytes_up_to Color n m h = omega arith
 bytes_up_to Depth n m h = omega arith
 
-pub bytes_of_rows : (o : Output) (n width : ℕ) → n * (pixel_bytes o * width) ≡ pixel_bytes o * (n * width)
-bytes_of_rows o n width = sym (mul_assoc n (pixel_bytes o) width) ∙ ap (λ m. m * width) (mul_comm n (pixel_bytes o)) ∙ mul_assoc (pixel_bytes o) n width
+pub bytes_of_rows : (o : Output) (n width : ℕ) → n * (output_pixel_bytes o * width) ≡ output_pixel_bytes o * (n * width)
+bytes_of_rows o n width = sym (mul_assoc n (output_pixel_bytes o) width) ∙ ap (λ m. m * width) (mul_comm n (output_pixel_bytes o)) ∙ mul_assoc (output_pixel_bytes o) n width
 
-pub bytes_of_none : (o : Output) (n : ℕ) → n ≡ 0 → pixel_bytes o * n ≡ 0
+pub bytes_of_none : (o : Output) (n : ℕ) → n ≡ 0 → output_pixel_bytes o * n ≡ 0
 bytes_of_none Color n e = omega arith
 bytes_of_none Depth n e = omega arith
 
-pub bytes_of_one : (o : Output) → pixel_bytes o * 1 ≡ pixel_bytes o
+pub bytes_of_one : (o : Output) → output_pixel_bytes o * 1 ≡ output_pixel_bytes o
 bytes_of_one Color = refl
 bytes_of_one Depth = refl
 
@@ -40,11 +40,11 @@ bytes_of_one Depth = refl
 pub same_pixel : (l : Scene) (i j i' j' : ℕ) (a b : List ℕ) → i ≡ i' → j ≡ j' → a ≡ b → IsPixel l i j a → IsPixel l i' j' b
 same_pixel l i j i' j' a b ei ej e h = rw (← ei, ← ej, ← e) h
 
-size_of_pixel : (o : Output) (l : Scene) (i j : ℕ) (bytes : List ℕ) → PixelOf o l i j bytes → length bytes ≡ pixel_bytes o
+size_of_pixel : (o : Output) (l : Scene) (i j : ℕ) (bytes : List ℕ) → PixelOf o l i j bytes → length bytes ≡ output_pixel_bytes o
 size_of_pixel Color l i j bytes h = ap length h.order
 size_of_pixel Depth l i j bytes h = ap length h.order
 
-pub pixel_size : (l : Scene) (i j : ℕ) (bytes : List ℕ) → IsPixel l i j bytes → length bytes ≡ pixel_bytes l.output
+pub pixel_size : (l : Scene) (i j : ℕ) (bytes : List ℕ) → IsPixel l i j bytes → length bytes ≡ output_pixel_bytes l.output
 pixel_size l i j bytes h = size_of_pixel l.output l i j bytes h
 
 pub pixel_of_colour : (l : Scene) (i j r g b : ℕ) → l.output ≡ Color → IsColour l i j r g b → IsPixel l i j (r ∷ g ∷ b ∷ [])
@@ -65,30 +65,30 @@ depth_bytes z small =
 
 -- ---- a pixel among others
 
-pub pixel_alone : (o : Output) (m : ℕ) (bytes : List ℕ) → m ≡ 0 → length bytes ≡ pixel_bytes o → pixel_at o m bytes ≡ bytes
-pixel_alone o m bytes e size = rw (bytes_of_none o m e) (take_all (pixel_bytes o) bytes (omega arith))
+pub pixel_alone : (o : Output) (m : ℕ) (bytes : List ℕ) → m ≡ 0 → length bytes ≡ output_pixel_bytes o → pixel_at o m bytes ≡ bytes
+pixel_alone o m bytes e size = rw (bytes_of_none o m e) (take_all (output_pixel_bytes o) bytes (omega arith))
 
 -- a pixel of the n pixels before others
-pub pixel_before : (o : Output) (n k : ℕ) (a b : List ℕ) → length a ≡ pixel_bytes o * n → k < n → pixel_at o k (a ++ b) ≡ pixel_at o k a
+pub pixel_before : (o : Output) (n k : ℕ) (a b : List ℕ) → length a ≡ output_pixel_bytes o * n → k < n → pixel_at o k (a ++ b) ≡ pixel_at o k a
 pixel_before o n k a b size below =
     let within = bytes_within o k n below in
-    ap (take (pixel_bytes o)) (drop-append-le (pixel_bytes o * k) a b (omega arith))
-    ∙ take-append-le (pixel_bytes o) (drop (pixel_bytes o * k) a) b (omega (arith, length-drop (pixel_bytes o * k) a))
+    ap (take (output_pixel_bytes o)) (drop-append-le (output_pixel_bytes o * k) a b (omega arith))
+    ∙ take-append-le (output_pixel_bytes o) (drop (output_pixel_bytes o * k) a) b (omega (arith, length-drop (output_pixel_bytes o * k) a))
 
 -- a pixel behind n others
-pub pixel_behind : (o : Output) (n k m : ℕ) (a b : List ℕ) → length a ≡ pixel_bytes o * n → m ≡ n + k → pixel_at o m (a ++ b) ≡ pixel_at o k b
+pub pixel_behind : (o : Output) (n k m : ℕ) (a b : List ℕ) → length a ≡ output_pixel_bytes o * n → m ≡ n + k → pixel_at o m (a ++ b) ≡ pixel_at o k b
 pixel_behind o n k m a b size e =
-    let place : pixel_bytes o * m ≡ length a + pixel_bytes o * k = ap (λ p. pixel_bytes o * p) e ∙ bytes_of_both o n k ∙ ap (λ p. p + pixel_bytes o * k) (sym size) in
-    ap (λ p. take (pixel_bytes o) (drop p (a ++ b))) place ∙ ap (take (pixel_bytes o)) (drop-append-add a b (pixel_bytes o * k))
+    let place : output_pixel_bytes o * m ≡ length a + output_pixel_bytes o * k = ap (λ p. output_pixel_bytes o * p) e ∙ bytes_of_both o n k ∙ ap (λ p. p + output_pixel_bytes o * k) (sym size) in
+    ap (λ p. take (output_pixel_bytes o) (drop p (a ++ b))) place ∙ ap (take (output_pixel_bytes o)) (drop-append-add a b (output_pixel_bytes o * k))
 
 -- a pixel of a part of pixels, from pixel `first` on
-pub pixel_of_part : (o : Output) (first k m many start across : ℕ) (all : List ℕ) → start ≡ pixel_bytes o * first → across ≡ pixel_bytes o * many → start + across ≤ length all → k < many → m ≡ first + k
+pub pixel_of_part : (o : Output) (first k m many start across : ℕ) (all : List ℕ) → start ≡ output_pixel_bytes o * first → across ≡ output_pixel_bytes o * many → start + across ≤ length all → k < many → m ≡ first + k
     → pixel_at o k (take across (drop start all)) ≡ pixel_at o m all
 pixel_of_part o first k m many start across all at wide within below e =
     let part : List ℕ = take across (drop start all) in
     let rest : List ℕ = drop across (drop start all) in
-    let size : length part ≡ pixel_bytes o * many = omega (arith, length-take across (drop start all), length-drop start all) in
-    let front : length (take start all) ≡ pixel_bytes o * first = omega (arith, length-take start all) in
+    let size : length part ≡ output_pixel_bytes o * many = omega (arith, length-take across (drop start all), length-drop start all) in
+    let front : length (take start all) ≡ output_pixel_bytes o * first = omega (arith, length-take start all) in
     sym (pixel_before o many k part rest size below) ∙ ap (pixel_at o k) (take-append-drop across (drop start all))
     ∙ sym (pixel_behind o first k m (take start all) (drop start all) front e) ∙ ap (pixel_at o m) (take-append-drop start all)
 
@@ -110,12 +110,12 @@ pixel_of_two n bytes h =
     rw (first, second) refl
 
 -- the pixels give all bytes
-pub same_pixels : (o : Output) (n : ℕ) (a b : List ℕ) → length a ≡ pixel_bytes o * n → length b ≡ pixel_bytes o * n → ((k : ℕ) → k < n → pixel_at o k a ≡ pixel_at o k b) → a ≡ b
+pub same_pixels : (o : Output) (n : ℕ) (a b : List ℕ) → length a ≡ output_pixel_bytes o * n → length b ≡ output_pixel_bytes o * n → ((k : ℕ) → k < n → pixel_at o k a ≡ pixel_at o k b) → a ≡ b
 same_pixels o zero a b size size' same =
     let none = bytes_of_none o 0 refl in
     nil_from_length a (omega arith) ∙ sym (nil_from_length b (omega arith))
 same_pixels o (suc n) a b size size' same =
-    let w : ℕ = pixel_bytes o in
+    let w : ℕ = output_pixel_bytes o in
     let none = bytes_of_none o 0 refl in
     let one = bytes_of_one o in
     let both = bytes_of_both o 1 n in

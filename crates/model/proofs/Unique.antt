@@ -6,7 +6,7 @@ use Rattle.shade.specs.declared.sample.Sample.{Sample}
 use Rattle.model.specs.Scene.{Scene}
 use Rattle.model.specs.declared.output.Output.{Output}
 use Rattle.model.specs.declared.output.Output.TheVariants.{Color, Depth}
-use Rattle.model.specs.Picture.{IsEnd, IsColour, IsPixel, PixelOf, IsPart, pixel_at}
+use Rattle.model.specs.Picture.{IsEnd, IsColour, IsPixel, PixelOf, IsPicturePart, pixel_at}
 use Rattle.model.proofs.Pixels.{same_pixels}
 use Rattle.shade.proofs.Endings.{ends-unique}
 use Rattle.shade.proofs.Resolved.{resolved-unique}
@@ -53,7 +53,7 @@ place_of p (suc n) height h =
     let wide : 0 < suc n = omega arith in
     record { column = mod-lt p wide; row = (div-lt_iff_lt-mul wide).1 h; place = div-add-mod' p (suc n) }
 
-module _ (l : Scene) (x y width height : ℕ) (bytes other : List ℕ) (h : IsPart l x y width height bytes) (k : IsPart l x y width height other) where
+module _ (l : Scene) (x y width height : ℕ) (bytes other : List ℕ) (h : IsPicturePart l x y width height bytes) (k : IsPicturePart l x y width height other) where
   pixel : (p : ℕ) → p < height * width → pixel_at l.output p bytes ≡ pixel_at l.output p other
   pixel p below =
       let place = place_of p width height below in

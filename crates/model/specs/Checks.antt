@@ -189,8 +189,8 @@ merge_checks value =
     ++ where_there write_mask_checks (get (codes "write") value)))
 
 -- The state of a draw: culling, how its fragments are merged, the sample mask and the scissor. Each key may be absent.
-unfoldable pub state_checks : Data → Checks
-state_checks value =
+unfoldable pub state_value_checks : Data → Checks
+state_value_checks value =
     where_there (word_checks cull_words) (get (codes "cull") value)
     ++ (merge_checks value
     ++ (where_there sample_mask_checks (get (codes "sample_mask") value)
@@ -262,7 +262,7 @@ draw_opening_checks value =
     ∷ check (has_other_key draw_keys (as_object value)) UnknownKey
     ∷ check (is_absent (codes "vertices") value || has_no_list value) MissingKey
     ∷ check (has_two_lists value) TwoLists
-    ∷ state_checks value
+    ∷ state_value_checks value
 
 -- The checks of a draw before which the draws have `earlier` triangles.
 abbrev pub draw_value_checks : ℕ → Data → Checks

@@ -8,7 +8,7 @@
 --   quads_count: How many triangles this many quads have.
 --   triangles_of: The triangles of primitives in draw order, each by the indices of its vertices.
 --   count_of_triangles: How many triangles primitives are.
---   position_of: The position of the vertex of this index; the origin past the end.
+--   vertex_position: The position of the vertex of this index; the origin past the end.
 --   IsConvexOver: The vertices that a quad names are the corners of a strictly convex quad, in its order.
 --   IsQuadOver: The quad names four of the vertices, and is strictly convex.
 --   AreOver: Primitives over these vertices: each names vertices that there are, and each quad is strictly convex.
@@ -54,9 +54,9 @@
 --   IsDepthPixel: Pixel (i, j) of a picture of depths: the final depth of the pixel's sample 0, in two bytes.
 --   PixelOf: The bytes of pixel (i, j) of a picture that shows this: a colour or a depth.
 --   IsPixel: The bytes of pixel (i, j), by what the picture shows.
---   pixel_bytes: How many bytes a pixel has: three of a colour, two of a depth.
+--   output_pixel_bytes: How many bytes a pixel has: three of a colour, two of a depth.
 --   pixel_at: The bytes of pixel n, of the bytes of pixels one after another.
---   IsPart: The bytes of a rectangle of the picture, whose upper left pixel is (x, y).
+--   IsPicturePart: The bytes of a rectangle of the picture, whose upper left pixel is (x, y).
 --   IsPicture: The bytes of the whole picture.
 --
 -- View.antt
@@ -152,7 +152,7 @@
 --   write_mask_checks: A write mask: [red, green, blue], each a boolean.
 --   scissor_checks: A scissor: [left, top, right, bottom], in pixels.
 --   merge_checks: How a draw's fragments are merged: the depth test, depth writes, the blending and the write mask.
---   state_checks: The state of a draw: culling, how its fragments are merged, the sample mask and the scissor.
+--   state_value_checks: The state of a draw: culling, how its fragments are merged, the sample mask and the scissor.
 --   vertices_checks: The vertices of a draw: an array of at most 65536, and each of them.
 --   sum_check: A draw's triangles and the `earlier` ones of the draws before are at most 65536, else `TooMany` is reported.
 --   triangles_checks: The triangle list of a draw of n vertices, before which the draws have `earlier` triangles.

@@ -49,20 +49,20 @@ abbrev pub IsPixel : Scene → ℕ → ℕ → List ℕ → Type 0
 IsPixel l = PixelOf l.output l
 
 -- How many bytes a pixel has: three of a colour, two of a depth.
-abbrev pub pixel_bytes : Output → ℕ
-pixel_bytes Color = 3
-pixel_bytes Depth = 2
+abbrev pub output_pixel_bytes : Output → ℕ
+output_pixel_bytes Color = 3
+output_pixel_bytes Depth = 2
 
 -- The bytes of pixel n, of the bytes of pixels one after another.
 abbrev pub pixel_at : Output → ℕ → List ℕ → List ℕ
-pixel_at output n bytes = take (pixel_bytes output) (drop (pixel_bytes output * n) bytes)
+pixel_at output n bytes = take (output_pixel_bytes output) (drop (output_pixel_bytes output * n) bytes)
 
 -- The bytes of a rectangle of the picture, whose upper left pixel is (x, y). The rows of the rectangle stand from top to bottom,
 -- and the pixels of a row from left to right.
-pub record IsPart (l : Scene) (x y width height : ℕ) (bytes : List ℕ) : Type 0 where
-  pub size : length bytes ≡ pixel_bytes l.output * (height * width)
+pub record IsPicturePart (l : Scene) (x y width height : ℕ) (bytes : List ℕ) : Type 0 where
+  pub size : length bytes ≡ output_pixel_bytes l.output * (height * width)
   pub pixels : (i j : ℕ) → i < width → j < height → IsPixel l (x + i) (y + j) (pixel_at l.output (j * width + i) bytes)
 
 -- The bytes of the whole picture.
 abbrev pub IsPicture : Scene → List ℕ → Type 0
-IsPicture l bytes = IsPart l 0 0 l.width l.height bytes
+IsPicture l bytes = IsPicturePart l 0 0 l.width l.height bytes

@@ -44,13 +44,13 @@ count_of_triangles (triangle_strip indices) = strip_count (length indices)
 count_of_triangles (quad_list quads) = quads_count (length quads)
 
 -- The position of the vertex of this index; the origin past the end.
-abbrev pub position_of : List Vertex → ℕ → Position
-position_of vertices k = slice_index_or (map (λ v. v.at) vertices) k (record { x = pos 0; y = pos 0 })
+abbrev pub vertex_position : List Vertex → ℕ → Position
+vertex_position vertices k = slice_index_or (map (λ v. v.at) vertices) k (record { x = pos 0; y = pos 0 })
 
 -- The vertices that a quad names are the corners of a strictly convex quad, in its order.
 abbrev pub IsConvexOver : List Vertex → List ℕ → Type 0
 IsConvexOver vertices quad =
-    let corner : ℕ → Position = λ i. position_of vertices (slice_index quad i) in
+    let corner : ℕ → Position = λ i. vertex_position vertices (slice_index quad i) in
     IsStrictlyConvex (corner 0) (corner 1) (corner 2) (corner 3)
 
 -- The quad names four of the vertices, and is strictly convex.

@@ -10,11 +10,11 @@ pub enum Output {
 }
 
 impl Output {
-    ghost use Rattle.model.specs.Picture.{pixel_bytes};
+    ghost use Rattle.model.specs.Picture.{output_pixel_bytes};
 
     /// The number of bytes of a pixel.
     pub fn pixel_bytes(self) -> u32
-        ensures value { result ≡ pixel_bytes self }
+        ensures value { result ≡ output_pixel_bytes self }
         ensures greatest { result ≤ 3 }
     {
         match self {

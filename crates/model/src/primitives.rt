@@ -1,6 +1,6 @@
 ghost use Rattle.std.specs.Prelude.{ℕ, ◌≡◌, ◌↔◌, ◌<◌, ◌≤◌, IsTrue, List, length, slice_index_or, []};
 ghost use Rattle.std.specs.List.{All, flat_map};
-ghost use Rattle.model.specs.Primitives.{primitive_listing, triangles_of as triangles_of_listing, count_of_triangles, strip_count as count_of_strip, strip_triangle as triangle_of_strip, quads_count as count_of_quads, quad_triangles, position_of, IsConvexOver, IsQuadOver, AreOver};
+ghost use Rattle.model.specs.Primitives.{primitive_listing, triangles_of as triangles_of_listing, count_of_triangles, strip_count as count_of_strip, strip_triangle as triangle_of_strip, quads_count as count_of_quads, quad_triangles, vertex_position, IsConvexOver, IsQuadOver, AreOver};
 ghost use Rattle.model.specs.declared.draw.Vertex.{Vertex as VertexOf};
 
 use crate::draw::Vertex;
@@ -74,7 +74,7 @@ pub fn quad_triangle(quads: &[[u32; 4]], number: usize) -> [u32; 3]
 /// The position of the vertex of this index.
 fn position(vertices: &[Vertex], number: u32) -> Point
     requires { number < length vertices.now }
-    ensures { result ≡ position_of vertices.now number }
+    ensures { result ≡ vertex_position vertices.now number }
 {
     vertices[number as usize].at
 }

@@ -11,36 +11,36 @@ use Rattle.atomic_table.specs.Table.{State, Me, step, keeps, stepped, Allows, Sp
 use Rattle.atomic_table.proofs.Lists.{at_set, at_snoc, set_else}
 use Rattle.pool.specs.declared.known.Known.{Known}
 use Rattle.pool.specs.declared.known.Limits.{Limits}
-use Rattle.pool.specs.Counters.{times, once_below, total, FitsCounter, IsCounted, CounterInvariant, with_number, with_mark, DrawsNumber, without_one, one_seat, both, spent}
+use Rattle.pool.specs.Counters.{times, once_below, total_of_views, FitsCounter, IsCounted, CounterInvariant, with_number, with_mark, DrawsNumber, without_one, one_seat, both, spent}
 
 -- the total after a change of one view
-pub total_set : (f : Known → ℕ) (views : List Known) (id : ℕ) (v w : Known) → get_elem? views id ≡ some v → total f (set views id w) + f v ≡ total f views + f w
+pub total_set : (f : Known → ℕ) (views : List Known) (id : ℕ) (v w : Known) → get_elem? views id ≡ some v → total_of_views f (set views id w) + f v ≡ total_of_views f views + f w
 total_set f [] id v w at = absurd (some-ne-none v (sym at))
 total_set f (x ∷ xs) zero v w at = let is : f x ≡ f v = ap f (some-injective x v at) in omega arith
 total_set f (x ∷ xs) (suc id) v w at = let r = total_set f xs id v w at in omega arith
 
-pub total_snoc : (f : Known → ℕ) (views : List Known) (v : Known) → total f (views ++ v ∷ []) ≡ total f views + f v
+pub total_snoc : (f : Known → ℕ) (views : List Known) (v : Known) → total_of_views f (views ++ v ∷ []) ≡ total_of_views f views + f v
 total_snoc f [] v = omega arith
 total_snoc f (x ∷ xs) v = let r = total_snoc f xs v in omega arith
 
-pub total_at : (f : Known → ℕ) (views : List Known) (id : ℕ) (v : Known) → get_elem? views id ≡ some v → f v ≤ total f views
+pub total_at : (f : Known → ℕ) (views : List Known) (id : ℕ) (v : Known) → get_elem? views id ≡ some v → f v ≤ total_of_views f views
 total_at f [] id v at = absurd (some-ne-none v (sym at))
 total_at f (x ∷ xs) zero v at = let is : f x ≡ f v = ap f (some-injective x v at) in omega arith
 total_at f (x ∷ xs) (suc id) v at = let r = total_at f xs id v at in omega arith
 
-pub total_le : (f g : Known → ℕ) (views : List Known) → ((id : ℕ) (v : Known) → get_elem? views id ≡ some v → f v ≤ g v) → total f views ≤ total g views
+pub total_le : (f g : Known → ℕ) (views : List Known) → ((id : ℕ) (v : Known) → get_elem? views id ≡ some v → f v ≤ g v) → total_of_views f views ≤ total_of_views g views
 total_le f g [] h = omega arith
 total_le f g (x ∷ xs) h = let a = h zero x refl in let r = total_le f g xs (λ id v at. h (suc id) v at) in omega arith
 
 -- if no other view has any of f, the total is the one view's
-pub total_alone : (f g : Known → ℕ) (views : List Known) (id : ℕ) (v : Known) → get_elem? views id ≡ some v → total g views ≡ g v
-    → ((k : ℕ) (u : Known) → get_elem? views k ≡ some u → g u ≡ 0 → f u ≡ 0) → total f views ≡ f v
+pub total_alone : (f g : Known → ℕ) (views : List Known) (id : ℕ) (v : Known) → get_elem? views id ≡ some v → total_of_views g views ≡ g v
+    → ((k : ℕ) (u : Known) → get_elem? views k ≡ some u → g u ≡ 0 → f u ≡ 0) → total_of_views f views ≡ f v
 total_alone f g [] id v at all idle = absurd (some-ne-none v (sym at))
 total_alone f g (x ∷ xs) zero v at all idle =
     let e = some-injective x v at in let is : f x ≡ f v = ap f e in let is' : g x ≡ g v = ap g e in
-    let rest : total f xs ≡ 0 = nothing xs (omega arith) (λ k u. idle (suc k) u) in omega arith
+    let rest : total_of_views f xs ≡ 0 = nothing xs (omega arith) (λ k u. idle (suc k) u) in omega arith
   where
-    nothing : (us : List Known) → total g us ≡ 0 → ((k : ℕ) (u : Known) → get_elem? us k ≡ some u → g u ≡ 0 → f u ≡ 0) → total f us ≡ 0
+    nothing : (us : List Known) → total_of_views g us ≡ 0 → ((k : ℕ) (u : Known) → get_elem? us k ≡ some u → g u ≡ 0 → f u ≡ 0) → total_of_views f us ≡ 0
     nothing [] z i = refl
     nothing (u ∷ us) z i = let a = i zero u refl (omega arith) in let r = nothing us (omega arith) (λ k w. i (suc k) w) in omega arith
 total_alone f g (x ∷ xs) (suc id) v at all idle =
@@ -90,7 +90,7 @@ module _ (limits : Limits) where
   }
 
   -- the word is at most the numbers and the marks, of which there are at most as many as seats
-  marks_le : (x : ℕ) (views : List Known) → IsCounted limits x views → total (λ v. v.marks) views ≤ limits.seats
+  marks_le : (x : ℕ) (views : List Known) → IsCounted limits x views → total_of_views (λ v. v.marks) views ≤ limits.seats
   marks_le x views r = let le = total_le (λ v. v.marks) (λ v. v.seats) views (λ id v at. (r.fits id v at).0) in let is = r.seats in omega arith
 
   number_kept : (x id : ℕ) (views : List Known) (v : Known) → IsCounted limits x views → get_elem? views id ≡ some v → v.marks < v.seats → v.count ≡ limits.count → x < v.count
@@ -133,7 +133,7 @@ module _ (limits : Limits) where
       let now : min x limits.count ≡ x = omega arith in (
         all_below v.numbers x (λ k.
             let t = total_at (λ u. times k u.numbers) views id v at in
-            let o = subst (λ (z : ℕ). total (λ u. times k u.numbers) views ≡ once_below k z) now (r.once k) in omega arith),
+            let o = subst (λ (z : ℕ). total_of_views (λ u. times k u.numbers) views ≡ once_below k z) now (r.once k) in omega arith),
         (let t = total_at (λ u. length u.numbers) views id v at in let g = r.given in omega arith),
       )
 
@@ -161,7 +161,7 @@ module _ (limits : Limits) where
   pub cuts : (id : ℕ) (v : Known) → 1 < v.seats → v.marks < v.seats → v.count ≡ limits.count → Splits (CounterInvariant limits) id v (without_one v) (one_seat v)
   cuts id v several unmarked count s r at =
       let w = without_one v in let o = one_seat v in
-      let same : (f : Known → ℕ) → f w + f o ≡ f v → total f (set s.views id w ++ o ∷ []) ≡ total f s.views
+      let same : (f : Known → ℕ) → f w + f o ≡ f v → total_of_views f (set s.views id w ++ o ∷ []) ≡ total_of_views f s.views
       = λ f e. let t = total_set f s.views id v w at in let p = total_snoc f (set s.views id w) o in omega arith in
       let k = r.1 in
       let f = k.fits id v at in
@@ -188,7 +188,7 @@ module _ (limits : Limits) where
   pub joins : (id other : ℕ) (v w : Known) → v.count ≡ limits.count → Joins (CounterInvariant limits) id v other w (both v w) spent
   joins id other v w count s r at apart at' =
       let b = both v w in
-      let same : (f : Known → ℕ) → f b ≡ f v + f w → f spent ≡ 0 → total f (set (set s.views id b) other spent) ≡ total f s.views
+      let same : (f : Known → ℕ) → f b ≡ f v + f w → f spent ≡ 0 → total_of_views f (set (set s.views id b) other spent) ≡ total_of_views f s.views
       = λ f e z. let t = total_set f s.views id v b at in let p = total_set f (set s.views id b) other w spent at' in omega arith in
       let k = r.1 in
       let was : get_elem? s.views other ≡ some w = sym (set_else s.views id other b apart) ∙ at' in

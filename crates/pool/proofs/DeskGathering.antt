@@ -9,7 +9,7 @@ use Rattle.pool.specs.declared.known.Known.{Known}
 use Rattle.pool.specs.declared.counter.Counter.{Counter}
 use Rattle.pool.specs.declared.counter.CounterHandle.{CounterHandle}
 use Rattle.pool.specs.Counters.{times, once_below}
-use Rattle.pool.specs.Handles.{count_of, knowledge_of}
+use Rattle.pool.specs.Handles.{counter_count, knowledge_of}
 use Rattle.pool.specs.Dealing.{times_in, NoneTwice, DealtOnce, SomeEnded}
 use Rattle.pool.specs.Rows.{desk_count, turns_to, AreDesks, AreJoined, IsClosed}
 use Rattle.pool.specs.Desks.{IsDeskSeat, GathersAt, Gathers}
@@ -86,7 +86,7 @@ module _ (n : ℕ) (counters : List Counter) (whole : List CounterHandle) (lists
   times_there : (x : ℕ) → times_in x lists ≡ times (j x) (knowledge_of (get_or whole (d x) handle)).numbers
   times_there x = ap (λ (k : ℕ). times_in k lists) (sym (split x)) ∙ sym ((g (d x) handle (within x)).1 (j x))
 
-  below_there : (x : ℕ) → once_below (j x) (count_of (get_or counters (d x) counter)) ≡ once_below x n
+  below_there : (x : ℕ) → once_below (j x) (counter_count (get_or counters (d x) counter)) ≡ once_below x n
   below_there x =
       let count = (desks (d x) counter (within x)).0 in
       let e = split x in

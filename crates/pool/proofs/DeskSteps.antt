@@ -10,7 +10,7 @@ use native.Mathlib.Decide.{dec_le, ℕ_discrete}
 use Rattle.pool.specs.declared.counter.Counter.{Counter}
 use Rattle.pool.specs.declared.counter.CounterHandle.{CounterHandle}
 use Rattle.pool.specs.Counters.{times, once_below, with_number, with_mark, without_one, one_seat}
-use Rattle.pool.specs.Handles.{count_of, knowledge_of, IsIn}
+use Rattle.pool.specs.Handles.{counter_count, knowledge_of, IsIn}
 use Rattle.pool.specs.Rows.{desk_count, turns_to, IsRow, AreDesks, AreUncut}
 use Rattle.pool.specs.Desks.{IsDeskSeat, PrecedesInTurn}
 use Rattle.pool.proofs.Counts.{times_push}
@@ -202,9 +202,9 @@ module _ (n : ℕ) (counters : List Counter) (number passed : ℕ) (handles : Li
       subst (λ (k : ℕ). IsDeskSeat n counters number (passed + 1) (set handles ((number + passed) % k) new) numbers) (sym e)
       (marked_kept n counters number passed handles numbers is left new old (in_line is_in here.0) (is_new ∙ ap (λ (p : CounterHandle). with_mark (knowledge_of p)) here.1))
 
-  module _ (j : ℕ) (desks : AreDesks n counters) (is_in : IsIn counter new) (is_new : knowledge_of new ≡ with_number (knowledge_of old) j) (rises : All (λ x. x < j) (knowledge_of old).numbers) (some : j < count_of counter) where
+  module _ (j : ℕ) (desks : AreDesks n counters) (is_in : IsIn counter new) (is_new : knowledge_of new ≡ with_number (knowledge_of old) j) (rises : All (λ x. x < j) (knowledge_of old).numbers) (some : j < counter_count counter) where
     counted : counter ≡ get_or counters ((number + passed) % length counters) counter → j < desk_count n (length counters) ((number + passed) % length counters)
-    counted at = let c = (desks ((number + passed) % length counters) counter within).0 in let l = ap count_of at in omega arith
+    counted at = let c = (desks ((number + passed) % length counters) counter within).0 in let l = ap counter_count at in omega arith
 
     pub takes_number : (w : ℕ) → w ≡ length counters → At w
         → IsDeskSeat n counters number passed (set handles ((number + passed) % w) new) (numbers ++ ((number + passed) % w + j * w) ∷ []) × (length numbers < n)

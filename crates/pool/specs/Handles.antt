@@ -5,8 +5,8 @@ use Rattle.pool.specs.declared.counter.Counter.{Counter}
 use Rattle.pool.specs.declared.counter.CounterHandle.{CounterHandle}
 
 -- How many numbers the counter has.
-abbrev pub count_of : Counter → ℕ
-count_of counter = counter.table.shared.key.count
+abbrev pub counter_count : Counter → ℕ
+counter_count counter = counter.table.shared.key.count
 
 -- How many seats share the counter.
 abbrev pub seats_of : Counter → ℕ
@@ -18,4 +18,4 @@ knowledge_of handle = handle.seat.me.0
 
 -- The handle is one of this counter.
 abbrev pub IsIn : Counter → CounterHandle → Type 0
-IsIn counter handle = (handle.seat.table_id ≡ counter.table.shared.table_id) × ((knowledge_of handle).count ≡ count_of counter)
+IsIn counter handle = (handle.seat.table_id ≡ counter.table.shared.table_id) × ((knowledge_of handle).count ≡ counter_count counter)

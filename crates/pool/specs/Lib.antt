@@ -4,7 +4,7 @@
 --   times: How often x stands in the list.
 --   once_below: 1 if x is below n, else 0.
 --   known: What a handle knows of its counter: the count of numbers, its seats, its own numbers in their order, and its marks.
---   total: f of each view, added up.
+--   total_of_views: f of each view, added up.
 --   FitsCounter: The view fits a counter of this count: each of its seats marks at most once.
 --   IsCounted: The word counts the numbers that were given, and the seats that marked the counter.
 --   CounterInvariant: What always holds of a counter: it has one word, which counts what the views of its handles have.
@@ -29,7 +29,7 @@
 --   Gathered: The handle stands for as many seats as there are lists, and has what they have.
 --
 -- Handles.antt
---   count_of: How many numbers the counter has.
+--   counter_count: How many numbers the counter has.
 --   seats_of: How many seats share the counter.
 --   knowledge_of: What a handle knows of its counter.
 --   IsIn: The handle is one of this counter.

@@ -1,7 +1,7 @@
 -- Counters in a row, one for each seat, and the handles that a seat has in them.
 use Rattle.std.specs.Prelude.{◌≡◌, ℕ, ◌+◌, ◌-◌, ◌/◌, ◌%◌, ◌<◌, ◌≤◌, List, [], length, slice_index_or}
 use Rattle.pool.specs.Counters.{times, once_below, known, both}
-use Rattle.pool.specs.Handles.{count_of, seats_of, knowledge_of, IsIn}
+use Rattle.pool.specs.Handles.{counter_count, seats_of, knowledge_of, IsIn}
 use Rattle.pool.specs.declared.counter.Counter.{Counter}
 use Rattle.pool.specs.declared.counter.CounterHandle.{CounterHandle}
 
@@ -16,7 +16,7 @@ turns_to w s d = (d + w - s) % w
 -- Each counter is a desk, which all seats share. The numbers below n stand in turn at the desks.
 abbrev pub AreDesks : ℕ → List Counter → Type 0
 AreDesks n counters = (d : ℕ) (other : Counter) → d < length counters
-    → (count_of (slice_index_or counters d other) ≡ desk_count n (length counters) d) × (seats_of (slice_index_or counters d other) ≡ length counters)
+    → (counter_count (slice_index_or counters d other) ≡ desk_count n (length counters) d) × (seats_of (slice_index_or counters d other) ≡ length counters)
 
 -- The row has one handle in each counter.
 abbrev pub IsRow : List Counter → List CounterHandle → Type 0
@@ -30,10 +30,10 @@ AreJoined whole row joined = (d : ℕ) (p q r : CounterHandle) → d < length wh
 
 -- The handle of all seats has each number at most once, and exactly once if a seat has marked the counter.
 abbrev pub IsClosed : Counter → CounterHandle → Type 0
-IsClosed counter handle = ((x : ℕ) → times x (knowledge_of handle).numbers ≤ once_below x (count_of counter))
-    × (0 < (knowledge_of handle).marks → (x : ℕ) → times x (knowledge_of handle).numbers ≡ once_below x (count_of counter))
+IsClosed counter handle = ((x : ℕ) → times x (knowledge_of handle).numbers ≤ once_below x (counter_count counter))
+    × (0 < (knowledge_of handle).marks → (x : ℕ) → times x (knowledge_of handle).numbers ≡ once_below x (counter_count counter))
 
 -- Each handle stands for `seats` seats, which were given nothing.
 abbrev pub AreUncut : ℕ → List Counter → List CounterHandle → Type 0
 AreUncut seats counters handles = (d : ℕ) (counter : Counter) (handle : CounterHandle) → d < length counters
-    → knowledge_of (slice_index_or handles d handle) ≡ known (count_of (slice_index_or counters d counter)) seats [] 0
+    → knowledge_of (slice_index_or handles d handle) ≡ known (counter_count (slice_index_or counters d counter)) seats [] 0

@@ -2,7 +2,7 @@
 ghost use Rattle.std.specs.Prelude.{◌≡◌, ◌<◌, ◌≤◌, ◌^◌, [], length, if◌then◌else◌};
 ghost use Rattle.std.specs.Vec.{vec_capacity};
 ghost use Rattle.pool.specs.Dealing.{Ascends};
-ghost use Rattle.pool.specs.Handles.{count_of, seats_of, knowledge_of};
+ghost use Rattle.pool.specs.Handles.{counter_count, seats_of, knowledge_of};
 
 use crate::counter::{Counter, CounterHandle};
 
@@ -14,7 +14,7 @@ pub struct Tickets {
     counter: Counter,
     count: u32,
     lists: Vec<(Vec<u32>, bool)>,
-    ghost counted: { count_of counter ≡ count },
+    ghost counted: { counter_count counter ≡ count },
     ghost small: { count < 2 ^ 32 },
     ghost empty: { lists.items ≡ [] },
     ghost some: { 0 < seats_of counter },

@@ -7,7 +7,7 @@ use Rattle.grid.specs.Pixels.{side_of, IsInBox}
 use Rattle.lanes.specs.declared.block_samples.BlockSamples.{BlockSamples}
 use Rattle.shade.specs.Resolve.{IsResolved}
 use Rattle.model.specs.Scene.{Scene}
-use Rattle.model.specs.Picture.{IsColour, IsPart}
+use Rattle.model.specs.Picture.{IsColour, IsPicturePart}
 use Rattle.tiling.specs.Grid.{TileGrid, columns_of, rows_of, tiles_of, rect_of}
 use Rattle.bins.specs.Bin.{IsBinOf}
 use Rattle.tiling.proofs.Tiles.{starts_within, in_rect}
@@ -58,7 +58,7 @@ module _ (g : TileGrid) (k : ℕ) (h : k < tiles_of g) (tile : Tile) (at : IsTil
       pub in_picture : (8 * tile.bx + width ≤ l.width) × (8 * tile.by + height ≤ l.height)
       in_picture = (let begins = begins_in_width in omega arith, let begins = begins_in_height in omega arith)
 
-      pub picture_in : (bytes : List ℕ) → IsPart l (8 * tile.bx) (8 * tile.by) width height bytes → IsPictureIn l (rect_of g k) bytes
+      pub picture_in : (bytes : List ℕ) → IsPicturePart l (8 * tile.bx) (8 * tile.by) width height bytes → IsPictureIn l (rect_of g k) bytes
       picture_in bytes part = record {
         x = 8 * tile.bx;
         y = 8 * tile.by;

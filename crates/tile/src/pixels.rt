@@ -2,7 +2,7 @@
 ghost use Rattle.std.specs.Prelude.{◌≡◌, ℕ, ◌+◌, ◌*◌, ◌/◌, ◌%◌, ◌<◌, ◌≤◌, ◌++◌, length, take, IfOk, OnOk};
 ghost use Rattle.grid.specs.Pixels.{side_of};
 ghost use Rattle.model.specs.PixelPrefix.{IsPixelPrefix};
-ghost use Rattle.model.specs.Picture.{IsPart};
+ghost use Rattle.model.specs.Picture.{IsPicturePart};
 ghost use Rattle.raster.specs.Samples.{planes_of};
 ghost use Rattle.tiling.specs.Pixels.{AddsPixelRun};
 ghost use Rattle.tile.specs.Picture.{IsShown, AreEnds};
@@ -101,7 +101,7 @@ impl SampledTile<'_> {
         requires height { height ≤ side_of self.now.tile.now.side }
         requires in_width { 8 * self.now.tile.now.bx + width ≤ self.now.list.now.width }
         requires in_height { 8 * self.now.tile.now.by + height ≤ self.now.list.now.height }
-        ensures { IfOk result (λ bytes. IsPart self.now.list.now (8 * self.now.tile.now.bx) (8 * self.now.tile.now.by)
+        ensures { IfOk result (λ bytes. IsPicturePart self.now.list.now (8 * self.now.tile.now.bx) (8 * self.now.tile.now.by)
             width height bytes.items) }
     {
         let size = self.list.output().pixel_bytes() * width * height;

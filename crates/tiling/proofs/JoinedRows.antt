@@ -3,7 +3,7 @@ use Rattle.std.proofs.Common.{◌≡◌, ap, subst, ◌∙◌, ℕ, ◌+◌, ◌
 use Rattle.std.proofs.Math.Nat.{mul-le-mul_left}
 use Rattle.grid.specs.Pixels.{side_of}
 use Rattle.grid.specs.declared.pixels.TileSide.{TileSide}
-use Rattle.model.specs.Picture.{IsPart}
+use Rattle.model.specs.Picture.{IsPicturePart}
 use Rattle.model.specs.Scene.{Scene}
 use Rattle.model.proofs.Parts.{part-append}
 use Rattle.tiling.specs.Grid.{TileGrid, tiles_over}
@@ -25,13 +25,13 @@ added_behind l side first row end old bytes new order order' within above h =
     let high : ℕ = min l.height (side_of side * end) - begin in
     let upper : min l.height begin - side_of side * first ≡ begin - side_of side * first = ap (λ n. n - side_of side * first) top in
     let below : begin ≡ side_of side * first + (begin - side_of side * first) = omega arith in
-    let a = subst (λ n. IsPart l 0 (side_of side * first) l.width n above.bytes) upper above.are in
-    let b = subst (λ y. IsPart l 0 y l.width high h.bytes) below h.are in
+    let a = subst (λ n. IsPicturePart l 0 (side_of side * first) l.width n above.bytes) upper above.are in
+    let b = subst (λ y. IsPicturePart l 0 y l.width high h.bytes) below h.are in
     let both = part-append l 0 (side_of side * first) l.width (begin - side_of side * first) high above.bytes h.bytes a b in
     let sum : (begin - side_of side * first) + high ≡ min l.height (side_of side * end) - side_of side * first = omega arith in
     record {
       bytes = above.bytes ++ h.bytes;
-      are = subst (λ n. IsPart l 0 (side_of side * first) l.width n (above.bytes ++ h.bytes)) sum both;
+      are = subst (λ n. IsPicturePart l 0 (side_of side * first) l.width n (above.bytes ++ h.bytes)) sum both;
       behind = h.behind ∙ (ap (λ xs. xs ++ h.bytes) above.behind ∙ append_assoc old above.bytes h.bytes);
     }
 
@@ -42,7 +42,7 @@ added_next l g first row old bytes new same order within above h =
     let side : ℕ = side_of g.side in
     let next : min l.height (side * (row + 1)) ≡ side * row + (min l.height (side * row + side) - side * row) = interval_next row l.height g.side within in
     let high : min g.height (side * row + side) - side * row ≡ min l.height (side * (row + 1)) - side * row = ap (λ n. min n (side * row + side) - side * row) same ∙ omega arith in
-    let one : AddsTileRows l g.side row (row + 1) bytes new = record { bytes = h.bytes; are = subst (λ n. IsPart l 0 (side * row) l.width n h.bytes) high h.is; behind = h.behind } in
+    let one : AddsTileRows l g.side row (row + 1) bytes new = record { bytes = h.bytes; are = subst (λ n. IsPicturePart l 0 (side * row) l.width n h.bytes) high h.is; behind = h.behind } in
     added_behind l g.side first row (row + 1) old bytes new order (omega arith) within above one
 
 -- tile rows by what their parts are called

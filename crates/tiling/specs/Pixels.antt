@@ -2,7 +2,7 @@
 use Rattle.std.specs.Prelude.{◌≡◌, ℕ, ◌+◌, List, ◌++◌, pos}
 use Rattle.grid.specs.declared.pixels.PixelBox.{PixelBox}
 use Rattle.model.specs.PixelPrefix.{IsPixelRun}
-use Rattle.model.specs.Picture.{IsPart}
+use Rattle.model.specs.Picture.{IsPicturePart}
 use Rattle.model.specs.Scene.{Scene}
 
 -- The bytes of the picture in a rectangle, row by row.
@@ -15,7 +15,7 @@ pub record IsPictureIn (l : Scene) (r : PixelBox) (bytes : List ℕ) : Type 0 wh
   pub top : r.y0 ≡ pos y
   pub right : r.x1 ≡ pos (x + width)
   pub bottom : r.y1 ≡ pos (y + height)
-  pub part : IsPart l x y width height bytes
+  pub part : IsPicturePart l x y width height bytes
 
 -- The new bytes are the old ones, and behind them those of `many` pixels of one row of the picture, from pixel (i, j) on.
 pub record AddsPixelRun (l : Scene) (i j many : ℕ) (old new : List ℕ) : Type 0 where

@@ -2,7 +2,7 @@
 use Rattle.std.specs.Prelude.{◌≡◌, ℕ, ◌+◌, ◌-◌, ◌*◌, List, ◌++◌, length, min, slice_get, Some}
 use Rattle.grid.specs.Pixels.{side_of}
 use Rattle.grid.specs.declared.pixels.TileSide.{TileSide}
-use Rattle.model.specs.Picture.{IsPart}
+use Rattle.model.specs.Picture.{IsPicturePart}
 use Rattle.model.specs.Scene.{Scene}
 use Rattle.tiling.specs.Grid.{TileGrid, columns_of, rect_at}
 use Rattle.tiling.specs.declared.tile_pixels.TilePixels.{TilePixels}
@@ -26,7 +26,7 @@ column_width g column = min g.width (column_left g column + side_of g.side) - co
 -- The pixels of the tile in this column of a tile row: its rectangle, and the picture's bytes in it.
 pub record IsColumn (l : Scene) (g : TileGrid) (row column : ℕ) (pixels : TilePixels) : Type 0 where
   pub rect : pixels.rect ≡ rect_at g column row
-  pub part : IsPart l (column_left g column) (tile_row_top g row) (column_width g column) (tile_row_height g row) pixels.bytes.items
+  pub part : IsPicturePart l (column_left g column) (tile_row_top g row) (column_width g column) (tile_row_height g row) pixels.bytes.items
 
 -- The pixels of all tiles of a tile row, from left to right.
 pub record AreColumns (l : Scene) (g : TileGrid) (row : ℕ) (tiles : List TilePixels) : Type 0 where
@@ -35,7 +35,7 @@ pub record AreColumns (l : Scene) (g : TileGrid) (row : ℕ) (tiles : List TileP
 
 -- The bytes of a tile row's rows of pixels.
 abbrev pub IsTileRow : Scene → TileGrid → ℕ → List ℕ → Type 0
-IsTileRow l g row bytes = IsPart l 0 (tile_row_top g row) l.width (tile_row_height g row) bytes
+IsTileRow l g row bytes = IsPicturePart l 0 (tile_row_top g row) l.width (tile_row_height g row) bytes
 
 -- The new bytes are the old ones, and behind them those of a tile row.
 pub record AddsTileRow (l : Scene) (g : TileGrid) (row : ℕ) (old new : List ℕ) : Type 0 where
@@ -45,7 +45,7 @@ pub record AddsTileRow (l : Scene) (g : TileGrid) (row : ℕ) (old new : List �
 
 -- The bytes of the rows of pixels in the tile rows from `first` to before `end`, with tiles of this size.
 abbrev pub AreTileRows : Scene → TileSide → ℕ → ℕ → List ℕ → Type 0
-AreTileRows l side first end bytes = IsPart l 0 (side_of side * first) l.width (min l.height (side_of side * end) - side_of side * first) bytes
+AreTileRows l side first end bytes = IsPicturePart l 0 (side_of side * first) l.width (min l.height (side_of side * end) - side_of side * first) bytes
 
 -- The new bytes are the old ones, and behind them those of these tile rows.
 pub record AddsTileRows (l : Scene) (side : TileSide) (first end : ℕ) (old new : List ℕ) : Type 0 where

@@ -10,7 +10,7 @@ use Rattle.grid.specs.declared.pixels.TileSide.{TileSide}
 use Rattle.model.specs.declared.output.Output.{Output}
 use Rattle.model.specs.declared.output.Output.TheVariants.{Color, Depth}
 use Rattle.model.specs.Scene.{Scene}
-use Rattle.model.specs.Picture.{IsPart, pixel_bytes}
+use Rattle.model.specs.Picture.{IsPicturePart, output_pixel_bytes}
 use Rattle.model.proofs.Parts.{part-append}
 use Rattle.model.proofs.Pixels.{bytes_of_none, bytes_up_to}
 use Rattle.bins.specs.Bin.{TileBins, AreBins}
@@ -24,7 +24,7 @@ use Rattle.picture_file.proofs.Beginnings.{Appends-front}
 use Rattle.trirast.proofs.Written.{HasWritten, all_written, tile_rows_cut, tile_rows_written, whole_tile_rows}
 
 -- no rows of pixels
-no_rows : (l : Scene) (y height : ℕ) → height ≡ 0 → IsPart l 0 y l.width height []
+no_rows : (l : Scene) (y height : ℕ) → height ≡ 0 → IsPicturePart l 0 y l.width height []
 no_rows l y height none = rw none (record { size = sym (bytes_of_none l.output (0 * l.width) (omega arith)); pixels = λ i j wide high. absurd (omega arith) })
 
 pub no_tile_rows : (l : Scene) (side : TileSide) (row : ℕ) → AreTileRows l side row row []
@@ -45,10 +45,10 @@ module _ (l : Scene) (side : TileSide) (first middle end : ℕ) (order : first �
       let high : ℕ = min l.height (side_of side * middle) - side_of side * first in
       let low : ℕ = min l.height (side_of side * end) - side_of side * middle in
       let begin : side_of side * middle ≡ side_of side * first + high = omega arith in
-      let lower' = subst (λ y. IsPart l 0 y l.width low lower) begin k in
+      let lower' = subst (λ y. IsPicturePart l 0 y l.width low lower) begin k in
       let both = part-append l 0 (side_of side * first) l.width high low upper lower h lower' in
       let sum : high + low ≡ min l.height (side_of side * end) - side_of side * first = omega arith in
-      subst (λ n. IsPart l 0 (side_of side * first) l.width n (upper ++ lower)) sum both
+      subst (λ n. IsPicturePart l 0 (side_of side * first) l.width n (upper ++ lower)) sum both
 
   past : l.height < side_of side * middle → AreTileRows l side first end (upper ++ lower)
   past behind =
@@ -58,7 +58,7 @@ module _ (l : Scene) (side : TileSide) (first middle end : ℕ) (order : first �
       let nothing : length lower ≡ 0 = k.size ∙ bytes_of_none l.output _ (omega (arith, flat)) in
       let none : lower ≡ [] = nil_from_length lower nothing in
       let same : min l.height (side_of side * middle) ≡ min l.height (side_of side * end) = omega arith in
-      let all : AreTileRows l side first end upper = subst (λ n. IsPart l 0 (side_of side * first) l.width (n - side_of side * first) upper) same h in
+      let all : AreTileRows l side first end upper = subst (λ n. IsPicturePart l 0 (side_of side * first) l.width (n - side_of side * first) upper) same h in
       subst (AreTileRows l side first end) (sym (ap (λ xs. upper ++ xs) none ∙ append-nil upper)) all
 
   pub tile_rows_behind : AreTileRows l side first end (upper ++ lower)
@@ -90,7 +90,7 @@ few_bytes l side first end bytes wide high are =
     let size = are.size in
     let most = greatest l.output in
     omega arith where
-      greatest : (o : Output) → pixel_bytes o * (4096 * 4096) ≤ 50331648
+      greatest : (o : Output) → output_pixel_bytes o * (4096 * 4096) ≤ 50331648
       greatest Color = omega arith
       greatest Depth = omega arith
 

@@ -9,7 +9,7 @@ use Rattle.grid.specs.Pixels.{side_of}
 use Rattle.grid.specs.declared.pixels.TileSide.{TileSide}
 use Rattle.model.specs.declared.output.Output.{Output}
 use Rattle.model.specs.Scene.{Scene}
-use Rattle.model.specs.Picture.{IsPart}
+use Rattle.model.specs.Picture.{IsPicturePart}
 use Rattle.model.proofs.Exists.{part-exists}
 use Rattle.model.proofs.Parts.{part-append}
 use Rattle.model.proofs.Pixels.{bytes_of_none}
@@ -21,14 +21,14 @@ use Rattle.picture_file.proofs.Beginnings.{Appends-front}
 use Rattle.tiling.proofs.Intervals.{begins_within, interval_before, intervals_all}
 
 -- rows that are there, and the others of the picture
-pub file_with : (l : Scene) (y : ℕ) (rows : List ℕ) → 1 ≤ l.width → y ≤ l.height → IsPart l 0 0 l.width y rows → (rest : List ℕ) × IsPictureFile l (file_of l.output l.width l.height (rows ++ rest))
+pub file_with : (l : Scene) (y : ℕ) (rows : List ℕ) → 1 ≤ l.width → y ≤ l.height → IsPicturePart l 0 0 l.width y rows → (rest : List ℕ) × IsPictureFile l (file_of l.output l.width l.height (rows ++ rest))
 file_with l y rows wide within part =
     let rest = part-exists l 0 y l.width (l.height - y) wide in
-    let below : IsPart l 0 (0 + y) l.width (l.height - y) rest.0 = subst (λ top. IsPart l 0 top l.width (l.height - y) rest.0) (sym (zero-add y)) rest.1 in
+    let below : IsPicturePart l 0 (0 + y) l.width (l.height - y) rest.0 = subst (λ top. IsPicturePart l 0 top l.width (l.height - y) rest.0) (sym (zero-add y)) rest.1 in
     let high : y + (l.height - y) ≡ l.height = omega arith in
     (rest.0, record { rows = rows ++ rest.0; picture = rw high at (part-append l 0 0 l.width y (l.height - y) rows rest.0 part below); whole = refl })
 
-no_rows : (l : Scene) → IsPart l 0 0 l.width 0 []
+no_rows : (l : Scene) → IsPicturePart l 0 0 l.width 0 []
 no_rows l = record { size = sym (bytes_of_none l.output (0 * l.width) (omega arith)); pixels = λ i j wide high. absurd (omega arith) }
 
 -- the header was cut short
@@ -49,7 +49,7 @@ header_cut l output width height n held held_after d e f wide short written =
 -- The header and the tile rows before this one were written, `count` bytes together.
 pub record HasWritten (l : Scene) (side : TileSide) (row count : ℕ) (held held_after : Option (List ℕ)) : Type 0 where
   pub rows : List ℕ
-  pub part : IsPart l 0 0 l.width (min l.height (side_of side * row)) rows
+  pub part : IsPicturePart l 0 0 l.width (min l.height (side_of side * row)) rows
   pub written : Appends held held_after (header_of l.output l.width l.height ++ rows)
   pub many : count ≡ length (header_of l.output l.width l.height) + length rows
 
@@ -81,7 +81,7 @@ module _ (l : Scene) (side : TileSide) (first count : ℕ) (held held' : Option 
   -- no tile row more was written
   pub whole_tile_rows : WritesTileRows l side first held held'
   whole_tile_rows =
-      let part : IsPart l 0 0 l.width (side_of side * first) h.rows = rw top at h.part in
+      let part : IsPicturePart l 0 0 l.width (side_of side * first) h.rows = rw top at h.part in
       let start = below_top in
       let all = file_with l (side_of side * first) h.rows wide (omega arith) part in
       let size = part.size in
@@ -96,17 +96,17 @@ module _ (l : Scene) (side : TileSide) (first count : ℕ) (held held' : Option 
       }
 
   module _ (end : ℕ) (ordered : first ≤ end) (bytes : List ℕ) (are : AreTileRows l side first end bytes) where
-    rows_more : IsPart l 0 0 l.width (min l.height (side_of side * end)) (h.rows ++ bytes)
+    rows_more : IsPicturePart l 0 0 l.width (min l.height (side_of side * end)) (h.rows ++ bytes)
     rows_more =
         let start = below_top in
         let begin = top in
         let more : side_of side * first ≤ side_of side * end = mul-le-mul_left (side_of side) ordered in
         let high : ℕ = min l.height (side_of side * end) - side_of side * first in
         let low : side_of side * first ≡ 0 + min l.height (side_of side * first) = omega arith in
-        let below = subst (λ y. IsPart l 0 y l.width high bytes) low are in
+        let below = subst (λ y. IsPicturePart l 0 y l.width high bytes) low are in
         let both = part-append l 0 0 l.width (min l.height (side_of side * first)) high h.rows bytes h.part below in
         let sum : min l.height (side_of side * first) + high ≡ min l.height (side_of side * end) = omega arith in
-        subst (λ n. IsPart l 0 0 l.width n (h.rows ++ bytes)) sum both
+        subst (λ n. IsPicturePart l 0 0 l.width n (h.rows ++ bytes)) sum both
 
     -- the tile rows were written whole
     pub tile_rows_written : (count' : ℕ) (held'' : Option (List ℕ)) → count' ≡ count + length bytes → Appends held' held'' bytes → HasWritten l side end count' held held''
@@ -141,7 +141,7 @@ module _ (l : Scene) (side : TileSide) (first count : ℕ) (held held' : Option 
 pub all_written : (l : Scene) (side : TileSide) (row count : ℕ) (held held' : Option (List ℕ)) → tiles_over l.height side ≤ row → HasWritten l side row count held held' → WritesAll l count held held'
 all_written l side row count held held' past h =
     let all = intervals_all row l.height side past in
-    let part : IsPart l 0 0 l.width l.height h.rows = rw all at h.part in
+    let part : IsPicturePart l 0 0 l.width l.height h.rows = rw all at h.part in
     record {
       file = file_of l.output l.width l.height h.rows;
       picture = record { rows = h.rows; picture = part; whole = refl };

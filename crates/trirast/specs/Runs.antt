@@ -3,7 +3,7 @@ use Rattle.std.specs.Prelude.{◌≡◌, ◌↔◌, ℕ, ◌+◌, ◌*◌, ◌<�
 use Rattle.std.specs.Io.KnownBytes.{Keeps, Appends}
 use Rattle.grid.specs.Pixels.{side_of}
 use Rattle.grid.specs.declared.pixels.TileSide.{TileSide}
-use Rattle.model.specs.Picture.{pixel_bytes}
+use Rattle.model.specs.Picture.{output_pixel_bytes}
 use Rattle.model.specs.Scene.{Scene}
 use Rattle.program_input.specs.declared.fault.Fault.{Fault}
 use Rattle.program_input.specs.declared.fault.Fault.TheVariants.{List as BadList, Pool, InputFailed, InputTooLong, WriteFailed, OutOfMemory}
@@ -33,7 +33,7 @@ pub record WritesAll (list : Scene) (count : ℕ) (held held_after : Option (Lis
 
 -- How many bytes of the file come before the tile row of this number, with tiles of this size.
 abbrev pub bytes_before : Scene → TileSide → ℕ → ℕ
-bytes_before list side row = length (header_of list.output list.width list.height) + pixel_bytes list.output * (side_of side * row * list.width)
+bytes_before list side row = length (header_of list.output list.width list.height) + output_pixel_bytes list.output * (side_of side * row * list.width)
 
 -- What was written is the header of the file of the draw list's picture, and all tile rows before this one. Each of these tile rows
 -- is whole.

@@ -5,7 +5,7 @@ use Rattle.grid.specs.Pixels.{side_of}
 use Rattle.grid.specs.declared.pixels.TileSide.{TileSide}
 use Rattle.model.specs.Checking.{Checks, done, check, allocate}
 use Rattle.model.specs.Denotes.{Denotes}
-use Rattle.model.specs.Picture.{pixel_bytes}
+use Rattle.model.specs.Picture.{output_pixel_bytes}
 use Rattle.model.specs.Scene.{Scene}
 use Rattle.tiling.specs.Grid.{tiles_over}
 use Rattle.tiling.specs.TileRow.{AreTileRows}
@@ -61,13 +61,13 @@ pub record DrawsRows (Means : Scene → Type 0) (tile_size first end : ℕ) (old
 
 -- How many bytes the file of a list's picture has: those of the header, and of each pixel.
 abbrev pub file_length : Scene → ℕ
-file_length l = length (header_of l.output l.width l.height) + pixel_bytes l.output * (l.height * l.width)
+file_length l = length (header_of l.output l.width l.height) + output_pixel_bytes l.output * (l.height * l.width)
 
 -- The width and height of a list's picture in pixels, and the bytes of a pixel, of the header and of the whole file.
 pub record IsImageInfo (list : Scene) (info : ImageInfo) : Type 0 where
   pub width : info.width ≡ list.width
   pub height : info.height ≡ list.height
-  pub pixel : info.pixel_bytes ≡ pixel_bytes list.output
+  pub pixel : info.pixel_bytes ≡ output_pixel_bytes list.output
   pub header : info.header_bytes ≡ length (header_of list.output list.width list.height)
   pub file : info.file_bytes ≡ file_length list
 
@@ -81,7 +81,7 @@ pub record HoldsInfo (Means : Scene → Type 0) (info : ImageInfo) : Type 0 wher
 
 -- How many bytes the rows of pixels in these tile rows have.
 abbrev pub rows_length : Scene → TileSide → ℕ → ℕ → ℕ
-rows_length l side first end = pixel_bytes l.output * ((min l.height (side_of side * end) - side_of side * first) * l.width)
+rows_length l side first end = output_pixel_bytes l.output * ((min l.height (side_of side * end) - side_of side * first) * l.width)
 
 -- The checks of a list whose file is drawn: its bytes fit. Then memory is allocated.
 abbrev pub file_checks : Scene → ℕ → Checks Status

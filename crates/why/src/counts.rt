@@ -1,7 +1,7 @@
 //! How many samples a triangle covers, changes and is shown by, as text.
 ghost use Rattle.std.specs.Prelude.{◌≡◌, ◌↔◌, ◌⊎◌, ◌++◌, string_bytes, IfOk, IfErr, OnOk};
 ghost use Rattle.why.specs.Report.{HasAskedTriangle, AreCountsOfAsked};
-ghost use Rattle.why.specs.Text.{place_json, numbers_json, counts_json, line, counts_table, counts_text};
+ghost use Rattle.why.specs.Text.{place_json, numbers_json, line, counts_text};
 
 use crate::arguments::{AskedTriangle, Form};
 use crate::text::ReportFault;
@@ -29,38 +29,11 @@ fn push_json_counts(counts: &SampleCounts, out: &mut String) -> Result<(), Alloc
     )
 }
 
-/// Appends the counts as a JSON text.
-fn push_json(
-    asked: &AskedTriangle,
-    counts: &SampleCounts,
-    out: &mut String,
-) -> Result<(), AllocError>
-    ensures { OnOk result (string_bytes out.new ≡ string_bytes out.old ++ counts_json asked.now counts.now) }
-{
-    push_json_place(asked, out)?;
-    push_json_counts(counts, out)
-}
-
 /// Appends a line of a table: words, a number at the right end of eight characters, and words.
 fn push_line(words: &str, number: u32, end: &str, out: &mut String) -> Result<(), AllocError>
     ensures { OnOk result (string_bytes out.new ≡ string_bytes out.old ++ line words.now number end.now) }
 {
     write!(out, "{words}{number:>8}{end}")
-}
-
-/// Appends the counts as a table.
-fn push_table(
-    asked: &AskedTriangle,
-    counts: &SampleCounts,
-    out: &mut String,
-) -> Result<(), AllocError>
-    ensures { OnOk result (string_bytes out.new ≡ string_bytes out.old ++ counts_table asked.now counts.now) }
-{
-    let (draw, triangle) = (asked.place.draw, asked.place.triangle);
-    write!(out, "draw {draw} triangle {triangle}\n")?;
-    push_line("  covers    ", counts.covered, " samples\n", out)?;
-    push_line("  changes   ", counts.changed, " samples\n", out)?;
-    push_line("  shown by  ", counts.shown, " samples in the end\n", out)
 }
 
 /// Appends the counts in the form that is asked for.
@@ -71,9 +44,18 @@ fn push_counts(
 ) -> Result<(), AllocError>
     ensures { OnOk result (string_bytes out.new ≡ string_bytes out.old ++ counts_text asked.now counts.now) }
 {
+    let (draw, triangle) = (asked.place.draw, asked.place.triangle);
     match asked.form {
-        Form::Json => push_json(asked, counts, out),
-        Form::Table => push_table(asked, counts, out),
+        Form::Json => {
+            push_json_place(asked, out)?;
+            push_json_counts(counts, out)
+        }
+        Form::Table => {
+            write!(out, "draw {draw} triangle {triangle}\n")?;
+            push_line("  covers    ", counts.covered, " samples\n", out)?;
+            push_line("  changes   ", counts.changed, " samples\n", out)?;
+            push_line("  shown by  ", counts.shown, " samples in the end\n", out)
+        }
     }
 }
 

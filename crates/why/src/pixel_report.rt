@@ -1,6 +1,6 @@
 //! The text of a report of a pixel, around the histories of its samples.
 ghost use Rattle.std.specs.Prelude.{◌≡◌, ◌++◌, string_bytes, OnOk};
-ghost use Rattle.why.specs.Text.{value_json, value_table, pixel_in, pixel_text};
+ghost use Rattle.why.specs.Text.{value_json, value_table, pixel_text};
 
 use crate::arguments::{Asked, Form};
 use crate::text::Pixel;
@@ -32,39 +32,6 @@ fn push_table_value(output: Output, pixel: &Pixel, out: &mut String) -> Result<(
     }
 }
 
-/// Appends the report as a JSON text.
-fn push_json(
-    output: Output,
-    asked: &Asked,
-    pixel: &Pixel,
-    histories: &str,
-    out: &mut String,
-) -> Result<(), AllocError>
-    ensures { OnOk result (string_bytes out.new ≡
-        string_bytes out.old ++ pixel_in Form.Json output asked.now pixel.now histories.now) }
-{
-    let (x, y) = (asked.x, asked.y);
-    write!(out, "{{\"x\":{x},\"y\":{y},")?;
-    push_json_value(output, pixel, out)?;
-    write!(out, ",\"samples\":[{histories}]}}\n")
-}
-
-/// Appends the report as a table.
-fn push_table(
-    output: Output,
-    asked: &Asked,
-    pixel: &Pixel,
-    histories: &str,
-    out: &mut String,
-) -> Result<(), AllocError>
-    ensures { OnOk result (string_bytes out.new ≡
-        string_bytes out.old ++ pixel_in Form.Table output asked.now pixel.now histories.now) }
-{
-    let (x, y) = (asked.x, asked.y);
-    write!(out, "pixel ({x}, {y})\n{histories}")?;
-    push_table_value(output, pixel, out)
-}
-
 /// Appends the report in the form that is asked for, with these histories of the pixel's samples.
 pub(crate) fn push_pixel(
     output: Output,
@@ -76,8 +43,16 @@ pub(crate) fn push_pixel(
     ensures { OnOk result (string_bytes out.new ≡
         string_bytes out.old ++ pixel_text output asked.now pixel.now histories.now) }
 {
+    let (x, y) = (asked.x, asked.y);
     match asked.form {
-        Form::Json => push_json(output, asked, pixel, histories, out),
-        Form::Table => push_table(output, asked, pixel, histories, out),
+        Form::Json => {
+            write!(out, "{{\"x\":{x},\"y\":{y},")?;
+            push_json_value(output, pixel, out)?;
+            write!(out, ",\"samples\":[{histories}]}}\n")
+        }
+        Form::Table => {
+            write!(out, "pixel ({x}, {y})\n{histories}")?;
+            push_table_value(output, pixel, out)
+        }
     }
 }

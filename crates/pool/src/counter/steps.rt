@@ -1,7 +1,7 @@
 //! The calls of a counter.
 ghost use Rattle.std.specs.Prelude.{◌≡◌, ◌+◌, ◌^◌, ◌<◌, ◌≤◌, length, All, IfOk, IfSome, IfNone, ℕ};
 ghost use Rattle.pool.specs.Counters.{times, once_below, first_handle, with_number, with_mark, without_one, one_seat, both};
-ghost use Rattle.pool.specs.Handles.{count_of, seats_of, knowledge_of, IsIn};
+ghost use Rattle.pool.specs.Handles.{counter_count, seats_of, knowledge_of, IsIn};
 
 use super::{Counter, CounterHandle};
 use crate::known::Limits;
@@ -17,7 +17,7 @@ impl Counter {
         seats: u64,
     ) -> Result<(Counter, CounterHandle), AllocError>
         requires { count + seats < 2 ^ 64 }
-        ensures { IfOk result (λ r. (count_of r.0 ≡ count) × (seats_of r.0 ≡ seats) × IsIn r.0 r.1 × (knowledge_of r.1 ≡ first_handle (record { count = count; seats = seats }))) }
+        ensures { IfOk result (λ r. (counter_count r.0 ≡ count) × (seats_of r.0 ≡ seats) × IsIn r.0 r.1 × (knowledge_of r.1 ≡ first_handle (record { count = count; seats = seats }))) }
     {
         let limits = Limits { count, seats };
         let (table, seat) = Table::of_words(alloc, &[0], &limits)?;
@@ -42,7 +42,7 @@ impl Counter {
         requires handle { IsIn self.now handle.old }
         requires unmarked { (knowledge_of handle.old).marks < (knowledge_of handle.old).seats }
         ensures handle { IsIn self.now handle.new }
-        ensures number { IfSome result (λ k. (k < count_of self.now) × (knowledge_of handle.new ≡ with_number (knowledge_of handle.old) k)) }
+        ensures number { IfSome result (λ k. (k < counter_count self.now) × (knowledge_of handle.new ≡ with_number (knowledge_of handle.old) k)) }
         ensures rises { IfSome result (λ k. All (λ x. x < k) (knowledge_of handle.old).numbers × (length (knowledge_of handle.old).numbers ≤ k)) }
         ensures mark { IfNone result (knowledge_of handle.new ≡ with_mark (knowledge_of handle.old)) }
     {
@@ -68,8 +68,8 @@ impl Counter {
     pub fn close(self, handle: CounterHandle)
         requires handle { IsIn self handle }
         requires all_seats { (knowledge_of handle).seats ≡ seats_of self }
-        ensures once { (x : ℕ) → times x (knowledge_of handle).numbers ≤ once_below x (count_of self) }
-        ensures all { 0 < (knowledge_of handle).marks → (x : ℕ) → times x (knowledge_of handle).numbers ≡ once_below x (count_of self) }
+        ensures once { (x : ℕ) → times x (knowledge_of handle).numbers ≤ once_below x (counter_count self) }
+        ensures all { 0 < (knowledge_of handle).marks → (x : ℕ) → times x (knowledge_of handle).numbers ≡ once_below x (counter_count self) }
     {
         let Counter { table, count: _ } = self;
         let CounterHandle { seat } = handle;

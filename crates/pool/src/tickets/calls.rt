@@ -3,7 +3,7 @@ ghost use Rattle.std.specs.Prelude.{◌≡◌, ◌+◌, ◌≤◌, ◌<◌, [], 
 ghost use Rattle.std.specs.List.{range_with_len};
 ghost use Rattle.std.specs.Vec.{vec_len, vec_capacity};
 ghost use Rattle.pool.specs.Counters.{both};
-ghost use Rattle.pool.specs.Handles.{count_of, seats_of, knowledge_of, IsIn};
+ghost use Rattle.pool.specs.Handles.{counter_count, seats_of, knowledge_of, IsIn};
 ghost use Rattle.pool.specs.Dealing.{list_of, lists_of, NoneTwice, DealtOnce, SomeEnded, Ascends};
 ghost use Rattle.pool.specs.Tickets.{tickets_count, tickets_seats, IsSeatOf, seat_list, seat_number, seat_given, seat_ended};
 
@@ -65,8 +65,8 @@ impl Tickets {
         requires some { 0 < vec_len seats }
         requires fits { All (λ s. IsIn self.counter s.handle) seats.items }
         ensures lists { lists_of result ≡ map seat_list seats.items }
-        ensures twice { NoneTwice (count_of self.counter) (lists_of result) }
-        ensures once { SomeEnded (lists_of result) → DealtOnce (count_of self.counter) (lists_of result) }
+        ensures twice { NoneTwice (counter_count self.counter) (lists_of result) }
+        ensures once { SomeEnded (lists_of result) → DealtOnce (counter_count self.counter) (lists_of result) }
     {
         let Tickets {
             counter,
