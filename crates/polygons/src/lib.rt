@@ -9,6 +9,7 @@ mod cells;
 mod corner;
 mod crossings;
 mod divide;
+mod down_edge;
 mod edge;
 mod extent;
 mod fill;
