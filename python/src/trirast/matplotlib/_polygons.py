@@ -53,11 +53,16 @@ def ranges_of(ends: Any, indices: Any) -> Tuple[Any, Any]:
     return np.arange(found[-1] if len(found) else 0) + np.repeat(starts - (found - counts), counts), found
 
 
+def in_units(positions: Any) -> Any:
+    """Positions in pixels as whole numbers of units, which are floats still."""
+    found = np.multiply(positions, UNIT)
+    return np.rint(found, out=found)
+
+
 def polygons(corners: Any, ring_ends: Any, polygon_ends: Any) -> Polygons:
     """Polygons from positions in pixels."""
-    scaled = np.multiply(corners, UNIT).reshape(-1, 2)
     return Polygons(
-        np.rint(scaled, out=scaled).astype(np.int32), np.asarray(ring_ends, np.int64), np.asarray(polygon_ends, np.int64)
+        in_units(corners).reshape(-1, 2).astype(np.int32), np.asarray(ring_ends, np.int64), np.asarray(polygon_ends, np.int64)
     )
 
 
@@ -79,8 +84,13 @@ def together(parts: Sequence[Polygons]) -> Polygons:
 
 def equal_rings(points: Any) -> Polygons:
     """Polygons of one ring each and as many corners, from positions of the shape (n, corners, 2)."""
-    count, length = points.shape[:2]
-    return polygons(points, length * np.arange(1, count + 1), np.arange(1, count + 1))
+    return rings_of_one_length(in_units(points).astype(np.int32))
+
+
+def rings_of_one_length(corners: Any) -> Polygons:
+    """The same from corners."""
+    each = np.arange(1, len(corners) + 1)
+    return Polygons(corners.reshape(-1, 2), corners.shape[1] * each, each)
 
 
 def joined(paths: Sequence[Rings]) -> Polygons:
@@ -95,21 +105,23 @@ def joined(paths: Sequence[Rings]) -> Polygons:
 
 def rings(vertices: Any, codes: Any, counts: Any) -> Polygons:
     """Paths of MOVETO, LINETO and CLOSEPOLY behind each other, each of a number of the vertices and as one polygon."""
-    ends = np.cumsum(counts)
+    ends = counts.cumsum()
     kept = codes != CLOSEPOLY
     begins = codes == MOVETO
     begins[(ends - counts)[counts > 0]] = True
     begins &= kept
-    begun, dropped = np.flatnonzero(begins), np.flatnonzero(~kept)
-    starts = begun - np.searchsorted(dropped, begun)
-    ring_ends = np.append(starts[1:], len(codes) - len(dropped))[: len(starts)]
-    return polygons(rows_of(vertices, kept) if len(dropped) else vertices, ring_ends, np.searchsorted(begun, ends))
+    begun, dropped = begins.nonzero()[0], (~kept).nonzero()[0]
+    starts = begun - dropped.searchsorted(begun)
+    ring_ends = starts.copy()
+    ring_ends[:-1], ring_ends[-1:] = starts[1:], len(codes) - len(dropped)
+    found = polygons(vertices, ring_ends, begun.searchsorted(ends))
+    return found._replace(corners=rows_of(found.corners, kept)) if len(dropped) else found
 
 
-def rows_of(points: Any, kept: Any) -> Any:
-    """The points that are kept. As single numbers numpy takes them much faster than as rows."""
-    found = np.ascontiguousarray(points, np.float64).view(np.complex128)[:, 0][kept]
-    return found.view(np.float64).reshape(-1, 2)
+def rows_of(corners: Any, kept: Any) -> Any:
+    """The corners that are kept. As single numbers numpy takes them much faster than as rows."""
+    found = corners.view(np.int64)[:, 0][kept]
+    return found.view(np.int32).reshape(-1, 2)
 
 
 def opened(vertices: Any, codes: Any) -> Rings:

@@ -180,7 +180,8 @@ class RendererTrirast(RendererAgg):
     def _faces(self, gc: Any, whole: Collection, widths: Any, alone: bool, has_edges: bool) -> Faces:
         count, height = whole.item_count, int(self.height)
         transforms = placed(whole.master_transform, whole.transforms, whole.offsets, whole.offset_transform, count, height)
-        items = Items(whole.paths, np.arange(count) % len(whole.paths), transforms, widths)
+        paths = np.arange(count)
+        items = Items(whole.paths, paths if count == len(whole.paths) else paths % len(whole.paths), transforms, widths)
         # What lies outside of the picture may have an edge that is seen.
         margin = float(reach_of(widths).max()) if has_edges else 1.0
         return faces_of(items, gc.get_snap(), alone, (int(self.width), height), margin)

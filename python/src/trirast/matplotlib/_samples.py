@@ -2,6 +2,7 @@
 
 from __future__ import annotations
 
+import sys
 from typing import Any, Dict, List, NamedTuple, Optional, Tuple
 
 import numpy as np
@@ -62,7 +63,7 @@ class Samples:
         if not self._is_opaque:
             if max(self._width, self._height) > MAX_ORIGIN:
                 return False
-            self._is_opaque = bool((self._picture[..., 3] == OPAQUE).all())
+            self._is_opaque = is_all_opaque(self._picture)
         return self._is_opaque or bool((self._picture[box.top : box.bottom, box.left : box.right, 3] == OPAQUE).all())
 
     def has_samples(self, box: Box) -> bool:
@@ -117,6 +118,13 @@ class Samples:
                     self._windows[left, top] = Window(pixels, whole, self._samples, self._threads)
                 found.append(self._windows[left, top])
         return found
+
+
+def is_all_opaque(pixels: Any) -> bool:
+    """Whether the alpha of all pixels is 255, found by whole pixels: their alpha is the highest of their bytes."""
+    if sys.byteorder == "little":
+        return bool(pixels.view(np.uint32).min() >= OPAQUE << 24)
+    return bool((pixels[..., 3] == OPAQUE).all())
 
 
 def merged(waiting: List[Waiting]) -> List[Waiting]:

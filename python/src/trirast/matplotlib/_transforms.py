@@ -58,6 +58,8 @@ def matrix_of(transform: Any) -> Any:
 
 def placed(master_transform: Any, transforms: Any, offsets: Any, offset_transform: Any, count: int, height: int) -> Any:
     """The transforms of a collection's items, y downwards: one for each, or one for all."""
+    if not len(transforms) and len(offsets) <= 1:
+        return placed_once(master_transform, offsets, offset_transform, height)
     found = affine(master_transform.get_matrix())[None]
     if len(transforms):
         found = after(affine(np.asarray(transforms)), found)
@@ -69,6 +71,18 @@ def placed(master_transform: Any, transforms: Any, offsets: Any, offset_transfor
     elif len(found) > 1:
         found = cycled(found, count)
     return downwards(found, height)
+
+
+def placed_once(master_transform: Any, offsets: Any, offset_transform: Any, height: int) -> Any:
+    """The one transform of items that have at most one offset: the same numbers, without arrays, which take longer."""
+    (xx, xy, x0), (yx, yy, y0), _row = master_transform.get_matrix().tolist()
+    for x, y in unmasked(offsets).tolist():
+        (a, c, e), (b, d, f), _row = offset_transform.get_matrix().tolist()
+        left, down = x * a, y * d
+        if c or b:
+            left, down = left + y * c, x * b + down
+        x0, y0 = x0 + (left + e), y0 + (down + f)
+    return np.array(((xx, -yx, xy, -yy, x0, -y0 + height),))
 
 
 def unmasked(values: Any) -> Any:
