@@ -70,9 +70,11 @@ def stacked(vertices: Sequence[Any]) -> Any:
 
 
 def stacked_codes(codes: Sequence[Any]) -> Any:
-    """The codes of paths behind each other, of which none is None, in an array that may be only read."""
+    """The codes of paths behind each other, in an array that may be only read; None if a path has none."""
     joined = joined_bytes(codes, CODE)
-    return np.concatenate(codes).astype(CODE, copy=False) if joined is None else np.frombuffer(joined, CODE)
+    if joined is not None:
+        return np.frombuffer(joined, CODE)
+    return None if any(each is None for each in codes) else np.concatenate(codes).astype(CODE, copy=False)
 
 
 def joined_bytes(arrays: Sequence[Any], kind: Any) -> Optional[bytes]:

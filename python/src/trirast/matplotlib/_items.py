@@ -65,7 +65,7 @@ class Alike(NamedTuple):
         """The vertices of some paths in pixels, by one transform or one for each path: of the shape (n, length, 2)."""
         vertices = np.asarray(stacked(self.arrays[some]), np.float64)
         if len(transforms) == 1:
-            return applied(transforms, vertices).reshape(-1, self.length, 2)
+            return applied(transforms[0], vertices).reshape(-1, self.length, 2)
         return applied(transforms[some, None], vertices.reshape(-1, self.length, 2))
 
     def are_near(self, points: Any) -> bool:
@@ -172,11 +172,17 @@ def any_faces(items: Items, snap: Optional[bool], together: bool, size: Tuple[in
 
 def is_drawn_as_it_is(points: Any, codes: Any, counts: Any, snap: Optional[bool], together: bool) -> bool:
     """Whether nothing is to be snapped, flattened or opened, as of most contours: so it is looked at first, and in few steps."""
-    if snap or are_curves(codes).any() or are_behind(codes).any():
+    if snap or not (snap is False or together) or are_curves(codes).any() or are_behind(codes).any():
         return False
-    # One slanted line is enough where all are snapped or none.
-    first = slice(0, min(int(counts[0]), FIRST_VERTICES)) if len(counts) else slice(0, 0)
-    return snap is False or (together and not rectilinear(points[first], codes[first], counts[:1].clip(max=first.stop))[0])
+    return snap is False or is_slanted(points[: counts[0]], codes)
+
+
+def is_slanted(points: Any, codes: Any) -> bool:
+    """Whether one of a path's first lines is neither level nor upright, which says that none is snapped where all are or none.
+    Mostly the first one is, so numbers without arrays take less time."""
+    first = points[:FIRST_VERTICES].tolist()
+    lines = zip(first, first[1:], codes[1:FIRST_VERTICES].tolist())
+    return any(code == LINETO and abs(x - u) >= STRAIGHT and abs(y - v) >= STRAIGHT for (x, y), (u, v), code in lines)
 
 
 def are_curves(codes: Any) -> Any:
@@ -236,8 +242,9 @@ def path_members(items: Items) -> Tuple[Any, Any, Any]:
 def joined_codes(paths: Sequence[Any], lengths: Any) -> Any:
     """The codes of paths, one after another."""
     given = all_codes(paths)
-    if not any(codes is None for codes in given):
-        return stacked_codes(given)
+    whole = stacked_codes(given)
+    if whole is not None:
+        return whole
     found = np.full(lengths.sum(), LINETO, np.uint8)
     ends = np.cumsum(lengths)
     found[(ends - lengths)[lengths > 0]] = MOVETO

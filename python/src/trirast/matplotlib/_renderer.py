@@ -285,7 +285,7 @@ class RendererTrirast(RendererAgg):
 
     def _is_opaque(self, gc: Any) -> bool:
         """Whether samples can take the pixels inside of the clip rectangle."""
-        return self._all_samples().is_opaque(self._clip_box(gc))
+        return self._all_samples().is_opaque(lambda: self._clip_box(gc))
 
     def _leaves_samples(self, gc: Any, opaque: bool) -> bool:
         """Whether nothing is lost if Agg draws whole pixels here, with all of their samples."""

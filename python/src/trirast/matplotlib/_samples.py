@@ -3,7 +3,7 @@
 from __future__ import annotations
 
 import sys
-from typing import Any, Dict, List, NamedTuple, Optional, Tuple
+from typing import Any, Callable, Dict, List, NamedTuple, Optional, Tuple
 
 import numpy as np
 
@@ -58,13 +58,17 @@ class Samples:
         """Something may have made pixels transparent."""
         self._is_opaque = False
 
-    def is_opaque(self, box: Box) -> bool:
-        """Whether the pixels of a box are opaque, so that samples can take them."""
-        if not self._is_opaque:
-            if max(self._width, self._height) > MAX_ORIGIN:
-                return False
-            self._is_opaque = is_all_opaque(self._picture)
-        return self._is_opaque or bool((self._picture[box.top : box.bottom, box.left : box.right, 3] == OPAQUE).all())
+    def is_opaque(self, box_of: Callable[[], Box]) -> bool:
+        """Whether the pixels of a box are opaque, so that samples can take them. The box is asked for if some other pixel is not."""
+        if self._is_opaque:
+            return True
+        if max(self._width, self._height) > MAX_ORIGIN:
+            return False
+        self._is_opaque = is_all_opaque(self._picture)
+        if self._is_opaque:
+            return True
+        box = box_of()
+        return bool((self._picture[box.top : box.bottom, box.left : box.right, 3] == OPAQUE).all())
 
     def has_samples(self, box: Box) -> bool:
         """Whether samples may differ from the picture near a box."""

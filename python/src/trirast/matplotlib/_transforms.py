@@ -29,8 +29,12 @@ def after(first: Any, then: Any) -> Any:
 def applied(transform: Any, points: Any) -> Any:
     """Points transformed: each by its own, or all by one."""
     x, y = points[..., 0], points[..., 1]
-    xx, yx, xy, yy, x0, y0 = np.moveaxis(transform, -1, 0)
-    found = np.empty(np.broadcast(x, xx).shape + (2,))
+    if transform.ndim == 1:
+        xx, yx, xy, yy, x0, y0 = transform.tolist()
+        found = np.empty(points.shape)
+    else:
+        xx, yx, xy, yy, x0, y0 = np.moveaxis(transform, -1, 0)
+        found = np.empty(np.broadcast(x, xx).shape + (2,))
     with np.errstate(invalid="ignore", over="ignore"):
         np.multiply(x, xx, out=found[..., 0])
         np.multiply(y, yy, out=found[..., 1])
