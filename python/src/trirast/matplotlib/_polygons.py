@@ -39,10 +39,34 @@ class Polygons(NamedTuple):
 
     @property
     def are_simple(self) -> bool:
-        """Whether each polygon is one ring of so few corners that the even-odd rule is the nonzero rule."""
+        """Whether each polygon is one ring that is known to wind around no point twice, so that the even-odd rule is the nonzero rule."""
         if len(self.ring_ends) != len(self.polygon_ends) or not len(self.ring_ends):
             return False
-        return bool(self.ring_ends[0] <= MOST_SIMPLE and (self.ring_ends[1:] - self.ring_ends[:-1] <= MOST_SIMPLE).all())
+        few = np.diff(self.ring_ends, prepend=0) <= MOST_SIMPLE
+        return bool(few.all() or (few | turn_once(self.corners, self.ring_ends)).all())
+
+
+def turn_once(corners: Any, ring_ends: Any) -> Any:
+    """Which rings run down once and up once, or to the right once and to the left once. A line across that direction crosses such a ring
+    at most twice, there and back: so it winds around no point twice."""
+    found = np.ones(len(ring_ends), bool)
+    some = (np.diff(ring_ends, prepend=0) > 0).nonzero()[0]
+    ends = ring_ends[some]
+    steps = np.empty_like(corners)
+    steps[:-1] = corners[1:] - corners[:-1]
+    steps[ends - 1] = corners[np.concatenate(([0], ends[:-1]))] - corners[ends - 1]
+    found[some] = (turns_of(steps[:, 0], ends) <= 2) | (turns_of(steps[:, 1], ends) <= 2)
+    return found
+
+
+def turns_of(steps: Any, ends: Any) -> Any:
+    """How often each ring turns back in one direction, of its steps in this direction; the turn from its last step to its first is not
+    counted, and is one more if the number is odd."""
+    moving = steps.nonzero()[0]
+    forth = steps[moving] > 0
+    before = (forth[1:] != forth[:-1]).nonzero()[0]
+    ring, next_ring = (ends.searchsorted(moving[each], "right") for each in (before, before + 1))
+    return np.bincount(ring[ring == next_ring], minlength=len(ends))
 
 
 def ranges_of(ends: Any, indices: Any) -> Tuple[Any, Any]:

@@ -127,7 +127,7 @@ class RendererTrirast(RendererAgg):
     def draw_markers(self, gc: Any, marker_path: Any, marker_trans: Any, path: Any, trans: Any, rgbFace: Any = None) -> None:
         """Draws the face of a marker at the figure's origin: a collection of one item without an offset comes so. Other
         markers stay Agg's: it puts them on whole pixels, so they have no side in common."""
-        smooth = rgbFace is not None and is_origin(path, trans) and len(marker_path.vertices) > 2 and self._is_smooth(gc.get_antialiased())
+        smooth = rgbFace is not None and len(marker_path.vertices) > 2 and is_origin(path, trans) and self._is_smooth(gc.get_antialiased())
         color = face_bytes(gc, rgbFace) if smooth else (0, 0, 0, 0)
         if color[3] and self._is_opaque(gc):
             matrix = np.array(marker_trans.get_matrix())
