@@ -202,7 +202,7 @@ class Items(unittest.TestCase):
                     PolyCollection(shapes, facecolors=colors(len(shapes), 0.5), snap=snap)
                 )
                 whole = drawn(draw)
-                with mock.patch.object(_items, "alike_vertices", lambda items: None):
+                with mock.patch.object(_items, "alike_items", lambda items: None):
                     self.assertEqual(unlike(whole, drawn(draw)), 0)
 
     def test_quad_mesh(self) -> None:

@@ -274,6 +274,39 @@ class Rules(unittest.TestCase):
             winding = (down & left).sum(1) - (up & left).sum(1)
             self.assertTrue((np.abs(winding) <= 1).all())
 
+    def test_rings_that_turn_once_are_the_same_by_both_rules(self) -> None:
+        """Also those that cross themselves, with level and upright steps and with empty rings between them; a star is none."""
+        pick = np.random.default_rng(6)
+        known = 0
+        for number in range(40):
+            lengths = pick.integers(0, 12, 30)
+            rings = [pick.integers(0, 20, (length, 2)) * 900 for length in lengths]
+            for n, ring in enumerate(rings):
+                if n % 3 < 2:
+                    # Once forth and once back in one direction, and anyhow in the other.
+                    half, axis = pick.integers(0, len(ring) + 1), n % 3
+                    ring[:half, axis].sort()
+                    ring[half:, axis] = -np.sort(-ring[half:, axis])
+                    rings[n] = np.roll(ring, pick.integers(12), 0)
+            polygons = _polygons.Polygons(np.concatenate(rings).astype(np.int32), np.cumsum(lengths), np.arange(1, 31))
+            turned = _polygons.turn_once(polygons.corners, polygons.ring_ends)
+            self.assertTrue(turned[np.arange(30) % 3 < 2].all())
+            some = polygons.taken(np.flatnonzero(turned))
+            self.assertTrue(some.are_simple)
+            fills = pick.integers(0, 256, (len(some.polygon_ends), 4)).astype(np.uint8)
+            pictures = []
+            rules: Any = ("even-odd", "nonzero")
+            for rule in rules:
+                canvas = Canvas(80, 70, 16)
+                canvas.draw_polygons(*some, fills, rule=rule, blend="over")
+                pictures.append([canvas.colors(sample) for sample in range(16)])
+            self.assertTrue(np.array_equal(*pictures))
+            known += int(turned.sum())
+        self.assertGreater(known, 800)
+        star = np.array(((0, 9), (6, 0), (9, 8), (0, 3), (9, 3)), np.int32)[None]
+        self.assertFalse(polygons_of(star).are_simple)
+        self.assertTrue(polygons_of(star[:, [0, 3, 1, 4, 2]]).are_simple)
+
     def test_nonzero(self) -> None:
         """What a star's ring winds around twice is inside."""
         angles = np.pi / 2 + 4 * np.pi / 5 * np.arange(5)

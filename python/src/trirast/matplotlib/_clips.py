@@ -22,9 +22,11 @@ def clip_box(gc: Any, width: int, height: int) -> Box:
     (left, low), (right, high) = rectangle.get_points().tolist()
     if not (left or low or right or high) or not math.isfinite(left + low + right + high):
         return Box(0, 0, width, height)
-    across = (min(max(math.floor(x + 0.5), 0), width) for x in (left, right))
-    down = (min(max(math.floor(height - y + 0.5), 0), height) for y in (high, low))
-    return Box(*(edge for pair in zip(across, down) for edge in pair))
+    return Box(inside(left, width), inside(height - high, height), inside(right, width), inside(height - low, height))
+
+
+def inside(position: float, end: int) -> int:
+    return min(max(math.floor(position + 0.5), 0), end)
 
 
 class Kept(NamedTuple):

@@ -26,7 +26,8 @@ def color_bytes(colors: Any) -> Any:
     rows = rows_of_colors(colors)
     if not np.isfinite(rows.sum()):
         rows = np.nan_to_num(rows)
-    scaled = np.minimum(np.maximum(rows, 0), 1)
+    scaled = np.maximum(rows, 0)
+    np.minimum(scaled, 1, out=scaled)
     scaled *= 255
     scaled += 0.5
     return scaled.astype(np.uint8)

@@ -40,6 +40,7 @@ STRAIGHT = 1e-4
 MITRE_LIMIT = 4
 # A face of this colour is not seen, and Agg treats the edge as that of a path with a face.
 HIDDEN = (0.0, 0.0, 0.0, 1e-9)
+FLOAT, CODE = np.dtype(np.float64), np.dtype(np.uint8)
 # The calls that RendererAgg puts into its instances.
 BOUND = (
     "draw_gouraud_triangle", "draw_gouraud_triangles", "draw_image", "draw_markers", "draw_path_collection", "draw_quad_mesh",
@@ -63,15 +64,28 @@ def are_one(values: Sequence[Any]) -> bool:
 
 
 def stacked(vertices: Sequence[Any]) -> Any:
-    """The vertices of paths behind each other, in an array that may be only read. There are often many short ones: joined as bytes they take
-    less than half of the time that numpy takes."""
+    """The vertices of paths behind each other, in an array that may be only read."""
+    joined = joined_bytes(vertices, FLOAT)
+    return np.concatenate(vertices) if joined is None else np.frombuffer(joined).reshape(-1, 2)
+
+
+def stacked_codes(codes: Sequence[Any]) -> Any:
+    """The codes of paths behind each other, in an array that may be only read; None if a path has none."""
+    joined = joined_bytes(codes, CODE)
+    if joined is not None:
+        return np.frombuffer(joined, CODE)
+    return None if any(each is None for each in codes) else np.concatenate(codes).astype(CODE, copy=False)
+
+
+def joined_bytes(arrays: Sequence[Any], kind: Any) -> Optional[bytes]:
+    """The bytes of arrays behind each other; None if one is of another type, or has gaps. There are often many short ones: joined so
+    they take less than half of the time that numpy takes."""
     try:
-        kinds = list(map(attrgetter("dtype"), vertices))
-        if kinds[0] == np.float64 and are_one(kinds):
-            return np.frombuffer(b"".join(vertices)).reshape(-1, 2)
+        if list(map(attrgetter("dtype"), arrays)).count(kind) == len(arrays):
+            return b"".join(arrays)
     except (AttributeError, TypeError):
         pass  # One is no array, or has gaps.
-    return np.concatenate(vertices)
+    return None
 
 
 def face_alpha(gc: Any, color: Any) -> float:

@@ -7,10 +7,16 @@ from typing import Any, List, NamedTuple, Optional, Sequence, Tuple
 import numpy as np
 from matplotlib.path import Path
 
-from ._inside import MAX_SNAPPED, STRAIGHT, all_codes, all_vertices, are_one, cleaned, stacked
+from ._inside import MAX_SNAPPED, STRAIGHT, all_codes, all_vertices, are_one, cleaned, stacked, stacked_codes
 from ._paths import range_any, rectilinear
-from ._polygons import CLOSEPOLY, LINETO, MOVETO, NOTHING, REACH, Polygons, Rings, equal_rings, joined, polygons, ranges_of, rings
+from ._polygons import CLOSEPOLY, LINETO, MOVETO, NOTHING, REACH, Polygons, Rings, equal_rings, in_units, joined, polygons, ranges_of, rings, rings_of_one_length
 from ._transforms import applied, matrix_of
+
+
+# Items of equal length that are placed together.
+CHUNK = 4096
+# The vertices of a path among which a slanted line is looked for first.
+FIRST_VERTICES = 64
 
 
 class Items(NamedTuple):
@@ -37,7 +43,7 @@ class Faces(NamedTuple):
 def faces_of(items: Items, snap: Optional[bool], together: bool, size: Tuple[int, int], margin: float = 1) -> Faces:
     """The faces of items, an empty one if it lies farther than the margin from a picture of this width and height.
     `together`: all are snapped or none, where matplotlib leaves it open."""
-    alike = alike_vertices(items)
+    alike = alike_items(items)
     if alike is not None:
         found = equal_faces(items, alike, snap, together)
         if found is not None:
@@ -48,34 +54,71 @@ def faces_of(items: Items, snap: Optional[bool], together: bool, size: Tuple[int
 # ---- Items of one ring each and of as many corners, as most collections have them
 
 
-def alike_vertices(items: Items) -> Any:
-    """The vertices of items, of the shape (n, corners, 2), if each is one ring of as many; else None."""
+class Alike(NamedTuple):
+    """The vertices of paths of one ring each, as many in each, and how many of them are corners: all, or all but the last."""
+
+    arrays: Sequence[Any]
+    length: int
+    corners: int
+
+    def points(self, transforms: Any, some: slice) -> Any:
+        """The vertices of some paths in pixels, by one transform or one for each path: of the shape (n, length, 2)."""
+        vertices = np.asarray(stacked(self.arrays[some]), np.float64)
+        if len(transforms) == 1:
+            return applied(transforms[0], vertices).reshape(-1, self.length, 2)
+        return applied(transforms[some, None], vertices.reshape(-1, self.length, 2))
+
+    def are_near(self, points: Any) -> bool:
+        """Whether all corners are numbers in the guard band. The last vertices mostly are too, and it takes less to look at all."""
+        return is_near(points) or is_near(points[:, : self.corners])
+
+
+def alike_items(items: Items) -> Optional[Alike]:
+    """The vertices of items, if each is one ring of as many corners; else None."""
     of_paths, arrays = all_codes(items.paths), all_vertices(items.paths)
     codes, length = of_paths[0], len(arrays[0])
     if not length or not are_one(of_paths) or len(set(map(len, arrays))) > 1:
         return None
     if codes is not None and not (codes[0] == MOVETO and (codes[1:-1] == LINETO).all() and codes[-1] in (LINETO, CLOSEPOLY)):
         return None
-    found = stacked(arrays).reshape(-1, length, 2)
-    if codes is not None and codes[-1] == CLOSEPOLY:
-        found = found[:, :-1]
-    return found if len(found) == len(items.path_of) else found[items.path_of]
+    if len(arrays) != len(items.path_of):
+        arrays = [arrays[n] for n in items.path_of.tolist()]
+    return Alike(arrays, length, length - int(codes is not None and codes[-1] == CLOSEPOLY))
 
 
-def equal_faces(items: Items, vertices: Any, snap: Optional[bool], together: bool) -> Optional[Faces]:
+def equal_faces(items: Items, alike: Alike, snap: Optional[bool], together: bool) -> Optional[Faces]:
     """The faces of such items, or None if one is too far away, or has a number that is none."""
-    points = applied(items.transforms[:, None], np.asarray(vertices, np.float64))
-    with np.errstate(invalid="ignore"):
-        # False also where a number is none.
-        if not (-REACH <= points.min() and points.max() <= REACH):
-            return None
-    upright = straight(points, together) if snap is not False and points.shape[1] <= MAX_SNAPPED else np.zeros(len(points), bool)
+    if snap is False or (snap is None and not may_be_snapped(items, alike, together)):
+        return unsnapped_faces(items, alike)
+    points = alike.points(items.transforms, slice(0, len(alike.arrays)))
+    if not alike.are_near(points):
+        return None
+    points = points[:, : alike.corners]
+    upright = straight(points, together) if alike.corners <= MAX_SNAPPED else np.zeros(len(points), bool)
     snapped = upright if snap is None else np.full(len(points), snap)
     added = half_of_odd(items.strokes)
     if snapped.any():
         moved = np.floor(points + 0.5) + added[:, None, None]
         points = moved if snapped.all() else np.where(snapped[:, None, None], moved, points)
     return Faces(equal_rings(points), snapped & upright & (added == 0))
+
+
+def may_be_snapped(items: Items, alike: Alike, together: bool) -> bool:
+    """Whether Agg may snap such items: not if they are long, or if all are snapped or none and the first one is slanted."""
+    first = alike.points(items.transforms, slice(0, 1))[:, : alike.corners]
+    return alike.corners <= MAX_SNAPPED and (not together or bool(straight(first, True).any()))
+
+
+def unsnapped_faces(items: Items, alike: Alike) -> Optional[Faces]:
+    """The faces of such items of which none is snapped, some at a time, so that they stay in the cache of a processor."""
+    count = len(alike.arrays)
+    corners = np.empty((count, alike.corners, 2), np.int32)
+    for start in range(0, count, CHUNK):
+        points = alike.points(items.transforms, slice(start, start + CHUNK))
+        if not alike.are_near(points):
+            return None
+        corners[start : start + CHUNK] = in_units(points[:, : alike.corners])
+    return Faces(rings_of_one_length(corners), np.zeros(count, bool))
 
 
 def straight(points: Any, together: bool) -> Any:
@@ -96,17 +139,18 @@ def any_faces(items: Items, snap: Optional[bool], together: bool, size: Tuple[in
     vertices, codes, counts = path_members(items)
     points = applied(item_transforms(items, counts), vertices)
     is_whole = is_seen_whole(points, size)
+    if is_whole and is_drawn_as_it_is(points, codes, counts, snap, together):
+        return Faces(rings(points, codes, counts), np.zeros(len(counts), bool))
     if not is_whole:
         seen = meets(points, counts, size, margin) & np.isfinite(items.transforms).all(1)
         if not seen.all():
             some = any_faces(items.of(seen), snap, together, size, margin) if seen.any() else Faces(NOTHING, seen[:0])
             return Faces(spread(some.polygons, seen), spread_flags(some.whole, seen))
-    curved = range_any((codes == Path.CURVE3) | (codes == Path.CURVE4), counts)
+    curved = range_any(are_curves(codes), counts)
     near = is_whole or is_near(points)
     with np.errstate(invalid="ignore"):
         odd = np.zeros(len(points), bool) if near else ~(np.abs(points) <= REACH).all(1)
-    # A line behind a CLOSEPOLY is rare.
-    odd[1:] |= (codes[1:] == LINETO) & (codes[:-1] == CLOSEPOLY)
+    odd[1:] |= are_behind(codes)
     slow = range_any(odd, counts)
     if curved.any() and not snap and not slow.any():
         # Agg snaps no path with a curve, unless it is asked to.
@@ -124,6 +168,30 @@ def any_faces(items: Items, snap: Optional[bool], together: bool, size: Tuple[in
     if not slow.any():
         return Faces(rings(points, codes, counts), snapped & (added == 0) & upright)
     return Faces(joined(slow_paths(items, points, codes, counts, slow, snap)), snapped & (added == 0) & upright)
+
+
+def is_drawn_as_it_is(points: Any, codes: Any, counts: Any, snap: Optional[bool], together: bool) -> bool:
+    """Whether nothing is to be snapped, flattened or opened, as of most contours: so it is looked at first, and in few steps."""
+    if snap or not (snap is False or together) or are_curves(codes).any() or are_behind(codes).any():
+        return False
+    return snap is False or is_slanted(points[: counts[0]], codes)
+
+
+def is_slanted(points: Any, codes: Any) -> bool:
+    """Whether one of a path's first lines is neither level nor upright, which says that none is snapped where all are or none.
+    Mostly the first one is, so numbers without arrays take less time."""
+    first = points[:FIRST_VERTICES].tolist()
+    lines = zip(first, first[1:], codes[1:FIRST_VERTICES].tolist())
+    return any(code == LINETO and abs(x - u) >= STRAIGHT and abs(y - v) >= STRAIGHT for (x, y), (u, v), code in lines)
+
+
+def are_curves(codes: Any) -> Any:
+    return (codes == Path.CURVE3) | (codes == Path.CURVE4)
+
+
+def are_behind(codes: Any) -> Any:
+    """Which codes but the first are lines behind a CLOSEPOLY, which are rare."""
+    return (codes[1:] == LINETO) & (codes[:-1] == CLOSEPOLY)
 
 
 def is_near(points: Any) -> bool:
@@ -174,8 +242,9 @@ def path_members(items: Items) -> Tuple[Any, Any, Any]:
 def joined_codes(paths: Sequence[Any], lengths: Any) -> Any:
     """The codes of paths, one after another."""
     given = all_codes(paths)
-    if not any(codes is None for codes in given):
-        return np.concatenate(given).astype(np.uint8, copy=False)
+    whole = stacked_codes(given)
+    if whole is not None:
+        return whole
     found = np.full(lengths.sum(), LINETO, np.uint8)
     ends = np.cumsum(lengths)
     found[(ends - lengths)[lengths > 0]] = MOVETO

@@ -39,10 +39,34 @@ class Polygons(NamedTuple):
 
     @property
     def are_simple(self) -> bool:
-        """Whether each polygon is one ring of so few corners that the even-odd rule is the nonzero rule."""
+        """Whether each polygon is one ring that is known to wind around no point twice, so that the even-odd rule is the nonzero rule."""
         if len(self.ring_ends) != len(self.polygon_ends) or not len(self.ring_ends):
             return False
-        return bool(self.ring_ends[0] <= MOST_SIMPLE and (self.ring_ends[1:] - self.ring_ends[:-1] <= MOST_SIMPLE).all())
+        few = np.diff(self.ring_ends, prepend=0) <= MOST_SIMPLE
+        return bool(few.all() or (few | turn_once(self.corners, self.ring_ends)).all())
+
+
+def turn_once(corners: Any, ring_ends: Any) -> Any:
+    """Which rings run down once and up once, or to the right once and to the left once. A line across that direction crosses such a ring
+    at most twice, there and back: so it winds around no point twice."""
+    found = np.ones(len(ring_ends), bool)
+    some = (np.diff(ring_ends, prepend=0) > 0).nonzero()[0]
+    ends = ring_ends[some]
+    steps = np.empty_like(corners)
+    steps[:-1] = corners[1:] - corners[:-1]
+    steps[ends - 1] = corners[np.concatenate(([0], ends[:-1]))] - corners[ends - 1]
+    found[some] = (turns_of(steps[:, 0], ends) <= 2) | (turns_of(steps[:, 1], ends) <= 2)
+    return found
+
+
+def turns_of(steps: Any, ends: Any) -> Any:
+    """How often each ring turns back in one direction, of its steps in this direction; the turn from its last step to its first is not
+    counted, and is one more if the number is odd."""
+    moving = steps.nonzero()[0]
+    forth = steps[moving] > 0
+    before = (forth[1:] != forth[:-1]).nonzero()[0]
+    ring, next_ring = (ends.searchsorted(moving[each], "right") for each in (before, before + 1))
+    return np.bincount(ring[ring == next_ring], minlength=len(ends))
 
 
 def ranges_of(ends: Any, indices: Any) -> Tuple[Any, Any]:
@@ -53,11 +77,16 @@ def ranges_of(ends: Any, indices: Any) -> Tuple[Any, Any]:
     return np.arange(found[-1] if len(found) else 0) + np.repeat(starts - (found - counts), counts), found
 
 
+def in_units(positions: Any) -> Any:
+    """Positions in pixels as whole numbers of units, which are floats still."""
+    found = np.multiply(positions, UNIT)
+    return np.rint(found, out=found)
+
+
 def polygons(corners: Any, ring_ends: Any, polygon_ends: Any) -> Polygons:
     """Polygons from positions in pixels."""
-    scaled = np.multiply(corners, UNIT).reshape(-1, 2)
     return Polygons(
-        np.rint(scaled, out=scaled).astype(np.int32), np.asarray(ring_ends, np.int64), np.asarray(polygon_ends, np.int64)
+        in_units(corners).reshape(-1, 2).astype(np.int32), np.asarray(ring_ends, np.int64), np.asarray(polygon_ends, np.int64)
     )
 
 
@@ -79,8 +108,13 @@ def together(parts: Sequence[Polygons]) -> Polygons:
 
 def equal_rings(points: Any) -> Polygons:
     """Polygons of one ring each and as many corners, from positions of the shape (n, corners, 2)."""
-    count, length = points.shape[:2]
-    return polygons(points, length * np.arange(1, count + 1), np.arange(1, count + 1))
+    return rings_of_one_length(in_units(points).astype(np.int32))
+
+
+def rings_of_one_length(corners: Any) -> Polygons:
+    """The same from corners."""
+    each = np.arange(1, len(corners) + 1)
+    return Polygons(corners.reshape(-1, 2), corners.shape[1] * each, each)
 
 
 def joined(paths: Sequence[Rings]) -> Polygons:
@@ -95,21 +129,23 @@ def joined(paths: Sequence[Rings]) -> Polygons:
 
 def rings(vertices: Any, codes: Any, counts: Any) -> Polygons:
     """Paths of MOVETO, LINETO and CLOSEPOLY behind each other, each of a number of the vertices and as one polygon."""
-    ends = np.cumsum(counts)
+    ends = counts.cumsum()
     kept = codes != CLOSEPOLY
     begins = codes == MOVETO
     begins[(ends - counts)[counts > 0]] = True
     begins &= kept
-    begun, dropped = np.flatnonzero(begins), np.flatnonzero(~kept)
-    starts = begun - np.searchsorted(dropped, begun)
-    ring_ends = np.append(starts[1:], len(codes) - len(dropped))[: len(starts)]
-    return polygons(rows_of(vertices, kept) if len(dropped) else vertices, ring_ends, np.searchsorted(begun, ends))
+    begun, dropped = begins.nonzero()[0], (~kept).nonzero()[0]
+    starts = begun - dropped.searchsorted(begun)
+    ring_ends = starts.copy()
+    ring_ends[:-1], ring_ends[-1:] = starts[1:], len(codes) - len(dropped)
+    found = polygons(vertices, ring_ends, begun.searchsorted(ends))
+    return found._replace(corners=rows_of(found.corners, kept)) if len(dropped) else found
 
 
-def rows_of(points: Any, kept: Any) -> Any:
-    """The points that are kept. As single numbers numpy takes them much faster than as rows."""
-    found = np.ascontiguousarray(points, np.float64).view(np.complex128)[:, 0][kept]
-    return found.view(np.float64).reshape(-1, 2)
+def rows_of(corners: Any, kept: Any) -> Any:
+    """The corners that are kept. As single numbers numpy takes them much faster than as rows."""
+    found = corners.view(np.int64)[:, 0][kept]
+    return found.view(np.int32).reshape(-1, 2)
 
 
 def opened(vertices: Any, codes: Any) -> Rings:

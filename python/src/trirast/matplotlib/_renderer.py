@@ -127,7 +127,7 @@ class RendererTrirast(RendererAgg):
     def draw_markers(self, gc: Any, marker_path: Any, marker_trans: Any, path: Any, trans: Any, rgbFace: Any = None) -> None:
         """Draws the face of a marker at the figure's origin: a collection of one item without an offset comes so. Other
         markers stay Agg's: it puts them on whole pixels, so they have no side in common."""
-        smooth = rgbFace is not None and is_origin(path, trans) and len(marker_path.vertices) > 2 and self._is_smooth(gc.get_antialiased())
+        smooth = rgbFace is not None and len(marker_path.vertices) > 2 and is_origin(path, trans) and self._is_smooth(gc.get_antialiased())
         color = face_bytes(gc, rgbFace) if smooth else (0, 0, 0, 0)
         if color[3] and self._is_opaque(gc):
             matrix = np.array(marker_trans.get_matrix())
@@ -180,7 +180,8 @@ class RendererTrirast(RendererAgg):
     def _faces(self, gc: Any, whole: Collection, widths: Any, alone: bool, has_edges: bool) -> Faces:
         count, height = whole.item_count, int(self.height)
         transforms = placed(whole.master_transform, whole.transforms, whole.offsets, whole.offset_transform, count, height)
-        items = Items(whole.paths, np.arange(count) % len(whole.paths), transforms, widths)
+        paths = np.arange(count)
+        items = Items(whole.paths, paths if count == len(whole.paths) else paths % len(whole.paths), transforms, widths)
         # What lies outside of the picture may have an edge that is seen.
         margin = float(reach_of(widths).max()) if has_edges else 1.0
         return faces_of(items, gc.get_snap(), alone, (int(self.width), height), margin)
@@ -284,7 +285,7 @@ class RendererTrirast(RendererAgg):
 
     def _is_opaque(self, gc: Any) -> bool:
         """Whether samples can take the pixels inside of the clip rectangle."""
-        return self._all_samples().is_opaque(self._clip_box(gc))
+        return self._all_samples().is_opaque(lambda: self._clip_box(gc))
 
     def _leaves_samples(self, gc: Any, opaque: bool) -> bool:
         """Whether nothing is lost if Agg draws whole pixels here, with all of their samples."""

@@ -2,7 +2,8 @@
 
 from __future__ import annotations
 
-from typing import Any, Dict, List, NamedTuple, Optional, Tuple
+import sys
+from typing import Any, Callable, Dict, List, NamedTuple, Optional, Tuple
 
 import numpy as np
 
@@ -57,13 +58,17 @@ class Samples:
         """Something may have made pixels transparent."""
         self._is_opaque = False
 
-    def is_opaque(self, box: Box) -> bool:
-        """Whether the pixels of a box are opaque, so that samples can take them."""
-        if not self._is_opaque:
-            if max(self._width, self._height) > MAX_ORIGIN:
-                return False
-            self._is_opaque = bool((self._picture[..., 3] == OPAQUE).all())
-        return self._is_opaque or bool((self._picture[box.top : box.bottom, box.left : box.right, 3] == OPAQUE).all())
+    def is_opaque(self, box_of: Callable[[], Box]) -> bool:
+        """Whether the pixels of a box are opaque, so that samples can take them. The box is asked for if some other pixel is not."""
+        if self._is_opaque:
+            return True
+        if max(self._width, self._height) > MAX_ORIGIN:
+            return False
+        self._is_opaque = is_all_opaque(self._picture)
+        if self._is_opaque:
+            return True
+        box = box_of()
+        return bool((self._picture[box.top : box.bottom, box.left : box.right, 3] == OPAQUE).all())
 
     def has_samples(self, box: Box) -> bool:
         """Whether samples may differ from the picture near a box."""
@@ -117,6 +122,13 @@ class Samples:
                     self._windows[left, top] = Window(pixels, whole, self._samples, self._threads)
                 found.append(self._windows[left, top])
         return found
+
+
+def is_all_opaque(pixels: Any) -> bool:
+    """Whether the alpha of all pixels is 255, found by whole pixels: their alpha is the highest of their bytes."""
+    if sys.byteorder == "little":
+        return bool(pixels.view(np.uint32).min() >= OPAQUE << 24)
+    return bool((pixels[..., 3] == OPAQUE).all())
 
 
 def merged(waiting: List[Waiting]) -> List[Waiting]:

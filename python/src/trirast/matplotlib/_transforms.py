@@ -29,8 +29,12 @@ def after(first: Any, then: Any) -> Any:
 def applied(transform: Any, points: Any) -> Any:
     """Points transformed: each by its own, or all by one."""
     x, y = points[..., 0], points[..., 1]
-    xx, yx, xy, yy, x0, y0 = np.moveaxis(transform, -1, 0)
-    found = np.empty(np.broadcast(x, xx).shape + (2,))
+    if transform.ndim == 1:
+        xx, yx, xy, yy, x0, y0 = transform.tolist()
+        found = np.empty(points.shape)
+    else:
+        xx, yx, xy, yy, x0, y0 = np.moveaxis(transform, -1, 0)
+        found = np.empty(np.broadcast(x, xx).shape + (2,))
     with np.errstate(invalid="ignore", over="ignore"):
         np.multiply(x, xx, out=found[..., 0])
         np.multiply(y, yy, out=found[..., 1])
@@ -58,6 +62,8 @@ def matrix_of(transform: Any) -> Any:
 
 def placed(master_transform: Any, transforms: Any, offsets: Any, offset_transform: Any, count: int, height: int) -> Any:
     """The transforms of a collection's items, y downwards: one for each, or one for all."""
+    if not len(transforms) and len(offsets) <= 1:
+        return placed_once(master_transform, offsets, offset_transform, height)
     found = affine(master_transform.get_matrix())[None]
     if len(transforms):
         found = after(affine(np.asarray(transforms)), found)
@@ -69,6 +75,18 @@ def placed(master_transform: Any, transforms: Any, offsets: Any, offset_transfor
     elif len(found) > 1:
         found = cycled(found, count)
     return downwards(found, height)
+
+
+def placed_once(master_transform: Any, offsets: Any, offset_transform: Any, height: int) -> Any:
+    """The one transform of items that have at most one offset: the same numbers, without arrays, which take longer."""
+    (xx, xy, x0), (yx, yy, y0), _row = master_transform.get_matrix().tolist()
+    for x, y in unmasked(offsets).tolist():
+        (a, c, e), (b, d, f), _row = offset_transform.get_matrix().tolist()
+        left, down = x * a, y * d
+        if c or b:
+            left, down = left + y * c, x * b + down
+        x0, y0 = x0 + (left + e), y0 + (down + f)
+    return np.array(((xx, -yx, xy, -yy, x0, -y0 + height),))
 
 
 def unmasked(values: Any) -> Any:

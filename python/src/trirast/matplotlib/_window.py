@@ -98,7 +98,7 @@ class Window:
         state: dict[str, Any] = {"blend": blend, "scissor": scissor, "threads": self._threads, **more}
         triangles = triangles_of(polygons) if self._reaches(polygons.corners) else None
         if triangles is not None:
-            self._canvas.draw(vertices_of_corners(polygons.corners, colors, depth), triangles, **state)
+            self._canvas.draw(vertices_of_corners(polygons.corners, colors, depth), triangles.tobytes(), **state)
             return
         rule: Any = "even-odd" if polygons.are_simple else "nonzero"
         self._canvas.draw_polygons(*polygons, colors, rule=rule, depth=depth, **state)
