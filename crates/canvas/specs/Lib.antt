@@ -76,7 +76,7 @@
 -- Loaded.antt
 --   colour_in: Red, green and blue of these bytes of a pixel, as they are stored.
 --   alpha_in: Alpha of these bytes.
---   coloured: The sample in the colour of these bytes of a pixel, and with their alpha if alpha is stored too.
+--   coloured: The sample in the colour of these bytes of a pixel, with their alpha if alpha is stored too, and else opaque.
 --   IsIndexIn: The sample index s is one of those from `first` to before `end`.
 --   AreChanged: The samples of some pixels in these tile rows end as `end_of` makes them, and all other samples are unchanged.
 --   AreLoaded: All samples of each pixel of the picture in these tile rows have the colour of the pixel's bytes.
