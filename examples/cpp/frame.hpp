@@ -174,7 +174,7 @@ private:
         if (!is_shared_) return scene::draw_ids(part.rows, seen);
         part.own.select(part.rows, seen.rows, seen.mesh.indices);
         part.rows.clear({255, 255, 255});
-        part.rows.draw_ids(seen.mesh.vertices, part.own.indices(), 0, solid());
+        if (part.own.size() > 0) part.rows.draw_ids(seen.mesh.vertices, part.own.indices(), 0, solid());
     }
 
     bool is_shared_;
