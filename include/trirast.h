@@ -96,7 +96,7 @@ typedef enum trirast_status {
     TRIRAST_STATUS_BAD_PIXEL = 13,       /* the picture has no such pixel */
     TRIRAST_STATUS_BAD_TRIANGLE = 14,    /* the list has no such draw, or the draw no such triangle */
     TRIRAST_STATUS_BAD_BATCH = 15,       /* the batch cannot be drawn: `cause`, `draw` and `element` of the error say why and where */
-    TRIRAST_STATUS_BAD_STRIDE = 16,      /* a stride is too short, too long or not aligned */
+    TRIRAST_STATUS_BAD_STRIDE = 16,      /* a stride of vertices, points or entries is too short, too long or not aligned */
     TRIRAST_STATUS_BAD_TILE = 17,        /* the tile rows have no such tile */
     TRIRAST_STATUS_BAD_INDEX_SIZE = 18   /* an index has none of these sizes: 2 or 4 bytes */
 } trirast_status;
@@ -270,7 +270,8 @@ typedef struct trirast_blend {
     uint8_t constant[4];     /* red, green, blue, alpha */
 } trirast_blend;
 
-/* Equations with names of their own, as values: draw.blend = TRIRAST_BLEND_OVER; */
+/* Equations with names of their own, as values: draw.blend = TRIRAST_BLEND_OVER; In C such a value is no constant: a
+ * struct of static storage gets it by an assignment. */
 #ifdef __cplusplus
 #define TRIRAST_BLEND_VALUE trirast_blend
 #else
@@ -701,7 +702,7 @@ inline trirast_status trirast_canvas_draw_polygon_ids(trirast_canvas *canvas, co
                                                   error ? error : &unread);
 }
 
-/* Writes the colour of each pixel, the mean of its samples. Bytes between the rows of pixels are unchanged.
+/* Writes the colour of each pixel: each channel is the mean of its samples, rounded to the nearest, halves up. Bytes between the rows of pixels are unchanged.
  *
  * @canvas, @format, @stride: as for trirast_canvas_load.
  * @pixels: where the first pixel of the first row of pixels of these tile rows goes.

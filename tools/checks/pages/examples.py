@@ -60,8 +60,10 @@ int main(void) {{
     const size_t size = trirast_canvas_size(&canvas);
     void *memory = malloc(size);
     if (trirast_canvas_init(&canvas, memory, size)) return 1;
-    for (uint32_t k = 0; k < 3; k++)
-        if (draw_piece(&canvas, &batch, k, 3, pixels, sizeof pixels)) return 1;
+    for (uint32_t k = 0; k < 3; k++) {{
+        trirast_error error;
+        if (draw_piece(&canvas, &batch, k, 3, pixels, sizeof pixels, &error)) return 1;
+    }}
     free(memory);
     return fwrite(pixels, 1, sizeof pixels, stdout) != sizeof pixels;
 }}
