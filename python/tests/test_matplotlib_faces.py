@@ -300,7 +300,7 @@ class Rules(unittest.TestCase):
                 canvas = Canvas(80, 70, 16)
                 canvas.draw_polygons(*some, fills, rule=rule, blend="over")
                 pictures.append([canvas.colors(sample) for sample in range(16)])
-            self.assertTrue(np.array_equal(*pictures))
+            self.assertTrue(np.array_equal(pictures[0], pictures[1]))
             known += int(turned.sum())
         self.assertGreater(known, 800)
         star = np.array(((0, 9), (6, 0), (9, 8), (0, 3), (9, 3)), np.int32)[None]

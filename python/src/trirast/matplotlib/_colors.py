@@ -12,7 +12,11 @@ from ._transforms import cycled
 
 def face_bytes(gc: Any, color: Any) -> Any:
     """A face's colour in four bytes, which may be clear."""
-    return [int(min(max(value, 0), 1) * 255 + 0.5) for value in (*color[:3], face_alpha(gc, color))]
+    return [byte_of(value) for value in (*color[:3], face_alpha(gc, color))]
+
+
+def byte_of(value: float) -> int:
+    return int(min(max(value, 0), 1) * 255 + 0.5)
 
 
 def edge_alpha(gc: Any) -> float:

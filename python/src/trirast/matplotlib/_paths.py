@@ -12,6 +12,7 @@ from ._polygons import LINETO, MOVETO, REACH, Polygons, joined, polygons
 from ._transforms import affine, applied
 
 LINE, CLOSED = bytes((LINETO,)), bytes((Path.CLOSEPOLY,))
+CURVES = (Path.CURVE3, Path.CURVE4)
 FLIPPED = np.array(((1.0, 1.0, 1.0), (-1.0, -1.0, -1.0), (1.0, 1.0, 1.0)))
 # The vertices of a rectangle with its first one again.
 RECTANGLE = 5
@@ -42,18 +43,22 @@ def is_snapped_rectangle(path: Any, matrix: Any, snap: Optional[bool], sketch: A
     if snap is False or sketch is not None or len(path.vertices) != RECTANGLE:
         return False
     (xx, xy, _x), (yx, yy, _y), _row = matrix.tolist()
-    if (xy or yx) and (xx or yy) or has_curve(path):
+    if (xy or yx) and (xx or yy) or not is_one_ring(path):
         return False
     (a, b), (c, d), (e, f), (g, h), (i, j) = path.vertices.tolist()
     scale = max(abs(xx), abs(xy), abs(yx), abs(yy))
     first, second = ((a - c, d - f, e - g, h - b), (b - d, c - e, f - h, g - a))
     # Lines that are level or upright by less than STRAIGHT are not looked for here: such a path is drawn as any other.
     closes = a == i and b == j and scale > 0
-    return closes and (not any(first) or not any(second)) and path_is_one_ring(path)
+    return closes and (not any(first) or not any(second))
 
 
-def path_is_one_ring(path: Any) -> bool:
-    return path.codes is None or bool((path.codes[1:4] == LINETO).all())
+def is_one_ring(path: Any) -> bool:
+    """Whether a path of as many vertices as a rectangle has lines alone, of one ring."""
+    if path.codes is None:
+        return True
+    kinds = path.codes.tobytes()
+    return kinds[1:4] == 3 * LINE and kinds[0] not in CURVES and kinds[-1] not in CURVES
 
 
 def has_curve(path: Any) -> bool:

@@ -10,9 +10,9 @@ from matplotlib.path import Path
 
 from ._clips import Clips, clip_box
 from ._collection import Collection, rounds_in_order
-from ._colors import color_bytes, edge_alpha, edges_of, face_bytes
+from ._colors import byte_of, color_bytes, edge_alpha, edges_of, face_bytes
 from ._drawing import Pixels, draw_triangles
-from ._inside import HIDDEN, faces_have_their_alpha
+from ._inside import HIDDEN, face_alpha, faces_have_their_alpha
 from ._items import Faces, Items, faces_of, quad_faces
 from ._paths import has_curve, is_odd, is_snapped, is_snapped_rectangle, path_polygon
 from ._polygons import Polygons
@@ -101,28 +101,28 @@ class RendererTrirast(RendererAgg):
     # ---- One path
 
     def draw_path(self, gc: Any, path: Any, transform: Any, rgbFace: Any = None) -> None:
-        color = face_bytes(gc, rgbFace) if rgbFace is not None and gc.get_antialiased() else (0, 0, 0, 0)
-        if not color[3] or self._is_whole(gc, path, transform, color) or not self._is_opaque(gc):
+        alpha = byte_of(face_alpha(gc, rgbFace)) if rgbFace is not None and gc.get_antialiased() else 0
+        if not alpha or self._is_whole(gc, path, transform, alpha) or not self._is_opaque(gc):
             super().draw_path(gc, path, transform, rgbFace)
             return
         has_edge = edge_alpha(gc) != 0
         stroke = self.points_to_pixels(gc.get_linewidth()) if has_edge else 0.0
         matrix, snap = transform.get_matrix(), gc.get_snap()
-        self._draw(gc, path_polygon(path, matrix, int(self.height), snap, stroke, gc.get_sketch_params()), [color])
+        self._draw(gc, path_polygon(path, matrix, int(self.height), snap, stroke, gc.get_sketch_params()), [face_bytes(gc, rgbFace)])
         if (has_edge and stroke) or gc.get_hatch() is not None:
             with faces_have_their_alpha(gc):
                 super().draw_path(gc, path, transform, HIDDEN)
 
-    def _is_whole(self, gc: Any, path: Any, transform: Any, color: Any) -> bool:
-        """Whether a path is a rectangle of which Agg makes what is made here: of whole pixels, or with an opaque edge that
+    def _is_whole(self, gc: Any, path: Any, transform: Any, alpha: int) -> bool:
+        """Whether a path with a face of this alpha is a rectangle of which Agg makes what is made here: of whole pixels, or with an opaque edge that
         hides those it shares."""
         if not is_snapped_rectangle(path, transform.get_matrix(), gc.get_snap(), gc.get_sketch_params()):
             return False
-        alpha = edge_alpha(gc)
-        stroke = self.points_to_pixels(gc.get_linewidth()) if alpha else 0.0
-        if is_odd(stroke) and (stroke < 1 or alpha < 1):
+        of_edge = edge_alpha(gc)
+        stroke = self.points_to_pixels(gc.get_linewidth()) if of_edge else 0.0
+        if is_odd(stroke) and (stroke < 1 or of_edge < 1):
             return False
-        return self._leaves_samples(gc, color[3] == OPAQUE)
+        return self._leaves_samples(gc, alpha == OPAQUE)
 
     def draw_markers(self, gc: Any, marker_path: Any, marker_trans: Any, path: Any, trans: Any, rgbFace: Any = None) -> None:
         """Draws the face of a marker at the figure's origin: a collection of one item without an offset comes so. Other
