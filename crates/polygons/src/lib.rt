@@ -9,7 +9,6 @@ mod cells;
 mod corner;
 mod crossings;
 mod divide;
-mod down_edge;
 mod edge;
 mod extent;
 mod fill;

@@ -18,7 +18,6 @@ use crate::apart::is_apart;
 use crate::cells::{Counters, Flags, cross};
 use crate::corner::Corner;
 use crate::divide::divide;
-use crate::down_edge::DownEdge;
 use crate::edge::Edge;
 use crate::rings::Rings;
 use crate::rule::Rule;
@@ -45,11 +44,12 @@ fn plot_sample(
     flags: &mut [Flags],
     counters: &mut [Counters],
     rule: Rule,
-    edge: &DownEdge,
+    edge: &Edge,
     forward: bool,
     s: usize,
     start: Point,
 )
+    requires runs_down { edge.now.a.y ≤ℤ edge.now.b.y }
     requires sample { s < 4 }
     requires counters { HasCounters rule flags.old counters.old }
     ensures flags { length flags.new ≡ length flags.old }
@@ -57,14 +57,14 @@ fn plot_sample(
     ensures here { (row k : ℕ) → row < 64 → k < 8 * length flags.old →
         IsAlike (modulus rule) (total rule flags.new counters.new s row k)
         (total rule flags.old counters.old s row k +ℤ signed forward
-        (direction edge.now.edge (along (down start row) (pos k)))) }
+        (direction edge.now (along (down start row) (pos k)))) }
     ensures others { (r row k : ℕ) → r < 4 → row < 64 → (r ≡ s → ⊥) →
         total rule flags.new counters.new r row k ≡ total rule flags.old counters.old r row k }
     ensures marked { AreMarked rule flags.old counters.old → AreMarked rule flags.new counters.new }
     ensures kept { rule ≡ EvenOdd → counters.new ≡ counters.old }
 {
-    let first = first_row(start.y(), edge.edge.a.y());
-    let end = first_row(start.y(), edge.edge.b.y());
+    let first = first_row(start.y(), edge.a.y());
+    let end = first_row(start.y(), edge.b.y());
     if first < end {
         plot_rows(flags, counters, rule, edge, forward, s, start, first, end);
     }
@@ -75,7 +75,7 @@ fn plot_rows(
     flags: &mut [Flags],
     counters: &mut [Counters],
     rule: Rule,
-    edge: &DownEdge,
+    edge: &Edge,
     forward: bool,
     s: usize,
     start: Point,
@@ -85,7 +85,7 @@ fn plot_rows(
     requires rows { first < end }
     requires most { end ≤ 64 }
     requires in_band { IsInBand (start.y +ℤ pos (256 * first)) }
-    requires through { (r : ℕ) → first ≤ r → r < end → HasHeight edge.now.edge (down start r).y }
+    requires through { (r : ℕ) → first ≤ r → r < end → HasHeight edge.now (down start r).y }
     requires sample { s < 4 }
     requires counters { HasCounters rule flags.old counters.old }
     ensures flags { length flags.new ≡ length flags.old }
@@ -93,13 +93,13 @@ fn plot_rows(
     ensures here { (row k : ℕ) → first ≤ row → row < end → k < 8 * length flags.old →
         IsAlike (modulus rule) (total rule flags.new counters.new s row k)
         (total rule flags.old counters.old s row k +ℤ signed forward
-        (direction edge.now.edge (along (down start row) (pos k)))) }
+        (direction edge.now (along (down start row) (pos k)))) }
     ensures others { (r row k : ℕ) → r < 4 → row < 64 → (r ≡ s → first ≤ row → row < end → ⊥) →
         total rule flags.new counters.new r row k ≡ total rule flags.old counters.old r row k }
     ensures marked { AreMarked rule flags.old counters.old → AreMarked rule flags.new counters.new }
     ensures kept { rule ≡ EvenOdd → counters.new ≡ counters.old }
 {
-    let mut walk = EdgeWalk::along(edge, point_at(start.x(), start.y() + 256 * first as i32));
+    let mut walk = EdgeWalk::new(*edge, point_at(start.x(), start.y() + 256 * first as i32));
     for row in first..end {
         cross(flags, counters, rule, s, row, walk.column(), forward);
         if row + 1 < end {
@@ -113,12 +113,13 @@ fn plot_samples(
     flags: &mut [Flags],
     counters: &mut [Counters],
     rule: Rule,
-    edge: &DownEdge,
+    edge: &Edge,
     forward: bool,
     strip: &Strip,
 )
+    requires runs_down { edge.now.a.y ≤ℤ edge.now.b.y }
     requires counters { HasCounters rule flags.old counters.old }
-    ensures { IsPlotted rule strip.now (λ p. signed forward (direction edge.now.edge p)) flags.old counters.old flags.new
+    ensures { IsPlotted rule strip.now (λ p. signed forward (direction edge.now p)) flags.old counters.old flags.new
         counters.new }
 {
     for s in 0..strip.count.part_size() {
@@ -142,11 +143,10 @@ fn plot_edge(flags: &mut [Flags], counters: &mut [Counters], rule: Rule, edge: E
     if is_apart(&edge, strip, flags.len()) {
         return;
     }
-    if edge.a.y() < edge.b.y() {
-        let downwards = DownEdge::new(edge);
-        plot_samples(flags, counters, rule, &downwards, true, strip);
-    } else if edge.b.y() < edge.a.y() {
-        let downwards = DownEdge::new(edge.reversed());
+    if edge.a.y() <= edge.b.y() {
+        plot_samples(flags, counters, rule, &edge, true, strip);
+    } else {
+        let downwards = edge.reversed();
         plot_samples(flags, counters, rule, &downwards, false, strip);
     }
 }

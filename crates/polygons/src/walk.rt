@@ -2,7 +2,6 @@
 ghost use Rattle.std.specs.Prelude.{◌≡◌, pos, ◌+ℤ◌, ◌<ℤ◌};
 
 use crate::divide::divide;
-use crate::down_edge::DownEdge;
 use crate::edge::Edge;
 use grid::{Point, side};
 use std::marker::Model;
@@ -39,25 +38,18 @@ impl EdgeWalk {
         requires { HasHeight edge start.y }
         ensures { result ≡ record { edge = edge; row = start } }
     {
-        EdgeWalk::along(&DownEdge::new(edge), start)
-    }
-
-    /// The same of an edge that was made ready before.
-    #[inline(always)]
-    pub(crate) fn along(down: &DownEdge, start: Point) -> EdgeWalk
-        requires { HasHeight down.now.edge start.y }
-        ensures { result ≡ record { edge = down.now.edge; row = start } }
-    {
-        let edge = down.edge;
-        let (left, above) = divide(-side(edge.a, edge.b, start), 256 * down.height);
+        let height = i64::from(edge.b.y() - edge.a.y());
+        let width = i64::from(edge.b.x() - edge.a.x());
+        let (columns, part) = divide(width, height);
+        let (left, above) = divide(-side(edge.a, edge.b, start), 256 * height);
         let (rest, _) = divide(above, 256);
         EdgeWalk {
             edge,
             x: start.x(),
             y: start.y(),
-            height: down.height,
-            columns: down.columns,
-            part: down.part,
+            height,
+            columns,
+            part,
             column: -left,
             rest,
         }

@@ -22,11 +22,11 @@ first_height : (y s : ℤ) (n m : ℕ) → y ≡ s → n < m → m ≤ 64 → Is
     → to_z w32 (of_z w32 (to_z w32 (of_z w32 y) +ℤ to_z w32 (of_z w32 (pos 256 *ℤ to_z w32 n)))) ≡ s +ℤ pos (256 * n)
 first_height y s n m e h k l i = row_height y s n e (omega arith) (rw e at l) i
 
-pub along-walk-requires : goal.along-walk-requires
-along-walk-requires c =
+pub new-walk-requires : goal.new-walk-requires
+new-walk-requires c =
     let high = first_height c.y.result c.args.start.y c.args.first c.args.end c.y.ensures.value c.requires.rows c.requires.most c.y.ensures.in_band c.requires.in_band in
     let y = ap (λ (p : Position). p.y) c.point_at.ensures ∙ high in
-    subst (λ (z : ℤ). HasHeight c.args.edge.now.edge z) (sym y) (c.requires.through c.args.first (omega arith) c.requires.rows)
+    subst (λ (z : ℤ). HasHeight c.args.edge.now z) (sym y) (c.requires.through c.args.first (omega arith) c.requires.rows)
 
 pub cross-requires-clause-counters : goal.cross-requires-clause-counters
 cross-requires-clause-counters c =
@@ -38,7 +38,7 @@ under e s w n is h = subst (λ (v : Walk). (v.row.y +ℤ pos 256) <ℤ v.edge.b.
 pub step-requires : goal.step-requires
 step-requires c =
     let low = c.loop-row.auto.row in
-    under c.args.edge.now.edge c.args.start c.loop-row.walk c.loop-row.row (c.loop-row.invariant.walk c.loop-row-test.true) (c.requires.through (c.loop-row.row + 1) (omega arith) c.if-row-end.true)
+    under c.args.edge.now c.args.start c.loop-row.walk c.loop-row.row (c.loop-row.invariant.walk c.loop-row-test.true) (c.requires.through (c.loop-row.row + 1) (omega arith) c.if-row-end.true)
 
 pub loop-row-init : goal.loop-row-init
 loop-row-init c =
@@ -48,7 +48,7 @@ loop-row-init c =
     record {
       flags_len = refl;
       counters_len = refl;
-      walk = λ h. c.along-walk.ensures ∙ (λ i. record { edge = c.args.edge.now.edge; row = place i });
+      walk = λ h. c.new-walk.ensures ∙ (λ i. record { edge = c.args.edge.now; row = place i });
       done = λ row k h l m. absurd (omega arith);
       others = λ r row k h l n. refl;
       marked = λ h. h;
@@ -62,7 +62,7 @@ loop-row-preserved c =
     let lt = c.loop-row-test.true in
     let low = c.loop-row.auto.row in
     let most = c.requires.most in
-    let e = c.args.edge.now.edge in
+    let e = c.args.edge.now in
     let s = c.args.start in
     let is = v.walk lt in
     let height = c.requires.through n low lt in

@@ -10,8 +10,8 @@ abbrev pub invariant-loop-row : goal.invariant-loop-row
 invariant-loop-row l = record {
   flags_len : length l.flags ≡ length l.initial.flags;
   counters_len : length l.counters ≡ length l.initial.counters;
-  walk : l.row < l.end → l.walk ≡ record { edge = l.edge.edge; row = down l.fn.start l.row };
-  done : (row k : ℕ) → l.first ≤ row → row < l.row → k < 8 * length l.initial.flags → IsAlike (modulus l.rule) (total l.rule l.flags l.counters l.s row k) (total l.rule l.initial.flags l.initial.counters l.s row k +ℤ signed l.forward (direction l.edge.edge (along (down l.fn.start row) (pos k))));
+  walk : l.row < l.end → l.walk ≡ record { edge = l.edge; row = down l.fn.start l.row };
+  done : (row k : ℕ) → l.first ≤ row → row < l.row → k < 8 * length l.initial.flags → IsAlike (modulus l.rule) (total l.rule l.flags l.counters l.s row k) (total l.rule l.initial.flags l.initial.counters l.s row k +ℤ signed l.forward (direction l.edge (along (down l.fn.start row) (pos k))));
   others : (r row k : ℕ) → r < 4 → row < 64 → (r ≡ l.s → l.first ≤ row → row < l.row → ⊥) → total l.rule l.flags l.counters r row k ≡ total l.rule l.initial.flags l.initial.counters r row k;
   kept : l.rule ≡ EvenOdd → l.counters ≡ l.initial.counters;
   marked : AreMarked l.rule l.initial.flags l.initial.counters → AreMarked l.rule l.flags l.counters;

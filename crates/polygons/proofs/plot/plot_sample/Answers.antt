@@ -1,4 +1,4 @@
-use Rattle.std.proofs.Common.{rules, ◌≡◌, inl, inr, refl, arith, ℕ, ◌*◌, ◌<◌, ◌≤◌, ℤ, pos, ◌+ℤ◌, ◌<ℤ◌, ◌≤ℤ◌}
+use Rattle.std.proofs.Common.{◌≡◌, inl, inr, refl, arith, ℕ, ◌*◌, ◌<◌, ◌≤◌, ℤ, pos, ◌+ℤ◌, ◌<ℤ◌, ◌≤ℤ◌}
 use Rattle.std.proofs.lemmas.Int.{ints}
 use Rattle.std.proofs.lemmas.Bool.{cases_lt}
 use Rattle.grid.specs.Position.{Position, IsInBand}
@@ -32,7 +32,7 @@ plot_rows-requires-clause-through c r h l =
     let a = passed c.y-2.result _ c.y-2.ensures.in_band c.y-2.ensures.value in
     let s2 = passed c.y-3.result _ c.y-3.ensures.in_band c.y-3.ensures.value in
     let b = passed c.y-4.result _ c.y-4.ensures.in_band c.y-4.ensures.value in
-    through c.args.edge.now.edge c.args.start _ _ _ _ c.first_row-first.result c.first_row-end.result r s1 a s2 b c.first_row-first.ensures.below c.first_row-end.ensures.above c.first_row-end.ensures.most h l
+    through c.args.edge.now c.args.start _ _ _ _ c.first_row-first.result c.first_row-end.result r s1 a s2 b c.first_row-first.ensures.below c.first_row-end.ensures.above c.first_row-end.ensures.most h l
 
 pub plot_rows-requires-clause-in_band : goal.plot_rows-requires-clause-in_band
 plot_rows-requires-clause-in_band c =
@@ -40,15 +40,13 @@ plot_rows-requires-clause-in_band c =
     let a = passed c.y-2.result _ c.y-2.ensures.in_band c.y-2.ensures.value in
     let s2 = passed c.y-3.result _ c.y-3.ensures.in_band c.y-3.ensures.value in
     let b = passed c.y-4.result _ c.y-4.ensures.in_band c.y-4.ensures.value in
-    let h = through c.args.edge.now.edge c.args.start _ _ _ _ c.first_row-first.result c.first_row-end.result c.first_row-first.result s1 a s2 b c.first_row-first.ensures.below c.first_row-end.ensures.above c.first_row-end.ensures.most (omega arith) c.if-first-end.true in
-    inside_band c.args.edge.now.edge _ h (rw c.y-2.ensures.value at c.y-2.ensures.in_band) (rw c.y-4.ensures.value at c.y-4.ensures.in_band)
+    let h = through c.args.edge.now c.args.start _ _ _ _ c.first_row-first.result c.first_row-end.result c.first_row-first.result s1 a s2 b c.first_row-first.ensures.below c.first_row-end.ensures.above c.first_row-end.ensures.most (omega arith) c.if-first-end.true in
+    inside_band c.args.edge.now _ h (rw c.y-2.ensures.value at c.y-2.ensures.in_band) (rw c.y-4.ensures.value at c.y-4.ensures.in_band)
 
 pub returns-then-first-end : goal.returns-then-first-end
 returns-then-first-end c =
-    let runs_down : c.args.edge.now.edge.a.y <ℤ c.args.edge.now.edge.b.y = search rules in
-    let falls : c.args.edge.now.edge.a.y ≤ℤ c.args.edge.now.edge.b.y = omega (arith, ints) in
     let p = c.plot_rows.ensures in
-    let e = c.args.edge.now.edge in
+    let e = c.args.edge.now in
     let s = c.args.start in
     let m = modulus c.args.rule in
     let s1 = passed c.y.result _ c.y.ensures.in_band c.y.ensures.value in
@@ -61,12 +59,12 @@ returns-then-first-end c =
       here = λ row k f g. elim (cases_lt row c.first_row-first.result) [
         | inl l ↦
             alike_none m _ _ _ c.args.forward (p.others c.args.s row k c.requires.sample f (λ _ x _. omega arith))
-            (direction_above e (down s row) (pos k) falls (above_edge _ s.y _ e.a.y c.first_row-first.result row s1 a c.first_row-first.ensures.above l))
+            (direction_above e (down s row) (pos k) c.requires.runs_down (above_edge _ s.y _ e.a.y c.first_row-first.result row s1 a c.first_row-first.ensures.above l))
         | inr l ↦ elim (cases_lt row c.first_row-end.result) [
           | inl n ↦ p.here row k l n g
           | inr n ↦
               alike_none m _ _ _ c.args.forward (p.others c.args.s row k c.requires.sample f (λ _ _ x. omega arith))
-              (direction_below e (down s row) (pos k) falls (below_edge _ s.y _ e.b.y c.first_row-end.result row s2 b c.first_row-end.ensures.below n f))
+              (direction_below e (down s row) (pos k) c.requires.runs_down (below_edge _ s.y _ e.b.y c.first_row-end.result row s2 b c.first_row-end.ensures.below n f))
         ]
       ];
       others = λ r row k f g n. p.others r row k f g (λ x _ _. n x);
@@ -76,9 +74,7 @@ returns-then-first-end c =
 
 pub returns-else-first-end : goal.returns-else-first-end
 returns-else-first-end c =
-    let runs_down : c.args.edge.now.edge.a.y <ℤ c.args.edge.now.edge.b.y = search rules in
-    let falls : c.args.edge.now.edge.a.y ≤ℤ c.args.edge.now.edge.b.y = omega (arith, ints) in
-    let e = c.args.edge.now.edge in
+    let e = c.args.edge.now in
     let s = c.args.start in
     let m = modulus c.args.rule in
     let s1 = passed c.y.result _ c.y.ensures.in_band c.y.ensures.value in
@@ -89,10 +85,10 @@ returns-else-first-end c =
       flags = refl;
       counters = refl;
       here = λ row k f g. elim (cases_lt row c.first_row-first.result) [
-        | inl l ↦ alike_none m _ _ _ c.args.forward refl (direction_above e (down s row) (pos k) falls (above_edge _ s.y _ e.a.y c.first_row-first.result row s1 a c.first_row-first.ensures.above l))
+        | inl l ↦ alike_none m _ _ _ c.args.forward refl (direction_above e (down s row) (pos k) c.requires.runs_down (above_edge _ s.y _ e.a.y c.first_row-first.result row s1 a c.first_row-first.ensures.above l))
         | inr l ↦
             let n : c.first_row-end.result ≤ row = let i = c.if-first-end.false in omega arith in
-            alike_none m _ _ _ c.args.forward refl (direction_below e (down s row) (pos k) falls (below_edge _ s.y _ e.b.y c.first_row-end.result row s2 b c.first_row-end.ensures.below n f))
+            alike_none m _ _ _ c.args.forward refl (direction_below e (down s row) (pos k) c.requires.runs_down (below_edge _ s.y _ e.b.y c.first_row-end.result row s2 b c.first_row-end.ensures.below n f))
       ];
       others = λ r row k f g n. refl;
       marked = λ h. h;

@@ -14,6 +14,7 @@ few s n m h e k = omega arith
 
 pub plot_sample-requires : goal.plot_sample-requires
 plot_sample-requires c = record {
+  runs_down = c.requires.runs_down;
   sample = few _ _ _ c.loop-s-test.true c.part_size-s-end.ensures (part_small c.args.strip.now.count);
   counters = has_counters c.args.rule c.args.flags.now c.args.counters.now c.loop-s.flags c.loop-s.counters c.loop-s.invariant.flags_len c.loop-s.invariant.counters_len c.requires.counters;
 }
@@ -23,7 +24,7 @@ loop-s-preserved c =
     let v = c.loop-s.invariant in
     let n = c.loop-s.s in
     let p = c.plot_sample.ensures in
-    let e = c.args.edge.now.edge in
+    let e = c.args.edge.now in
     let m = modulus c.args.rule in
     let n_small = few _ _ _ c.loop-s-test.true c.part_size-s-end.ensures (part_small c.args.strip.now.count) in
     record {
