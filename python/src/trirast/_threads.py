@@ -1,10 +1,15 @@
-"""Shares a call among threads. What the call uses is theirs until all have ended, whatever happens to the caller meanwhile."""
+"""Shares a call among threads. What the call uses is theirs until all have ended, whatever happens to the caller meanwhile.
+
+A thread that comes back to Python while the interpreter ends may crash the process. So a call returns when its threads have left Python, and
+not only done their parts: the last that each does is to add itself to those that are gone, and no bytecode of Python runs after that.
+"""
 
 from _thread import start_new_thread
 from collections import deque
 from functools import wraps
 from itertools import repeat
 from queue import SimpleQueue
+from time import sleep
 from typing import Any, Callable, Deque, Dict, List, Optional, Sequence, Tuple, TypeVar, cast
 
 from . import _stack
@@ -15,6 +20,8 @@ Call = Callable[..., Any]
 Function = TypeVar("Function", bound=Call)
 # Two interrupts within a microsecond leave one level.
 LEVELS = 4
+# Seconds between two looks at threads that have done their parts.
+BRIEFLY = 2e-5
 
 
 def with_stack(call: Function) -> Function:
@@ -61,6 +68,7 @@ class Work:
         self._left: Deque[Tuple[int, Part]] = deque(enumerate(parts))
         self._started: List[int] = []
         self._ended: List[int] = []
+        self._gone: Deque[None] = deque()
         self._errors: Dict[int, BaseException] = {}
         self._signals: "SimpleQueue[None]" = SimpleQueue()
 
@@ -88,6 +96,8 @@ class Work:
                 self._start()
                 while self._started and len(self._ended) < self._count:
                     self._signals.get()
+                while len(self._gone) < len(self._started):
+                    sleep(BRIEFLY)
                 break
             except BaseException as error:  # KeyboardInterrupt, or what a program's own handler of a signal raises
                 interrupt = error
@@ -102,10 +112,12 @@ class Work:
         """Starts a thread for each part, as far as there are threads. One is enough for all parts."""
         if self._started:
             return
+        # A thread takes the next of such an iterator: what `_run` returns, which is None, goes to those that are gone.
+        ends = [(map(self._gone.append, iter(self._run, self)),) for _ in range(self._count)]
         try:
             with _stack.enough():
                 # Nothing of Python runs within this line, so no interrupt comes between the start of a thread and its entry in the list.
-                self._started.extend(map(start_new_thread, repeat(self._run, self._count), repeat(())))
+                self._started.extend(map(start_new_thread, repeat(next), ends))
         except RuntimeError:
             pass  # There are no more threads.
 
