@@ -348,20 +348,25 @@ class Starting(unittest.TestCase):
         printed = b"a thread has 65536 bytes of stack, and none can be started that has the 1048576 it takes\n"
         self.assertEqual((done.returncode, done.stdout, done.stderr), (0, printed, b""))
 
-    def test_have_left_python_when_the_call_returns(self) -> None:
+    def test_have_left_python_before_a_program_ends(self) -> None:
         """One that comes back to Python while the interpreter ends may crash the process."""
-        done = run("""
-            import _thread, time, trirast
+        program = """
+            import os, time, trirast
             from trirast import _threads
             run = _threads.Work._run
             def run_slowly(work):
                 run(work)
-                time.sleep(0.05)
+                time.sleep(0.3)
+                os.write(1, b"left ")
             _threads.Work._run = run_slowly
-            trirast.Canvas(64, 512).clear(threads=8)
-            print(_thread._count())
-        """)
-        self.assertEqual((done.returncode, done.stdout, done.stderr), (0, b"0\n", b""))
+            trirast.Canvas(64, 256).clear(threads=4)
+            {}
+        """
+        done = run(program.format("pass"))
+        self.assertEqual((done.returncode, done.stdout, done.stderr), (0, 4 * b"left ", b""))
+        # A copy of the process waits for none of them.
+        done = run(program.format("os.fork() or os.write(1, b'copy ')"))
+        self.assertEqual((done.returncode, sorted(done.stdout.split()), done.stderr), (0, [b"copy"] + 4 * [b"left"], b""))
 
     def test_where_the_system_gives_little_stack(self) -> None:
         program = f"""

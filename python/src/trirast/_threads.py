@@ -1,9 +1,12 @@
 """Shares a call among threads. What the call uses is theirs until all have ended, whatever happens to the caller meanwhile.
 
-A thread that comes back to Python while the interpreter ends may crash the process. So a call returns when its threads have left Python, and
-not only done their parts: the last that each does is to add itself to those that are gone, and no bytecode of Python runs after that.
+A thread that comes back to Python while the interpreter ends may crash the process, and one may begin long after others have done its part.
+So the interpreter ends when all threads have left Python: the last that each does is to add itself to those that are gone, and no bytecode of
+Python runs after that.
 """
 
+import atexit
+import os
 from _thread import start_new_thread
 from collections import deque
 from functools import wraps
@@ -11,6 +14,7 @@ from itertools import repeat
 from queue import SimpleQueue
 from time import sleep
 from typing import Any, Callable, Deque, Dict, List, Optional, Sequence, Tuple, TypeVar, cast
+from weakref import WeakSet
 
 from . import _stack
 from ._buffers import Buffer
@@ -20,8 +24,8 @@ Call = Callable[..., Any]
 Function = TypeVar("Function", bound=Call)
 # Two interrupts within a microsecond leave one level.
 LEVELS = 4
-# Seconds between two looks at threads that have done their parts.
-BRIEFLY = 2e-5
+# Seconds between two looks at threads that have not left Python.
+BRIEFLY = 0.001
 
 
 def with_stack(call: Function) -> Function:
@@ -71,6 +75,7 @@ class Work:
         self._gone: Deque[None] = deque()
         self._errors: Dict[int, BaseException] = {}
         self._signals: "SimpleQueue[None]" = SimpleQueue()
+        WORKS.add(self)
 
     def is_done_by_threads(self) -> bool:
         """Has threads do all parts, and returns whether there was a thread. An interrupt is raised after all parts."""
@@ -96,8 +101,6 @@ class Work:
                 self._start()
                 while self._started and len(self._ended) < self._count:
                     self._signals.get()
-                while len(self._gone) < len(self._started):
-                    sleep(BRIEFLY)
                 break
             except BaseException as error:  # KeyboardInterrupt, or what a program's own handler of a signal raises
                 interrupt = error
@@ -146,3 +149,23 @@ class Work:
         finally:
             # The error has this frame, which would keep it, and what the frames of the threads keep.
             del errors
+
+    def wait_for_threads(self) -> None:
+        """Waits until each thread that was started has left Python."""
+        while len(self._gone) < len(self._started):
+            sleep(BRIEFLY)
+
+
+# What threads still have, and what nobody has let go yet.
+WORKS: "WeakSet[Work]" = WeakSet()
+
+
+def wait_for_threads() -> None:
+    """Waits until each thread has left Python."""
+    for work in list(WORKS):
+        work.wait_for_threads()
+
+
+atexit.register(wait_for_threads)
+# A copy of the process has none of the threads.
+os.register_at_fork(after_in_child=WORKS.clear)
