@@ -60,18 +60,27 @@ def of_system() -> int:
 def asked_for() -> int:
     """The bytes of stack that a thread gets which is started now."""
     with STARTING:
-        given = stack_size()  # This also asks for what the system gives.
-        stack_size(given)
+        given = stack_size(STACK)
+        put_back(given, STACK)
     return given or of_system()
+
+
+def put_back(given: int, ours: int) -> None:
+    """Asks for what was given before ours, but if a program has asked for something else meanwhile."""
+    found = stack_size(given)
+    if found != ours:
+        stack_size(found)
 
 
 @contextmanager
 def enough() -> Iterator[None]:
     """Threads that are started within have enough stack, also if a program asked for less."""
     with STARTING:
-        given = stack_size()
+        given = stack_size(STACK)
         try:
-            stack_size(given if (given or of_system()) >= STACK else STACK)
+            if (given or of_system()) >= STACK:
+                put_back(given, STACK)
             yield
         finally:
-            stack_size(given)
+            if (given or of_system()) < STACK:
+                put_back(given, STACK)
