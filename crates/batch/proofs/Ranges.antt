@@ -1,4 +1,4 @@
--- Vertices that lie one every so many bytes.
+-- Vertices that lie a stride apart.
 use Rattle.std.proofs.Common.{◌≡◌, ◌∙◌, refl, ap, ℕ, zero, suc, ◌+◌, ◌-◌, List, length, map, drop, arith}
 use Rattle.std.specs.List.{range_with_len}
 use Rattle.std.proofs.lemmas.List.{drop-map}

@@ -1,4 +1,4 @@
--- Vertices in memory, one every so many bytes.
+-- Vertices in memory, a stride apart.
 use Rattle.std.specs.Prelude.{◌≡◌, ℕ, ◌+◌, ◌-◌, ◌*◌, ◌/◌, ◌%◌, ◌≤◌, List, length, map, drop, slice_index, slice_range}
 use Rattle.std.specs.Int.{w16, w32, cast_signed, from_le_bytes}
 use Rattle.std.specs.List.{range_with_len}

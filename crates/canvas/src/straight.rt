@@ -57,7 +57,7 @@ pub fn multiplies_as_over()
     ensures { (c a : ℕ) → IsOver c a 0 (multiplied_by c a) }
 {}
 
-/// A channel that is at most alpha comes back as it was, if it is divided by alpha and then multiplied by it.
+/// A channel that is at most alpha comes back unchanged, if it is divided by alpha and then multiplied by it.
 pub fn loads_what_was_written()
     ensures { (c a : ℕ) → c ≤ a → a ≤ 255 → multiplied_by (straight_of c a) a ≡ c }
 {}
